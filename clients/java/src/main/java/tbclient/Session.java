@@ -14,8 +14,8 @@ import java.util.concurrent.locks.ReentrantLock;
  * again until it has the reply.
  *
  * <p>What is to survive a crash goes by {@link #prepare}, {@link #save}, {@link #retry} and {@link
- * #save}: after a crash {@link #load} gives the session, and {@link #retry} sends the bytes that were
- * in doubt. After a {@link ReplyLostException}, a {@link BadReplyException}, a {@link
+ * #save}: after a crash {@link #load} gives the session, and {@link #retry} sends the bytes that
+ * were in doubt. After a {@link ReplyLostException}, a {@link BadReplyException}, a {@link
  * RefusedException} and a {@link CancelledException} that may have been sent, the request stays in
  * doubt, and no other one is made.
  *
@@ -85,8 +85,8 @@ public final class Session implements AutoCloseable {
      * @param saved what was kept
      * @param options how it sends
      * @return the session
-     * @throws InvalidValueException where a field is out of its range, or the bytes in doubt are not
-     *     the next request of just this session
+     * @throws InvalidValueException where a field is out of its range, or the bytes in doubt are
+     *     not the next request of just this session
      */
     public static Session resume(Transport transport, Saved saved, SessionOptions options) {
         Values.given("saved", saved);
@@ -345,8 +345,8 @@ public final class Session implements AutoCloseable {
      * session, then {@link #retry}.
      *
      * @param operation what it asks for
-     * @param items {@link Account}s or {@link Transfer}s to create, or the ids to look up, as {@link
-     *     BigInteger}s; of a register none
+     * @param items {@link Account}s or {@link Transfer}s to create, or the ids to look up, as
+     *     {@link BigInteger}s; of a register none
      * @throws InDoubtException where the last request has no reply yet
      * @throws InvalidValueException where the items are not what the operation takes
      */

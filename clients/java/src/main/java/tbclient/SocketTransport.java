@@ -16,10 +16,10 @@ import javax.net.ssl.SSLContext;
 /**
  * A connection to a server that listens, at one of some addresses.
  *
- * <p>It is made when a request is to be sent. One that broke, that the server closed, or on which no
- * reply came in time, is closed, and the next exchange makes a new one, to the next address where
- * there are several. Threads and sessions may share a transport: an exchange is one thread's from its
- * first byte to its last.
+ * <p>It is made when a request is to be sent. One that broke, that the server closed, or on which
+ * no reply came in time, is closed, and the next exchange makes a new one, to the next address
+ * where there are several. Threads and sessions may share a transport: an exchange is one thread's
+ * from its first byte to its last.
  */
 public final class SocketTransport implements Transport {
     /** The time that one sending may take where none is given. */
@@ -51,10 +51,10 @@ public final class SocketTransport implements Transport {
      * A transport to one of some addresses.
      *
      * @param addresses one or more; they are taken in order, the first behind the last
-     * @param timeout the time for one sending, from the connecting to the reply's last byte: 1 ms to
-     *     2^32 - 1 s
-     * @param tls how TLS is spoken with a host and a port, or null for none. The server's certificate
-     *     has to be of the host
+     * @param timeout the time for one sending, from the connecting to the reply's last byte: 1 ms
+     *     to 2^32 - 1 s
+     * @param tls how TLS is spoken with a host and a port, or null for none. The server's
+     *     certificate has to be of the host
      * @throws InvalidValueException where there is no address, no such timeout, or TLS for a path
      */
     public SocketTransport(List<Address> addresses, Duration timeout, SSLContext tls) {
@@ -248,7 +248,7 @@ public final class SocketTransport implements Transport {
         }
     }
 
-    /** The name that the server told before it closed the connection, or null where it told none. */
+    /** The name that the server told before it closed the connection, or null for none. */
     private static String told(ByteBuffer came) {
         String said = new String(came.array(), 0, came.position(), StandardCharsets.ISO_8859_1);
         return said.startsWith(TOLD) ? said.substring(TOLD.length()).strip() : null;
@@ -266,8 +266,8 @@ public final class SocketTransport implements Transport {
     }
 
     /**
-     * Closes the connection. Each exchange afterwards is a {@link ClosedException}; one that goes on
-     * in another thread comes to its end first.
+     * Closes the connection. Each exchange afterwards is a {@link ClosedException}; one that goes
+     * on in another thread comes to its end first.
      */
     @Override
     public void close() {

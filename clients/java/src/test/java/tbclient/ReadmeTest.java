@@ -8,6 +8,7 @@ import java.io.BufferedReader;
 import java.io.File;
 import java.io.IOException;
 import java.io.InputStreamReader;
+import java.net.URL;
 import java.nio.charset.StandardCharsets;
 import java.nio.file.Files;
 import java.nio.file.Path;
@@ -40,9 +41,8 @@ public class ReadmeTest {
         assertTrue("README.md has a program", block.find());
         Path source = folder.getRoot().toPath().resolve("Sale.java");
         Files.writeString(source, block.group(1));
-        String client =
-                new File(Session.class.getProtectionDomain().getCodeSource().getLocation().getPath())
-                        .getAbsolutePath();
+        URL place = Session.class.getProtectionDomain().getCodeSource().getLocation();
+        String client = new File(place.getPath()).getAbsolutePath();
         Process javac =
                 new ProcessBuilder(
                                 "javac", "-Xlint:all", "-Werror", "-cp", client, "Sale.java")

@@ -210,7 +210,8 @@ public class SessionTest {
         invalid("transfers", () -> session.createTransfers(many));
         invalid("transfers", () -> session.createTransfers(null));
         invalid("ids[0]", () -> session.lookupAccounts(List.of(BigInteger.TWO.pow(128))));
-        invalid("transfers[1]", () -> session.prepare(Operation.CREATE_TRANSFERS, List.of(SALE, 1)));
+        List<Object> mixed = List.of(SALE, 1);
+        invalid("transfers[1]", () -> session.prepare(Operation.CREATE_TRANSFERS, mixed));
         invalid("operation", () -> session.prepare(null, List.of()));
         invalid("session", () -> session.prepare(Operation.REGISTER, List.of()));
         invalid("client", () -> new Session(played, BigInteger.ZERO, TWICE));

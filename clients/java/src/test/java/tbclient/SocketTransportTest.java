@@ -108,7 +108,8 @@ public class SocketTransportTest {
         try (Session session = registered(transport(SHORT))) {
             silent.set(1);
             assertThrows(
-                    ReplyLostException.class, () -> session.lookupAccounts(List.of(BigInteger.ONE)));
+                    ReplyLostException.class,
+                    () -> session.lookupAccounts(List.of(BigInteger.ONE)));
             session.retry();
             assertEquals(2, connections.get());
             assertEquals(1, session.number());
