@@ -1,2 +1,3 @@
 pub mod Outcomes
 pub mod Storms
+pub mod Clients

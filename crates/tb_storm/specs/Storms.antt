@@ -5,6 +5,10 @@ use Rattle.std.specs.Prelude.{ℕ, ◌≡◌, ◌⊎◌, List, ◌++◌, Result,
 use Rattle.std.specs.Fmt.{decimal}
 use Rattle.tb_records.specs.Transport.{Output, Sent, CutOff}
 use Rattle.tb_commands.specs.Statuses.{line_named, TellsLine}
+use Rattle.tb_published.specs.declared.faults.OpenFault.{OpenFault}
+use Rattle.tb_published.specs.declared.faults.OpenFault.TheVariants as opening
+use Rattle.tb_published.specs.declared.faults.SeatFault.{SeatFault}
+use Rattle.tb_published.specs.declared.faults.SeatFault.TheVariants as seat
 use Rattle.tb_storm.specs.declared.faults.StormFault.{StormFault}
 use Rattle.tb_storm.specs.declared.faults.StormFault.TheVariants as storm
 use Rattle.tb_storm.specs.declared.totals.Totals.{Totals}
@@ -15,6 +19,16 @@ storm_status storm.NoPlace = 1
 storm_status storm.NoCopy = 1
 storm_status storm.GaveUp = 3
 storm_status storm.Device = 1
+
+-- the fault of a storm whose opening is refused
+abbrev pub of_opening : OpenFault → StormFault
+of_opening opening.NoMemory = storm.NoMemory
+of_opening opening.NoPlace = storm.NoPlace
+
+-- the fault of a storm of which a seat gives no answer
+abbrev pub of_seat : SeatFault → StormFault
+of_seat seat.NoMemory = storm.NoMemory
+of_seat seat.NoCopy = storm.NoCopy
 
 -- a fault's name, as its line shows it
 abbrev pub storm_fault_name : StormFault → List ℕ
@@ -47,6 +61,13 @@ Writes lines status start written quiet told =
 abbrev pub Exits : ℕ → Result Totals StormFault → ℕ → Output → Output → Output → Output → Type 0
 Exits clients (Ok totals) status start written quiet told = Writes (storm_lines clients totals) status start written quiet told
 Exits clients (Err fault) status start written quiet told = (status ≡ storm_status fault) × (written ≡ start) × TellsLine (storm_line fault) quiet told
+
+-- A storm of so many clients was played, and this is told of it: its totals, or that there is no memory for their lines; or its
+-- fault, and nothing else.
+abbrev pub TellsOf : ℕ → Result Totals StormFault → ℕ → Output → Output → Output → Output → Type 0
+TellsOf clients (Ok totals) status start written quiet told =
+    Exits clients (Ok totals) status start written quiet told ⊎ Exits clients (Err storm.NoMemory) status start written quiet told
+TellsOf clients (Err fault) status start written quiet told = Exits clients (Err fault) status start written quiet told
 
 -- a storm of so many clients ended, with its totals or a fault
 pub record StormExits (clients status : ℕ) (start written quiet told : Output) : Type 0 where

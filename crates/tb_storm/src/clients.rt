@@ -1,4 +1,7 @@
 //! The clients of a storm.
+ghost use Rattle.std.specs.Prelude.{◌≡◌, ◌≤◌, ◌+◌, OnOk};
+ghost use Rattle.tb_storm.specs.Clients.{offers, repeats_at};
+
 use crate::faults::StormFault;
 use crate::scale::id_of;
 use crate::stage::Stage;
@@ -94,7 +97,9 @@ impl<J: Naming> Client<J> {
     }
 
     /// Calls once: the session of the reply, None where there is none yet.
-    fn call<R: Wait>(&mut self, rt: &R, request: &Request) -> Result<Option<u64>, StormFault> {
+    fn call<R: Wait>(&mut self, rt: &R, request: &Request) -> Result<Option<u64>, StormFault>
+        ensures { offers self.old.port ≤ offers self.new.port }
+    {
         let Some(port) = &mut self.port else {
             return Err(StormFault::NoPlace);
         };
@@ -113,7 +118,9 @@ impl<J: Naming> Client<J> {
         rt: &R,
         stage: &Stage,
         request: &Request,
-    ) -> Result<u64, StormFault> {
+    ) -> Result<u64, StormFault>
+        ensures { offers self.old.port ≤ offers self.new.port }
+    {
         for _ in 0..CALLS {
             if let Some(session) = self.call(rt, request)? {
                 return Ok(session);
@@ -131,14 +138,18 @@ impl<J: Naming> Client<J> {
         rt: &R,
         stage: &Stage,
         request: Request,
-    ) -> Result<u64, StormFault> {
+    ) -> Result<u64, StormFault>
+        ensures { offers self.old.port ≤ offers self.new.port }
+    {
         let session = self.call_on(rt, stage, &request);
         drop(request);
         session
     }
 
     /// Registers, and answers the session.
-    fn register<R: Wait>(&mut self, rt: &R, stage: &Stage) -> Result<u64, StormFault> {
+    fn register<R: Wait>(&mut self, rt: &R, stage: &Stage) -> Result<u64, StormFault>
+        ensures { offers self.old.port ≤ offers self.new.port }
+    {
         let request = self.request(0, 0, Body::Register)?;
         self.settle(rt, stage, request)
     }
@@ -172,26 +183,52 @@ impl<J: Naming> Client<J> {
         self.fault = self.create_all_accounts(rt, stage, clients).err();
     }
 
-    /// Offers the request of its kth transfer again. Where it comes back, the server has ended.
-    fn repeat<R: Wait>(&mut self, rt: &R, session: u64, k: u32) -> Result<(), StormFault> {
+    /// Offers the request of its kth transfer again. Where it comes back, the server has ended: it gives up.
+    fn repeat<R: Wait>(&mut self, rt: &R, session: u64, k: u32) -> Result<(), StormFault>
+        ensures { OnOk result (offers self.new.port ≡ offers self.old.port + 1) }
+    {
         let request = self.transfer_request(session, k)?;
-        match &mut self.port {
-            Some(port) => drop(port.offer(rt, request)),
-            None => drop(request),
+        let Some(port) = &mut self.port else {
+            drop(request);
+            return Err(StormFault::NoPlace);
+        };
+        match port.offer(rt, request) {
+            Ok(()) => Ok(()),
+            Err(back) => {
+                drop(back);
+                Err(StormFault::GaveUp)
+            }
+        }
+    }
+
+    /// Creates its kth transfer, and offers requests again that were answered: this one, and behind each third one also that of
+    /// the transfer two before it.
+    fn create_one<R: Wait>(
+        &mut self,
+        rt: &R,
+        stage: &Stage,
+        session: u64,
+        k: u32,
+    ) -> Result<(), StormFault>
+        requires { 1 ≤ k }
+        ensures { OnOk result (offers self.old.port + repeats_at k ≤ offers self.new.port) }
+    {
+        let request = self.transfer_request(session, k)?;
+        self.settle(rt, stage, request)?;
+        self.repeat(rt, session, k)?;
+        if k % 3 == 0 {
+            self.repeat(rt, session, k - 2)?;
         }
         Ok(())
     }
 
     /// Creates so many transfers, and offers requests again that were answered.
-    fn create<R: Wait>(&mut self, rt: &R, stage: &Stage, transfers: u32) -> Result<(), StormFault> {
+    fn create<R: Wait>(&mut self, rt: &R, stage: &Stage, transfers: u32) -> Result<(), StormFault>
+        ensures { OnOk result (offers self.old.port + transfers ≤ offers self.new.port) }
+    {
         let session = self.register(rt, stage)?;
-        for k in 1..=transfers {
-            let request = self.transfer_request(session, k)?;
-            self.settle(rt, stage, request)?;
-            self.repeat(rt, session, k)?;
-            if k % 3 == 0 {
-                self.repeat(rt, session, k - 2)?;
-            }
+        for done in 0..transfers {
+            self.create_one(rt, stage, session, done + 1)?;
         }
         Ok(())
     }

@@ -57,18 +57,30 @@ impl StormFault {
 }
 
 impl From<AllocError> for StormFault {
+    ghost use Rattle.tb_storm.specs.declared.faults.StormFault.TheVariants.{NoMemory};
+
+    ghost from_gives = { λ _ fault. fault ≡ NoMemory };
+
     fn from(_: AllocError) -> StormFault {
         StormFault::NoMemory
     }
 }
 
 impl<T: Drop> From<AllocFailed<T>> for StormFault {
+    ghost use Rattle.tb_storm.specs.declared.faults.StormFault.TheVariants.{NoMemory};
+
+    ghost from_gives = { λ _ fault. fault ≡ NoMemory };
+
     fn from(_: AllocFailed<T>) -> StormFault {
         StormFault::NoMemory
     }
 }
 
 impl From<OpenFault> for StormFault {
+    ghost use Rattle.tb_storm.specs.Storms.{of_opening};
+
+    ghost from_gives = { λ of_open fault. fault ≡ of_opening of_open };
+
     fn from(fault: OpenFault) -> StormFault {
         match fault {
             OpenFault::NoMemory => StormFault::NoMemory,
@@ -78,6 +90,10 @@ impl From<OpenFault> for StormFault {
 }
 
 impl From<SeatFault> for StormFault {
+    ghost use Rattle.tb_storm.specs.Storms.{of_seat};
+
+    ghost from_gives = { λ of_one fault. fault ≡ of_seat of_one };
+
     fn from(fault: SeatFault) -> StormFault {
         match fault {
             SeatFault::NoMemory => StormFault::NoMemory,

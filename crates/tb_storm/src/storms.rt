@@ -1,11 +1,13 @@
 //! A storm: the server's thread, the clients' threads, and the lines that tell of them.
-ghost use Rattle.std.specs.Prelude.{◌≡◌, ◌<◌, ◌≤◌, Result, map, fold};
+ghost use Rattle.std.specs.Prelude.{◌≡◌, ◌<◌, ◌≤◌, IfOk, Result, map, fold};
+ghost use mathlib.Core.List.{IsPrefix};
 ghost use Rattle.tb_records.specs.Transport.{risen};
 ghost use Rattle.tb_commands.specs.Statuses.{TellsLine};
 ghost use Rattle.tb_storm.specs.declared.totals.Totals.{Totals};
 ghost use Rattle.tb_storm.specs.declared.faults.StormFault.{StormFault};
+ghost use Rattle.tb_storm.specs.Clients.{first_credits, transfers_after, credited_after, Totaled};
 ghost use Rattle.tb_storm.specs.Outcomes.{first_of, outcome_of};
-ghost use Rattle.tb_storm.specs.Storms.{storm_status, storm_line, Writes, StormExits};
+ghost use Rattle.tb_storm.specs.Storms.{storm_status, storm_line, Writes, TellsOf, StormExits};
 
 use crate::clients::Client;
 use crate::faults::StormFault;
@@ -18,7 +20,7 @@ use std::marker::Brand;
 use std::sync::Wait;
 use std::thread::{self, Threads};
 use tb_published::{Naming, Opening, Publisher, Seat, SeatCount, open};
-use tb_records::{ClientsMax, Profile, Sink, put_all};
+use tb_records::{Account, ClientsMax, Profile, Sink, put_all};
 use tb_service::{Finished, Moments, Open, Port, PortCount, Server, service};
 
 /// Moments 1, 2, 3 and so on.
@@ -110,20 +112,52 @@ fn fared<J: Naming>(first: Option<StormFault>, others: &[Client<J>]) -> Option<S
     fared
 }
 
+/// How many of the transfers with these ids a seat finds.
+fn count_transfers<J: Naming>(seat: &mut Seat<J>, ids: &[u128]) -> Result<usize, StormFault>
+    ensures begins { IsPrefix seat.old seat.new }
+    ensures found { IfOk result (λ count. count ≡ transfers_after J.opening seat.new ids.now) }
+{
+    let (_, transfers) = seat.lookup_transfers(ids)?;
+    Ok(transfers.len())
+}
+
+/// What the first of accounts was credited with.
+fn first_credits(accounts: &[Account]) -> u128
+    ensures { result ≡ first_credits accounts.now }
+{
+    match accounts {
+        [account, ..] => account.credits_posted,
+        [] => 0,
+    }
+}
+
+/// What account 1000 was credited with, as a seat finds it.
+fn credited<J: Naming>(seat: &mut Seat<J>) -> Result<u128, StormFault>
+    ensures begins { IsPrefix seat.old seat.new }
+    ensures found { IfOk result (λ credited. credited ≡ credited_after J.opening seat.new) }
+{
+    let (_, accounts) = seat.lookup_accounts(&[1000])?;
+    Ok(first_credits(accounts.as_slice()))
+}
+
 /// What the first client's seat finds once it has learnt all.
 fn totals_of<J: Naming>(
     alloc: Global,
-    finished: &Finished<J>,
+    publisher: &Publisher<J>,
     seat: &mut Seat<J>,
     scale: Scale,
-) -> Result<Totals, StormFault> {
-    seat.learn(&finished.publisher.tell());
-    let (_, transfers) = seat.lookup_transfers(scale.ids(alloc)?.as_slice())?;
-    let (_, accounts) = seat.lookup_accounts(&[1000])?;
+) -> Result<Totals, StormFault>
+    ensures { IfOk result
+        (λ totals. Totaled J.opening publisher.now.history publisher.now.shown totals) }
+{
+    let ids = scale.ids(alloc)?;
+    seat.learn(&publisher.tell());
+    let transfers = count_transfers(seat, ids.as_slice())?;
+    let credited = credited(seat)?;
     Ok(Totals {
-        commits: finished.publisher.history().len(),
-        transfers: transfers.len(),
-        credited: accounts.first().map_or(0, |account| account.credits_posted),
+        commits: publisher.history().len(),
+        transfers,
+        credited,
     })
 }
 
@@ -141,7 +175,7 @@ fn end<J: Naming, R: Wait>(
         ≡ outcome_of finished.ended
         (fold first_of first.old.fault (map (λ client. client.fault) others.now)) found) }
 {
-    let found = totals_of(alloc, &finished, &mut first.seat, scale);
+    let found = totals_of(alloc, &finished.publisher, &mut first.seat, scale);
     let ended = finished.ended;
     drop(finished.close(rt));
     conclude(ended, fared(first.fault, others), found)
@@ -255,8 +289,31 @@ fn write_lines<W: Sink, E: Sink>(lines: &[u8], writer: &mut W, faults: &mut E) -
     }
 }
 
+/// Tells of a storm that was played: writes the lines of its totals, or tells its fault. Answers the exit status.
+fn tell_of<W: Sink, E: Sink>(
+    alloc: Global,
+    clients: u32,
+    played: Result<Totals, StormFault>,
+    writer: &mut W,
+    faults: &mut E,
+) -> u8
+    ensures quiet { result ≡ 0 → faults.new ≡ faults.old }
+    ensures ends { TellsOf clients played result (W.output writer.old) (W.output writer.new)
+        (E.output faults.old) (E.output faults.new) }
+{
+    let totals = match played {
+        Ok(totals) => totals,
+        Err(fault) => return refuse(fault, faults),
+    };
+    match lines_of(alloc, clients, totals) {
+        Ok(lines) => write_lines(lines.as_bytes(), writer, faults),
+        Err(AllocError) => refuse(StormFault::NoMemory, faults),
+    }
+}
+
 /// So many clients at once create so many transfers each, and repeat requests that were answered. Answers the exit status: 0
 /// done, and four lines are written of what came of it; else that of the fault, whose line goes to `faults`.
+#[tactic(auto, using(crate::proofs::Ends::exits_of))]
 pub fn storm<R: Threads + Wait + Sync, W: Sink, E: Sink>(
     rt: &R,
     alloc: Global,
@@ -271,12 +328,6 @@ pub fn storm<R: Threads + Wait + Sync, W: Sink, E: Sink>(
     ensures ends { StormExits clients result (W.output writer.old) (W.output writer.new) (E.output faults.old)
         (E.output faults.new) }
 {
-    let totals = match play(rt, alloc, Scale { clients, transfers }) {
-        Ok(totals) => totals,
-        Err(fault) => return refuse(fault, faults),
-    };
-    match lines_of(alloc, clients, totals) {
-        Ok(lines) => write_lines(lines.as_bytes(), writer, faults),
-        Err(AllocError) => refuse(StormFault::NoMemory, faults),
-    }
+    let played = play(rt, alloc, Scale { clients, transfers });
+    tell_of(alloc, clients, played, writer, faults)
 }
