@@ -22,3 +22,4 @@ pub mod Parsing
 pub mod Suiting
 pub mod Stating
 pub mod Meanings
+pub mod Showing

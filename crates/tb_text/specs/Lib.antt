@@ -6,3 +6,4 @@ pub mod Awaited
 pub mod Grammar
 pub mod Positions
 pub mod Printed
+pub mod Shown

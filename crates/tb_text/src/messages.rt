@@ -1,7 +1,8 @@
 //! What is wrong with a text, in words: the place, the word there, its line with a mark under the place, and what could
 //! stand there.
-ghost use Rattle.std.specs.Prelude.{◌≡◌, ◌≤◌, length};
+ghost use Rattle.std.specs.Prelude.{◌≡◌, ◌≤◌, length, map, IfOk};
 ghost use Rattle.tb_text.specs.Positions.{is_of_word, ending_word, leading_word};
+ghost use Rattle.tb_text.specs.Shown.{shown, IsShown};
 
 use crate::awaited::{Awaited, awaited_behind};
 use crate::lexemes::word_named;
@@ -231,17 +232,11 @@ fn put_wrong_word(out: &mut Vec<u8>, word: &[u8], awaited: &Awaited) -> Result<(
     }
 }
 
-/// Appends a byte of a line as it is shown: a control character as `?`.
-fn put_shown(out: &mut Vec<u8>, bytes: &[u8]) -> Result<(), AllocError> {
-    for byte in bytes {
-        let shown = match *byte {
-            b'\t' => b'\t',
-            0..=31 | 127 => b'?',
-            byte => byte,
-        };
-        out.push(shown)?;
-    }
-    Ok(())
+/// The bytes from the first whole character on: what goes on with one that began before them is left out.
+fn whole_characters(bytes: &[u8]) -> &[u8] {
+    let is_first = |byte: &u8| !matches!(*byte, 0x80..=0xbf);
+    let length = bytes.iter().position(is_first).unwrap_or(bytes.len());
+    around(bytes, length).1
 }
 
 /// Appends as much space as bytes take.
@@ -266,7 +261,11 @@ fn put_line(out: &mut Vec<u8>, before: &[u8], rest: &[u8]) -> Result<(), AllocEr
     } else {
         0
     };
-    let shown_before = around(before, from).1;
+    let shown_before = if from == 0 {
+        before
+    } else {
+        whole_characters(around(before, from).1)
+    };
     let shown_rest = around(rest, SHOWN_MAX.saturating_sub(shown_before.len())).0;
     let dots = if from == 0 { "" } else { "..." };
     let more = if shown_rest.len() < rest.len() {
@@ -275,9 +274,15 @@ fn put_line(out: &mut Vec<u8>, before: &[u8], rest: &[u8]) -> Result<(), AllocEr
         ""
     };
     put_parts(out, &[b"\n  ".as_slice(), dots.as_bytes()])?;
-    put_shown(out, shown_before)?;
-    put_shown(out, shown_rest)?;
-    put_parts(out, &[more.as_bytes(), b"\n  ".as_slice()])?;
+    put_parts(
+        out,
+        &[
+            shown_before,
+            shown_rest,
+            more.as_bytes(),
+            b"\n  ".as_slice(),
+        ],
+    )?;
     put_indent(out, dots.as_bytes())?;
     put_indent(out, shown_before)?;
     put(out, "^")
@@ -400,19 +405,45 @@ fn put_fault(
     }
 }
 
+/// The byte that a terminal is shown for one of a text: `?` for a control character but the tab and the line end.
+fn shown(byte: u8) -> u8
+    ensures { result ≡ shown byte }
+{
+    match byte {
+        b'\t' | b'\n' => byte,
+        0..=31 | 127 => b'?',
+        _ => byte,
+    }
+}
+
+/// The bytes as a terminal is shown them.
+#[tactic(auto, using(crate::proofs::Showing::map_is_shown))]
+fn as_shown(alloc: Global, bytes: &[u8]) -> Result<Vec<u8>, AllocError>
+    ensures value { IfOk result (λ all. all.items ≡ map shown bytes.now) }
+    ensures shown { IfOk result (λ all. IsShown all.items) }
+{
+    let mut all = Vec::with_capacity(alloc, bytes.len())?;
+    for byte in bytes {
+        all.push(shown(*byte))?;
+    }
+    Ok(all)
+}
+
 /// What is wrong with a text, in words for its writer, without a line end behind them: the line and the column, the whole
 /// word there and the nearest one that statements have, the line with a mark under the place, and all that could stand
-/// there. The text's first byte stands at the line and the column `first`, both from 1. AllocError where there is no
-/// memory.
+/// there. The text's first byte stands at the line and the column `first`, both from 1. No control character of the text
+/// gets there but the tab, so that no text moves a terminal. AllocError where there is no memory.
 pub fn explain_fault(
     alloc: Global,
     text: &[u8],
     fault: TextFault,
     first: (usize, usize),
-) -> Result<Vec<u8>, AllocError> {
+) -> Result<Vec<u8>, AllocError>
+    ensures { IfOk result (λ message. IsShown message.items) }
+{
     let mut out = Vec::new(alloc);
     let (before, rest) = around(text, fault.place);
     put_position(alloc, &mut out, position_from(first, before))?;
     put_fault(alloc, &mut out, before, rest)?;
-    Ok(out)
+    as_shown(alloc, out.as_slice())
 }

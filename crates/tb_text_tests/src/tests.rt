@@ -267,6 +267,247 @@ fn messages(rt: HostRuntime) {
     }
 }
 
+/// Texts with control characters and letters of several bytes in them: no control character but the tab is shown, and the mark stands
+/// right behind the last letter.
+const SHOWN: [(&str, &str); 8] = [
+    (
+        "client=7 \u{1b}[2Jregister;",
+        "line 1, column 10: found the byte 27\n  client=7 ?[2Jregister;\n           ^\n  expected at, session, request or register",
+    ),
+    (
+        "client=7 \u{7f}register;",
+        "line 1, column 10: found the byte 127\n  client=7 ?register;\n           ^\n  expected at, session, request or register",
+    ),
+    (
+        "client=7 # \u{1b}[31m red",
+        "line 1, column 21: the text ends within a statement\n  client=7 # ?[31m red\n                      ^\n  expected at, session, request or register",
+    ),
+    (
+        "client=7 # \u{0}\u{1}\u{8}\u{c}\u{1f}",
+        "line 1, column 17: the text ends within a statement\n  client=7 # ?????\n                  ^\n  expected at, session, request or register",
+    ),
+    (
+        "\tclient=0 register;",
+        "line 1, column 10: client is not 0\n  \tclient=0 register;\n  \t        ^\n  expected a number from 1 to 2^128 - 1",
+    ),
+    (
+        "client=7 # naïve",
+        "line 1, column 18: the text ends within a statement\n  client=7 # naïve\n                  ^\n  expected at, session, request or register",
+    ),
+    (
+        "client=7 # – Zürich 😀 €",
+        "line 1, column 32: the text ends within a statement\n  client=7 # – Zürich 😀 €\n                         ^\n  expected at, session, request or register",
+    ),
+    (
+        "client=7 # ééééééééééééééééééééééééééééééééééééééééééééééééééééééééééééa",
+        "line 1, column 133: the text ends within a statement\n  ...éééééééééééééééééééééééééééééa\n                                   ^\n  expected at, session, request or register",
+    ),
+];
+
+#[test]
+fn shown_on_a_terminal(rt: HostRuntime) {
+    for (text, message) in SHOWN {
+        tells(&rt, text, (1, 1), message);
+    }
+}
+
+/// Texts with words that statements do not have, and how the first line ends that is told of them: by the word that is one letter away,
+/// or two where it is longer than three letters, and by none where none is.
+const SUGGESTED: [(&str, &str); 16] = [
+    (
+        "clint=7 register;",
+        "unknown field 'clint'; did you mean client?",
+    ),
+    (
+        "clientt=7 register;",
+        "unknown field 'clientt'; did you mean client?",
+    ),
+    (
+        "cliemt=7 register;",
+        "unknown field 'cliemt'; did you mean client?",
+    ),
+    (
+        "clnt=7 register;",
+        "unknown field 'clnt'; did you mean client?",
+    ),
+    (
+        "client=7 request=1 creat_acounts id=1;",
+        "unknown operation 'creat_acounts'; did you mean create_accounts?",
+    ),
+    (
+        "client=7 request=1 loookup_transferss id=1;",
+        "unknown operation 'loookup_transferss'; did you mean lookup_transfers?",
+    ),
+    (
+        "client=7 request=1 crezte_transferz id=1;",
+        "unknown operation 'crezte_transferz'; did you mean create_transfers?",
+    ),
+    (
+        "client=7 request=1 create_accounts ib=1;",
+        "unknown field 'ib'; did you mean id?",
+    ),
+    (
+        "client=7 request=1 create_accounts id=1 cod=10;",
+        "unknown field 'cod'; did you mean code?",
+    ),
+    (
+        "client=7 request=1 create_accounts id=1 timestmap=1;",
+        "unknown field 'timestmap'; did you mean timestamp?",
+    ),
+    (
+        "client=7 request=1 create_accounts id=1 flags=histry;",
+        "unknown flag 'histry'; did you mean history?",
+    ),
+    (
+        "client=7 request=1 create_transfers id=1 flags=linked|pndng;",
+        "unknown flag 'pndng'; did you mean pending?",
+    ),
+    (
+        "client=7 request=1 create_transfers id=1 amount=amount_mx;",
+        "unknown amount 'amount_mx'; did you mean amount_max?",
+    ),
+    ("client=7 frobnicate;", "unknown word 'frobnicate'"),
+    ("xyz=7 register;", "unknown word 'xyz'"),
+    (
+        "client=7 request=1 create_accounts id=1 cxe=10;",
+        "unknown word 'cxe'",
+    ),
+];
+
+/// What is told of a text that goes wrong.
+fn told(rt: &(impl Abort + AllocGlobal), text: &str) -> Vec<u8> {
+    let reading = read_text(rt.alloc(), text.as_bytes()).expect(rt, "memory");
+    let fault = reading.fault.expect(rt, "a fault");
+    explain_fault(rt.alloc(), text.as_bytes(), fault, (1, 1)).expect(rt, "memory")
+}
+
+/// The first line of a message.
+fn first_line(message: &[u8]) -> &[u8] {
+    let end = message.iter().position(|byte| *byte == b'\n');
+    &message[..end.unwrap_or(message.len()).min(message.len())]
+}
+
+#[test]
+fn suggestions(rt: HostRuntime) {
+    for (text, wanted) in SUGGESTED {
+        let message = told(&rt, text);
+        let line = first_line(message.as_slice());
+        holds(&rt, line.ends_with(wanted.as_bytes()), text);
+    }
+}
+
+/// Texts in which a field has no number, and how the message ends: with the numbers that the field has. A client and a request are not 0.
+const NUMBERS: [(&str, &str); 24] = [
+    ("at=x", "\n  expected a number up to 18446744073709551615"),
+    ("client=x", "\n  expected a number from 1 to 2^128 - 1"),
+    (
+        "client=7 session=x",
+        "\n  expected a number up to 18446744073709551615",
+    ),
+    (
+        "client=7 request=x",
+        "\n  expected a number from 1 to 4294967295",
+    ),
+    (
+        "client=7 request=0;",
+        "\n  expected a number from 1 to 4294967295",
+    ),
+    (
+        "client=7 request=1 create_accounts id=x",
+        "\n  expected a number up to 2^128 - 1",
+    ),
+    (
+        "client=7 request=1 create_accounts debits_pending=x",
+        "\n  expected a number up to 2^128 - 1",
+    ),
+    (
+        "client=7 request=1 create_accounts debits_posted=x",
+        "\n  expected a number up to 2^128 - 1",
+    ),
+    (
+        "client=7 request=1 create_accounts credits_pending=x",
+        "\n  expected a number up to 2^128 - 1",
+    ),
+    (
+        "client=7 request=1 create_accounts credits_posted=x",
+        "\n  expected a number up to 2^128 - 1",
+    ),
+    (
+        "client=7 request=1 create_accounts user_data_128=x",
+        "\n  expected a number up to 2^128 - 1",
+    ),
+    (
+        "client=7 request=1 create_accounts user_data_64=x",
+        "\n  expected a number up to 18446744073709551615",
+    ),
+    (
+        "client=7 request=1 create_accounts user_data_32=x",
+        "\n  expected a number up to 4294967295",
+    ),
+    (
+        "client=7 request=1 create_accounts reserved=x",
+        "\n  expected a number up to 4294967295",
+    ),
+    (
+        "client=7 request=1 create_accounts ledger=x",
+        "\n  expected a number up to 4294967295",
+    ),
+    (
+        "client=7 request=1 create_accounts code=x",
+        "\n  expected a number up to 65535",
+    ),
+    (
+        "client=7 request=1 create_accounts flags=x",
+        ", imported, closed or a number up to 65535",
+    ),
+    (
+        "client=7 request=1 create_accounts timestamp=x",
+        "\n  expected a number up to 18446744073709551615",
+    ),
+    (
+        "client=7 request=1 create_transfers debit_account_id=x",
+        "\n  expected a number up to 2^128 - 1",
+    ),
+    (
+        "client=7 request=1 create_transfers credit_account_id=x",
+        "\n  expected a number up to 2^128 - 1",
+    ),
+    (
+        "client=7 request=1 create_transfers pending_id=x",
+        "\n  expected a number up to 2^128 - 1",
+    ),
+    (
+        "client=7 request=1 create_transfers amount=x",
+        "\n  expected amount_max or a number up to 2^128 - 1",
+    ),
+    (
+        "client=7 request=1 create_transfers timeout=x",
+        "\n  expected a number up to 4294967295",
+    ),
+    (
+        "client=7 request=1 lookup_accounts id=x",
+        "\n  expected a number up to 2^128 - 1",
+    ),
+];
+
+/// Each field that may be 0 is.
+const ZEROS: [&str; 3] = [
+    "at=0 client=7 register;",
+    "at=0 client=7 session=0 request=1 create_accounts id=0 debits_pending=0 debits_posted=0 credits_pending=0 credits_posted=0 user_data_128=0 user_data_64=0 user_data_32=0 reserved=0 ledger=0 code=0 flags=0 timestamp=0;",
+    "client=7 request=1 create_transfers id=0 debit_account_id=0 credit_account_id=0 amount=0 pending_id=0 user_data_128=0 user_data_64=0 user_data_32=0 timeout=0 ledger=0 code=0 flags=0 timestamp=0;",
+];
+
+#[test]
+fn numbers_of_fields(rt: HostRuntime) {
+    for (text, wanted) in NUMBERS {
+        let message = told(&rt, text);
+        holds(&rt, message.ends_with(wanted.as_bytes()), text);
+    }
+    for text in ZEROS {
+        stops_at(&rt, text, None);
+    }
+}
+
 /// Texts that stand within others, a long line among them: the first byte is at a line and a column.
 const PARTS: [(&str, (usize, usize), &str); 3] = [
     (
