@@ -1,7 +1,9 @@
 //! `run`, `dump` and `replay` over bytes in memory: statuses, lines and replies.
+use crate::devices::{Failing, Output};
 use std::alloc::{AllocError, Global};
+use std::io::{Error, ErrorKind};
 use std::process::Abort;
-use tb_commands::command;
+use tb_commands::{command, fault_of, serve};
 use tb_records::Counting;
 
 /// The moment 10, then the frame by which client 7 registers.
@@ -200,4 +202,81 @@ fn dump_and_replay(rt: HostRuntime) -> Result<(), AllocError> {
         expect_replay(&rt, dump)?;
     }
     Ok(())
+}
+
+/// What the whole way from words to statuses leaves: the exit status, and what goes to standard error.
+fn left_by_serving<R: Abort + AllocGlobal>(
+    rt: &R,
+    words: &[&str],
+    script: &[u8],
+    failing: Failing,
+) -> Result<(u8, Vec<u8>), AllocError> {
+    let words = owned(rt.alloc(), words)?;
+    let output = Output::new(rt.alloc(), failing);
+    let mut faults = Counting::new(Vec::new(rt.alloc()));
+    let status = serve(rt.alloc(), words.as_slice(), script, output, &mut faults);
+    drop(words);
+    Ok((status, faults.into_inner()))
+}
+
+/// Expects a status and a line of the whole way.
+fn expect_served<R: Abort + AllocGlobal>(
+    rt: &R,
+    words: &[&str],
+    script: &[u8],
+    failing: Failing,
+    status: u8,
+    line: &str,
+) -> Result<(), AllocError> {
+    let (found, told) = left_by_serving(rt, words, script, failing)?;
+    assert_eq!(rt; found, status);
+    assert_eq!(rt; told.as_slice(), line.as_bytes());
+    Ok(())
+}
+
+/// The head of a dump by profile 1 for 2 clients: a dump of no entry.
+const HEAD: &[u8] = b"TBSDUMP1\x01\0\0\0\x02\0\0\0";
+
+/// An output that takes all: status 0, and no line.
+#[test]
+fn served_to_the_end(rt: HostRuntime) -> Result<(), AllocError> {
+    let none = Failing::Nothing;
+    expect_served(&rt, &["run", "2"], &REGISTER, none, 0, "")?;
+    expect_served(&rt, &["dump", "2"], &REGISTER, none, 0, "")?;
+    expect_served(&rt, &["replay"], HEAD, none, 0, "")?;
+    expect_served(&rt, &["run", "2"], &REGISTER[..55], none, 2, "tbs: Short\n")
+}
+
+/// An output that does not take what it was to be flushed to, or that fails at its flush alone: what stayed in the buffer is
+/// lost. That is told as Device, with status 1, and no other fault is told, nor is it done.
+#[test]
+fn lost_output_is_a_device(rt: HostRuntime) -> Result<(), AllocError> {
+    for failing in [Failing::Writes, Failing::Takes, Failing::Flush] {
+        for script in [REGISTER.as_slice(), &REGISTER[..55], &LAST] {
+            for words in [&["run", "2"], &["dump", "2"]] {
+                let is_lost = failing == Failing::Flush || words[0] == "dump" || script.len() != 55;
+                let (status, line) = match is_lost {
+                    true => (1, "tbs: Device\n"),
+                    false => (2, "tbs: Short\n"),
+                };
+                expect_served(&rt, words, script, failing, status, line)?;
+            }
+        }
+    }
+    let flush = Failing::Flush;
+    expect_served(&rt, &["replay"], HEAD, flush, 1, "tbs: Device\n")
+}
+
+/// Words that cannot be had: out of memory is told as that, with status 1, and a word that is no text as Usage.
+#[test]
+fn words_that_cannot_be_had(rt: HostRuntime) {
+    for (kind, status, name) in [
+        (ErrorKind::OutOfMemory, 1, "NoMemory"),
+        (ErrorKind::InvalidData, 2, "Usage"),
+        (ErrorKind::InvalidInput, 2, "Usage"),
+    ] {
+        let fault = fault_of(&Error::from(kind));
+        assert_eq!(rt; fault.status(), status);
+        assert_eq!(rt; fault.name(), name);
+    }
 }

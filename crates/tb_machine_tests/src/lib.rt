@@ -18,6 +18,7 @@
 //! - `sessions`: registers, repeats, refusals and evictions, by scripts.
 //! - `forms`: `run`, `dump` and `replay` as one call.
 //! - `conversations`: replies leave before the program waits.
+//! - `holding`: nothing is asked for while something is held back.
 //! - `asking`: nothing is asked again, and what was read is answered.
 //! - `faults`: scripts that end before their time.
 //! - `entries`: entries by themselves.
@@ -51,6 +52,8 @@ mod fixtures;
 mod forms;
 #[cfg(test)]
 mod frames;
+#[cfg(test)]
+mod holding;
 #[cfg(test)]
 mod machines;
 #[cfg(test)]

@@ -7,6 +7,7 @@
 //! - `comparing`: what is compared, in one place.
 //! - `rows`: the first requests, their bytes, and what the seat looks up.
 //! - `showing`: what is entered and not yet shown.
+//! - `progress`: all that was entered is shown by the next call that shows.
 //! - `learning`: two seats, and what a seat learns.
 //! - `refusals`: what earlier requests have refused.
 //! - `times`: no time is left.
@@ -21,6 +22,8 @@ mod frames;
 mod learning;
 #[cfg(test)]
 mod making;
+#[cfg(test)]
+mod progress;
 #[cfg(test)]
 mod refusals;
 #[cfg(test)]

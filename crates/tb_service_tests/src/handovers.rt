@@ -1,7 +1,7 @@
 //! One port: eight requests in an order, a call that never asks again, and a server that is gone.
 ghost use Rattle.std.specs.Prelude.{◌≡◌, ◌≤◌};
 
-use crate::making::{holds, one_port, opened, opening, register, rising, transfers, two_accounts};
+use crate::making::{eight, holds, one_port, opened, opening, register, rising};
 use std::alloc::Global;
 use std::marker::Brand;
 use std::process::Abort;
@@ -9,25 +9,6 @@ use std::sync::Wait;
 use tb_published::{Naming, Opening, Seat, SeatFault};
 use tb_records::{Request, Status};
 use tb_service::Port;
-
-/// Client 7's register, two accounts, or behind them a transfer of 10.
-fn nth_request(alloc: Global, number: u32) -> Option<Request> {
-    match number {
-        0 => register(7),
-        1 => two_accounts(alloc),
-        _ => transfers(alloc, number, u128::from(number) + 89, 10),
-    }
-}
-
-/// Eight requests of client 7: its register, two accounts, and six transfers of 10.
-fn eight(rt: &impl Abort, alloc: Global) -> Vec<Request> {
-    let mut all = Vec::new(alloc);
-    for number in 0..8 {
-        let request = nth_request(alloc, number).expect(rt, "a request");
-        all.push(request).expect(rt, "memory");
-    }
-    all
-}
 
 /// What account 2 was credited with, as the first seat finds it, and after how many entries.
 fn credited<J: Naming>(rt: &impl Abort, seats: &mut Vec<Seat<J>>) -> (u64, u128) {

@@ -6,6 +6,7 @@
 //! - `handovers`: one port.
 //! - `audits`: places that audits name.
 //! - `gates`: a gate passed before a request has its moment.
+//! - `progress`: answers while the server still runs.
 //! - `seats`: seats beside a server.
 //! - `threads`: ports, a server and seats in threads.
 #![tactic(auto)]
@@ -18,6 +19,8 @@ mod gates;
 mod handovers;
 #[cfg(test)]
 mod making;
+#[cfg(test)]
+mod progress;
 #[cfg(test)]
 mod seats;
 #[cfg(test)]

@@ -58,6 +58,25 @@ pub(crate) fn transfers(alloc: Global, number: u32, id: u128, amount: u128) -> O
     Request::new(7, 1, number, body).ok()
 }
 
+/// Client 7's register, two accounts, or behind them a transfer of 10.
+fn nth_request(alloc: Global, number: u32) -> Option<Request> {
+    match number {
+        0 => register(7),
+        1 => two_accounts(alloc),
+        _ => transfers(alloc, number, u128::from(number) + 89, 10),
+    }
+}
+
+/// Eight requests of client 7: its register, two accounts, and six transfers of 10.
+pub(crate) fn eight(rt: &impl Abort, alloc: Global) -> Vec<Request> {
+    let mut all = Vec::new(alloc);
+    for number in 0..8 {
+        let request = nth_request(alloc, number).expect(rt, "a request");
+        all.push(request).expect(rt, "memory");
+    }
+    all
+}
+
 /// It is so. What is asked stands in the message, since the line that a failed assert names is this one.
 pub(crate) fn holds(rt: &impl Abort, is_so: bool, asked: &str) {
     assert!(rt; is_so, "{asked}");
