@@ -3,6 +3,7 @@
 
     checks/keep.py [--tbd PROGRAM] [--kills N] [--flips N] [--seed N] [--builds]
 
+A program that holds a reply back, or does not end, for 20 seconds ends the script with that case failed.
 Clients retry as docs/use/CLIENTS.md says: each sends one request at a time, and the same bytes again until it has the reply. Calls of the
 program fail or lie by checks/keep/shim.c, which wants gcc. With --builds two wrong bodies are built too, unproved, by `rt try` in a copy, and run
 under strace: one that replies before it commits and one that does not sync have to be caught. Ends in 'N passed, M failed'.
@@ -11,6 +12,7 @@ import argparse
 import os
 import random
 import re
+import select
 import shutil
 import struct
 import subprocess
@@ -27,6 +29,7 @@ sys.path.insert(0, os.path.join(ROOT, "clients", "python"))
 from tb_client import HEADER, Account, Operation, Reply, Status, Transfer, reply_length, request_frame  # noqa: E402
 
 CLIENTS = 24
+SECONDS = 20  # a reply, an end and a check that take longer are missing
 CASH, SALES = 1, 2
 EINTR, EIO, ENOSPC = 4, 5, 28
 
@@ -37,6 +40,34 @@ def case(name, well, said=""):
 
 
 # A server, and the clients before it
+
+
+def stuck(process, name):
+    """Ends the script: a program did not go on in time."""
+    process.kill()
+    case(name, False, f"not within {SECONDS} s")
+    sys.exit(tried.status())
+
+
+def taken(process, count):
+    """So many bytes of a program's output, or fewer where it ends before."""
+    data = b""
+    while len(data) < count:
+        if not select.select([process.stdout], [], [], SECONDS)[0]:
+            stuck(process, "a reply is there")
+        piece = os.read(process.stdout.fileno(), count - len(data))
+        if not piece:
+            break
+        data += piece
+    return data
+
+
+def ended(process):
+    """The status of a program that ends."""
+    try:
+        return process.wait(SECONDS)
+    except subprocess.TimeoutExpired:
+        return stuck(process, "the program ends")
 
 
 class Client:
@@ -112,10 +143,10 @@ class Ledger:
     @staticmethod
     def reply(process):
         """The next whole reply, or None at the end."""
-        header = process.stdout.read(HEADER)
+        header = taken(process, HEADER)
         if len(header) < HEADER:
             return None
-        body = process.stdout.read(reply_length(header) - HEADER)
+        body = taken(process, reply_length(header) - HEADER)
         return header + body if len(header + body) == reply_length(header) else None
 
     def round(self, process, clients, kill_after=None):
@@ -157,7 +188,7 @@ class Ledger:
         self.send(process, [request_frame(7, self.opener.session, 1, Operation.create_accounts, body)])
         case("accounts are made", not Reply.from_bytes(self.reply(process)).items)
         process.stdin.close()
-        case("status 0 at the end", process.wait() == 0)
+        case("status 0 at the end", ended(process) == 0)
 
     def settle(self, name):
         """All that is in doubt is sent again, and the sums are those of the transfers that were acknowledged."""
@@ -170,7 +201,7 @@ class Ledger:
         self.send(process, [request_frame(7, self.opener.session, 2, Operation.lookup_accounts, struct.pack("<QQ", SALES, 0))])
         sales = Reply.from_bytes(self.reply(process)).items[0]
         process.stdin.close()
-        status = process.wait()
+        status = ended(process)
         made = sum(it.made for it in self.clients)
         entries = 3 + sum(it.request + bool(it.session) for it in self.clients)
         told = check(self.tbd, self.file)
@@ -183,7 +214,7 @@ def check(tbd, file, shim=None, fault=""):
     env = dict(os.environ)
     if shim:
         env.update(LD_PRELOAD=shim, KEEP_FILE=file, KEEP_FAULT=fault)
-    ran = subprocess.run([tbd, "check", file], capture_output=True, text=True, env=env)
+    ran = subprocess.run([tbd, "check", file], capture_output=True, text=True, env=env, timeout=SECONDS)
     told = {line.rpartition(" ")[0]: int(line.rpartition(" ")[2]) for line in ran.stdout.splitlines()}
     return {"status": ran.returncode, "said": ran.stderr.strip(), **told}
 
@@ -226,8 +257,8 @@ def faulty(tbd, folder, shim, fault, status, name):
         process.stdin.close()
     except BrokenPipeError:
         pass
-    ended = process.wait()
-    case(f"{name}: status", ended == status, f"{ended} for {status}: {process.stderr.read().decode()}")
+    found = ended(process)
+    case(f"{name}: status", found == status, f"{found} for {status}: {process.stderr.read().decode()}")
     ledger.settle(f"{name}: nothing is lost, nothing is twice")
     os.unlink(ledger.file)
 
@@ -236,7 +267,7 @@ def faults(tbd, folder, shim):
     """Calls on the file that fail once, or take a part."""
     for number in range(1, 51):
         # The first sync is that of the opening.
-        faulty(tbd, folder, shim, f"sync {number} {EIO}", 1, f"sync {number} fails")
+        faulty(tbd, folder, shim, f"sync {number} {EIO}", 1 if number == 1 else 9, f"sync {number} fails")
     for number in range(1, 9):
         faulty(tbd, folder, shim, f"write {number} {EIO}", 1, f"write {number} fails")
         # The first call is the cut of the opening.
@@ -314,7 +345,7 @@ def order(tbd, folder, shim, fault, name):
     for _ in range(20):
         ledger.round(process, ledger.clients)
     process.stdin.close()
-    process.wait()
+    ended(process)
     return told_early(logged(log))
 
 
@@ -366,7 +397,7 @@ def sample(tbd, folder):
     for _ in range(3):
         ledger.round(process, ledger.clients)
     process.stdin.close()
-    process.wait()
+    ended(process)
     with open(ledger.file, "rb") as file:
         data = file.read()
     gates, at = [], 8

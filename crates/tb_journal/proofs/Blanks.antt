@@ -1,8 +1,8 @@
 -- Whether a file is blank: by its length, and then by its bytes.
 use Rattle.std.proofs.lemmas.Grind.{common_steps}
-use Rattle.std.proofs.Common.{◌≡◌, inl, ℕ, ◌<◌, Bool, true, false, List, length, refl, arith, Result, Ok}
+use Rattle.std.proofs.Common.{◌≡◌, inl, ℕ, ◌<◌, Bool, false, List, length, refl, subst, arith, Result, Ok, OnOk}
 use Rattle.tb_journal.specs.declared.faults.Fault.{Fault}
-use Rattle.tb_journal.specs.Device.{Disk, LeavesOnly, Looks}
+use Rattle.tb_journal.specs.Device.{Disk, LeavesOnly, Looks, FailsNone}
 use Rattle.tb_journal.specs.Opening.{IsAsBefore}
 use Rattle.tb_journal.specs.Creating.{is_blank, FindsBlank}
 use Rattle.tb_journal.proofs.Moments.{started, goes_on}
@@ -13,12 +13,17 @@ too_long file b is long = grind (arith, common_steps, blank_short)
 
 module _ (before mid : Disk) (now : (c : List ℕ) → before.left_since before.moment c → before.may_leave c) (result : Result ℕ Fault) (looks : Looks result before mid) where
   looked : LeavesOnly before mid (IsAsBefore before)
-  looked = goes_on before before mid (IsAsBefore before) (started before (IsAsBefore before) (λ c left. inl (now c left))) looks.time (λ c left. inl (looks.crash c left))
+  looked = goes_on before before mid (IsAsBefore before) (started before (IsAsBefore before) (λ c left. inl (now c left))) looks.looks.time (λ c left. inl (looks.looks.crash c left))
 
-  pub blank_long : (len : ℕ) → len ≡ length before.seen → 9 < len → FindsBlank (Ok false) before mid
-  blank_long len is long = record {
-    ok = (too_long before.seen (is_blank before.seen) refl (omega (arith, is, long)), λ found. absurd (cc));
-    seen = looks.seen;
+  pub blank_long : (len : ℕ) → result ≡ Ok len → len ≡ length before.seen → 9 < len → FindsBlank (Ok false) before mid
+  blank_long len answers is long = record {
+    ok = too_long before.seen (is_blank before.seen) refl (omega (arith, is, long));
+    settled = λ sound found. absurd (cc);
+    seen = looks.looks.seen;
+    sound = looks.looks.sound;
     any_moment = looked;
-    cause = record { later = looks.cause.later; cause = tt };
+    cause = record { ok = none; cause = tt };
   }
+    where
+      none : FailsNone before mid
+      none = subst (λ (r : Result ℕ Fault). OnOk r (FailsNone before mid)) answers looks.cause.ok

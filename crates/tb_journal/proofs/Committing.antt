@@ -1,5 +1,5 @@
 -- The journal's numbers after a commit.
-use Rattle.std.proofs.Common.{rules, ◌≡◌, ℕ, ◌+◌, ◌-◌, ◌≤◌, List, [], ◌∷◌, ◌++◌, length, sym, ◌∙◌, ap, arith, length-append}
+use Rattle.std.proofs.Common.{rules, ◌≡◌, ℕ, Bool, ◌+◌, ◌-◌, ◌≤◌, List, [], ◌∷◌, ◌++◌, length, arith, length-append}
 use Rattle.tb_journal.specs.Device.{Disk}
 use Rattle.tb_journal.specs.Contents.{at_rest, recorded, blocks_length, records_end}
 use Rattle.tb_journal.specs.Steps.{IsAtRest}
@@ -19,7 +19,7 @@ next_end : (olds batch : List (List ℕ)) (end bytes : ℕ) → end ≡ records_
 next_end olds batch end bytes ends long = omega (arith, ends, long, length-at_rest batch, blocks_length-append olds batch)
 
 -- behind the whole batch the journal is ready again
-pub next_ready : {D : Type 0} (disk : D → Disk) (old : Kept D) (new : D) (bytes many : ℕ) (waiting : List (List ℕ))
+pub next_ready : {D : Type 0} (disk : D → Disk) (old : Kept D) (new : D) (bytes many : ℕ) (waiting : List (List ℕ)) (usable : Bool)
     → IsReady disk old → IsAtRest (disk new) → recorded (disk new).seen ≡ recorded (disk old.device).seen ++ old.waiting → bytes ≡ length (at_rest old.waiting) → many ≡ length old.waiting
-    → IsReady disk (record { device = new; end = old.end + (bytes - 1); count = old.count + many; waiting = waiting })
-next_ready disk old new bytes many waiting ready rests reads long counts = search (rules, length-append, next_end)
+    → IsReady disk (record { device = new; end = old.end + (bytes - 1); count = old.count + many; waiting = waiting; usable = usable })
+next_ready disk old new bytes many waiting usable ready rests reads long counts = search (rules, length-append, next_end)

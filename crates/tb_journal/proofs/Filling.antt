@@ -1,6 +1,5 @@
 -- What a window has after it was filled.
-use Rattle.std.proofs.Common.{rules, ◌≡◌, inl, inr, ⊎_elim, ℕ, ◌+◌, ◌≤◌, List, ◌++◌, length, take, drop, sym, ◌∙◌, ap, arith, length-drop, length-take}
-use Rattle.std.proofs.lemmas.Grind.{common_steps}
+use Rattle.std.proofs.Common.{rules, ◌≡◌, inl, inr, ⊎_elim, ℕ, ◌+◌, ◌≤◌, List, length, take, drop, sym, ◌∙◌, ap, arith, length-drop, length-take}
 use Rattle.std.proofs.lemmas.List.{take_all, take-take, length-take-le}
 use Rattle.std.proofs.lemmas.Bool.{cases_lt}
 use Rattle.tb_journal.specs.Device.{ReadsAt}

@@ -1,12 +1,11 @@
 -- What stands at the head of bytes is told by a prefix of them.
-use Rattle.std.proofs.Common.{rules, ◌≡◌, ⊎_elim, ℕ, suc, ◌+◌, ◌-◌, ◌<◌, ◌≤◌, ◌==◌, ◌&&◌, min, Bool, true, false, List, [], ◌∷◌, ◌++◌, length, take, drop, refl, sym, ◌∙◌, ap, subst, arith, nat_le, length-take, if◌then◌else◌}
+use Rattle.std.proofs.Common.{rules, ◌≡◌, ⊎_elim, ℕ, suc, ◌+◌, ◌-◌, ◌<◌, ◌≤◌, ◌==◌, min, Bool, true, false, List, [], ◌∷◌, ◌++◌, length, take, drop, ◌∙◌, ap, arith, nat_le, length-take, if◌then◌else◌}
 use Rattle.std.proofs.lemmas.Grind.{common_steps}
 use Rattle.std.proofs.lemmas.List.{take_all, take-take}
 use Rattle.std.proofs.lemmas.Bool.{cases_lt}
 use Rattle.std.proofs.lemmas.Bool.Decides.{nat_tests}
 use Rattle.std.specs.Int.{w32, from_le_bytes}
-use Rattle.tb_journal.specs.Checksum.{checksum}
-use Rattle.tb_journal.specs.Contents.{Ends, Spoiled, Whole, behind_gate, front}
+use Rattle.tb_journal.specs.Contents.{Ends, behind_gate, front}
 use Rattle.tb_journal.specs.Scans.{IsAhead}
 use Rattle.tb_journal.specs.Reading.{HasAhead, FindsHead, asked}
 
@@ -65,5 +64,5 @@ asked_told m (g ∷ a ∷ b ∷ c ∷ rest) le =
 asked_ahead : (at : ℕ) (file ahead : List ℕ) → HasAhead 8 at file ahead → asked ahead ≡ asked (drop at file)
 asked_ahead at file ahead has = grind (arith, common_steps, ⊎_elim, asked_told)
 
-pub finds_head : (at needed : ℕ) (file mid before ahead : List ℕ) → mid ≡ file → needed ≡ asked before → HasAhead 8 at file before → (IsAhead at mid before → HasAhead needed at mid ahead) → FindsHead at file ahead
-finds_head at needed file mid before ahead same is first second = search (rules, ⊎_elim, front_told, asked_ahead)
+pub finds_head : (at needed : ℕ) (file before ahead : List ℕ) → needed ≡ asked before → HasAhead 8 at file before → (IsAhead at file before → HasAhead needed at file ahead) → FindsHead at file ahead
+finds_head at needed file before ahead is first second = search (rules, ⊎_elim, front_told, asked_ahead)

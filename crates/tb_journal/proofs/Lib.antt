@@ -2,6 +2,7 @@ pub mod Walks
 pub mod Moments
 pub mod Blocks
 pub mod Steps
+pub mod Causes
 pub mod Kept
 pub mod Remainders
 pub mod Past
@@ -16,5 +17,7 @@ pub mod Blanks
 pub mod Nexts
 pub mod Filling
 pub mod Fronts
-pub mod Handing
 pub mod Scanning
+pub mod Between
+pub mod Retried
+pub mod WholeCalls

@@ -1,5 +1,5 @@
 -- The next step of a scan, by what stands behind the records that it has read.
-use Rattle.std.proofs.Common.{rules, ◌≡◌, inr, ℕ, ◌+◌, ◌-◌, ◌≤◌, ◌^◌, Bool, List, [], ◌∷◌, ◌++◌, length, take, drop, refl, sym, ◌∙◌, ap, subst, arith, length-append, length-drop, length-take, take-append-drop, Err}
+use Rattle.std.proofs.Common.{◌≡◌, inr, ℕ, ◌+◌, ◌-◌, ◌≤◌, ◌^◌, Bool, List, [], ◌∷◌, ◌++◌, length, take, drop, refl, sym, ◌∙◌, ap, subst, arith, length-append, length-drop, length-take, take-append-drop, Err}
 use Rattle.std.proofs.lemmas.Grind.{common_steps}
 use Rattle.std.proofs.lemmas.List.{append-nil, take_all, drop_all, drop-take}
 use Rattle.tb_journal.specs.declared.faults.Fault.TheVariants as faults
@@ -12,6 +12,7 @@ use Rattle.tb_journal.specs.Opening.{HasOpenCause}
 use Rattle.tb_journal.specs.Scans.{Place, BeginsWith, IsAhead, HasRead}
 use Rattle.tb_journal.specs.Reading.{head_is, FindsHead}
 use Rattle.tb_journal.proofs.Walks.{take_parts, drop_parts, walk-whole, walk-spoiled, is_whole, IsFile, is_file, ended, with_records-Records, with_records-Damaged}
+use Rattle.tb_journal.proofs.Causes.{none_at_once}
 use Rattle.tb_journal.proofs.Committing.{blocks_length-append}
 
 -- by what stands at the head
@@ -107,6 +108,6 @@ module _ (records : List (List ℕ)) (file : List ℕ) (old : Place) (read : Has
 
 pub too_far : (disk : Disk) (records : List (List ℕ)) (scan : Place) → HasRead records disk.seen scan → 2 ^ 62 ≤ scan.end → HasOpenCause {T = Bool} (Err (open_faults.Device faults.Full)) disk disk
 too_far disk records scan read long = record {
-  later = omega arith;
-  cause = inr (refl, omega (arith, read.end, long, end_within records disk.seen read.begins));
+  ok = tt;
+  cause = inr (refl, omega (arith, read.end, long, end_within records disk.seen read.begins), none_at_once disk);
 }

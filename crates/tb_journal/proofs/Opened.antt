@@ -1,14 +1,18 @@
 -- A journal over a file that was read.
-use Rattle.std.proofs.Common.{rules, ◌≡◌, inl, inr, ◌≤◌, ◌^◌, ℕ, List, length, refl, sym, ap, ◌∙◌, arith, Ok, Err}
+use Rattle.std.proofs.Common.{rules, ◌≡◌, inr, ◌≤◌, ◌^◌, ℕ, List, length, refl, sym, ap, ◌∙◌, arith, Result, Ok, Err, IfOk, IfErr}
 use Rattle.std.proofs.lemmas.Grind.{common_steps}
 use Rattle.tb_journal.specs.declared.faults.Fault.TheVariants as faults
+use Rattle.tb_journal.specs.declared.opening.OpenFault.{OpenFault}
 use Rattle.tb_journal.specs.declared.opening.OpenFault.TheVariants as open_faults
+use Rattle.tb_journal.specs.declared.opening.NotOpened.{NotOpened}
 use Rattle.tb_journal.specs.declared.reading.Extent.{Extent}
 use Rattle.tb_journal.specs.Device.{Disk, LeavesOnly}
-use Rattle.tb_journal.specs.Contents.{Contents, NotAJournal, Damaged, Records, contents, recorded, records_of, records_end}
-use Rattle.tb_journal.specs.Opening.{HasOpenCause, IsAsBefore, StandsForTheSame}
-use Rattle.tb_journal.specs.Reading.{extent_of}
+use Rattle.tb_journal.specs.Contents.{Contents, Records, contents, recorded, records_of, records_end}
+use Rattle.tb_journal.specs.Opening.{HasOpenCause, IsAsBefore, StandsForTheSame, IsOfDevice, IsOfExtent, Recovers, RefusesFile}
+use Rattle.tb_journal.specs.Reading.{TellsExtent, extent_of}
+use Rattle.tb_journal.specs.Ready.{Kept}
 use Rattle.tb_journal.proofs.Moments.{then, weaker}
+use Rattle.tb_journal.proofs.Causes.{none_at_once}
 use Rattle.tb_journal.proofs.Steps.{within}
 
 -- what an extent tells of its file
@@ -21,7 +25,25 @@ pub is_told : (found : Contents) (extent : Extent) → extent_of found ≡ Ok ex
 is_told found extent is = grind (arith, common_steps)
 
 pub too_long : (disk : Disk) (extent : Extent) → extent_of (contents disk.seen) ≡ Ok extent → 2 ^ 62 ≤ extent.end → HasOpenCause {T = Unit {0}} (Err (open_faults.Device faults.Full)) disk disk
-too_long disk extent read long = search (rules, is_told, within)
+too_long disk extent read long =
+    let told = is_told (contents disk.seen) extent read in
+    record { ok = tt; cause = inr (refl, omega (arith, long, told.end, within disk.seen (recorded disk.seen) told.reads), none_at_once disk) }
+
+-- a journal of what was read
+pub recovers : {D : Type 0} (file : List ℕ) (extent : Extent) (result : Result (Kept D) (NotOpened D)) → extent_of (contents file) ≡ Ok extent
+    → IfOk result (IsOfExtent extent) → IfErr result (λ failed. IsOfDevice failed.fault) → Recovers result file
+recovers file extent (Ok journal) read of_extent other =
+    let told = is_told (contents file) extent read in
+    (told.reads, (of_extent.0 ∙ told.end, of_extent.1 ∙ told.count, of_extent.2))
+recovers file extent (Err failed) read of_extent other = by_fault failed.fault other
+  where
+    by_fault : (fault : OpenFault) → IsOfDevice fault → RefusesFile fault file
+    by_fault (open_faults.Refused why) other = absurd other
+    by_fault (open_faults.Device fault) other = tt
+
+pub refuses : (file : List ℕ) (fault : OpenFault) → TellsExtent (Err fault) file → RefusesFile fault file
+refuses file (open_faults.Refused why) tells = tells
+refuses file (open_faults.Device fault) tells = tt
 
 -- a file that was read and then opened
 pub read_then_opened : (before mid after : Disk) (extent : Extent) → extent_of (contents before.seen) ≡ Ok extent → mid.seen ≡ before.seen

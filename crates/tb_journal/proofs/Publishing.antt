@@ -3,18 +3,27 @@ use Rattle.std.proofs.lemmas.Grind.{common_steps}
 use Rattle.std.proofs.Common.{◌≡◌, inl, ℕ, ◌+◌, ◌≤◌, List, [], ◌∷◌, ◌++◌, length, take, drop, sym, ◌∙◌, ap, subst, arith, Result, Ok, Err, OnOk}
 use Rattle.std.specs.List.{AllByRecursion}
 use Rattle.tb_journal.specs.declared.faults.Fault.{Fault}
-use Rattle.tb_journal.specs.Device.{Disk, IsOnDisk, Torn, HasCause, overwritten}
+use Rattle.tb_journal.specs.Device.{Disk, IsSettled, Torn, FailsNone, HasCause, overwritten}
 use Rattle.tb_journal.specs.Contents.{Fits, at_rest, Records, contents, records_of, recorded, records_end}
 use Rattle.tb_journal.specs.Steps.{IsAtRest, IsBeforeOrAfter, Overwrites, Publishes}
 use Rattle.tb_journal.proofs.Moments.{then, weaker}
-use Rattle.tb_journal.proofs.Kept.{has_cause_since}
+use Rattle.tb_journal.proofs.Causes.{has_cause_since}
 use Rattle.tb_journal.proofs.Steps.{length_file, behind_torn, written_behind, reads_new, gate_torn, opened, closed_new}
 
 -- a file that reads as these records, with its closed gate, is at rest
 pub rests : (disk : Disk) (records : List (List ℕ)) → contents disk.seen ≡ Records records
-    → disk.seen ≡ take (records_end records) disk.seen ++ 0 ∷ [] → IsOnDisk disk
+    → disk.seen ≡ take (records_end records) disk.seen ++ 0 ∷ [] → IsSettled disk
     → IsAtRest disk × (recorded disk.seen ≡ records)
-rests disk records reads closed kept = grind (arith, common_steps)
+rests disk records reads closed settled =
+    let same : recorded disk.seen ≡ records = ap records_of reads in (
+      record {
+        reads = reads ∙ ap Records (sym same);
+        closed = subst (λ (rs : List (List ℕ)). disk.seen ≡ take (records_end rs) disk.seen ++ 0 ∷ []) (sym same) closed;
+        kept = settled.kept;
+        sound = settled.sound;
+      },
+      same,
+    )
 
 -- there is room for each write
 
@@ -22,10 +31,9 @@ pub room : (before : Disk) → IsAtRest before → (end : ℕ) → end ≡ recor
     → end + 1 ≤ length before.seen
 room before rest end ends = omega (arith, ends, length_file before.seen (recorded before.seen) rest.reads rest.closed)
 
-pub done_kept : (at : ℕ) (bytes : List ℕ) (before mid : Disk) (result : Result (Unit {0}) Fault)
-    → result ≡ Ok tt → Overwrites at bytes result before mid
-    → (mid.seen ≡ overwritten before.seen at bytes) × IsOnDisk mid
-done_kept at bytes before mid result is stage = subst (λ (r : Result (Unit {0}) Fault). OnOk r ((mid.seen ≡ overwritten before.seen at bytes) × IsOnDisk mid)) is stage.ok
+-- what holds of an answer holds where it is this one
+pub on_ok : (result : Result (Unit {0}) Fault) (F : Type 0) → result ≡ Ok tt → OnOk result F → F
+on_ok result F is so = subst (λ (r : Result (Unit {0}) Fault). OnOk r F) is so
 
 opening : (batch : List ℕ) (records : List (List ℕ)) → batch ≡ at_rest records → 1 ≤ length records
     → 255 ∷ drop 1 batch ≡ at_rest records
@@ -35,6 +43,9 @@ opening batch (r ∷ records) is some = ap (λ (l : List ℕ). 255 ∷ drop 1 l)
 module _ (before : Disk) (rest : IsAtRest before) (batch tail : List ℕ) (records : List (List ℕ)) (fits : AllByRecursion Fits records) (spells : batch ≡ at_rest records) (some : 1 ≤ length records) (cut : tail ≡ drop 1 batch) (end : ℕ) (ends : end ≡ records_end (recorded before.seen)) where
   abbrev olds : List (List ℕ)
   olds = recorded before.seen
+
+  settled : IsSettled before
+  settled = record { kept = rest.kept; sound = rest.sound }
 
   opens : 255 ∷ tail ≡ at_rest records
   opens = ap (λ (l : List ℕ). 255 ∷ l) cut ∙ opening batch records spells some
@@ -46,16 +57,19 @@ module _ (before : Disk) (rest : IsAtRest before) (batch tail : List ℕ) (recor
       → Overwrites (end + 1) tail result before mid → Publishes records (Err f) before mid
   stage_failed mid result f is stage = record {
     ok = tt;
-    any_moment = weaker before mid (Torn (end + 1) (length tail) before.seen) (IsBeforeOrAfter olds records) behind stage.any_moment;
+    any_moment = weaker before mid (Torn (end + 1) (length tail) before.seen) (IsBeforeOrAfter olds records) behind (stage.any_moment settled);
     cause = subst (λ (r : Result (Unit {0}) Fault). HasCause r before mid) is stage.cause;
   }
 
   module _ (mid : Disk) (result : Result (Unit {0}) Fault) (is : result ≡ Ok tt) (stage : Overwrites (end + 1) tail result before mid) where
-    done : (mid.seen ≡ overwritten before.seen (end + 1) tail) × IsOnDisk mid
-    done = done_kept (end + 1) tail before mid result is stage
+    done : mid.seen ≡ overwritten before.seen (end + 1) tail
+    done = on_ok result (mid.seen ≡ overwritten before.seen (end + 1) tail) is stage.ok
+
+    mid_settled : IsSettled mid
+    mid_settled = on_ok result (IsSettled mid) is (stage.settled settled)
 
     staged : mid.seen ≡ take (records_end olds) before.seen ++ (0 ∷ tail)
-    staged = written_behind before.seen olds rest.reads rest.closed tail mid.seen (done.0 ∙ ap (λ (e : ℕ). overwritten before.seen (e + 1) tail) ends)
+    staged = written_behind before.seen olds rest.reads rest.closed tail mid.seen (done ∙ ap (λ (e : ℕ). overwritten before.seen (e + 1) tail) ends)
 
     gate : (c : List ℕ) → Torn end 1 mid.seen c → IsBeforeOrAfter olds records c
     gate c torn = grind (arith, common_steps, gate_torn, opens, staged)
@@ -63,14 +77,19 @@ module _ (before : Disk) (rest : IsAtRest before) (batch tail : List ℕ) (recor
     pub gate_done : (after : Disk) (second : Result (Unit {0}) Fault)
         → Overwrites end (255 ∷ []) second mid after → Publishes records second before after
     gate_done after second opened_gate = record {
-      ok = finished second opened_gate.ok;
+      ok = finished second opened_gate.ok (opened_gate.settled mid_settled);
       any_moment = then before mid after (IsBeforeOrAfter olds records)
-          (weaker before mid (Torn (end + 1) (length tail) before.seen) (IsBeforeOrAfter olds records) behind stage.any_moment)
-          (weaker mid after (Torn end 1 mid.seen) (IsBeforeOrAfter olds records) gate opened_gate.any_moment);
-      cause = has_cause_since before mid after second stage.cause.later opened_gate.cause;
+          (weaker before mid (Torn (end + 1) (length tail) before.seen) (IsBeforeOrAfter olds records) behind (stage.any_moment settled))
+          (weaker mid after (Torn end 1 mid.seen) (IsBeforeOrAfter olds records) gate (opened_gate.any_moment mid_settled));
+      cause = has_cause_since before mid after second (on_ok result (FailsNone before mid) is stage.cause.ok) opened_gate.cause;
     }
       where
         finished : (r : Result (Unit {0}) Fault)
-            → OnOk r ((after.seen ≡ overwritten mid.seen end (255 ∷ [])) × IsOnDisk after)
+            → OnOk r (after.seen ≡ overwritten mid.seen end (255 ∷ [])) → OnOk r (IsSettled after)
             → OnOk r (IsAtRest after × (recorded after.seen ≡ olds ++ records))
-        finished r so = grind (arith, common_steps, opened, opens, staged, reads_new, closed_new)
+        finished (Err fault) shown kept = tt
+        finished (Ok x) shown kept =
+            let is_open : after.seen ≡ take (records_end olds) before.seen ++ (255 ∷ tail) =
+            opened before.seen olds rest.reads rest.closed tail records opens fits after.seen (shown ∙ ap (λ (f : List ℕ). overwritten f end (255 ∷ [])) staged ∙ ap (λ (e : ℕ). overwritten (take (records_end olds) before.seen ++ (0 ∷ tail)) e (255 ∷ [])) ends) in
+            rests after (olds ++ records) (ap contents is_open ∙ reads_new before.seen olds rest.reads rest.closed tail records opens fits)
+            (subst (λ (f : List ℕ). f ≡ take (records_end (olds ++ records)) f ++ 0 ∷ []) (sym is_open) (closed_new before.seen olds rest.reads rest.closed tail records opens fits)) kept

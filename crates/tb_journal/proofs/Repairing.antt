@@ -1,21 +1,15 @@
 -- A file is read, what stands behind its records cut off, and its gate closed.
-use Rattle.std.proofs.lemmas.Grind.{common_steps}
 use Rattle.std.proofs.Common.{◌≡◌, ℕ, ◌≤◌, List, [], ◌∷◌, ◌++◌, length, take, sym, ◌∙◌, ap, subst, arith, Result, Ok, Err, OnOk}
 use Rattle.std.proofs.lemmas.List.{length-take-le}
 use Rattle.tb_journal.specs.declared.faults.Fault.{Fault}
-use Rattle.tb_journal.specs.Device.{Disk, IsOnDisk, Torn, Cut, HasCause, overwritten}
+use Rattle.tb_journal.specs.Device.{Disk, IsSettled, Torn, Cut, FailsNone, HasCause, overwritten}
 use Rattle.tb_journal.specs.Contents.{Records, contents, recorded, records_end}
 use Rattle.tb_journal.specs.Steps.{IsAtRest, Overwrites, Shortens}
 use Rattle.tb_journal.specs.Opening.{Repairs}
 use Rattle.tb_journal.proofs.Moments.{then, weaker}
-use Rattle.tb_journal.proofs.Kept.{has_cause_since}
+use Rattle.tb_journal.proofs.Causes.{has_cause_since}
 use Rattle.tb_journal.proofs.Steps.{within, cut_torn, close_torn, closes, reads_closed, front_closed}
-use Rattle.tb_journal.proofs.Publishing.{rests}
-
--- a cut that is on the disk, and the gate
-
-pub cut_kept_done : (n : ℕ) (before mid : Disk) (result : Result (Unit {0}) Fault) → result ≡ Ok tt → Shortens n result before mid → (mid.seen ≡ take n before.seen) × IsOnDisk mid
-cut_kept_done n before mid result is cut = subst (λ (r : Result (Unit {0}) Fault). OnOk r ((mid.seen ≡ take n before.seen) × IsOnDisk mid)) is cut.ok
+use Rattle.tb_journal.proofs.Publishing.{on_ok, rests}
 
 module _ (before : Disk) (reads : contents before.seen ≡ Records (recorded before.seen)) (end : ℕ) (ends : end ≡ records_end (recorded before.seen)) where
   abbrev olds : List (List ℕ)
@@ -32,14 +26,17 @@ module _ (before : Disk) (reads : contents before.seen ≡ Records (recorded bef
 
   pub repair_failed : (mid : Disk) (result : Result (Unit {0}) Fault) (f : Fault) → result ≡ Err f → Shortens end result before mid → Repairs (Err f) before mid
   repair_failed mid result f is cut = record {
-    ok = tt;
-    any_moment = weaker before mid (Cut end before.seen) Same shorter_same cut.any_moment;
+    ok = λ settled. tt;
+    any_moment = λ settled. weaker before mid (Cut end before.seen) Same shorter_same (cut.any_moment settled);
     cause = subst (λ (r : Result (Unit {0}) Fault). HasCause r before mid) is cut.cause;
   }
 
   module _ (mid : Disk) (result : Result (Unit {0}) Fault) (is : result ≡ Ok tt) (cut : Shortens end result before mid) where
     is_cut : mid.seen ≡ take (records_end olds) before.seen
-    is_cut = (cut_kept_done end before mid result is cut).0 ∙ ap (λ (e : ℕ). take e before.seen) ends
+    is_cut = on_ok result (mid.seen ≡ take end before.seen) is cut.ok ∙ ap (λ (e : ℕ). take e before.seen) ends
+
+    mid_settled : IsSettled before → IsSettled mid
+    mid_settled settled = on_ok result (IsSettled mid) is (cut.settled settled)
 
     pub end_left : end ≤ length mid.seen
     end_left = omega (arith, ends, ap length is_cut, length-take-le (records_end olds) before.seen (within before.seen olds reads))
@@ -49,12 +46,20 @@ module _ (before : Disk) (reads : contents before.seen ≡ Records (recorded bef
 
     pub repair_done : (after : Disk) (second : Result (Unit {0}) Fault) → Overwrites end (0 ∷ []) second mid after → Repairs second before after
     repair_done after second gate = record {
-      ok = finished second gate.ok;
-      any_moment = then before mid after Same
-          (weaker before mid (Cut end before.seen) Same shorter_same cut.any_moment)
-          (weaker mid after (Torn end 1 mid.seen) Same closing gate.any_moment);
-      cause = has_cause_since before mid after second cut.cause.later gate.cause;
+      ok = λ settled. finished second gate.ok (gate.settled (mid_settled settled));
+      any_moment = λ settled. then before mid after Same
+          (weaker before mid (Cut end before.seen) Same shorter_same (cut.any_moment settled))
+          (weaker mid after (Torn end 1 mid.seen) Same closing (gate.any_moment (mid_settled settled)));
+      cause = has_cause_since before mid after second (on_ok result (FailsNone before mid) is cut.cause.ok) gate.cause;
     }
       where
-        finished : (r : Result (Unit {0}) Fault) → OnOk r ((after.seen ≡ overwritten mid.seen end (0 ∷ [])) × IsOnDisk after) → OnOk r (IsAtRest after × (recorded after.seen ≡ olds))
-        finished r so = grind (arith, common_steps, closes, is_cut, rests, reads_closed, front_closed)
+        finished : (r : Result (Unit {0}) Fault) → OnOk r (after.seen ≡ overwritten mid.seen end (0 ∷ []))
+            → OnOk r (IsSettled after) → OnOk r (IsAtRest after × (recorded after.seen ≡ olds))
+        finished (Err fault) shown kept = tt
+        finished (Ok x) shown kept =
+            let at = records_end olds in
+            let front = take at before.seen in
+            let is_closed : after.seen ≡ front ++ 0 ∷ [] =
+            closes before.seen olds reads after.seen (shown ∙ ap (λ (f : List ℕ). overwritten f end (0 ∷ [])) is_cut ∙ ap (λ (e : ℕ). overwritten front e (0 ∷ [])) ends) in
+            rests after olds (ap contents is_closed ∙ reads_closed before.seen olds reads)
+            (subst (λ (f : List ℕ). f ≡ take at f ++ 0 ∷ []) (sym is_closed) (ap (λ (f : List ℕ). f ++ 0 ∷ []) (sym (front_closed before.seen olds reads (0 ∷ []))))) kept

@@ -1,13 +1,17 @@
 -- A scan of a file, from its first bytes on: what a loop over it knows.
-use Rattle.std.proofs.Common.{◌≡◌, ℕ, ◌≤◌, List}
-use Rattle.tb_journal.specs.Device.{Disk, IsOnDisk, LeavesOnly}
+use Rattle.std.proofs.Common.{◌≡◌, true, List, ℕ}
+use Rattle.tb_journal.specs.Device.{Disk, IsOnDisk, LeavesOnly, FailsNone}
 use Rattle.tb_journal.specs.Opening.{IsAsBefore}
 use Rattle.tb_journal.specs.Scans.{HasRead, Place}
 
--- these records were read since the scan began, and the file is as it was
-pub record IsScanning (records : List (List ℕ)) (before now : Disk) (scan : Place) : Type 0 where
-  pub read : HasRead records before.seen scan
+-- the file is as it was, and no call has failed
+pub record IsScanning (before now : Disk) : Type 0 where
   pub seen : now.seen ≡ before.seen
-  pub kept : IsOnDisk now
+  pub kept : before.sound ≡ true → IsOnDisk now
+  pub sound : now.sound ≡ before.sound
   pub left : LeavesOnly before now (IsAsBefore before)
-  pub later : before.faults ≤ now.faults
+  pub none : FailsNone before now
+
+-- some records of the file were read that the device still holds
+abbrev pub IsReading : {D : Type 0} → (D → List ℕ → Type 0) → D → Place → List ℕ → Type 0
+IsReading holds now scan file = holds now file × ((records : List (List ℕ)) × HasRead records file scan)

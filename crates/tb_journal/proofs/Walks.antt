@@ -6,8 +6,8 @@ use Rattle.std.proofs.lemmas.Bool.Decides.{nat_tests, Decides-eqb}
 use Rattle.std.proofs.lemmas.Slice.Eq.{slice_eq-Decides}
 use Rattle.std.specs.Int.{w32, from_le_bytes}
 use Rattle.std.specs.List.{starts_with}
-use Rattle.tb_journal.specs.Checksum.{checksum}
-use Rattle.tb_journal.specs.Contents.{magic, Front, Ends, Spoiled, Whole, behind_gate, front, Contents, NotAJournal, Damaged, Records, with_record, with_records, joined, skipped, walk, contents, blocks_length, records_end}
+pub use Rattle.tb_journal.specs.Shown.{drop_parts}
+use Rattle.tb_journal.specs.Contents.{magic, Front, Ends, Spoiled, Whole, behind_gate, front, Contents, NotAJournal, Damaged, Records, with_record, with_records, walk, contents, blocks_length, records_end}
 
 -- lists
 
@@ -15,20 +15,11 @@ take_nil : (k : ℕ) → [] ≡ take {A = ℕ} k []
 take_nil zero = refl
 take_nil (suc k) = refl
 
-drop_nil : (k : ℕ) → [] ≡ drop {A = ℕ} k []
-drop_nil zero = refl
-drop_nil (suc k) = refl
-
 -- a longer prefix, in two parts
 pub take_parts : (m n : ℕ) (l : List ℕ) → take (m + n) l ≡ take m l ++ take n (drop m l)
 take_parts zero n l = ap (λ (k : ℕ). take k l) (omega arith)
 take_parts (suc m) n [] = ap (λ (k : ℕ). take k []) (let e : suc m + n ≡ suc (m + n) = omega arith in e) ∙ take_nil n
 take_parts (suc m) n (x ∷ l) = ap (λ (k : ℕ). take k (x ∷ l)) (let e : suc m + n ≡ suc (m + n) = omega arith in e) ∙ ap (λ (r : List ℕ). x ∷ r) (take_parts m n l)
-
-pub drop_parts : (m n : ℕ) (l : List ℕ) → drop (m + n) l ≡ drop n (drop m l)
-drop_parts zero n l = ap (λ (k : ℕ). drop k l) (omega arith)
-drop_parts (suc m) n [] = ap (λ (k : ℕ). drop k []) (let e : suc m + n ≡ suc (m + n) = omega arith in e) ∙ drop_nil n
-drop_parts (suc m) n (x ∷ l) = ap (λ (k : ℕ). drop k (x ∷ l)) (let e : suc m + n ≡ suc (m + n) = omega arith in e) ∙ drop_parts m n l
 
 -- the walk
 

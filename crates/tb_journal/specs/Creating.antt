@@ -2,10 +2,10 @@
 -- Cited by public contracts of: creating; tb_keep: opening.
 use Rattle.std.specs.Prelude.{◌≡◌, ◌⊎◌, ◌==◌, ◌&&◌, ◌||◌, ℕ, ◌≤◌, Bool, true, false, List, [], ◌∷◌, ◌++◌, length, codes, refl, Result, IfOk, OnOk, IfErr}
 use Rattle.tb_journal.specs.declared.faults.Fault.{Fault}
-use Rattle.tb_journal.specs.declared.faults.Fault.TheVariants.{NotEmpty}
+use Rattle.tb_journal.specs.declared.faults.Fault.TheVariants.{Memory, NotEmpty}
 use Rattle.tb_journal.specs.declared.opening.OpenFault.{OpenFault}
 use Rattle.tb_journal.specs.declared.opening.OpenFault.TheVariants as open_faults
-use Rattle.tb_journal.specs.Device.{Disk, IsOnDisk, LeavesOnly, HasCause, IsCause}
+use Rattle.tb_journal.specs.Device.{Disk, IsSettled, LeavesOnly, FailsNone, HasFailed, HasCause}
 use Rattle.tb_journal.specs.Contents.{NotAJournal, Records, contents, journal_of, recorded}
 use Rattle.tb_journal.specs.Steps.{IsAtRest}
 use Rattle.tb_journal.specs.Ready.{Kept, IsReady}
@@ -30,19 +30,23 @@ pub record IsUnborn (file : List ℕ) : Type 0 where
 abbrev pub MayBeCreated : Disk → List ℕ → Type 0
 MayBeCreated before file = IsAsBefore before file ⊎ ((is_blank before.seen ≡ true) × IsUnborn file)
 
--- why no journal is created: something else stands there, or the device has a cause
+-- why no journal is created, where the device did not fail: something else stands there, or it is blank and there is no memory
+abbrev pub IsOwnCreateCause : List ℕ → Fault → Type 0
+IsOwnCreateCause file fault = ((fault ≡ NotEmpty) × (is_blank file ≡ false)) ⊎ ((fault ≡ Memory) × (is_blank file ≡ true))
+
+-- why no journal is created: that, or the device failed so
 abbrev pub IsCreateCause : Disk → Disk → OpenFault → Type 0
 IsCreateCause before after (open_faults.Refused why) = ⊥
-IsCreateCause before after (open_faults.Device fault) = IsCause before after fault ⊎ ((fault ≡ NotEmpty) × (is_blank before.seen ≡ false))
+IsCreateCause before after (open_faults.Device fault) = HasFailed before after fault ⊎ (IsOwnCreateCause before.seen fault × FailsNone before after)
 
--- a file that is not blank stays as it was, at each moment
+-- a file that is not blank stays as it was, at each moment, and no sync has failed that had not
 abbrev pub IsLeft : Disk → Disk → OpenFault → Type 0
-IsLeft before after (open_faults.Device NotEmpty) = (after.seen ≡ before.seen) × LeavesOnly before after (IsAsBefore before)
+IsLeft before after (open_faults.Device NotEmpty) = (after.seen ≡ before.seen) × LeavesOnly before after (IsAsBefore before) × (after.sound ≡ before.sound)
 IsLeft before after other = Unit {0}
 
 -- an error has a cause
 pub record HasCreateCause {T : Type 0} (result : Result T OpenFault) (before after : Disk) : Type 0 where
-  pub later : before.faults ≤ after.faults
+  pub ok : OnOk result (FailsNone before after)
   pub cause : IfErr result (IsCreateCause before after)
 
 -- a journal that has no records, and none that wait
@@ -53,15 +57,17 @@ pub record IsNew {D : Type 0} (disk : D → Disk) (journal : Kept D) : Type 0 wh
 
 -- whether a file is blank: what a blank one has is then on the disk
 pub record FindsBlank (result : Result Bool Fault) (before after : Disk) : Type 0 where
-  pub ok : IfOk result (λ found. (found ≡ is_blank before.seen) × (found ≡ true → IsOnDisk after))
+  pub ok : IfOk result (λ found. found ≡ is_blank before.seen)
+  pub settled : before.sound ≡ true → IfOk result (λ found. found ≡ true → IsSettled after)
   pub seen : after.seen ≡ before.seen
+  pub sound : OnOk result (after.sound ≡ before.sound)
   pub any_moment : LeavesOnly before after (IsAsBefore before)
   pub cause : HasCause result before after
 
 -- the first bytes are written over a blank file
 pub record WritesFirst (result : Result (Unit {0}) Fault) (before after : Disk) : Type 0 where
-  pub ok : OnOk result (IsAtRest after × (recorded after.seen ≡ []))
-  pub any_moment : LeavesOnly before after IsUnborn
+  pub ok : IsSettled before → OnOk result (IsAtRest after × (recorded after.seen ≡ []))
+  pub any_moment : IsSettled before → LeavesOnly before after IsUnborn
   pub cause : HasCause result before after
 
 -- rows

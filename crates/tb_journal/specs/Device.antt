@@ -1,8 +1,9 @@
 -- What the calls of a device do to its file, and what a crash may leave between two syncs.
--- Cited by public contracts of: creating, devices, journals, opening, scans; tb_keep: opening, restoring.
-use Rattle.std.specs.Prelude.{◌<◌, ◌≡◌, ◌⊎◌, ℕ, ◌+◌, ◌≤◌, min, max, List, ◌++◌, length, take, drop, Result, IfErr, OnOk}
+-- Cited by public contracts of: creating, devices, journals, opening, scans, systems; tb_keep: opening, restoring.
+use Rattle.std.specs.Prelude.{◌<◌, ◌≡◌, ◌⊎◌, ℕ, ◌+◌, ◌-◌, ◌^◌, ◌≤◌, min, max, Bool, true, false, List, ◌++◌, length, take, drop, Result, IfErr, OnOk, OnErr}
+use Rattle.std.proofs.Common.{arith, ⊎_elim}
 use Rattle.tb_journal.specs.declared.faults.Fault.{Fault}
-use Rattle.tb_journal.specs.declared.faults.Fault.TheVariants.{Memory, Failed, Full}
+use Rattle.tb_journal.specs.declared.faults.Fault.TheVariants.{Memory, Failed, Full, SyncFailed}
 
 -- a disk with one file, and its clock
 pub record Disk : Type 1 where
@@ -10,7 +11,8 @@ pub record Disk : Type 1 where
   pub may_leave : List ℕ → Type 0  -- what a crash at this moment may leave
   pub moment : ℕ  -- a number that does not fall
   pub left_since : ℕ → List ℕ → Type 0  -- what a crash at some moment from that one on might have left
-  pub faults : ℕ  -- how often the disk has failed
+  pub failures : Fault → ℕ  -- how often a call has failed with this fault
+  pub sound : Bool  -- no sync has failed
 
 -- a crash leaves this and nothing else
 abbrev pub Only : List ℕ → (List ℕ → Type 0) → Type 0
@@ -19,6 +21,11 @@ Only file outcomes = (c : List ℕ) → outcomes c → c ≡ file
 -- all that a read returns is on the disk
 abbrev pub IsOnDisk : Disk → Type 0
 IsOnDisk disk = Only disk.seen disk.may_leave
+
+-- so it is, and a sync still keeps what is written
+pub record IsSettled (disk : Disk) : Type 0 where
+  pub kept : IsOnDisk disk
+  pub sound : disk.sound ≡ true
 
 -- the file with these bytes in the place of those at this offset
 abbrev pub overwritten : List ℕ → ℕ → List ℕ → List ℕ
@@ -57,21 +64,41 @@ pub record LeavesOnly (before after : Disk) (P : List ℕ → Type 0) : Type 0 w
   -- for a run that began earlier
   pub earlier : (t : ℕ) (c : List ℕ) → t ≤ before.moment → after.left_since t c → before.left_since t c ⊎ P c
 
--- why a device fails: it has no memory, or the disk has failed since, or is full
-abbrev pub IsCause : Disk → Disk → Fault → Type 0
-IsCause before after fault = (fault ≡ Memory) ⊎ (((fault ≡ Failed) ⊎ (fault ≡ Full)) × (before.faults < after.faults))
+-- a count has gone up; at 2^64 - 1 it stays
+abbrev pub Rises : ℕ → ℕ → Type 0
+Rises before after = (before < after) ⊎ (2 ^ 64 - 1 ≤ after)
 
--- an error has a cause
+-- no call has failed since
+abbrev pub FailsNone : Disk → Disk → Type 0
+FailsNone before after = (fault : Fault) → after.failures fault ≡ before.failures fault
+
+-- the faults that a sync has
+abbrev pub IsOfSync : Fault → Type 0
+IsOfSync fault = (fault ≡ Memory) ⊎ (fault ≡ SyncFailed)
+
+-- and those that any other call on a device has
+abbrev pub IsOfCall : Fault → Type 0
+IsOfCall fault = (fault ≡ Memory) ⊎ (fault ≡ Failed) ⊎ (fault ≡ Full)
+
+-- a call has failed with this fault since, and none with another
+pub record HasFailed (before after : Disk) (fault : Fault) : Type 0 where
+  pub named : IsOfCall fault ⊎ IsOfSync fault
+  pub counted : Rises (before.failures fault) (after.failures fault)
+  pub others : (other : Fault) → (other ≡ fault) ⊎ (after.failures other ≡ before.failures other)
+
+-- an error is a failure of the device, under its own name
 pub record HasCause {T : Type 0} (result : Result T Fault) (before after : Disk) : Type 0 where
-  pub later : before.faults ≤ after.faults
-  pub cause : IfErr result (IsCause before after)
+  pub ok : OnOk result (FailsNone before after)
+  pub cause : IfErr result (HasFailed before after)
 
--- a call that only looks
-pub record Looks {T : Type 0} (result : Result T Fault) (before after : Disk) : Type 0 where
-  pub seen : after.seen ≡ before.seen
-  pub crash : AddsNone before after
-  pub time : Elapses before after
-  pub cause : HasCause result before after
+-- why a call ends that takes memory itself: the device failed so, or it did not fail and there is no memory
+abbrev pub IsCause : Disk → Disk → Fault → Type 0
+IsCause before after fault = HasFailed before after fault ⊎ ((fault ≡ Memory) × FailsNone before after)
+
+-- an error of such a call
+pub record HasOwnCause {T : Type 0} (result : Result T Fault) (before after : Disk) : Type 0 where
+  pub ok : OnOk result (FailsNone before after)
+  pub cause : IfErr result (IsCause before after)
 
 -- bytes that were read from an offset on: as many as there is room for or as are left, and they stand first
 pub record ReadsAt (count at : ℕ) (file into : List ℕ) : Type 0 where
@@ -83,13 +110,19 @@ pub record IsLookedAt (before after : Disk) : Type 0 where
   pub seen : after.seen ≡ before.seen
   pub crash : AddsNone before after
   pub time : Elapses before after
-  pub later : before.faults ≤ after.faults
+  pub sound : after.sound ≡ before.sound
+
+-- a call that only looks
+pub record Looks {T : Type 0} (result : Result T Fault) (before after : Disk) : Type 0 where
+  pub looks : IsLookedAt before after
+  pub cause : HasCause result before after
 
 -- a write
 pub record Writes (at : ℕ) (bytes : List ℕ) (result : Result (Unit {0}) Fault) (before after : Disk) : Type 0 where
   pub written : OnOk result (after.seen ≡ overwritten before.seen at bytes)
   pub crash : Follows (Torn at (length bytes)) before after
   pub time : Elapses before after
+  pub sound : after.sound ≡ before.sound
   pub cause : HasCause result before after
 
 -- a cut
@@ -97,12 +130,28 @@ pub record Cuts (n : ℕ) (result : Result (Unit {0}) Fault) (before after : Dis
   pub cut : OnOk result (after.seen ≡ take n before.seen)
   pub crash : Follows (Cut n) before after
   pub time : Elapses before after
+  pub sound : after.sound ≡ before.sound
   pub cause : HasCause result before after
 
--- a sync, before the end of which a crash may leave what it might have left, or what a read returns
+-- a sync, before the end of which a crash may leave what it might have left, or what a read returns. Behind one that has failed
+-- none keeps anything, whatever it answers
 pub record Syncs (result : Result (Unit {0}) Fault) (before after : Disk) : Type 0 where
-  pub durable : OnOk result (Only before.seen after.may_leave)
+  pub durable : OnOk result (before.sound ≡ true → Only before.seen after.may_leave)
+  pub sound : OnOk result (after.sound ≡ before.sound)
+  pub unsound : OnErr result (after.sound ≡ false)
   pub seen : after.seen ≡ before.seen
   pub crash : (c : List ℕ) → after.may_leave c → before.may_leave c ⊎ (c ≡ before.seen)
   pub time : Elapses before after
   pub cause : HasCause result before after
+
+-- rows
+
+-- where a device was full nothing else is told
+pub full_is_not_memory : (before after : Disk) → before.failures Full ≡ 0 → after.failures Full ≡ 1 → IsCause before after Memory → ⊥
+full_is_not_memory before after none one cause = ⊎_elim (λ failed. by_others (failed.others Full)) (λ own. at_one (own.1 Full)) cause
+  where
+    at_one : after.failures Full ≡ before.failures Full → ⊥
+    at_one same = absurd (omega (arith, same, none, one))
+
+    by_others : (Full ≡ Memory) ⊎ (after.failures Full ≡ before.failures Full) → ⊥
+    by_others either = ⊎_elim (λ is. let no : Full ≡ Memory = is in absurd (cc)) at_one either

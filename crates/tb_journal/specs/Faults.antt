@@ -2,7 +2,7 @@
 -- Cited by public contracts of: faults.
 use Rattle.std.specs.Prelude.{ℕ, List, codes}
 use Rattle.tb_journal.specs.declared.faults.Fault.{Fault}
-use Rattle.tb_journal.specs.declared.faults.Fault.TheVariants.{Memory, Failed, Full, TooLong, NotEmpty}
+use Rattle.tb_journal.specs.declared.faults.Fault.TheVariants.{Memory, Failed, Full, TooLong, NotEmpty, SyncFailed}
 
 -- a fault's number, by which other programs may know it
 abbrev pub fault_number : Fault → ℕ
@@ -11,6 +11,7 @@ fault_number Failed = 2
 fault_number Full = 3
 fault_number TooLong = 4
 fault_number NotEmpty = 5
+fault_number SyncFailed = 6
 
 -- a fault's name, as a message shows it
 abbrev pub fault_name : Fault → List ℕ
@@ -19,3 +20,4 @@ fault_name Failed = codes "Failed"
 fault_name Full = codes "Full"
 fault_name TooLong = codes "TooLong"
 fault_name NotEmpty = codes "NotEmpty"
+fault_name SyncFailed = codes "SyncFailed"

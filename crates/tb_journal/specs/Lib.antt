@@ -6,12 +6,15 @@ pub mod Contents
 pub mod Steps
 pub mod Ready
 pub mod Torn
+pub mod Failures
+pub mod Shown
 pub mod Memory
 pub mod Opening
 pub mod Scans
-pub mod Handed
 pub mod Creating
 pub mod Reading
 pub mod Real
+pub mod System
 -- what private contracts alone cite
 pub mod Batches
+pub mod Posix

@@ -1,10 +1,13 @@
 -- What a crash may leave of a file in memory, by the calls that were made.
 -- Cited by public contracts of: memory.
-use Rattle.std.specs.Prelude.{◌≡◌, ℕ, ◌≤◌, ◌==◌, List, [], ◌∷◌, length, take, reverse, if◌then◌else◌}
+use Rattle.std.specs.Prelude.{◌≡◌, ℕ, ◌≤◌, Bool, List, [], ◌∷◌, length, take, reverse, refl}
 use Rattle.std.proofs.Common.{arith, subst, sym}
 use Rattle.std.proofs.lemmas.List.{take_all}
 use Rattle.tb_journal.specs.Device.{Disk}
-use Rattle.tb_journal.specs.Torn.{Adds}
+use Rattle.tb_journal.specs.Torn.{Adds, shown_after}
+use Rattle.tb_journal.specs.Failures.{counted}
+use Rattle.tb_journal.specs.Shown.{torn_shown}
+use Rattle.tb_journal.specs.declared.memory.Failures.{Failures}
 use Rattle.tb_journal.specs.declared.memory.Memory.{Memory}
 use Rattle.tb_journal.specs.declared.memory.Call.{Call}
 
@@ -20,22 +23,38 @@ abbrev pub LeftBy : List ℕ → List Call → List ℕ → Type 0
 LeftBy first [] left = left ≡ first
 LeftBy first (call ∷ earlier) left = (d : List ℕ) × LeftBy first earlier d × Adds d call left
 
+-- what a read returns is among it
+leaves_shown : (first : List ℕ) (calls : List Call) → LeftBy first calls (shown_after first calls)
+leaves_shown first [] = refl
+leaves_shown first (call ∷ earlier) = (shown_after first earlier, leaves_shown first earlier, torn_shown call (shown_after first earlier))
+
 -- the same at a moment of the file
 abbrev pub CrashLeaves : Memory → ℕ → List ℕ → Type 0
 CrashLeaves file moment left = LeftBy file.first.items (reverse (take moment file.calls.items)) left
 
 -- the disk of a file that held the first bytes, after these calls
-abbrev pub disk_after : List ℕ → List Call → List ℕ → ℕ → Disk
-disk_after first calls bytes fuse = record {
+abbrev pub disk_after : List ℕ → List Call → List ℕ → Failures → Bool → Disk
+disk_after first calls bytes failures sound = record {
   seen = bytes;
   may_leave = LeftBy first (reverse calls);
   moment = length calls;
   left_since = λ t left. (k : ℕ) × (t ≤ k) × (k ≤ length calls) × LeftBy first (reverse (take k calls)) left;
-  faults = if fuse == 0 then 1 else 0;
+  failures = counted failures;
+  sound = sound;
 }
 
 abbrev pub memory_disk : Memory → Disk
-memory_disk file = disk_after file.first.items file.calls.items file.bytes.items file.fuse
+memory_disk file = disk_after file.first.items file.calls.items file.bytes.items file.failures file.sound
+
+-- its reads are those of its bytes
+abbrev pub memory_holds : Memory → List ℕ → Type 0
+memory_holds file bytes = bytes ≡ memory_bytes file
+
+pub memory_holds_seen : (file : Memory) → Unit {0} → memory_holds file (memory_disk file).seen
+memory_holds_seen file t = refl
+
+pub memory_stays : (file : Memory) → Unit {0} → (memory_disk file).may_leave (memory_disk file).seen
+memory_stays file t = subst (LeftBy file.first.items (reverse file.calls.items)) (sym file.shown) (leaves_shown file.first.items (reverse file.calls.items))
 
 pub memory_counts_now : (file : Memory) (t : ℕ) (c : List ℕ) → t ≤ (memory_disk file).moment
     → (memory_disk file).may_leave c → (memory_disk file).left_since t c

@@ -3,13 +3,14 @@
 use Rattle.std.specs.Prelude.{◌≡◌, ◌⊎◌, ℕ, ◌≤◌, ◌^◌, List, [], length, Result, Ok, Err, IfErr, OnOk}
 use Rattle.tb_journal.specs.declared.faults.Fault.{Fault}
 use Rattle.tb_journal.specs.declared.faults.Fault.TheVariants as faults
+use Rattle.tb_journal.specs.declared.reading.Extent.{Extent}
 use Rattle.tb_journal.specs.declared.reading.Refusal.{Refusal}
 use Rattle.tb_journal.specs.declared.reading.Refusal.TheVariants as refusals
 use Rattle.tb_journal.specs.declared.opening.OpenFault.{OpenFault}
 use Rattle.tb_journal.specs.declared.opening.OpenFault.TheVariants as open_faults
 use Rattle.tb_journal.specs.declared.opening.NotOpened.{NotOpened}
-use Rattle.tb_journal.specs.Device.{Disk, LeavesOnly, HasCause, IsCause}
-use Rattle.tb_journal.specs.Contents.{Contents, NotAJournal, Damaged, Records, contents, recorded}
+use Rattle.tb_journal.specs.Device.{Disk, IsSettled, LeavesOnly, FailsNone, HasCause, IsCause}
+use Rattle.tb_journal.specs.Contents.{Contents, NotAJournal, Damaged, Records, contents, recorded, records_end}
 use Rattle.tb_journal.specs.Steps.{IsAtRest}
 use Rattle.tb_journal.specs.Ready.{Kept, IsReady}
 
@@ -26,15 +27,21 @@ IsAsBefore before file = before.may_leave file ⊎ (file ≡ before.seen)
 abbrev pub StandsForTheSame : Disk → List ℕ → Type 0
 StandsForTheSame before file = before.may_leave file ⊎ (contents file ≡ contents before.seen)
 
--- why a journal is not opened: the file is refused, the device has a cause, or the file has no room for one more byte
+-- why a journal is not opened: the file is refused, the fault has a cause, or the file has no room for one more byte
 abbrev pub IsOpenCause : Disk → Disk → OpenFault → Type 0
-IsOpenCause before after (open_faults.Refused why) = contents before.seen ≡ refused_as why
-IsOpenCause before after (open_faults.Device fault) = IsCause before after fault ⊎ ((fault ≡ faults.Full) × (2 ^ 62 ≤ length before.seen))
+IsOpenCause before after (open_faults.Refused why) = (contents before.seen ≡ refused_as why) × FailsNone before after
+IsOpenCause before after (open_faults.Device fault) =
+    IsCause before after fault ⊎ ((fault ≡ faults.Full) × (2 ^ 62 ≤ length before.seen) × FailsNone before after)
 
 -- a fault of the device, or of memory: it says nothing against the file
 abbrev pub IsOfDevice : OpenFault → Type 0
 IsOfDevice (open_faults.Refused why) = ⊥
 IsOfDevice (open_faults.Device fault) = Unit {0}
+
+-- a file that is refused is no journal, or is damaged there
+abbrev pub RefusesFile : OpenFault → List ℕ → Type 0
+RefusesFile (open_faults.Refused why) file = contents file ≡ refused_as why
+RefusesFile (open_faults.Device fault) file = Unit {0}
 
 -- a refusal leaves the file as it was, at each moment
 abbrev pub IsUntouched : Disk → Disk → OpenFault → Type 0
@@ -53,7 +60,7 @@ fault_left (Err failed) = Err failed.fault
 
 -- an error has a cause
 pub record HasOpenCause {T : Type 0} (result : Result T OpenFault) (before after : Disk) : Type 0 where
-  pub later : before.faults ≤ after.faults
+  pub ok : OnOk result (FailsNone before after)
   pub cause : IfErr result (IsOpenCause before after)
 
 -- the journal of a file that read so: ready, with the same records, and none that wait
@@ -63,8 +70,18 @@ pub record IsOpened {D : Type 0} (disk : D → Disk) (file : List ℕ) (journal 
   pub same : recorded (disk journal.device).seen ≡ recorded file
   pub none_waits : journal.waiting ≡ []
 
+-- a journal whose records end there and are so many, and none that wait
+abbrev pub IsOfExtent : {D : Type 0} → Extent → Kept D → Type 0
+IsOfExtent extent journal = (journal.end ≡ extent.end) × (journal.count ≡ extent.count) × (journal.waiting ≡ [])
+
+-- the journal of the records of a file, or why the file is refused
+abbrev pub Recovers : {D : Type 0} → Result (Kept D) (NotOpened D) → List ℕ → Type 0
+Recovers (Ok journal) file =
+    (contents file ≡ Records (recorded file)) × IsOfExtent (record { end = records_end (recorded file); count = length (recorded file) }) journal
+Recovers (Err failed) file = RefusesFile failed.fault file
+
 -- what stands behind the records is cut off, and a closed gate written
 pub record Repairs (result : Result (Unit {0}) Fault) (before after : Disk) : Type 0 where
-  pub ok : OnOk result (IsAtRest after × (recorded after.seen ≡ recorded before.seen))
-  pub any_moment : LeavesOnly before after (λ file. contents file ≡ Records (recorded before.seen))
+  pub ok : IsSettled before → OnOk result (IsAtRest after × (recorded after.seen ≡ recorded before.seen))
+  pub any_moment : IsSettled before → LeavesOnly before after (λ file. contents file ≡ Records (recorded before.seen))
   pub cause : HasCause result before after

@@ -1,6 +1,6 @@
 -- What private functions find in the bytes of a journal.
 -- Cited by public contracts of: opening, scans.
-use Rattle.std.specs.Prelude.{◌≡◌, ◌⊎◌, ℕ, ◌+◌, ◌≤◌, ◌==◌, List, [], ◌∷◌, length, drop, Option, Some, None, Result, Ok, Err, IfOk, if◌then◌else◌, refl}
+use Rattle.std.specs.Prelude.{◌≡◌, ◌⊎◌, ℕ, ◌+◌, ◌≤◌, ◌==◌, true, List, [], ◌∷◌, length, drop, Option, Some, None, Result, Ok, Err, OnOk, if◌then◌else◌, refl}
 use Rattle.std.specs.Int.{w32, from_le_bytes}
 use Rattle.tb_journal.specs.declared.faults.Fault.{Fault}
 use Rattle.tb_journal.specs.declared.reading.Head.{Head}
@@ -8,9 +8,11 @@ use Rattle.tb_journal.specs.declared.reading.Head.TheVariants as heads
 use Rattle.tb_journal.specs.declared.reading.Extent.{Extent}
 use Rattle.tb_journal.specs.declared.reading.Refusal.{Refusal}
 use Rattle.tb_journal.specs.declared.reading.Refusal.TheVariants as refusals
-use Rattle.tb_journal.specs.Device.{Disk, IsOnDisk, LeavesOnly, HasCause}
+use Rattle.tb_journal.specs.Device.{Disk, IsSettled, LeavesOnly}
 use Rattle.tb_journal.specs.Contents.{Front, Ends, Spoiled, Whole, front, Contents, NotAJournal, Damaged, Records, contents, records_end}
-use Rattle.tb_journal.specs.Opening.{IsAsBefore}
+use Rattle.tb_journal.specs.declared.opening.OpenFault.{OpenFault}
+use Rattle.tb_journal.specs.declared.opening.OpenFault.TheVariants as open_faults
+use Rattle.tb_journal.specs.Opening.{IsAsBefore, refused_as}
 use Rattle.tb_journal.specs.Scans.{Place, IsAhead, HasRead}
 
 -- what stands at the head of bytes, without the record itself
@@ -24,6 +26,12 @@ abbrev pub extent_of : Contents → Result Extent Refusal
 extent_of NotAJournal = Err refusals.NotAJournal
 extent_of (Damaged at) = Err (refusals.Damaged at)
 extent_of (Records records) = Ok (record { end = records_end records; count = length records })
+
+-- where the records of a file end and how many they are, or why it is refused
+abbrev pub TellsExtent : Result Extent OpenFault → List ℕ → Type 0
+TellsExtent (Ok extent) file = extent_of (contents file) ≡ Ok extent
+TellsExtent (Err (open_faults.Refused why)) file = contents file ≡ refused_as why
+TellsExtent (Err (open_faults.Device fault)) file = Unit {0}
 
 -- so many bytes of a file from a place on tell what stands there: the parts of a block that have a fixed length, and
 -- the record where the gate is open
@@ -47,11 +55,10 @@ pub record FindsHead (at : ℕ) (file ahead : List ℕ) : Type 0 where
   pub finds : front ahead ≡ front (drop at file)
 
 -- a sync, and a look at what is then on the disk
-pub record LooksKept {T : Type 0} (result : Result T Fault) (Found : T → Type 0) (before after : Disk) : Type 0 where
-  pub ok : IfOk result (λ found. Found found × IsOnDisk after)
+pub record LooksKept {T : Type 0} (result : Result T Fault) (before after : Disk) : Type 0 where
+  pub settled : before.sound ≡ true → OnOk result (IsSettled after)
   pub seen : after.seen ≡ before.seen
   pub any_moment : LeavesOnly before after (IsAsBefore before)
-  pub cause : HasCause result before after
 
 -- a scan before its first record, or none of a file that is no journal
 abbrev pub StartsScan : Option Place → List ℕ → Type 0

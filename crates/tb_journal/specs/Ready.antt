@@ -1,16 +1,18 @@
 -- A journal that may be written to.
 -- Cited by public contracts of: journals.
-use Rattle.std.specs.Prelude.{◌≡◌, ℕ, List, length}
+use Rattle.std.specs.Prelude.{◌≡◌, ℕ, Bool, List, length}
 use Rattle.tb_journal.specs.Device.{Disk}
 use Rattle.tb_journal.specs.Contents.{recorded, records_end}
 use Rattle.tb_journal.specs.Steps.{IsAtRest}
 
--- a device with a journal's file, where the records in it end and how many they are, and the records that wait
+-- a device with a journal's file, where the records in it end and how many they are, the records that wait, and whether no commit
+-- has failed
 pub record Kept (D : Type 0) : Type 0 where
   pub device : D
   pub end : ℕ
   pub count : ℕ
   pub waiting : List (List ℕ)
+  pub usable : Bool
 
 -- the file is at rest, and the journal's numbers are those of its records
 pub record IsReady {D : Type 0} (disk : D → Disk) (journal : Kept D) : Type 0 where

@@ -4,7 +4,7 @@ use Rattle.std.specs.Prelude.{◌≡◌, ℕ, ◌<◌, ◌^◌, Bool, true, fals
 use Rattle.tb_journal.specs.declared.opening.OpenFault.{OpenFault}
 use Rattle.tb_journal.specs.declared.opening.OpenFault.TheVariants as open_faults
 use Rattle.tb_journal.specs.Checksum.{byte_on, bit_on}
-use Rattle.tb_journal.specs.Contents.{Records, block, contents, records_end}
+use Rattle.tb_journal.specs.Contents.{NotAJournal, Damaged, Records, magic, block, contents, records_end}
 use Rattle.tb_journal.specs.Opening.{refused_as}
 
 -- how far a file was read: where the records end, how many they are, the last of them, and the bytes read ahead
@@ -29,6 +29,12 @@ pub record HasRead (records : List (List ℕ)) (file : List ℕ) (scan : Place) 
   pub count : scan.count ≡ length records
   pub ahead : IsAhead scan.end file scan.ahead
 
+-- a scan before the first record of a file, or why the file is refused
+abbrev pub Starts : Result Place OpenFault → List ℕ → Type 0
+Starts (Ok scan) file = HasRead [] file scan
+Starts (Err (open_faults.Refused why)) file = contents file ≡ refused_as why
+Starts (Err (open_faults.Device fault)) file = Unit {0}
+
 -- the next step behind these records: one record more, the end, or why the file is refused
 abbrev pub ReadsNext : Result Bool OpenFault → List (List ℕ) → List ℕ → Place → Type 0
 ReadsNext (Ok true) records file scan = HasRead (records ++ scan.last ∷ []) file scan
@@ -50,3 +56,10 @@ begins_before_damage = refl
 -- each journal begins with no record
 pub begins_with_none : BeginsWith [] (codes "TBJRNL01" ++ 255 ∷ 7 ∷ [])
 begins_with_none = refl
+
+-- by its first bytes alone no file is one without records, and without a read none is refused
+pub no_end_by_the_first_bytes : ((file : List ℕ) → take 8 file ≡ magic → contents file ≡ Records []) → ⊥
+no_end_by_the_first_bytes says = let no : Damaged 8 ≡ Records [] = says (magic ++ 255 ∷ 1 ∷ []) refl in absurd (cc)
+
+pub no_refusal_without_a_read : ((file : List ℕ) → contents file ≡ NotAJournal) → ⊥
+no_refusal_without_a_read says = let no : Records [] ≡ NotAJournal = says (magic ++ 0 ∷ []) in absurd (cc)

@@ -1,15 +1,16 @@
 -- What the journal's calls leave on a disk.
 -- Cited by public contracts of: journals.
-use Rattle.std.specs.Prelude.{◌≡◌, ◌⊎◌, ℕ, List, [], ◌∷◌, ◌++◌, length, take, Result, OnOk}
+use Rattle.std.specs.Prelude.{◌≡◌, ◌⊎◌, ℕ, true, List, [], ◌∷◌, ◌++◌, length, take, Result, OnOk}
 use Rattle.tb_journal.specs.declared.faults.Fault.{Fault}
-use Rattle.tb_journal.specs.Device.{Disk, IsOnDisk, Torn, Cut, overwritten, LeavesOnly, HasCause}
+use Rattle.tb_journal.specs.Device.{Disk, IsOnDisk, IsSettled, Torn, Cut, overwritten, LeavesOnly, HasCause}
 use Rattle.tb_journal.specs.Contents.{Records, contents, recorded, records_end}
 
--- the file is whole blocks with a closed gate behind them and nothing more, all of it on the disk
+-- the file is whole blocks with a closed gate behind them and nothing more, all of it on the disk, and no sync has failed
 pub record IsAtRest (disk : Disk) : Type 0 where
   pub reads : contents disk.seen ≡ Records (recorded disk.seen)
   pub closed : disk.seen ≡ take (records_end (recorded disk.seen)) disk.seen ++ 0 ∷ []
   pub kept : IsOnDisk disk
+  pub sound : disk.sound ≡ true
 
 -- a file of these records, or of these with a whole batch behind them
 abbrev pub IsBeforeOrAfter : List (List ℕ) → List (List ℕ) → List ℕ → Type 0
@@ -17,14 +18,16 @@ IsBeforeOrAfter records batch file = (contents file ≡ Records records) ⊎ (co
 
 -- a write and a sync
 pub record Overwrites (at : ℕ) (bytes : List ℕ) (result : Result (Unit {0}) Fault) (before after : Disk) : Type 0 where
-  pub ok : OnOk result ((after.seen ≡ overwritten before.seen at bytes) × IsOnDisk after)
-  pub any_moment : LeavesOnly before after (Torn at (length bytes) before.seen)
+  pub ok : OnOk result (after.seen ≡ overwritten before.seen at bytes)
+  pub settled : IsSettled before → OnOk result (IsSettled after)
+  pub any_moment : IsSettled before → LeavesOnly before after (Torn at (length bytes) before.seen)
   pub cause : HasCause result before after
 
 -- a cut and a sync
 pub record Shortens (len : ℕ) (result : Result (Unit {0}) Fault) (before after : Disk) : Type 0 where
-  pub ok : OnOk result ((after.seen ≡ take len before.seen) × IsOnDisk after)
-  pub any_moment : LeavesOnly before after (Cut len before.seen)
+  pub ok : OnOk result (after.seen ≡ take len before.seen)
+  pub settled : IsSettled before → OnOk result (IsSettled after)
+  pub any_moment : IsSettled before → LeavesOnly before after (Cut len before.seen)
   pub cause : HasCause result before after
 
 -- a batch that is written behind what is there

@@ -1,7 +1,6 @@
 //! Calls on a device that are on the disk before the next.
 ghost use Rattle.std.specs.Prelude.{◌≡◌, ◌≤◌, ◌<◌, ◌+◌, ◌^◌, List, ℕ, [], length};
 ghost use Rattle.std.specs.List.{AllByRecursion};
-ghost use Rattle.tb_journal.specs.Device.{IsOnDisk};
 ghost use Rattle.tb_journal.specs.Contents.{Fits, at_rest, recorded, records_end};
 ghost use Rattle.tb_journal.specs.Steps.{IsAtRest, Overwrites, Publishes};
 
@@ -11,7 +10,6 @@ use crate::faults::Fault;
 
 // Writes, and syncs.
 pub fn write_kept<D: Device>(device: &mut D, at: usize, bytes: &[u8]) -> Result<(), Fault>
-    requires kept { D.tells → IsOnDisk (D.disk device.old) }
     requires within { D.tells → at ≤ length (D.disk device.old).seen }
     ensures { D.tells → Overwrites at bytes.now result (D.disk device.old) (D.disk device.new) }
 {

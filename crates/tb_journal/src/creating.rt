@@ -1,6 +1,6 @@
 //! A journal is created.
-ghost use Rattle.std.specs.Prelude.{◌≡◌, ◌≤◌, true, length, IfOk, IfErr};
-ghost use Rattle.tb_journal.specs.Device.{IsOnDisk, LeavesOnly, ReadsAt};
+ghost use Rattle.std.specs.Prelude.{◌≡◌, ◌≤◌, true, [], length, OnOk, IfOk, IfErr};
+ghost use Rattle.tb_journal.specs.Device.{IsSettled, LeavesOnly, HasCause, ReadsAt};
 ghost use Rattle.tb_journal.specs.Opening.{IsOfDevice, device_left, fault_left};
 ghost use Rattle.tb_journal.specs.Creating.{is_torn_from, is_blank, MayBeCreated, IsLeft, HasCreateCause, IsNew, IsUnborn, FindsBlank, WritesFirst};
 ghost use Rattle.tb_journal.specs.Reading.{LooksKept};
@@ -21,15 +21,17 @@ const FIRST: [u8; 9] = [84, 66, 74, 82, 78, 76, 48, 49, 0];
 /// as a creation leaves that a crash has cut short: nothing was acknowledged there, and the call
 /// may be made again.
 pub fn create<D: Device>(alloc: Global, device: D) -> Result<Journal<D>, NotOpened<D>>
-    ensures created { D.tells → IfOk result (IsNew D.disk) }
+    // Where no sync has failed before.
+    ensures created { D.tells → (D.disk device).sound ≡ true → IfOk result (IsNew D.disk) }
     ensures blank { D.tells → IfOk result (λ _. is_blank (D.disk device).seen ≡ true) }
     // A crash at any moment of the call leaves the file as it was, or no record in it.
-    ensures any_moment { D.tells
+    ensures any_moment { D.tells → (D.disk device).sound ≡ true
         → LeavesOnly (D.disk device) (D.disk (device_left result)) (MayBeCreated (D.disk device)) }
     // A file that is not blank stays as it was.
     ensures untouched { D.tells
         → IfErr result (λ failed. IsLeft (D.disk device) (D.disk failed.device) failed.fault) }
     // Of any device.
+    ensures usable { IfOk result (λ journal. (journal.usable ≡ true) × (journal.waiting ≡ [])) }
     ensures of_device { IfErr result (λ failed. IsOfDevice failed.fault) }
     ensures cause { D.tells → HasCreateCause (fault_left result) (D.disk device) (D.disk (device_left result)) }
 {
@@ -63,9 +65,10 @@ fn finds_blank<D: Device>(device: &mut D) -> Result<bool, Fault>
 // The first bytes of a file. What is read is on the disk before it is read.
 fn read_kept<D: Device>(device: &mut D, into: &mut [u8]) -> Result<usize, Fault>
     ensures within { IfOk result (λ count. count ≤ length into.new) }
-    ensures reads { D.tells
-        → LooksKept result (λ count. ReadsAt count 0 (D.disk device.old).seen into.new)
-        (D.disk device.old) (D.disk device.new) }
+    ensures bytes { D.tells → IfOk result (λ count. ReadsAt count 0 (D.disk device.old).seen into.new) }
+    ensures reads { D.tells → LooksKept result (D.disk device.old) (D.disk device.new) }
+    ensures sound { D.tells → OnOk result ((D.disk device.new).sound ≡ (D.disk device.old).sound) }
+    ensures cause { D.tells → HasCause result (D.disk device.old) (D.disk device.new) }
 {
     device.sync()?;
     device.read_at(0, into)
@@ -73,10 +76,11 @@ fn read_kept<D: Device>(device: &mut D, into: &mut [u8]) -> Result<usize, Fault>
 
 // Writes over a blank file.
 fn begin<D: Device>(alloc: Global, device: D) -> Result<Journal<D>, NotOpened<D>>
-    requires kept { D.tells → IsOnDisk (D.disk device) }
     requires blank { D.tells → is_blank (D.disk device).seen ≡ true }
-    ensures created { D.tells → IfOk result (IsNew D.disk) }
-    ensures any_moment { D.tells → LeavesOnly (D.disk device) (D.disk (device_left result)) IsUnborn }
+    ensures created { D.tells → IsSettled (D.disk device) → IfOk result (IsNew D.disk) }
+    ensures any_moment { D.tells → IsSettled (D.disk device)
+        → LeavesOnly (D.disk device) (D.disk (device_left result)) IsUnborn }
+    ensures usable { IfOk result (λ journal. (journal.usable ≡ true) × (journal.waiting ≡ [])) }
     ensures of_device { IfErr result (λ failed. IsOfDevice failed.fault) }
     ensures cause { D.tells → HasCreateCause (fault_left result) (D.disk device) (D.disk (device_left result)) }
 {
@@ -90,6 +94,7 @@ fn begin<D: Device>(alloc: Global, device: D) -> Result<Journal<D>, NotOpened<D>
             end: MAGIC.len(),
             count: 0,
             batch,
+            usable: true,
         }),
         Err(fault) => Err(NotOpened::of_device(device, fault)),
     }
@@ -97,7 +102,6 @@ fn begin<D: Device>(alloc: Global, device: D) -> Result<Journal<D>, NotOpened<D>
 
 // Writes the first bytes, all in one write: whatever a crash leaves of them holds no record.
 fn write_first<D: Device>(device: &mut D) -> Result<(), Fault>
-    requires kept { D.tells → IsOnDisk (D.disk device.old) }
     requires blank { D.tells → is_blank (D.disk device.old).seen ≡ true }
     ensures { D.tells → WritesFirst result (D.disk device.old) (D.disk device.new) }
 {

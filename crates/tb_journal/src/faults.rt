@@ -18,10 +18,13 @@ pub enum Fault {
     TooLong,
     /// A journal is to be created where there is something.
     NotEmpty,
+    /// A sync failed. What was written since the last one may be lost, though reads still return it, and no later sync
+    /// brings it back.
+    SyncFailed,
 }
 
 impl Fault {
-    /// The fault's number, 1 to 5.
+    /// The fault's number, 1 to 6.
     pub fn number(self) -> u8
         ensures { result ≡ fault_number self }
     {
@@ -31,6 +34,7 @@ impl Fault {
             Fault::Full => 3,
             Fault::TooLong => 4,
             Fault::NotEmpty => 5,
+            Fault::SyncFailed => 6,
         }
     }
 
@@ -44,6 +48,7 @@ impl Fault {
             Fault::Full => "Full",
             Fault::TooLong => "TooLong",
             Fault::NotEmpty => "NotEmpty",
+            Fault::SyncFailed => "SyncFailed",
         }
     }
 }

@@ -1,5 +1,5 @@
 //! A journal: records in a file, each on the disk before it counts.
-ghost use Rattle.std.specs.Prelude.{◌≡◌, ◌↔◌, ◌≤◌, ◌<◌, ◌+◌, ◌^◌, ◌++◌, List, [], ◌∷◌, length, Ok, OnOk, OnErr, IsErrOf};
+ghost use Rattle.std.specs.Prelude.{◌≡◌, ◌↔◌, ◌≤◌, ◌<◌, ◌+◌, ◌^◌, ◌++◌, true, false, List, [], ◌∷◌, length, Ok, OnOk, OnErr, IsErrOf};
 ghost use Rattle.tb_journal.specs.Device.{LeavesOnly, HasCause};
 ghost use Rattle.tb_journal.specs.Contents.{at_rest, recorded};
 ghost use Rattle.tb_journal.specs.Steps.{IsBeforeOrAfter};
@@ -24,12 +24,14 @@ pub struct Journal<D: Device> {
     pub(crate) end: usize,
     pub(crate) count: usize,
     pub(crate) batch: Batch,
+    // No commit has failed.
+    pub(crate) usable: bool,
 }
 
 impl<D: Device> Model for Journal<D> {
     ghost Value = { Kept D };
 
-    ghost view = { λ j. record { device = j.device; end = j.end; count = j.count; waiting = j.batch } };
+    ghost view = { λ j. record { device = j.device; end = j.end; count = j.count; waiting = j.batch; usable = j.usable } };
 
     ghost invariant = { λ j. (j.end + length (at_rest j.batch) ≤ 2 ^ 62) × (j.count ≤ j.end) };
 }
@@ -37,6 +39,7 @@ impl<D: Device> Model for Journal<D> {
 impl<D: Device> Journal<D> {
     /// Lets a record wait for the next commit. The file stays as it is. At an `Err` nothing has changed.
     pub fn append(&mut self, content: &[u8]) -> Result<(), Fault>
+        requires usable { self.old.usable ≡ true }
         ensures ok { OnOk result
             (self.new ≡ record self.old { waiting = self.old.waiting ++ content.now ∷ [] }) }
         ensures err { OnErr result (self.new ≡ self.old) }
@@ -45,6 +48,7 @@ impl<D: Device> Journal<D> {
             → 2 ^ 62 < self.old.end + length (at_rest self.old.waiting) + 8 + length content.now }
         ensures failed { IsErrOf result Fault.Failed → ⊥ }
         ensures not_empty { IsErrOf result Fault.NotEmpty → ⊥ }
+        ensures synced { IsErrOf result Fault.SyncFailed → ⊥ }
     {
         if content.len() >= RECORD_BYTES_MAX {
             return Err(Fault::TooLong);
@@ -62,7 +66,8 @@ impl<D: Device> Journal<D> {
     /// them. Where none waits the device is not called. It takes no memory of its own. After an `Err` the journal is
     /// not used again: the file has to be recovered.
     pub fn commit(&mut self) -> Result<(), Fault>
-        requires { D.tells → IsReady D.disk self.old }
+        requires usable { self.old.usable ≡ true }
+        requires ready { D.tells → IsReady D.disk self.old }
 
         ensures ready { D.tells → OnOk result (IsReady D.disk self.new) }
         ensures acknowledged { D.tells
@@ -71,6 +76,9 @@ impl<D: Device> Journal<D> {
             ≡ recorded (D.disk self.old.device).seen ++ self.old.waiting) }
         ensures emptied { OnOk result (self.new.waiting ≡ []) }
         ensures idle { self.old.waiting ≡ [] → (result ≡ Ok tt) × (self.new ≡ self.old) }
+        // Of any device.
+        ensures usable { OnOk result (self.new.usable ≡ true) }
+        ensures err { OnErr result (self.new ≡ record self.old { device = self.new.device; usable = false }) }
 
         // A crash at any moment of the call leaves the records from before it, with the whole batch or with none of it.
         ensures any_moment { D.tells → LeavesOnly (D.disk self.old.device) (D.disk self.new.device)
@@ -89,7 +97,10 @@ impl<D: Device> Journal<D> {
                 self.batch.clear();
                 Ok(())
             }
-            Err(fault) => Err(fault),
+            Err(fault) => {
+                self.usable = false;
+                Err(fault)
+            }
         }
     }
 
@@ -112,6 +123,13 @@ impl<D: Device> Journal<D> {
         ensures { result ≡ self.now.count }
     {
         self.count
+    }
+
+    /// The number of bytes that the records take that wait, with the closed gate behind them: a commit writes so many.
+    pub fn waiting_bytes(&self) -> usize
+        ensures { result ≡ length (at_rest self.now.waiting) }
+    {
+        self.batch.bytes().len()
     }
 
     /// The number of records that wait.

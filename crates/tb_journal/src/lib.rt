@@ -5,7 +5,9 @@
 //! - `faults`: why a call on a device or a journal failed.
 //! - `devices`: `Device`, what a read returns, and what a crash may leave.
 //! - `memory`: a file in memory that tears and fails, and tells what a crash may leave of it.
-//! - `real`: a file of the system, locked, of which nothing is told.
+//! - `systems`: `System`, POSIX's calls on an open file.
+//! - `posix`: `Posix`, a device over them.
+//! - `real`: `Real`, the same over a file of the system, locked, of which nothing is told.
 //! - `tables`: the remainders that CRC-32C looks up.
 //! - `checksums`: CRC-32C, sixteen bytes at a time.
 //! - `batches`: records that wait, as the bytes that a commit writes.
@@ -17,8 +19,8 @@
 //! - `opening`: `Journal::open` and `recover`, which cut off what stands behind the records.
 //! - `creating`: `create`, a journal in an empty file.
 //!
-//! specs/Contents is what a file's bytes stand for, specs/Device what each call of a device does, specs/Handed which bytes
-//! reads handed out, specs/Steps, Opening and Creating what the journal's calls leave.
+//! specs/Contents is what a file's bytes stand for, specs/Device what each call of a device does, specs/Scans what was read of
+//! a file, specs/Steps, Opening and Creating what the journal's calls leave.
 #![tactic(auto)]
 
 mod batches;
@@ -30,9 +32,11 @@ mod faults;
 mod journals;
 mod memory;
 mod opening;
+mod posix;
 mod reading;
 mod real;
 mod scans;
+mod systems;
 mod tables;
 mod windows;
 
@@ -42,6 +46,8 @@ pub use faults::Fault;
 pub use journals::{FILE_BYTES_MAX, Journal, RECORD_BYTES_MAX};
 pub use memory::Memory;
 pub use opening::{NotOpened, OpenFault, recover};
+pub use posix::Posix;
 pub use reading::{Extent, Refusal};
-pub use real::{FileFault, Real};
+pub use real::{FileFault, HostFile, Real, sync_folder};
 pub use scans::{Scan, read_journal};
+pub use systems::System;

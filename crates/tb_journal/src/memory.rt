@@ -1,18 +1,72 @@
 //! A file in memory that tells what a crash may leave of it, and can fail.
-ghost use Rattle.std.specs.Prelude.{◌≡◌, ◌≤◌, ℕ, ◌-◌, ◌==◌, length, IfOk};
-ghost use Rattle.tb_journal.specs.Device.{Torn, ReadsAt, overwritten};
-ghost use Rattle.tb_journal.specs.Torn.{Adds};
+ghost use Rattle.std.specs.Prelude.{◌≡◌, ◌≤◌, ◌⊎◌, ◌++◌, ◌∷◌, true, [], Vec, ℕ, ◌-◌, ◌==◌, length, reverse, IfOk, OnOk, OnErr};
+ghost use Rattle.tb_journal.specs.declared.memory.Call.TheVariants as variants;
+ghost use Rattle.tb_journal.specs.Device.{Torn, ReadsAt, Rises, IsOfCall, IsOfSync, overwritten};
+ghost use Rattle.tb_journal.specs.Torn.{Adds, shown_after};
 
 use crate::devices::Device;
 use crate::faults::Fault;
 use std::alloc::{AllocError, Global};
 
-// A call that was made, with what it may have left. A sync keeps the whole file.
+// A call that was made, with what it may have left. One that failed is not shown. A sync keeps the whole file.
 #[derive(Drop)]
 enum Call {
-    Write { at: usize, bytes: Vec<u8> },
-    Cut { len: usize },
-    Sync { file: Vec<u8> },
+    Write {
+        at: usize,
+        bytes: Vec<u8>,
+        shown: bool,
+    },
+    Cut {
+        len: usize,
+        shown: bool,
+    },
+    Sync {
+        file: Vec<u8>,
+    },
+}
+
+// How often a call has failed, by the fault. A count that is full stays.
+#[derive(Drop)]
+struct Failures {
+    memory: u64,
+    failed: u64,
+    full: u64,
+    too_long: u64,
+    not_empty: u64,
+    unsynced: u64,
+}
+
+impl Failures {
+    ghost use Rattle.tb_journal.specs.declared.faults.Fault.{Fault};
+    ghost use Rattle.tb_journal.specs.Failures.{counted};
+
+    fn none() -> Failures {
+        Failures {
+            memory: 0,
+            failed: 0,
+            full: 0,
+            too_long: 0,
+            not_empty: 0,
+            unsynced: 0,
+        }
+    }
+
+    // Counts one, and answers it.
+    fn count(&mut self, fault: Fault) -> Fault
+        ensures same { result ≡ fault }
+        ensures counted { Rises (counted self.old fault) (counted self.new fault) }
+        ensures others { (other : Fault) → (other ≡ fault) ⊎ (counted self.new other ≡ counted self.old other) }
+    {
+        match fault {
+            Fault::Memory => self.memory = self.memory.saturating_add(1),
+            Fault::Failed => self.failed = self.failed.saturating_add(1),
+            Fault::Full => self.full = self.full.saturating_add(1),
+            Fault::TooLong => self.too_long = self.too_long.saturating_add(1),
+            Fault::NotEmpty => self.not_empty = self.not_empty.saturating_add(1),
+            Fault::SyncFailed => self.unsynced = self.unsynced.saturating_add(1),
+        }
+        fault
+    }
 }
 
 /// A file in memory. It keeps each call since it was made, so that what a crash at any moment may leave can be had.
@@ -24,15 +78,23 @@ pub struct Memory {
     bytes: Vec<u8>,
     // The call of this number from now fails; 0 where none will.
     fuse: u64,
+    // What it fails with.
+    why: Fault,
+    failures: Failures,
+    // No sync has failed.
+    sound: bool,
+    // What a read returns is what the calls that did not fail have made.
+    ghost shown: { bytes.items ≡ shown_after first.items (reverse calls.items) },
 }
 
 impl Memory {
-    ghost use Rattle.tb_journal.specs.Memory.{memory_bytes, moments_of, CrashLeaves};
+    ghost use Rattle.tb_journal.specs.Memory.{memory_bytes, moments_of, memory_disk, CrashLeaves};
 
     /// A file with these bytes, all of them on the disk.
     pub fn new(alloc: Global, bytes: Vec<u8>) -> Result<Self, AllocError>
         ensures bytes { IfOk result (λ file. memory_bytes file ≡ bytes.items) }
         ensures moments { IfOk result (λ file. moments_of file ≡ 0) }
+        ensures sound { IfOk result (λ file. (memory_disk file).sound ≡ true) }
     {
         Ok(Memory {
             alloc,
@@ -40,6 +102,9 @@ impl Memory {
             calls: Vec::new(alloc),
             bytes,
             fuse: 0,
+            why: Fault::Failed,
+            failures: Failures::none(),
+            sound: true,
         })
     }
 
@@ -50,20 +115,32 @@ impl Memory {
         &self.bytes
     }
 
-    /// The number of moments so far: one for each write, cut and sync.
+    /// The number of moments so far: one for each write and cut, and for each sync that kept what there was.
     pub fn moments(&self) -> usize
         ensures { result ≡ moments_of self.now }
     {
         self.calls.len()
     }
 
-    /// Lets the call of this number from now fail, the next one at 1; at 0 none. A write or a cut that fails may leave
-    /// what one that a crash cuts short leaves, and is not seen.
+    /// Lets the call of this number from now fail, the next one at 1; at 0 none. The fault is Failed, or SyncFailed of a
+    /// sync. A write or a cut that fails may leave what one that a crash cuts short leaves, and is not seen. Behind a sync
+    /// that fails no other keeps anything.
     pub fn fail_at(&mut self, number: u64)
         ensures bytes { memory_bytes self.new ≡ memory_bytes self.old }
         ensures moments { moments_of self.new ≡ moments_of self.old }
+        ensures sound { (memory_disk self.new).sound ≡ (memory_disk self.old).sound }
+    {
+        self.fail_with(number, Fault::Failed);
+    }
+
+    /// The same, with the fault that is named: Memory, or Full where the call is no sync.
+    pub fn fail_with(&mut self, number: u64, fault: Fault)
+        ensures bytes { memory_bytes self.new ≡ memory_bytes self.old }
+        ensures moments { moments_of self.new ≡ moments_of self.old }
+        ensures sound { (memory_disk self.new).sound ≡ (memory_disk self.old).sound }
     {
         self.fuse = number;
+        self.why = fault;
     }
 
     /// What a crash at a moment may leave. Of each write that no sync has followed, these bytes stand in its range, as
@@ -85,8 +162,8 @@ fn after_torn(alloc: Global, file: Vec<u8>, call: &Call, torn: &[u8]) -> Result<
     ensures { IfOk result (λ left. Adds file.items call.now left.items) }
 {
     match call {
-        Call::Write { at, bytes } => torn_write(alloc, file, *at, bytes.len(), torn),
-        Call::Cut { len } => {
+        Call::Write { at, bytes, .. } => torn_write(alloc, file, *at, bytes.len(), torn),
+        Call::Cut { len, .. } => {
             let mut file = file;
             file.truncate(len.saturating_add(torn.len()));
             Ok(file)
@@ -113,11 +190,17 @@ fn torn_write(
 }
 
 impl Device for Memory {
-    ghost use Rattle.tb_journal.specs.Memory.{memory_disk, memory_counts_now, memory_only_now};
+    ghost use Rattle.tb_journal.specs.Memory.{memory_disk, memory_holds, memory_holds_seen, memory_stays, memory_counts_now, memory_only_now};
 
     ghost tells = { Unit {0} };
 
     ghost disk = { memory_disk };
+
+    ghost holds = { memory_holds };
+
+    ghost holds_seen = { memory_holds_seen };
+
+    ghost stays = { memory_stays };
 
     ghost counts_now = { memory_counts_now };
 
@@ -125,46 +208,120 @@ impl Device for Memory {
 
     fn read_at(&mut self, at: usize, into: &mut [u8]) -> Result<usize, Fault> {
         if trips(&mut self.fuse) {
-            return Err(Fault::Failed);
+            return Err(self.failures.count(of_call(self.why)));
         }
         Ok(copy_from(&self.bytes, at, into))
     }
 
     fn len(&mut self) -> Result<usize, Fault> {
         if trips(&mut self.fuse) {
-            return Err(Fault::Failed);
+            return Err(self.failures.count(of_call(self.why)));
         }
         Ok(self.bytes.len())
     }
 
     fn write_at(&mut self, at: usize, bytes: &[u8]) -> Result<(), Fault> {
-        let next = overwrite(self.alloc, &self.bytes, at, bytes)?;
-        let bytes = Vec::from_slice(self.alloc, bytes)?;
-        self.calls.push(Call::Write { at, bytes })?;
-        if trips(&mut self.fuse) {
-            return Err(Fault::Failed);
+        let shown = !trips(&mut self.fuse);
+        match push_write(self.alloc, &mut self.calls, &self.bytes, at, bytes, shown) {
+            Ok(next) => {
+                if !shown {
+                    return Err(self.failures.count(of_call(self.why)));
+                }
+                self.bytes = next;
+                Ok(())
+            }
+            Err(_) => Err(self.failures.count(Fault::Memory)),
         }
-        self.bytes = next;
-        Ok(())
     }
 
     fn cut(&mut self, len: usize) -> Result<(), Fault> {
-        self.calls.push(Call::Cut { len })?;
-        if trips(&mut self.fuse) {
-            return Err(Fault::Failed);
+        let shown = !trips(&mut self.fuse);
+        match push_call(&mut self.calls, Call::Cut { len, shown }) {
+            Ok(()) => {
+                if !shown {
+                    return Err(self.failures.count(of_call(self.why)));
+                }
+                self.bytes.truncate(len);
+                Ok(())
+            }
+            Err(_) => Err(self.failures.count(Fault::Memory)),
         }
-        self.bytes.truncate(len);
-        Ok(())
     }
 
     fn sync(&mut self) -> Result<(), Fault> {
         if trips(&mut self.fuse) {
-            return Err(Fault::Failed);
+            self.sound = false;
+            return Err(self.failures.count(of_sync(self.why)));
         }
-        let file = Vec::from_slice(self.alloc, &self.bytes)?;
-        self.calls.push(Call::Sync { file })?;
-        Ok(())
+        if !self.sound {
+            return Ok(());
+        }
+        match push_sync(self.alloc, &mut self.calls, &self.bytes) {
+            Ok(()) => Ok(()),
+            Err(_) => {
+                self.sound = false;
+                Err(self.failures.count(Fault::Memory))
+            }
+        }
     }
+}
+
+// The fault of a call that is no sync.
+fn of_call(fault: Fault) -> Fault
+    ensures { IsOfCall result }
+{
+    match fault {
+        Fault::Memory | Fault::Full => fault,
+        _ => Fault::Failed,
+    }
+}
+
+// The fault of a sync.
+fn of_sync(fault: Fault) -> Fault
+    ensures { IsOfSync result }
+{
+    match fault {
+        Fault::Memory => fault,
+        _ => Fault::SyncFailed,
+    }
+}
+
+// One call more.
+fn push_call(calls: &mut Vec<Call>, call: Call) -> Result<(), AllocError>
+    ensures ok { OnOk result (calls.new.items ≡ calls.old.items ++ call ∷ []) }
+    ensures err { OnErr result (calls.new.items ≡ calls.old.items) }
+{
+    calls.push(call)?;
+    Ok(())
+}
+
+// A write more: what the file is after it.
+fn push_write(
+    alloc: Global,
+    calls: &mut Vec<Call>,
+    old: &[u8],
+    at: usize,
+    bytes: &[u8],
+    shown: bool,
+) -> Result<Vec<u8>, AllocError>
+    requires { at ≤ length old.now }
+    ensures next { IfOk result (λ next. next.items ≡ overwritten old.now at bytes.now) }
+    ensures ok { OnOk result ((v : Vec ℕ Global) × (v.items ≡ bytes.now) × (calls.new.items ≡ calls.old.items ++ variants.Write at v shown ∷ [])) }
+    ensures err { OnErr result (calls.new.items ≡ calls.old.items) }
+{
+    let next = overwrite(alloc, old, at, bytes)?;
+    let bytes = Vec::from_slice(alloc, bytes)?;
+    push_call(calls, Call::Write { at, bytes, shown })?;
+    Ok(next)
+}
+
+// A sync more.
+fn push_sync(alloc: Global, calls: &mut Vec<Call>, file: &[u8]) -> Result<(), AllocError>
+    ensures ok { OnOk result ((v : Vec ℕ Global) × (v.items ≡ file.now) × (calls.new.items ≡ calls.old.items ++ variants.Sync v ∷ [])) }
+    ensures err { OnErr result (calls.new.items ≡ calls.old.items) }
+{
+    let file = Vec::from_slice(alloc, file)?;
+    push_call(calls, Call::Sync { file })
 }
 
 // Copies the bytes from an offset on, as many as there is room for.

@@ -1,10 +1,10 @@
 //! A journal is opened from a file that a crash may have left.
-ghost use Rattle.std.specs.Prelude.{◌≡◌, ◌≤◌, List, ℕ, length, Ok, IfOk, IfErr};
+ghost use Rattle.std.specs.Prelude.{◌≡◌, ◌≤◌, true, List, ℕ, length, Ok, IfOk, IfErr};
 ghost use Rattle.tb_journal.specs.Device.{IsOnDisk, LeavesOnly};
 ghost use Rattle.tb_journal.specs.Contents.{Records, contents, recorded, records_end};
 ghost use Rattle.tb_journal.specs.Steps.{Shortens};
 ghost use Rattle.tb_journal.specs.Reading.{extent_of};
-ghost use Rattle.tb_journal.specs.Opening.{IsAsBefore, StandsForTheSame, IsOfDevice, HasOpenCause, IsUntouched, IsOpened, Repairs, device_left, fault_left};
+ghost use Rattle.tb_journal.specs.Opening.{IsOfExtent, Recovers, StandsForTheSame, IsOfDevice, HasOpenCause, IsUntouched, IsOpened, Repairs, device_left, fault_left};
 
 use crate::batches::{Batch, CLOSED};
 use crate::calls::write_kept;
@@ -45,7 +45,6 @@ impl<D: Device> NotOpened<D> {
 
 // Cuts, and syncs.
 fn cut_kept<D: Device>(device: &mut D, len: usize) -> Result<(), Fault>
-    requires kept { D.tells → IsOnDisk (D.disk device.old) }
     requires within { D.tells → len ≤ length (D.disk device.old).seen }
     ensures { D.tells → Shortens len result (D.disk device.old) (D.disk device.new) }
 {
@@ -58,7 +57,6 @@ fn cut_kept<D: Device>(device: &mut D, len: usize) -> Result<(), Fault>
 // Cuts off what stands behind the records, and writes a closed gate there. The cut is on the disk
 // first: behind a gate that is torn open, what was there would count.
 fn repair<D: Device>(device: &mut D, end: usize) -> Result<(), Fault>
-    requires kept { D.tells → IsOnDisk (D.disk device.old) }
     requires reads { D.tells → contents (D.disk device.old).seen ≡ Records (recorded (D.disk device.old).seen) }
     requires ends { D.tells → end ≡ records_end (recorded (D.disk device.old).seen) }
     ensures { D.tells → Repairs result (D.disk device.old) (D.disk device.new) }
@@ -74,14 +72,18 @@ impl<D: Device> Journal<D> {
     /// is cut off. A crash at any moment of the call leaves a file of the same records.
     pub fn open(alloc: Global, device: D, extent: Extent) -> Result<Journal<D>, NotOpened<D>>
         requires few { extent.count ≤ extent.end }
-        requires kept { D.tells → IsOnDisk (D.disk device) }
+        requires kept { D.tells → (D.disk device).sound ≡ true → IsOnDisk (D.disk device) }
         requires read { D.tells → extent_of (contents (D.disk device).seen) ≡ Ok extent }
 
-        ensures opened { D.tells → IfOk result (IsOpened D.disk (D.disk device).seen) }
-        ensures any_moment { D.tells
+        // Where no sync has failed before.
+        ensures opened { D.tells → (D.disk device).sound ≡ true
+            → IfOk result (IsOpened D.disk (D.disk device).seen) }
+        ensures any_moment { D.tells → (D.disk device).sound ≡ true
             → LeavesOnly (D.disk device) (D.disk (device_left result))
             (λ c. contents c ≡ Records (recorded (D.disk device).seen)) }
         // Of any device.
+        ensures usable { IfOk result (λ journal. journal.usable ≡ true) }
+        ensures numbers { IfOk result (IsOfExtent extent) }
         ensures of_device { IfErr result (λ failed. IsOfDevice failed.fault) }
         ensures cause { D.tells → HasOpenCause (fault_left result) (D.disk device) (D.disk (device_left result)) }
     {
@@ -99,6 +101,7 @@ impl<D: Device> Journal<D> {
                 end,
                 count,
                 batch,
+                usable: true,
             }),
             Err(fault) => Err(NotOpened::of_device(device, fault)),
         }
@@ -109,10 +112,16 @@ impl<D: Device> Journal<D> {
 /// stands for, and it is ready. A crash at any moment of the call leaves a file of the same
 /// records, so that the call may be made again.
 pub fn recover<D: Device>(alloc: Global, device: D) -> Result<Journal<D>, NotOpened<D>>
-    ensures opened { D.tells → IfOk result (IsOpened D.disk (D.disk device).seen) }
-    ensures any_moment { D.tells
+    // Where no sync has failed before.
+    ensures opened { D.tells → (D.disk device).sound ≡ true
+        → IfOk result (IsOpened D.disk (D.disk device).seen) }
+    ensures any_moment { D.tells → (D.disk device).sound ≡ true
         → LeavesOnly (D.disk device) (D.disk (device_left result))
         (StandsForTheSame (D.disk device)) }
+    // Of any device.
+    ensures usable { IfOk result (λ journal. journal.usable ≡ true) }
+    // The records are those of the file that its reads are of.
+    ensures handed { (file : List ℕ) → D.holds device file → Recovers result file }
     // A file that is no journal, or is damaged, stays as it was.
     ensures untouched { D.tells
         → IfErr result (λ failed. IsUntouched (D.disk device) (D.disk failed.device) failed.fault) }

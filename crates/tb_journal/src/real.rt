@@ -1,13 +1,12 @@
 //! A file of the system.
-ghost use Rattle.std.specs.Prelude.{◌≤◌, length, IfOk};
 ghost use Rattle.tb_journal.specs.Real.{untold};
 
-use crate::devices::Device;
-use crate::faults::Fault;
-use std::fs::{File, Files, TryLockError};
-use std::io;
+use crate::posix::Posix;
+use crate::systems::System;
+use std::fs::{File, Files, OpenFile, TryLockError};
 use std::io::ErrorKind;
 use std::os::unix::fs::FileExt;
+use std::{fs, io};
 
 /// Why a file was not opened.
 #[derive(Debug, Drop)]
@@ -24,112 +23,103 @@ impl From<io::Error> for FileFault {
     }
 }
 
-/// A file of the system, locked as long as it is open. What its calls do no proof knows: they are
-/// trusted to keep what `Device` says.
+/// A file that the system has opened. Each call is one of std's. What they do no proof knows: they are trusted to keep what
+/// `System` says.
 #[derive(Drop)]
-pub struct Real {
+pub struct HostFile {
     file: File,
 }
 
-impl Real {
-    /// Opens a file that is there.
-    pub fn open<R: Files<File = File>>(rt: &R, path: &str) -> Result<Real, FileFault> {
-        Real::locked(File::options().read(true).write(true).open(rt, path)?)
-    }
-
-    /// Opens a file, and makes it where it is not there; then its name is on the disk.
-    pub fn make<R: Files<File = File>>(rt: &R, path: &str) -> Result<Real, FileFault> {
-        let mut how = File::options();
-        let file = how.read(true).write(true).create(true).open(rt, path)?;
-        let real = Real::locked(file)?;
-        File::open(rt, folder_of(path))?.sync_all()?;
-        Ok(real)
-    }
-
-    fn locked(file: File) -> Result<Real, FileFault> {
-        match file.try_lock() {
-            Ok(()) => {
-                file.sync_all()?;
-                Ok(Real { file })
-            }
-            Err(TryLockError::WouldBlock) => Err(FileFault::Locked),
-            Err(TryLockError::Error(error)) => Err(FileFault::System(error)),
-        }
-    }
-}
-
-// The folder that a file lies in.
-fn folder_of(path: &str) -> &str {
-    match path.rfind('/') {
-        Some(0) => "/",
-        Some(at) => &path[..at],
-        None => ".",
-    }
-}
-
-impl Device for Real {
+impl System for HostFile {
     ghost tells = { ⊥ };
 
     ghost disk = { λ _. untold };
+
+    ghost interruptions = { λ _. 0 };
 
     ghost counts_now = { λ _ t c le now. now };
 
     ghost only_now = { λ _ c left. left };
 
-    fn read_at(&mut self, at: usize, into: &mut [u8]) -> Result<usize, Fault> {
-        read_from(&self.file, at, into)
+    ghost stays = { λ _ told. absurd told };
+
+    ghost fits = { λ _ told. absurd told };
+
+    ghost ends = { λ _ told. absurd told };
+
+    fn pread(&mut self, into: &mut [u8], offset: u64) -> Result<usize, ErrorKind> {
+        self.file
+            .read_at(into, offset)
+            .map_err(|error| error.kind())
     }
 
-    fn len(&mut self) -> Result<usize, Fault> {
+    fn pwrite(&mut self, bytes: &[u8], offset: u64) -> Result<usize, ErrorKind> {
+        self.file
+            .write_at(bytes, offset)
+            .map_err(|error| error.kind())
+    }
+
+    fn ftruncate(&mut self, len: u64) -> Result<(), ErrorKind> {
+        self.file.set_len(len).map_err(|error| error.kind())
+    }
+
+    fn fdatasync(&mut self) -> Result<(), ErrorKind> {
+        self.file.sync_data().map_err(|error| error.kind())
+    }
+
+    fn fstat(&mut self) -> Result<u64, ErrorKind> {
         match self.file.metadata() {
-            Ok(metadata) => Ok(metadata.len() as usize),
-            Err(error) => Err(fault_of(&error)),
+            Ok(metadata) => Ok(metadata.len()),
+            Err(error) => Err(error.kind()),
         }
-    }
-
-    fn write_at(&mut self, at: usize, bytes: &[u8]) -> Result<(), Fault> {
-        told(self.file.write_all_at(bytes, at as u64))
-    }
-
-    fn cut(&mut self, len: usize) -> Result<(), Fault> {
-        told(self.file.set_len(len as u64))
-    }
-
-    fn sync(&mut self) -> Result<(), Fault> {
-        told(self.file.sync_data())
     }
 }
 
-// Reads on until there is no more room, or nothing is left.
-fn read_from(file: &File, at: usize, into: &mut [u8]) -> Result<usize, Fault>
-    ensures { IfOk result (λ count. count ≤ length into.new) }
-{
-    let mut count = 0;
-    for _ in 0..u64::MAX {
-        if count >= into.len() {
-            return Ok(count);
-        }
-        match file.read_at(&mut into[count..], (at as u64).wrapping_add(count as u64)) {
-            Ok(0) => return Ok(count),
-            Ok(more) => count += more,
-            Err(error) if error.kind() == ErrorKind::Interrupted => {}
-            Err(error) => return Err(fault_of(&error)),
-        }
-    }
-    Err(Fault::Failed)
-}
+/// A file of the system as a device, locked as long as it is open.
+pub type Real = Posix<HostFile>;
 
-fn told(answer: io::Result<()>) -> Result<(), Fault> {
-    match answer {
-        Ok(()) => Ok(()),
-        Err(error) => Err(fault_of(&error)),
+impl Posix<HostFile> {
+    /// Opens a file that is there.
+    pub fn open<R: Files<File = File>>(rt: &R, path: &str) -> Result<Real, FileFault> {
+        locked(File::options().read(true).write(true).open(rt, path)?)
+    }
+
+    /// Opens a file, and makes it where it is not there; then its name is on the disk.
+    pub fn make<R: Files<File = File> + Alloc>(rt: &R, path: &str) -> Result<Real, FileFault> {
+        let mut how = File::options();
+        let real = locked(how.read(true).write(true).create(true).open(rt, path)?)?;
+        sync_folder(rt, path)?;
+        Ok(real)
     }
 }
 
-fn fault_of(error: &io::Error) -> Fault {
-    match error.kind() {
-        ErrorKind::OutOfMemory => Fault::Memory,
-        ErrorKind::StorageFull | ErrorKind::QuotaExceeded | ErrorKind::FileTooLarge => Fault::Full,
-        _ => Fault::Failed,
+// Locks a file, and syncs it, so that what is read is on the disk.
+fn locked(file: File) -> Result<Real, FileFault> {
+    match file.try_lock() {
+        Ok(()) => {
+            file.sync_all()?;
+            Ok(Posix::new(HostFile { file }))
+        }
+        Err(TryLockError::WouldBlock) => Err(FileFault::Locked),
+        Err(TryLockError::Error(error)) => Err(FileFault::System(error)),
+    }
+}
+
+/// Syncs the folder that a file lies in, so that the file's name is on the disk: of a symbolic link the folder of what it
+/// stands for.
+pub fn sync_folder<R: Files + Alloc>(rt: &R, path: &str) -> io::Result<()> {
+    if fs::symlink_metadata(rt, path)?.is_symlink() {
+        let target = fs::canonicalize(rt, path)?;
+        return File::open(rt, folder_of(target.as_str()))?.sync_all();
+    }
+    File::open(rt, folder_of(path))?.sync_all()
+}
+
+// The folder that a path names a file in.
+fn folder_of(path: &str) -> &str {
+    match path.rfind('/') {
+        Some(0) => "/",
+        Some(at) => &path[..at],
+        None => ".",
     }
 }

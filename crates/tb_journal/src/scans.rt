@@ -1,11 +1,10 @@
 //! A journal's file, read record by record.
-ghost use Rattle.std.specs.Prelude.{◌≡◌, ◌≤◌, ◌<◌, ◌+◌, ◌^◌, ◌++◌, true, List, ℕ, [], length, drop, Ok, IfOk, IfSome, OnOk};
-ghost use Rattle.tb_journal.specs.Device.{IsOnDisk, LeavesOnly, Looks, IsLookedAt};
-ghost use Rattle.tb_journal.specs.Contents.{front, contents};
+ghost use Rattle.std.specs.Prelude.{◌≡◌, ◌≤◌, ◌<◌, ◌+◌, ◌^◌, true, List, ℕ, length, IfOk, OnOk};
+ghost use Rattle.tb_journal.specs.Device.{IsOnDisk, LeavesOnly, IsLookedAt, HasOwnCause};
+ghost use Rattle.tb_journal.specs.Contents.{front};
 ghost use Rattle.tb_journal.specs.Opening.{IsAsBefore, HasOpenCause};
-ghost use Rattle.tb_journal.specs.Scans.{Place, IsAhead, HasRead, ReadsNext, GoesFurther};
-ghost use Rattle.tb_journal.specs.Handed.{AreHanded, SomeHanded, HasTaken, Starts, TakesNext, TellsExtent, IsAllAhead, GoesOnAhead};
-ghost use Rattle.tb_journal.specs.Reading.{HasAhead, FindsHead, LooksKept, StartsScan, head_is, extent_of};
+ghost use Rattle.tb_journal.specs.Scans.{Place, IsAhead, HasRead, Starts, ReadsNext, GoesFurther};
+ghost use Rattle.tb_journal.specs.Reading.{HasAhead, FindsHead, LooksKept, StartsScan, TellsExtent, head_is};
 
 use crate::devices::Device;
 use crate::faults::Fault;
@@ -39,14 +38,16 @@ impl Model for Scan {
 impl Scan {
     /// Reads the first bytes. What a scan reads is on the disk.
     pub fn start<D: Device>(alloc: Global, device: &mut D) -> Result<Scan, OpenFault>
-        ensures begun { D.tells
-            → IfOk result (λ scan. HasRead [] (D.disk device.old).seen scan × IsOnDisk (D.disk device.new)) }
+        // Of any device, by the file that its reads are of.
+        ensures begun { (file : List ℕ) → D.holds device.old file → Starts result file }
+        ensures same { (file : List ℕ) → D.holds device.old file → D.holds device.new file }
+        // Where no sync has failed before.
+        ensures kept { D.tells → (D.disk device.old).sound ≡ true → OnOk result (IsOnDisk (D.disk device.new)) }
+        ensures sound { D.tells → OnOk result ((D.disk device.new).sound ≡ (D.disk device.old).sound) }
         ensures seen { D.tells → (D.disk device.new).seen ≡ (D.disk device.old).seen }
         ensures untouched { D.tells
             → LeavesOnly (D.disk device.old) (D.disk device.new) (IsAsBefore (D.disk device.old)) }
         ensures cause { D.tells → HasOpenCause result (D.disk device.old) (D.disk device.new) }
-        // Of any device, by the bytes that its reads hand out.
-        ensures handed { SomeHanded D.gave (Starts result) }
     {
         match read_first(alloc, device) {
             Ok(window) => match begin(window) {
@@ -60,12 +61,10 @@ impl Scan {
     /// Reads the next record, and says whether there is one. Damaged, with the offset of the gate, where a block is not
     /// whole or its checksum does not match.
     pub fn next<D: Device>(&mut self, device: &mut D) -> Result<bool, OpenFault>
-        ensures reads { D.tells → (records : List (List ℕ))
-            → HasRead records (D.disk device.old).seen self.old
-            → ReadsNext result records (D.disk device.old).seen self.new }
-        // Of any device, by the bytes that its reads hand out: some more, or none, behind those so far.
-        ensures handed { (records : List (List ℕ)) (file : List ℕ) → HasTaken D.gave records file self.old
-            → (more : List ℕ) × TakesNext D.gave result records (file ++ more) self.new }
+        // Of any device, by the file that its reads are of.
+        ensures reads { (file : List ℕ) → D.holds device.old file
+            → (records : List (List ℕ)) → HasRead records file self.old → ReadsNext result records file self.new }
+        ensures same { (file : List ℕ) → D.holds device.old file → D.holds device.new file }
         ensures looks { D.tells → IsLookedAt (D.disk device.old) (D.disk device.new) }
         ensures cause { D.tells → (records : List (List ℕ))
             → HasRead records (D.disk device.old).seen self.old
@@ -113,20 +112,23 @@ impl Scan {
 // The first bytes of a file. What is read is on the disk before it is read.
 fn read_first<D: Device>(alloc: Global, device: &mut D) -> Result<Window, Fault>
     ensures looks { D.tells
-        → LooksKept result (λ window. HasAhead 8 0 (D.disk device.old).seen window.ahead)
-        (D.disk device.old) (D.disk device.new) }
-    ensures handed { IfOk result (λ window. AreHanded D.gave window.ahead) }
+        → LooksKept result (D.disk device.old) (D.disk device.new) }
+    ensures sound { D.tells → OnOk result ((D.disk device.new).sound ≡ (D.disk device.old).sound) }
+    ensures cause { D.tells → HasOwnCause result (D.disk device.old) (D.disk device.new) }
+    ensures ahead { (file : List ℕ) → D.holds device.old file → IfOk result (λ window. HasAhead 8 0 file window.ahead) }
+    ensures same { (file : List ℕ) → D.holds device.old file → D.holds device.new file }
 {
     let mut window = Window::new(alloc)?;
     device.sync()?;
-    window.fill(device, 0, MAGIC.len())?;
-    Ok(window)
+    match window.fill(device, 0, MAGIC.len()) {
+        Ok(()) => Ok(window),
+        Err(fault) => Err(fault),
+    }
 }
 
 // A scan of a file with these first bytes. None where they are not those of a journal.
 fn begin(window: Window) -> Option<Scan>
-    ensures starts { (file : List ℕ) → HasAhead 8 0 file window.ahead → StartsScan result file }
-    ensures rest { IfSome result (λ scan. scan.ahead ≡ drop scan.end window.ahead) }
+    ensures { (file : List ℕ) → HasAhead 8 0 file window.ahead → StartsScan result file }
 {
     let mut window = window;
     if !window.ahead().starts_with(&MAGIC) {
@@ -145,12 +147,11 @@ fn head_at<D: Device>(window: &mut Window, device: &mut D, at: usize) -> Result<
     requires { at < 2 ^ 62 }
     ensures head { IfOk result (λ head. head ≡ head_is (front window.new.ahead)) }
     ensures short { OnOk result (length window.new.ahead < 2 ^ 63) }
-    ensures finds { D.tells
-        → IsAhead at (D.disk device.old).seen window.old.ahead
-        → OnOk result (FindsHead at (D.disk device.old).seen window.new.ahead) }
-    ensures handed { (file : List ℕ) → IsAllAhead D.gave at file window.old.ahead
-        → OnOk result (GoesOnAhead D.gave at file window.new.ahead) }
-    ensures looks { D.tells → Looks result (D.disk device.old) (D.disk device.new) }
+    ensures finds { (file : List ℕ) → D.holds device.old file → IsAhead at file window.old.ahead
+        → OnOk result (FindsHead at file window.new.ahead) }
+    ensures same { (file : List ℕ) → D.holds device.old file → D.holds device.new file }
+    ensures looks { D.tells → IsLookedAt (D.disk device.old) (D.disk device.new) }
+    ensures cause { D.tells → HasOwnCause result (D.disk device.old) (D.disk device.new) }
 {
     window.fill(device, at, FIXED)?;
     let needed = asked(window.ahead());
@@ -163,10 +164,12 @@ fn head_at<D: Device>(window: &mut Window, device: &mut D, at: usize) -> Result<
 
 /// Reads a journal's file from end to end, and writes nothing. What it read is on the disk.
 pub fn read_journal<D: Device>(alloc: Global, device: &mut D) -> Result<Extent, OpenFault>
-    ensures found { D.tells
-        → IfOk result (λ extent.
-        (extent_of (contents (D.disk device.old).seen) ≡ Ok extent) × IsOnDisk (D.disk device.new)) }
-    ensures handed { SomeHanded D.gave (TellsExtent result) }
+    // Of any device, by the file that its reads are of.
+    ensures found { (file : List ℕ) → D.holds device.old file → TellsExtent result file }
+    ensures same { (file : List ℕ) → D.holds device.old file → D.holds device.new file }
+    // Where no sync has failed before.
+    ensures kept { D.tells → (D.disk device.old).sound ≡ true → OnOk result (IsOnDisk (D.disk device.new)) }
+    ensures sound { D.tells → OnOk result ((D.disk device.new).sound ≡ (D.disk device.old).sound) }
     ensures few { IfOk result (λ extent. extent.count ≤ extent.end) }
     ensures seen { D.tells → (D.disk device.new).seen ≡ (D.disk device.old).seen }
     ensures untouched { D.tells

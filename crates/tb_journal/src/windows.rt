@@ -1,9 +1,8 @@
 //! The part of a file that was read ahead.
 ghost use Rattle.std.specs.Prelude.{◌≡◌, ◌≤◌, ◌<◌, ◌+◌, ◌-◌, ◌^◌, ℕ, List, length, take, drop, vec_len, slice_range, IfOk, OnOk, OnErr};
-ghost use Rattle.tb_journal.specs.Device.{Looks, ReadsAt};
+ghost use Rattle.tb_journal.specs.Device.{IsLookedAt, HasCause, HasOwnCause, ReadsAt};
 ghost use Rattle.tb_journal.specs.Scans.{IsAhead};
 ghost use Rattle.tb_journal.specs.Reading.{ReadAhead, HasAhead};
-ghost use Rattle.tb_journal.specs.Handed.{IsAllAhead, GoesOnAhead};
 
 use crate::devices::Device;
 use crate::faults::Fault;
@@ -76,12 +75,11 @@ impl Window {
     // that were taken are let go.
     pub fn fill<D: Device>(&mut self, device: &mut D, at: usize, n: usize) -> Result<(), Fault>
         requires { at < 2 ^ 62 }
-        ensures ahead { D.tells
-            → IsAhead at (D.disk device.old).seen self.old.ahead
-            → OnOk result (HasAhead n at (D.disk device.old).seen self.new.ahead) }
-        ensures handed { (file : List ℕ) → IsAllAhead D.gave at file self.old.ahead
-            → OnOk result (GoesOnAhead D.gave at file self.new.ahead) }
-        ensures looks { D.tells → Looks result (D.disk device.old) (D.disk device.new) }
+        ensures ahead { (file : List ℕ) → D.holds device.old file → IsAhead at file self.old.ahead
+            → OnOk result (HasAhead n at file self.new.ahead) }
+        ensures same { (file : List ℕ) → D.holds device.old file → D.holds device.new file }
+        ensures looks { D.tells → IsLookedAt (D.disk device.old) (D.disk device.new) }
+        ensures cause { D.tells → HasOwnCause result (D.disk device.old) (D.disk device.new) }
     {
         if n <= self.filled - self.used {
             return Ok(());
@@ -130,10 +128,11 @@ fn read_behind<D: Device>(
     ensures within { IfOk result (λ count. filled + count ≤ vec_len bytes.new) }
     ensures len { vec_len bytes.new ≡ vec_len bytes.old }
     ensures front { take filled bytes.new.items ≡ take filled bytes.old.items }
-    ensures read { D.tells
-        → IfOk result (λ count. ReadsAt count (at + filled) (D.disk device.old).seen (drop filled bytes.new.items)) }
-    ensures given { IfOk result (λ n. D.gave (at + filled) (take n (drop filled bytes.new.items))) }
-    ensures looks { D.tells → Looks result (D.disk device.old) (D.disk device.new) }
+    ensures read { (file : List ℕ) → D.holds device.old file
+        → IfOk result (λ count. ReadsAt count (at + filled) file (drop filled bytes.new.items)) }
+    ensures same { (file : List ℕ) → D.holds device.old file → D.holds device.new file }
+    ensures looks { D.tells → IsLookedAt (D.disk device.old) (D.disk device.new) }
+    ensures cause { D.tells → HasCause result (D.disk device.old) (D.disk device.new) }
 {
     device.read_at(at + filled, &mut bytes[filled..])
 }

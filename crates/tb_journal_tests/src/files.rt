@@ -58,6 +58,32 @@ fn nothing_is_torn_behind_a_sync(rt: HostRuntime) {
 }
 
 #[test]
+fn nothing_is_kept_behind_a_sync_that_failed(rt: HostRuntime) {
+    let mut file = file_of(&rt, rt.alloc(), &SIX);
+    expect(&rt, file.bytes().len() >= 1);
+    sure(&rt, file.write_at(1, &[66]));
+    file.fail_at(1);
+    expect(&rt, file.sync() == Err(Fault::SyncFailed));
+    sure(&rt, file.sync());
+    let bytes: &[u8] = &[97, 66, 99, 100, 101, 102];
+    let rows: &[(usize, &[u8], &[u8])] = &[(1, &[7, 7], &[97, 7, 99, 100, 101, 102])];
+    expect_left(&rt, &file, 1, bytes, rows);
+}
+
+#[test]
+fn a_call_fails_with_the_fault_that_is_named(rt: HostRuntime) {
+    let mut file = file_of(&rt, rt.alloc(), &SIX);
+    expect(&rt, file.bytes().len() >= 1);
+    file.fail_with(1, Fault::Full);
+    expect(&rt, file.write_at(1, &[66]) == Err(Fault::Full));
+    file.fail_with(1, Fault::Memory);
+    expect(&rt, file.len() == Err(Fault::Memory));
+    file.fail_with(1, Fault::NotEmpty);
+    expect(&rt, file.len() == Err(Fault::Failed));
+    expect_bytes(&rt, file.bytes(), &SIX);
+}
+
+#[test]
 fn one_call_fails(rt: HostRuntime) {
     let mut file = file_of(&rt, rt.alloc(), &SIX);
     file.fail_at(2);

@@ -10,7 +10,11 @@
 //! - `failing`: a device that fails at one call.
 //! - `openings`: files opened, refused or created over.
 //! - `scans`: files read record by record, in pieces.
+//! - `odd`: a file whose calls take a part, are interrupted or fail.
+//! - `posix`: devices over it.
 //! - `real`: files of the system.
+//! - `folders`: the folder of a file that is made.
+//! - `sparse`: a file of more than 5 GiB.
 #![tactic(auto)]
 
 #[cfg(test)]
@@ -20,12 +24,20 @@ mod failing;
 #[cfg(test)]
 mod files;
 #[cfg(test)]
+mod folders;
+#[cfg(test)]
+mod odd;
+#[cfg(test)]
 mod openings;
+#[cfg(test)]
+mod posix;
 #[cfg(test)]
 mod real;
 #[cfg(test)]
 mod rows;
 #[cfg(test)]
 mod scans;
+#[cfg(test)]
+mod sparse;
 #[cfg(test)]
 mod steps;

@@ -1,4 +1,5 @@
 //! Files that are read record by record, in pieces: worked rows.
+ghost use Rattle.std.specs.Prelude.{◌≡◌, true, IfSome};
 ghost use Rattle.tb_journal.specs.Memory.{memory_disk};
 ghost use Rattle.tb_journal.specs.Ready.{IsReady};
 
@@ -114,25 +115,50 @@ fn damage_is_told_behind_good_records(rt: HostRuntime) {
 /// The calls of a count: a start takes a sync and a look; each piece more takes a look, as does the end.
 const CALLS: u64 = 4;
 
+/// What a count answers whose call of this number fails.
+fn want_at(number: u64) -> Result<usize, OpenFault> {
+    match number {
+        1 => Err(OpenFault::Device(Fault::SyncFailed)),
+        2..=CALLS => Err(OpenFault::Device(Fault::Failed)),
+        _ => Ok(2),
+    }
+}
+
 #[test]
 fn each_call_fails_in_turn(rt: HostRuntime) {
     let alloc = rt.alloc();
     let long = sevens(&rt, alloc, 2 * PIECE);
     let mut file = file_of_two(&rt, alloc, b"ab", &long);
-    let failed = Err(OpenFault::Device(Fault::Failed));
     for number in 1..=CALLS + 1 {
         file.fail_at(number);
-        let want = if number <= CALLS { failed } else { Ok(2) };
-        expect_at(&rt, number, count_of(alloc, &mut file) == want);
+        expect_at(&rt, number, count_of(alloc, &mut file) == want_at(number));
+    }
+}
+
+/// A journal without records, where there is memory for it.
+fn some_journal(alloc: Global) -> Option<Journal<Memory>>
+    ensures ready { IfSome result (IsReady memory_disk) }
+    ensures usable { IfSome result (λ journal. journal.usable ≡ true) }
+{
+    match Memory::new(alloc, Vec::new(alloc)) {
+        Ok(file) => match create(alloc, file) {
+            Ok(journal) => Some(journal),
+            Err(_) => None,
+        },
+        Err(_) => None,
     }
 }
 
 /// The file of a journal of this record and another, where there is memory for it.
 fn some_file(alloc: Global, record: &[u8]) -> Option<Memory> {
-    let file = Memory::new(alloc, Vec::new(alloc)).ok()?;
-    let mut journal = create(alloc, file).ok()?;
-    commit_both(&mut journal, record, b"ab").ok()?;
-    Some(journal.into_device())
+    match some_journal(alloc) {
+        Some(journal) => {
+            let mut journal = journal;
+            commit_both(&mut journal, record, b"ab").ok()?;
+            Some(journal.into_device())
+        }
+        None => None,
+    }
 }
 
 /// Reads a file of a long record to its end, where there is memory for it.

@@ -5,7 +5,7 @@ ghost use Rattle.tb_journal.specs.Ready.{IsReady};
 
 use std::alloc::Global;
 use std::process::Abort;
-use tb_journal::{Fault, Journal, Memory, create, recover};
+use tb_journal::{Device, Fault, Journal, Memory, create, recover};
 
 /// The file of a journal without records: `TBJRNL01`, and a closed gate.
 pub(crate) const NO_RECORDS: [u8; 9] = [84, 66, 74, 82, 78, 76, 48, 49, 0];
@@ -57,15 +57,33 @@ pub(crate) fn sevens(rt: &impl Abort, alloc: Global, len: usize) -> Vec<u8>
     sure(rt, vec![in alloc; 7u8; len])
 }
 
+/// Says that a read of a device at an offset, with so much room, gives these bytes.
+pub(crate) fn expect_read<D: Device>(
+    rt: &(impl Abort + AllocGlobal),
+    device: &mut D,
+    at: usize,
+    room: usize,
+    want: &[u8],
+) {
+    let mut found = sevens(rt, rt.alloc(), room);
+    let count = sure(rt, device.read_at(at, &mut found));
+    found.truncate(count);
+    expect_bytes(rt, &found, want);
+    drop(found);
+}
+
 /// A file of these bytes, all of them on the disk.
-pub(crate) fn file_of(rt: &impl Abort, alloc: Global, bytes: &[u8]) -> Memory {
+pub(crate) fn file_of(rt: &impl Abort, alloc: Global, bytes: &[u8]) -> Memory
+    ensures { (memory_disk result).sound ≡ true }
+{
     let bytes = sure(rt, Vec::from_slice(alloc, bytes));
     sure(rt, Memory::new(alloc, bytes))
 }
 
 /// Creates a journal in a file of these bytes.
 pub(crate) fn created(rt: &impl Abort, alloc: Global, bytes: &[u8]) -> Journal<Memory>
-    ensures { IsReady memory_disk result }
+    ensures ready { IsReady memory_disk result }
+    ensures usable { result.usable ≡ true }
 {
     let file = file_of(rt, alloc, bytes);
     sure(rt, create(alloc, file))
@@ -73,29 +91,33 @@ pub(crate) fn created(rt: &impl Abort, alloc: Global, bytes: &[u8]) -> Journal<M
 
 /// Opens a journal's file, of which all bytes are on the disk.
 pub(crate) fn opened(rt: &impl Abort, alloc: Global, bytes: &[u8]) -> Journal<Memory>
-    ensures { IsReady memory_disk result }
+    ensures ready { IsReady memory_disk result }
+    ensures usable { result.usable ≡ true }
 {
     let file = file_of(rt, alloc, bytes);
     sure(rt, recover(alloc, file))
 }
 
-/// Compares the bytes of a journal's file, the number of the records in it, and of those that wait.
+/// Compares the bytes of a journal's file, the number of the records in it, and of the bytes that wait: one closed gate
+/// where no record does.
 pub(crate) fn expect_journal(
     rt: &impl Abort,
     journal: &Journal<Memory>,
     bytes: &[u8],
     count: usize,
-    waiting: usize,
+    waiting_bytes: usize,
 ) {
     expect_bytes(rt, journal.device().bytes(), bytes);
     expect(rt, journal.count() == count);
-    expect(rt, journal.waiting() == waiting);
+    expect(rt, journal.waiting_bytes() == waiting_bytes);
 }
 
 /// Commits an empty record, and `second`, as one batch.
 pub(crate) fn commit_two(journal: &mut Journal<Memory>) -> Result<(), Fault>
-    requires { IsReady memory_disk journal.old }
-    ensures { OnOk result (IsReady memory_disk journal.new) }
+    requires ready { IsReady memory_disk journal.old }
+    requires usable { journal.old.usable ≡ true }
+    ensures ready { OnOk result (IsReady memory_disk journal.new) }
+    ensures usable { OnOk result (journal.new.usable ≡ true) }
 {
     commit_both(journal, &[], b"second")
 }
@@ -106,8 +128,10 @@ pub(crate) fn commit_both(
     first: &[u8],
     second: &[u8],
 ) -> Result<(), Fault>
-    requires { IsReady memory_disk journal.old }
-    ensures { OnOk result (IsReady memory_disk journal.new) }
+    requires ready { IsReady memory_disk journal.old }
+    requires usable { journal.old.usable ≡ true }
+    ensures ready { OnOk result (IsReady memory_disk journal.new) }
+    ensures usable { OnOk result (journal.new.usable ≡ true) }
 {
     journal.append(first)?;
     journal.append(second)?;

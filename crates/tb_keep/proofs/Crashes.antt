@@ -1,7 +1,7 @@
 -- A crash at any moment of serving leaves the entries of some first pairs: by induction over rounds.
-use Rattle.std.proofs.Common.{arith, ℕ, ◌≡◌, inl, inr, List, [], ◌∷◌, ◌++◌, Result, Ok, Err, refl, sym, ap, ◌∙◌, subst, append_assoc, append-nil}
+use Rattle.std.proofs.Common.{arith, ℕ, ◌≡◌, ◌⊎◌, ◌≤◌, inl, inr, List, [], ◌∷◌, ◌++◌, length, Result, Ok, Err, refl, sym, ap, ◌∙◌, subst, append_assoc, append-nil}
 use Rattle.std.proofs.lemmas.Grind.{common_steps}
-use Rattle.tb_records.specs.Transport.{Output}
+use Rattle.tb_records.specs.Transport.{Input, Output}
 use Rattle.tb_journal.specs.Device.{Disk, LeavesOnly}
 use Rattle.tb_journal.specs.Contents.{Records, contents, recorded}
 use Rattle.tb_journal.specs.Steps.{IsAtRest, IsBeforeOrAfter}
@@ -11,9 +11,9 @@ use Rattle.tb_machine.specs.Histories.{State}
 use Rattle.tb_machine.specs.Scripts.{Pair}
 use Rattle.tb_keep.specs.declared.faults.KeepFault.{KeepFault}
 use Rattle.tb_keep.specs.declared.faults.KeepFault.TheVariants as keep
-use Rattle.tb_keep.specs.Keeping.{History, state_of, records_of, IsKeepable, Keeping}
-use Rattle.tb_keep.specs.Rounds.{state_from, entries_from, records_from, AreServed, pairs_of, Standing, Rounds, Quits, EndsBy}
-use Rattle.tb_keep.specs.Again.{all_pairs, HasFirst, AnyCrash}
+use Rattle.tb_keep.specs.Keeping.{History, state_of, records_of, IsKeepable, Keeping, Keeps}
+use Rattle.tb_keep.specs.Rounds.{state_from, entries_from, records_from, AreServed, pairs_of, Standing, standing_of, Rounds, Quits, Ends, Served}
+use Rattle.tb_keep.specs.Again.{all_pairs, HasFirst, AnyCrash, IsAmid, AfterKill}
 use Rattle.tb_keep.proofs.Pairs.{records_join}
 use Rattle.tb_keep.proofs.Moments.{state_behind}
 use Rattle.tb_keep.proofs.Lasting.{keepable_longer, records_longer, served_join, served_front, rounds_are_served}
@@ -54,10 +54,10 @@ module _ (tells : Type 0) {D : Type 0} (disk : D → Disk) (only : (d : D) → O
   rest_leaves d S all rest = grind (arith, common_steps, started, none_of)
 
   -- what ends the serving behind rounds
-  ends_leave : tells → (result : Result ℕ KeepFault) (more : List Pair) (standing : Standing D) (after : Keeping D) (written : Output)
-      → IsAtRest (disk standing.device) → EndsBy tells disk result more standing after written
+  ends_leave : tells → (result : Result ℕ KeepFault) (count : ℕ) (more : List Pair) (standing : Standing D) (after : Keeping D) (input last : Input) (written : Output)
+      → IsAtRest (disk standing.device) → Ends tells disk result count more standing after input last written
       → LeavesOnly (disk standing.device) (disk after.journal.device) (Front (recorded (disk standing.device).seen) standing.state more)
-  ends_leave t result more standing after written rest ended = by result ended
+  ends_leave t result count more standing after input last written rest ended = by result ended
     where
       Goal : Type 0
       Goal = LeavesOnly (disk standing.device) (disk after.journal.device) (Front (recorded (disk standing.device).seen) standing.state more)
@@ -69,23 +69,23 @@ module _ (tells : Type 0) {D : Type 0} (disk : D → Disk) (only : (d : D) → O
       batch leaves = weaker (disk standing.device) (disk after.journal.device) (IsBeforeOrAfter (recorded (disk standing.device).seen) (records_from standing.state more)) (Front (recorded (disk standing.device).seen) standing.state more)
           (λ c is. subst (λ qs. Front (recorded (disk standing.device).seen) standing.state qs c) (append-nil more) (of_batch (recorded (disk standing.device).seen) standing.state more [] c is)) leaves
 
-      by : (r : Result ℕ KeepFault) → EndsBy tells disk r more standing after written → Goal
-      by (Ok k) e = quits e.2
-      by (Err (keep.Journal fault)) (inl same) = quits same
-      by (Err (keep.Journal fault)) (inr fails) = batch (fails.any_moment t)
-      by (Err (keep.Serving (run.Frame fault))) (inl (none, same)) = quits same
-      by (Err (keep.Serving (run.Frame fault))) (inr (is, broken)) = batch ((broken.commits t).any_moment)
-      by (Err (keep.Serving run.NoMemory)) same = quits same
-      by (Err (keep.Serving run.TimeExhausted)) (none, same) = quits same
-      by (Err (keep.Serving run.TooLong)) same = quits same
+      by : (r : Result ℕ KeepFault) → Ends tells disk r count more standing after input last written → Goal
+      by (Ok k) e = batch ((e.2.commits t).any_moment)
+      by (Err (keep.Journal fault)) (inl e) = quits e.1
+      by (Err (keep.Journal fault)) (inr e) = batch (e.1.any_moment t)
+      by (Err (keep.Serving (run.Frame fault))) (inl e) = batch ((e.1.commits t).any_moment)
+      by (Err (keep.Serving (run.Frame fault))) (inr e) = batch ((e.2.commits t).any_moment)
+      by (Err (keep.Serving run.NoMemory)) e = quits e.1
+      by (Err (keep.Serving run.TimeExhausted)) e = batch ((e.1.commits t).any_moment)
+      by (Err (keep.Serving run.TooLong)) e = quits e.2
 
-  all_leave : tells → (done : List (List Pair)) (more : List Pair) (first standing : Standing D) (result : Result ℕ KeepFault) (after : Keeping D) (written : Output)
-      → IsAtRest (disk first.device) → Rounds tells disk done first standing → EndsBy tells disk result more standing after written
+  all_leave : tells → (done : List (List Pair)) (more : List Pair) (first standing : Standing D) (result : Result ℕ KeepFault) (count : ℕ) (after : Keeping D) (input last : Input) (written : Output)
+      → IsAtRest (disk first.device) → Rounds tells disk done first standing → Ends tells disk result count more standing after input last written
       → LeavesOnly (disk first.device) (disk after.journal.device) (Front (recorded (disk first.device).seen) first.state (pairs_of done ++ more))
-  all_leave t [] more first standing result after written rest kept ended =
+  all_leave t [] more first standing result count after input last written rest kept ended =
       subst (λ (s : Standing D). LeavesOnly (disk s.device) (disk after.journal.device) (Front (recorded (disk s.device).seen) s.state more)) kept
-      (ends_leave t result more standing after written (subst (λ (s : Standing D). IsAtRest (disk s.device)) (sym kept) rest) ended)
-  all_leave t (ps ∷ done) more first standing result after written rest kept ended =
+      (ends_leave t result count more standing after input last written (subst (λ (s : Standing D). IsAtRest (disk s.device)) (sym kept) rest) ended)
+  all_leave t (ps ∷ done) more first standing result count after input last written rest kept ended =
       let middle = kept.0 in
       let commits = kept.1.commits t in
       let base = recorded (disk first.device).seen in
@@ -95,7 +95,7 @@ module _ (tells : Type 0) {D : Type 0} (disk : D → Disk) (only : (d : D) → O
       (weaker (disk first.device) (disk middle.device) (IsBeforeOrAfter base (records_from first.state ps)) P (λ c is. of_batch base first.state ps qs c is) commits.any_moment)
       (weaker (disk middle.device) (disk after.journal.device) (Front (recorded (disk middle.device).seen) middle.state qs) P
       (λ c is. behind_batch base (recorded (disk middle.device).seen) first.state middle.state ps qs c commits.grown kept.1.state is)
-      (all_leave t done more middle standing result after written commits.at_rest kept.2 ended)) in
+      (all_leave t done more middle standing result count after input last written commits.at_rest kept.2 ended)) in
       subst (λ (all : List Pair). LeavesOnly (disk first.device) (disk after.journal.device) (Front base first.state all)) (sym (append_assoc ps (pairs_of done) more)) leaves
 
   has_first : (h : History) (S : State) (base : List (List ℕ)) (all : List Pair) (file : List ℕ) → IsKeepable h → base ≡ records_of h → S ≡ state_of h → AreServed S all → Front base S all file → HasFirst h all file
@@ -113,11 +113,29 @@ module _ (tells : Type 0) {D : Type 0} (disk : D → Disk) (only : (d : D) → O
     };
   }
 
+  module _ (h : History) (result : Result ℕ KeepFault) (before after : Keeping D) (first last : Input) (start written : Output) (t : tells) (keeps : Keeps disk h before) (served : Served tells disk result before after first last start written) where
+    leaves : LeavesOnly (disk before.journal.device) (disk after.journal.device) (Front (recorded (disk before.journal.device).seen) before.state (all_pairs served))
+    leaves = all_leave t served.rounds served.more (standing_of before first start) served.standing result (length (all_pairs served)) after served.input last written keeps.fresh.ready.at_rest served.kept served.ended
+
+    left_first : (file : List ℕ) → (disk after.journal.device).left_since (disk before.journal.device).moment file → HasFirst h (all_pairs served) file
+    left_first file left =
+        let begin = standing_of before first start in
+        let behind = state_behind tells disk served.rounds begin served.standing served.kept in
+        let are = served_join before.state (pairs_of served.rounds) served.more (rounds_are_served tells disk served.rounds begin served.standing served.kept)
+        (subst (λ (S : State). AreServed S served.more) behind served.served) in
+        has_first h before.state (recorded (disk before.journal.device).seen) (all_pairs served) file keeps.keepable keeps.file keeps.state are (leaves.each file left)
+
   pub any_crash : AnyCrash tells disk
-  any_crash h result before after first last start written file t keeps served left =
-      let begin : Standing D = record { state = before.state; device = before.journal.device; output = start } in
-      let leaves = all_leave t served.rounds served.more begin served.standing result after written keeps.fresh.ready.at_rest served.kept served.ended in
-      let behind = state_behind tells disk served.rounds begin served.standing served.kept in
-      let are = served_join before.state (pairs_of served.rounds) served.more (rounds_are_served tells disk served.rounds begin served.standing served.kept)
-      (subst (λ (S : State). AreServed S served.more) behind served.served) in
-      has_first h before.state (recorded (disk before.journal.device).seen) (all_pairs served) file keeps.keepable keeps.file keeps.state are (leaves.each file left)
+  any_crash h result before after first last start written file t keeps served left = left_first h result before after first last start written t keeps served file left
+
+  module _ (counts : (d : D) (t : ℕ) (c : List ℕ) → t ≤ (disk d).moment → (disk d).may_leave c → (disk d).left_since t c) (stays : (d : D) → tells → (disk d).may_leave (disk d).seen) where
+    pub after_kill : AfterKill tells disk
+    after_kill h result before after first last start written amid t keeps served where_amid =
+        left_first h result before after first last start written t keeps served (disk amid).seen (by where_amid)
+      where
+        by : (amid ≡ after.journal.device) ⊎ IsAmid tells disk (disk before.journal.device) (disk after.journal.device) (disk amid)
+            → (disk after.journal.device).left_since (disk before.journal.device).moment (disk amid).seen
+        by (inl same) = subst (λ (d : D). (disk after.journal.device).left_since (disk before.journal.device).moment (disk d).seen) (sym same)
+            (counts after.journal.device (disk before.journal.device).moment (disk after.journal.device).seen
+            (leaves h result before after first last start written t keeps served).later (stays after.journal.device t))
+        by (inr during) = during (disk amid).seen (stays amid t)

@@ -7,30 +7,30 @@ use Rattle.tb_records.specs.Transport.{Output, Sent, CutOff, IsSent}
 use Rattle.tb_records.proofs.Sendings.{sent_rest}
 use Rattle.tb_journal.specs.declared.opening.OpenFault.{OpenFault}
 use Rattle.tb_journal.specs.Contents.{Records, contents, records_of}
-use Rattle.tb_journal.specs.Scans.{Place, BeginsWith}
+use Rattle.tb_journal.specs.Opening.{RefusesFile}
+use Rattle.tb_journal.specs.Scans.{Place, BeginsWith, HasRead}
 use Rattle.tb_machine.proofs.Running.{sends_none}
 use Rattle.tb_keep.specs.declared.faults.DumpFault.{DumpFault}
 use Rattle.tb_keep.specs.declared.faults.DumpFault.TheVariants as dump
 use Rattle.tb_keep.specs.declared.faults.StartFault.{StartFault}
 use Rattle.tb_keep.specs.declared.faults.StartFault.TheVariants as start
 use Rattle.tb_keep.specs.declared.heads.Rules.{Rules}
-use Rattle.tb_keep.specs.Restoration.{StopsJournal}
 use Rattle.tb_keep.specs.Reading.{RulesIn, RulesAnswer, joined, behind_head, dump_with, Dumps}
-use Rattle.tb_keep.specs.Sources.{Which, IsAt}
 use Rattle.tb_keep.specs.Entering.{FindsRules}
 use Rattle.tb_keep.specs.Sending.{SendsNext, SendsAll, SendsBehind}
 
-pub finds_rules : (which : Which) (result : Result Rules StartFault) (file head : List ℕ) (scan : Place) → IsAt which (head ∷ []) file scan → RulesIn result head → FindsRules which result file scan
-finds_rules which (Ok rules) file head scan at found = subst (λ (h : List ℕ). IsAt which (h ∷ []) file scan) found at
-finds_rules which (Err start.Head) file head scan at none = inr (head, [], at.has.begins, none)
-finds_rules which (Err (start.Journal fault)) file head scan at none = absurd none
-finds_rules which (Err start.OtherRules) file head scan at none = absurd none
-finds_rules which (Err (start.Record place fault)) file head scan at none = absurd none
-finds_rules which (Err (start.Entry fault)) file head scan at none = absurd none
-finds_rules which (Err start.NoMemory) file head scan at none = absurd none
+pub finds_rules : (result : Result Rules StartFault) (file head : List ℕ) (scan : Place) → HasRead (head ∷ []) file scan → RulesIn result head → FindsRules result file scan
+finds_rules (Ok rules) file head scan at found = subst (λ (h : List ℕ). HasRead (h ∷ []) file scan) found at
+finds_rules (Err start.Head) file head scan at none = inr (head, [], at.begins, none)
+finds_rules (Err (start.Journal fault)) file head scan at none = absurd none
+finds_rules (Err start.OtherRules) file head scan at none = absurd none
+finds_rules (Err (start.Record place fault)) file head scan at none = absurd none
+finds_rules (Err (start.Entry fault)) file head scan at none = absurd none
+finds_rules (Err start.NoMemory) file head scan at none = absurd none
+finds_rules (Err (start.TornTooLong place bytes)) file head scan at none = absurd none
 
-pub rules_found : (which : Which) (result : Result Rules StartFault) (file : List ℕ) (scan : Place) → FindsRules which result file scan → RulesAnswer result file
-rules_found which result file scan at = grind (arith, common_steps)
+pub rules_found : (result : Result Rules StartFault) (file : List ℕ) (scan : Place) → FindsRules result file scan → RulesAnswer result file
+rules_found result file scan at = grind (arith, common_steps)
 
 -- records that are sent
 
@@ -47,21 +47,21 @@ send_one : (front : List (List ℕ)) (bytes : List ℕ) (old mid new : Output) �
 send_one front bytes old mid new sent result more = sent_rest (joined front) bytes old mid new (joined (front ++ bytes ∷ [])) (joined_snoc front bytes) sent result more
 
 -- so far these were sent
-abbrev pub Sending : Which → List (List ℕ) → List ℕ → Place → Output → Output → Type 0
-Sending which read file scan old new = (records : List (List ℕ)) × IsAt which (read ++ records) file scan × Sent (joined records) old new
+abbrev pub Sending : List (List ℕ) → List ℕ → Place → Output → Output → Type 0
+Sending read file scan old new = (records : List (List ℕ)) × HasRead (read ++ records) file scan × Sent (joined records) old new
 
-module _ (which : Which) (read records : List (List ℕ)) (file : List ℕ) (scan : Place) (old mid new : Output) (sent : Sent (joined records) old mid) where
-  pub sending_more : SendsNext which (Ok true) (read ++ records) file scan mid new → Sending which read file scan old new
+module _ (read records : List (List ℕ)) (file : List ℕ) (scan : Place) (old mid new : Output) (sent : Sent (joined records) old mid) where
+  pub sending_more : SendsNext (Ok true) (read ++ records) file scan mid new → Sending read file scan old new
   sending_more (bytes, at, one) = (
     records ++ bytes ∷ [],
-    subst (λ (r : List (List ℕ)). IsAt which r file scan) (append_assoc read records (bytes ∷ [])) at,
+    subst (λ (r : List (List ℕ)). HasRead r file scan) (append_assoc read records (bytes ∷ [])) at,
     send_one records bytes old mid new sent (Ok tt) one,
   )
 
-  pub sending_done : SendsNext which (Ok false) (read ++ records) file scan mid new → SendsAll (Ok tt) read file old new
+  pub sending_done : SendsNext (Ok false) (read ++ records) file scan mid new → SendsAll (Ok tt) read file old new
   sending_done (reads, silent) = (records, reads, subst (λ (o : Output). Sent (joined records) old o) (sym silent) sent)
 
-  pub sending_not : (fault : DumpFault) → SendsNext which (Err fault) (read ++ records) file scan mid new → SendsAll (Err fault) read file old new
+  pub sending_not : (fault : DumpFault) → SendsNext (Err fault) (read ++ records) file scan mid new → SendsAll (Err fault) read file old new
   sending_not (dump.Journal f) (stops, begins, silent) = (stops, (records, begins, subst (λ (o : Output). Sent (joined records) old o) (sym silent) sent))
   sending_not (dump.Writer f) (is, (bytes, begins, cut)) = (
     is,
@@ -82,7 +82,7 @@ sends_behind (Err (dump.Writer f)) file first old new (is, (records, begins, cut
 pub sends_nothing : (file : List ℕ) (old : Output) → contents file ≡ Records [] → SendsBehind (Ok tt) file old old
 sends_nothing file old reads = ([], reads, sends_none old)
 
-pub sends_unread : (fault : OpenFault) (file : List ℕ) (old : Output) → BeginsWith [] file → StopsJournal fault file → SendsBehind (Err (dump.Journal fault)) file old old
+pub sends_unread : (fault : OpenFault) (file : List ℕ) (old : Output) → BeginsWith [] file → RefusesFile fault file → SendsBehind (Err (dump.Journal fault)) file old old
 sends_unread fault file old begins stops = (stops, ([], begins, sends_none old))
 
 -- a head and records behind it

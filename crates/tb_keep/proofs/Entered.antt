@@ -16,7 +16,6 @@ use Rattle.tb_keep.specs.declared.faults.StartFault.TheVariants as start
 use Rattle.tb_keep.specs.Keeping.{head_record}
 use Rattle.tb_keep.specs.Restoration.{RecordsLead, StopsAt, RestoresRecord, RestoresAll, HeadAnswers, IsRestored, IsRestoredFrom, StopsBeginning, StopsReading}
 use Rattle.tb_keep.specs.declared.heads.Rules.{Rules}
-use Rattle.tb_keep.specs.Sources.{Which, IsAt}
 use Rattle.tb_keep.specs.Entering.{StaysKept, EntersNext, EntersAll, FindsBehind}
 use Rattle.tb_keep.proofs.Opened.{Counts, untouched_then}
 use Rattle.tb_keep.proofs.Leading.{leads_none, leads_more, stops_file}
@@ -33,19 +32,21 @@ stays_looked before after now looks = record {
     any_moment = goes_on before before after (IsAsBefore before) (started before (IsAsBefore before) (λ c left. inl (now c left))) looks.time (λ c may. inl (looks.crash c may));
   };
   kept = λ kept c may. kept c (looks.crash c may) ∙ sym looks.seen;
+  sound = looks.sound;
 }
 
 pub stays_then : (before mid after : Disk) → Counts mid → StaysKept before mid → StaysKept mid after → StaysKept before after
 stays_then before mid after counts first second = record {
   untouched = untouched_then before mid after counts first.untouched second.untouched;
   kept = λ kept. second.kept (first.kept kept);
+  sound = second.sound ∙ first.sound;
 }
 
 -- its head
 
-pub head_read : (which : Which) (file head : List ℕ) (scan : Place) (profile : Profile) (clients_max : ℕ) → IsAt which (head ∷ []) file scan → head ≡ head_record profile clients_max
-    → IsAt which (head_record profile clients_max ∷ []) file scan
-head_read which file head scan profile clients_max at is = subst (λ (h : List ℕ). IsAt which (h ∷ []) file scan) is at
+pub head_read : (file head : List ℕ) (scan : Place) (profile : Profile) (clients_max : ℕ) → HasRead (head ∷ []) file scan → head ≡ head_record profile clients_max
+    → HasRead (head_record profile clients_max ∷ []) file scan
+head_read file head scan profile clients_max at is = subst (λ (h : List ℕ). HasRead (h ∷ []) file scan) is at
 
 stops_with : (fault : StartFault) (profile : Profile) (clients_max : ℕ) (file head : List ℕ) (rest : List (List ℕ)) → BeginsWith (head ∷ rest) file
     → (HeadAnswers (Err fault) head profile clients_max ⊎ ((T : State) × RestoresAll (Err fault) (start_state profile clients_max) rest T))
@@ -64,33 +65,34 @@ head_stops start.OtherRules profile clients_max file head begins why = stops_wit
 head_stops (start.Record place f) profile clients_max file head begins why = absurd why
 head_stops (start.Entry f) profile clients_max file head begins why = absurd why
 head_stops start.NoMemory profile clients_max file head begins why = absurd why
+head_stops (start.TornTooLong at bytes) profile clients_max file head begins why = absurd why
 
 -- the records behind it
 
-pub enters_not : (which : Which) (fault : StartFault) (read : List (List ℕ)) (file bytes : List ℕ) (after : Place) (S T : State) → BeginsWith (read ++ bytes ∷ []) file → RestoresRecord (Err fault) S bytes T
-    → EntersNext which (Err fault) read file after S T
-enters_not which fault read file bytes after S T begins stops = grind (arith, common_steps)
+pub enters_not : (fault : StartFault) (read : List (List ℕ)) (file bytes : List ℕ) (after : Place) (S T : State) → BeginsWith (read ++ bytes ∷ []) file → RestoresRecord (Err fault) S bytes T
+    → EntersNext (Err fault) read file after S T
+enters_not fault read file bytes after S T begins stops = grind (arith, common_steps)
 
 -- so far these were entered
-abbrev pub Entered : Which → List (List ℕ) → List ℕ → Place → State → State → Type 0
-Entered which read file scan S T = (records : List (List ℕ)) × IsAt which (read ++ records) file scan × RecordsLead S records T
+abbrev pub Entered : List (List ℕ) → List ℕ → Place → State → State → Type 0
+Entered read file scan S T = (records : List (List ℕ)) × HasRead (read ++ records) file scan × RecordsLead S records T
 
-module _ (which : Which) (read records : List (List ℕ)) (file : List ℕ) (scan : Place) (S T U : State) (leads : RecordsLead S records T) where
-  pub entered_more : EntersNext which (Ok true) (read ++ records) file scan T U → Entered which read file scan S U
+module _ (read records : List (List ℕ)) (file : List ℕ) (scan : Place) (S T U : State) (leads : RecordsLead S records T) where
+  pub entered_more : EntersNext (Ok true) (read ++ records) file scan T U → Entered read file scan S U
   entered_more (bytes, at, (e, is_record, next, to)) = (
     records ++ bytes ∷ [],
-    subst (λ (r : List (List ℕ)). IsAt which r file scan) (append_assoc read records (bytes ∷ [])) at,
+    subst (λ (r : List (List ℕ)). HasRead r file scan) (append_assoc read records (bytes ∷ [])) at,
     leads_more S T U records bytes e leads is_record next to,
   )
 
-  pub entered_all : EntersNext which (Ok false) (read ++ records) file scan T U → EntersAll (Ok tt) read file scan S U
+  pub entered_all : EntersNext (Ok false) (read ++ records) file scan T U → EntersAll (Ok tt) read file scan S U
   entered_all (reads, has, to) = (records, reads, has, subst (λ (V : State). RecordsLead S records V) (sym to) leads)
 
   entered_not_more : (fault : StartFault) (bytes : List ℕ) → BeginsWith ((read ++ records) ++ bytes ∷ []) file → StopsAt fault T bytes
       → (others : List (List ℕ)) × (V : State) × BeginsWith (read ++ others) file × RestoresAll (Err fault) S others V
   entered_not_more fault bytes begins stops = grind (arith, common_steps, append_assoc read records (bytes ∷ []))
 
-  pub entered_not : (fault : StartFault) → EntersNext which (Err fault) (read ++ records) file scan T U → EntersAll (Err fault) read file scan S U
+  pub entered_not : (fault : StartFault) → EntersNext (Err fault) (read ++ records) file scan T U → EntersAll (Err fault) read file scan S U
   entered_not fault next = grind (arith, common_steps, begins_shorter, entered_not_more)
 
 -- and where its records end
@@ -138,3 +140,4 @@ module _ (rules : Rules) (file : List ℕ) (scan : Place) (S T : State) (empty :
   behind_not (start.Record place f) (records, U, begins, stops) = behind_stops (start.Record place f) records U begins stops
   behind_not (start.Entry f) (records, U, begins, stops) = behind_stops (start.Entry f) records U begins stops
   behind_not start.NoMemory (records, U, begins, stops) = behind_stops start.NoMemory records U begins stops
+  behind_not (start.TornTooLong at bytes) (records, U, begins, stops) = behind_stops (start.TornTooLong at bytes) records U begins stops

@@ -1,4 +1,5 @@
 pub mod Pairs
+pub mod Batches
 pub mod Going
 pub mod Moments
 pub mod Lasting
@@ -6,6 +7,7 @@ pub mod Leading
 pub mod WholeFiles
 pub mod Opened
 pub mod Sources
+pub mod Causes
 pub mod Entered
 pub mod Dumping
 pub mod Crashes

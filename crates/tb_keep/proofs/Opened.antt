@@ -1,5 +1,5 @@
 -- Why a file is not opened.
-use Rattle.std.proofs.Common.{arith, ◌≡◌, inl, inr, ℕ, ◌≤◌, List, Result, Ok, Err, IfOk, IfErr, MatchResult, sym, ap, ◌∙◌, subst}
+use Rattle.std.proofs.Common.{arith, ◌≡◌, inl, inr, ℕ, ◌<◌, ◌≤◌, ◌^◌, List, Result, Ok, Err, IfOk, IfErr, MatchResult, sym, ap, ◌∙◌, subst}
 use Rattle.std.proofs.lemmas.Grind.{common_steps}
 use Rattle.tb_records.specs.declared.limits.Profile.{Profile}
 use Rattle.tb_journal.specs.declared.faults.Fault.TheVariants as faults
@@ -18,8 +18,8 @@ use Rattle.tb_keep.specs.declared.faults.StartFault.{StartFault}
 use Rattle.tb_keep.specs.declared.faults.StartFault.TheVariants as start
 use Rattle.tb_keep.specs.declared.opening.NotKept.{NotKept}
 use Rattle.tb_keep.specs.Keeping.{Keeping}
-use Rattle.tb_keep.specs.Restoration.{IsRestored, IsRestoredFrom, IsFromOutside, StopsReading}
-use Rattle.tb_keep.specs.Opening.{OpensBytes, StartsBytes, IsOpened, IsStarted, IsUntouched, MayBeOpened, MayBeCreated, MayBeStarted, IsCreateRefused, IsRefused, IsStartRefused}
+use Rattle.tb_keep.specs.Restoration.{IsRestored, IsRestoredFrom, IsNotOfFile, IsTornTooLong, StopsOpening, torn_bytes}
+use Rattle.tb_keep.specs.Opening.{OpensFile, IsUntouched, MayBeOpened, MayBeStarted, IsRefused, IsStartRefused}
 use Rattle.tb_keep.specs.Headed.{IsOfDevice, OpensOnly}
 
 abbrev pub Counts : Disk → Type 0
@@ -44,16 +44,37 @@ pub refused_at_last : {D : Type 0} (disk : D → Disk) (profile : Profile) (clie
     → IfErr result (λ failed. IsStartRefused profile clients_max failed.fault before (disk failed.device))
 refused_at_last disk profile clients_max before mid result counts first is = grind (arith, common_steps, refused_then)
 
--- by the bytes that reads handed out
+may_be : (profile : Profile) (clients_max : ℕ) (before mid : Disk) → Counts mid → IsUntouched before mid → (c : List ℕ) → MayBeOpened profile clients_max mid c → MayBeStarted profile clients_max before c
+may_be profile clients_max before mid counts first c (inl was) = inl (inl (still_before before mid counts first c was))
+may_be profile clients_max before mid counts first c (inr (inl reads)) = inl (inr (inl (reads ∙ ap (λ (f : List ℕ). Records (recorded f)) first.seen)))
+may_be profile clients_max before mid counts first c (inr (inr (none, few))) = inl (inr (inr (ap recorded (sym first.seen) ∙ none, few)))
+
+pub started_at_last : (profile : Profile) (clients_max : ℕ) (before mid after : Disk) → Counts mid → IsUntouched before mid
+    → LeavesOnly mid after (MayBeOpened profile clients_max mid) → LeavesOnly before after (MayBeStarted profile clients_max before)
+started_at_last profile clients_max before mid after counts first second =
+    then before mid after (MayBeStarted profile clients_max before)
+    (weaker before mid (IsAsBefore before) (MayBeStarted profile clients_max before) (λ c was. inl (inl was)) first.any_moment)
+    (weaker mid after (MayBeOpened profile clients_max mid) (MayBeStarted profile clients_max before) (may_be profile clients_max before mid counts first) second)
+
+-- by the file that the reads are of
 
 module _ (profile : Profile) (clients_max : ℕ) (file : List ℕ) where
-  from_outside : (fault : StartFault) → contents file ≡ Records (recorded file) → IsFromOutside fault → StopsReading fault profile clients_max file
-  from_outside fault reads none = grind (arith, common_steps, whole_begins)
+  not_of_file : (fault : StartFault) → contents file ≡ Records (recorded file) → IsNotOfFile fault → StopsOpening fault profile clients_max file
+  not_of_file fault reads none = grind (arith, common_steps, whole_begins)
 
-  pub opens_bytes : {D : Type 0} (machine : State) (extent : Extent) → IsRestoredFrom profile clients_max file machine extent → (result : Result (Keeping D) (NotKept D))
-      → MatchResult result (λ keeper. keeper.state ≡ machine) (λ failed. IsFromOutside failed.fault) → OpensBytes result profile clients_max file
-  opens_bytes machine extent found (Ok keeper) same = (
+  pub opens_file : {D : Type 0} (machine : State) (extent : Extent) (cut : ℕ) → IsRestoredFrom profile clients_max file machine extent → cut ≡ torn_bytes file → cut ≤ 2 ^ 22
+      → (result : Result (Keeping D) (NotKept D))
+      → MatchResult result (λ keeper. (keeper.state ≡ machine) × (keeper.cut ≡ cut)) (λ failed. IsNotOfFile failed.fault) → OpensFile result profile clients_max file
+  opens_file machine extent cut found torn few (Ok keeper) (state, same) = (
     (is_told (contents file) extent found.extent_is).reads,
-    subst (λ (S : State). IsRestored profile clients_max (recorded file) S) (sym same) found.restored,
+    subst (λ (S : State). IsRestored profile clients_max (recorded file) S) (sym state) found.restored,
+    same ∙ torn,
+    subst (λ (n : ℕ). n ≤ 2 ^ 22) torn few,
   )
-  opens_bytes machine extent found (Err failed) outside = from_outside failed.fault (is_told (contents file) extent found.extent_is).reads outside
+  opens_file machine extent cut found torn few (Err failed) outside = not_of_file failed.fault (is_told (contents file) extent found.extent_is).reads outside
+
+  pub too_long : (machine : State) (extent : Extent) (at bytes : ℕ) → IsRestoredFrom profile clients_max file machine extent → at ≡ extent.end → bytes ≡ torn_bytes file → 2 ^ 22 < bytes
+      → IsTornTooLong at bytes file
+  too_long machine extent at bytes found place torn many =
+      let told = is_told (contents file) extent found.extent_is in
+      record { reads = told.reads; place = place ∙ told.end; torn = torn; many = many }

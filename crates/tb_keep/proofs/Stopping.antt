@@ -9,7 +9,7 @@ use Rattle.tb_machine.specs.Runs.{Reads}
 use Rattle.tb_keep.specs.declared.faults.KeepFault.{KeepFault}
 use Rattle.tb_keep.specs.declared.faults.KeepFault.TheVariants as keep
 use Rattle.tb_keep.specs.Keeping.{Keeping}
-use Rattle.tb_keep.specs.Steps.{IsRefusal, is_end_of_time, KeepsPair, EndsTold, EndsNext}
+use Rattle.tb_keep.specs.Steps.{IsSudden, is_end_of_time, KeepsPair, EndsTold, EndsNext}
 
 module _ (tells : Type 0) {D : Type 0} (disk : D → Disk) where
   pub ends_refused : (f : KeepFault) (p : Pair) (before after : Keeping D) (first last : Input) (held left : List ℕ) (start : Output)
@@ -18,7 +18,7 @@ module _ (tells : Type 0) {D : Type 0} (disk : D → Disk) where
   ends_refused f p before after first last held left start read turn is =
       inl (refused f turn is, record { pair = p; read = read; turn = turn }, refl)
     where
-      refused : (f : KeepFault) → KeepsPair (Err f) p before after held left → is_end_of_time f ≡ false → IsRefusal f
+      refused : (f : KeepFault) → KeepsPair (Err f) p before after held left → is_end_of_time f ≡ false → IsSudden f
       refused f turn is = grind (arith, common_steps)
 
   pub ends_untimely : (stop f : KeepFault) (p : Pair) (before middle after : Keeping D) (first last : Input) (held kept left : List ℕ) (start written : Output)

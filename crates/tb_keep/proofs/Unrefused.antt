@@ -1,5 +1,5 @@
 -- The records of a history that may be kept are not refused.
-use Rattle.std.proofs.Common.{arith, ℕ, ◌≡◌, ◌⊎◌, ◌+◌, inl, inr, Bool, true, false, cond, not, ◌==◌, ◌&&◌, fold, List, [], ◌∷◌, ◌++◌, map, Some, None, Err, refl, sym, ap, ◌∙◌, subst}
+use Rattle.std.proofs.Common.{arith, ℕ, ◌≡◌, ◌⊎◌, ◌+◌, ◌<◌, ◌≤◌, ◌^◌, inl, inr, Bool, true, false, cond, not, ◌==◌, ◌&&◌, fold, List, [], ◌∷◌, ◌++◌, map, Some, None, Err, refl, sym, ap, ◌∙◌, subst}
 use Rattle.std.proofs.lemmas.Grind.{common_steps}
 use Rattle.std.specs.Prelude.{nat_le}
 use Rattle.tb_records.specs.declared.faults.FrameFault.{FrameFault}
@@ -7,6 +7,7 @@ use Rattle.tb_records.specs.declared.faults.FrameFault.TheVariants as frame
 use Rattle.tb_journal.specs.declared.opening.OpenFault.TheVariants as open_faults
 use Rattle.tb_journal.specs.declared.reading.Refusal.{Refusal}
 use Rattle.tb_journal.specs.declared.reading.Refusal.TheVariants as refusals
+use Rattle.tb_journal.specs.Device.{Disk}
 use Rattle.tb_journal.specs.Contents.{Records}
 use Rattle.tb_journal.specs.Opening.{refused_as}
 use Rattle.tb_ledger.specs.Verdicts.{max_time}
@@ -22,7 +23,7 @@ use Rattle.tb_machine.proofs.JournalRecords.{one_record}
 use Rattle.tb_keep.specs.declared.faults.StartFault.{StartFault}
 use Rattle.tb_keep.specs.declared.faults.StartFault.TheVariants as start
 use Rattle.tb_keep.specs.Keeping.{History, head_record, records_of, IsKeepable, AreRecorded, IsLedger}
-use Rattle.tb_keep.specs.Restoration.{IsNoRecord, Fails, StopsAt, RestoresAll, HeadAnswers, StopsBeginning, IsFromOutside, OnlyMemory, FileOnlyMemory}
+use Rattle.tb_keep.specs.Restoration.{IsNoRecord, Fails, StopsAt, RestoresAll, HeadAnswers, StopsBeginning, StopsOpening, torn_bytes, IsNotOfFile, OnlyMemory, FileOnlyMemory}
 use Rattle.tb_keep.proofs.Again.{one_head}
 use Rattle.tb_keep.proofs.WholeFiles.{whole_stops}
 
@@ -49,6 +50,7 @@ stops_not start.NoMemory S e is next stops = refl
 stops_not start.Head S e is next stops = absurd stops
 stops_not start.OtherRules S e is next stops = absurd stops
 stops_not (start.Journal f) S e is next stops = absurd stops
+stops_not (start.TornTooLong at bytes) S e is next stops = absurd stops
 
 -- the entries before the record that is refused, one by one
 along : (fault : StartFault) (S T : State) (front : List (List ℕ)) (bytes : List ℕ) (rest : List (List ℕ)) (es before : List Entry)
@@ -88,23 +90,31 @@ only_memory start.OtherRules h keepable (head, rest, is, why) = stopped_not star
 only_memory (start.Record place f) h keepable (head, rest, is, why) = stopped_not (start.Record place f) h head rest keepable is why
 only_memory (start.Entry f) h keepable (head, rest, is, why) = stopped_not (start.Entry f) h head rest keepable is why
 only_memory start.NoMemory h keepable stops = refl
+only_memory (start.TornTooLong at bytes) h keepable (head, rest, is, why) = stopped_not (start.TornTooLong at bytes) h head rest keepable is why
 
 refused_not : (why : Refusal) (records : List (List ℕ)) → Records records ≡ refused_as why → ⊥
 refused_not why records is = grind (arith, common_steps)
 
-from_outside : (fault : StartFault) → fault ≡ start.NoMemory → IsFromOutside fault
-from_outside fault is = subst IsFromOutside (sym is) tt
+named_outside : (fault : StartFault) → fault ≡ start.NoMemory → IsNotOfFile fault
+named_outside fault is = subst IsNotOfFile (sym is) tt
 
 -- what stops records that a file of such a history begins with stops all of them
-stops_beginning : (fault : StartFault) (h : History) (file : List ℕ) → IsLedger h file → StopsBeginning fault h.profile h.clients_max file → IsFromOutside fault
+stops_beginning : (fault : StartFault) (h : History) (file : List ℕ) → IsLedger h file → StopsBeginning fault h.profile h.clients_max file → IsNotOfFile fault
 stops_beginning fault h file is early =
-    from_outside fault (only_memory fault h is.keepable (whole_stops fault h.profile h.clients_max file early.records (records_of h) is.reads early.begins early.stops))
+    named_outside fault (only_memory fault h is.keepable (whole_stops fault h.profile h.clients_max file early.records (records_of h) is.reads early.begins early.stops))
 
-pub file_only_memory : FileOnlyMemory
-file_only_memory (start.Journal (open_faults.Refused why)) h file is stops = absurd (refused_not why (records_of h) (sym is.reads ∙ stops))
-file_only_memory (start.Journal (open_faults.Device f)) h file is stops = tt
-file_only_memory start.Head h file is stops = stops_beginning start.Head h file is stops
-file_only_memory start.OtherRules h file is stops = stops_beginning start.OtherRules h file is stops
-file_only_memory (start.Record place f) h file is stops = stops_beginning (start.Record place f) h file is stops
-file_only_memory (start.Entry f) h file is stops = stops_beginning (start.Entry f) h file is stops
-file_only_memory start.NoMemory h file is stops = tt
+named : (fault : StartFault) (h : History) (file : List ℕ) → IsLedger h file → torn_bytes file ≤ 2 ^ 22 → StopsOpening fault h.profile h.clients_max file → IsNotOfFile fault
+named (start.Journal (open_faults.Refused why)) h file is few stops = absurd (refused_not why (records_of h) (sym is.reads ∙ stops))
+named (start.Journal (open_faults.Device f)) h file is few stops = tt
+named start.Head h file is few stops = stops_beginning start.Head h file is stops
+named start.OtherRules h file is few stops = stops_beginning start.OtherRules h file is stops
+named (start.Record place f) h file is few stops = stops_beginning (start.Record place f) h file is stops
+named (start.Entry f) h file is few stops = stops_beginning (start.Entry f) h file is stops
+named start.NoMemory h file is few stops = tt
+named (start.TornTooLong at bytes) h file is few stops = absurd (too_many (torn_bytes file) bytes stops.torn stops.many few)
+  where
+    too_many : (torn bytes : ℕ) → bytes ≡ torn → 2 ^ 22 < bytes → torn ≤ 2 ^ 22 → ⊥
+    too_many torn bytes is many few = omega (arith)
+
+pub file_only_memory : {D : Type 0} (disk : D → Disk) → FileOnlyMemory disk
+file_only_memory disk fault h before after is few stops cause = (named fault h (disk before).seen is few stops, cause)

@@ -71,6 +71,7 @@ stops_longer start.OtherRules profile clients_max records more all whole stops =
 stops_longer (start.Record place f) profile clients_max records more all whole stops = stops_more (start.Record place f) profile clients_max records more all whole stops
 stops_longer (start.Entry f) profile clients_max records more all whole stops = stops_more (start.Entry f) profile clients_max records more all whole stops
 stops_longer start.NoMemory profile clients_max records more all whole stops = tt
+stops_longer (start.TornTooLong at bytes) profile clients_max records more all whole stops = stops_more (start.TornTooLong at bytes) profile clients_max records more all whole stops
 
 pub whole_stops : WholeStops
 whole_stops fault profile clients_max file records all reads begins stops =
@@ -140,6 +141,7 @@ is_no_history start.OtherRules rules file has stops = (rules, has, stops)
 is_no_history (start.Record place f) rules file has stops = (rules, has, stops)
 is_no_history (start.Entry f) rules file has stops = (rules, has, stops)
 is_no_history start.NoMemory rules file has stops = (rules, has, stops)
+is_no_history (start.TornTooLong at bytes) rules file has stops = (rules, has, stops)
 
 -- and where it is refused before its records are read no history is told of it
 

@@ -1,6 +1,6 @@
 -- What is opened again after a crash goes on as if there had been none.
 -- Cited by public contracts of: laws.
-use Rattle.std.specs.Prelude.{ℕ, ◌≡◌, List, ◌++◌, Result}
+use Rattle.std.specs.Prelude.{ℕ, ◌≡◌, ◌⊎◌, List, ◌++◌, Result}
 use Rattle.tb_records.specs.Transport.{Input, Output}
 use Rattle.tb_journal.specs.Device.{Disk}
 use Rattle.tb_machine.specs.Scripts.{Pair}
@@ -40,3 +40,14 @@ module _ (tells : Type 0) {D : Type 0} (disk : D → Disk) where
       → tells → Keeps disk h before → (served : Served tells disk result before after first last start written)
       → (disk after.journal.device).left_since (disk before.journal.device).moment file
       → HasFirst h (all_pairs served) file
+
+  -- a device at some moment of serving: what a crash may leave there, a crash since the beginning might have left
+  abbrev pub IsAmid : Disk → Disk → Disk → Type 0
+  IsAmid before after amid = (c : List ℕ) → amid.may_leave c → after.left_since before.moment c
+
+  -- the end of the process alone, at any moment of serving or behind it: what the next one reads is such a file too
+  abbrev pub AfterKill : Type 0
+  AfterKill = (h : History) (result : Result ℕ KeepFault) (before after : Keeping D) (first last : Input) (start written : Output) (amid : D)
+      → tells → Keeps disk h before → (served : Served tells disk result before after first last start written)
+      → ((amid ≡ after.journal.device) ⊎ IsAmid (disk before.journal.device) (disk after.journal.device) (disk amid))
+      → HasFirst h (all_pairs served) (disk amid).seen

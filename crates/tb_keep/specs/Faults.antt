@@ -28,6 +28,7 @@ start_fault_number start.OtherRules = 3
 start_fault_number (start.Record place fault) = 4
 start_fault_number (start.Entry fault) = 5
 start_fault_number start.NoMemory = 6
+start_fault_number (start.TornTooLong at bytes) = 7
 
 abbrev pub start_fault_name : StartFault → List ℕ
 start_fault_name (start.Journal fault) = codes "Journal"
@@ -36,6 +37,7 @@ start_fault_name start.OtherRules = codes "OtherRules"
 start_fault_name (start.Record place fault) = codes "Record"
 start_fault_name (start.Entry fault) = codes "Entry"
 start_fault_name start.NoMemory = codes "NoMemory"
+start_fault_name (start.TornTooLong at bytes) = codes "TornTooLong"
 
 abbrev pub dump_fault_name : DumpFault → List ℕ
 dump_fault_name (dump.Journal fault) = codes "Journal"

@@ -1,10 +1,10 @@
 -- Journals that have a head: for private functions alone.
 -- Cited by private contracts alone, of: opening.
-use Rattle.std.specs.Prelude.{ℕ, ◌≡◌, ◌⊎◌, List, [], ◌∷◌, Result, Ok, Err}
+use Rattle.std.specs.Prelude.{ℕ, ◌≡◌, ◌⊎◌, List, [], ◌∷◌, Result, Ok, Err, OnOk, IfErr}
 use Rattle.tb_records.specs.declared.limits.Profile.{Profile}
 use Rattle.tb_journal.specs.declared.faults.Fault.TheVariants.{NotEmpty}
 use Rattle.tb_journal.specs.declared.opening.OpenFault.TheVariants as open_faults
-use Rattle.tb_journal.specs.Device.{Disk}
+use Rattle.tb_journal.specs.Device.{Disk, IsCause, FailsNone}
 use Rattle.tb_journal.specs.Contents.{Records, contents, recorded}
 use Rattle.tb_journal.specs.Ready.{Kept, IsReady}
 use Rattle.tb_keep.specs.declared.faults.StartFault.{StartFault}
@@ -23,6 +23,16 @@ abbrev pub IsOfDevice : StartFault → Type 0
 IsOfDevice (start.Journal (open_faults.Device NotEmpty)) = ⊥
 IsOfDevice (start.Journal (open_faults.Device fault)) = Unit {0}
 IsOfDevice fault = ⊥
+
+-- the same, and its cause
+abbrev pub IsDeviceCause : Disk → Disk → StartFault → Type 0
+IsDeviceCause before after (start.Journal (open_faults.Device NotEmpty)) = ⊥
+IsDeviceCause before after (start.Journal (open_faults.Device fault)) = IsCause before after fault
+IsDeviceCause before after fault = ⊥
+
+pub record HasDeviceCause {T : Type 0} (result : Result T StartFault) (before after : Disk) : Type 0 where
+  pub ok : OnOk result (FailsNone before after)
+  pub cause : IfErr result (IsDeviceCause before after)
 
 -- where there is no record there comes a head
 abbrev pub with_head : Profile → ℕ → List (List ℕ) → List (List ℕ)

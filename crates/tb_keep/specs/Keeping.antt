@@ -1,6 +1,6 @@
 -- What a kept file stands for, and what a keeper is that keeps it.
 -- Cited by public contracts of: heads, keepers, opening, serving, worked_rows.
-use Rattle.std.specs.Prelude.{ℕ, ◌≡◌, ◌<◌, ◌≤◌, List, [], ◌∷◌, ◌++◌, map, codes, refl}
+use Rattle.std.specs.Prelude.{ℕ, ◌≡◌, ◌<◌, ◌≤◌, Bool, true, List, [], ◌∷◌, ◌++◌, map, codes, refl}
 use Rattle.tb_records.specs.declared.limits.Profile.{Profile}
 use Rattle.tb_records.specs.declared.limits.Profile.TheVariants.{Two}
 use Rattle.tb_records.specs.Ordered.{Each}
@@ -50,10 +50,18 @@ pub record IsLedger (h : History) (file : List ℕ) : Type 0 where
   pub reads : contents file ≡ Records (records_of h)
   pub keepable : IsKeepable h
 
--- a journal on a device, and the state of the machine beside it
+-- a journal on a device, the state of the machine beside it, how many torn bytes a start cut off, and whether no call of `keep` has
+-- failed
 pub record Keeping (D : Type 0) : Type 0 where
   pub journal : Kept D
   pub state : State
+  pub cut : ℕ
+  pub usable : Bool
+
+-- a keeper that may serve, whatever the device: no call of it has failed, and no commit of its journal
+pub record IsUsable {D : Type 0} (keeper : Keeping D) : Type 0 where
+  pub kept : keeper.usable ≡ true
+  pub journal : keeper.journal.usable ≡ true
 
 -- the journal is ready, and nothing waits in it
 pub record IsFresh {D : Type 0} (disk : D → Disk) (keeper : Keeping D) : Type 0 where

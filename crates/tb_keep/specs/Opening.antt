@@ -1,20 +1,20 @@
 -- How a kept file is created and opened, and what a crash may leave of it meanwhile.
 -- Cited by public contracts of: dumps, opening, restoring, worked_rows.
-use Rattle.std.specs.Prelude.{ℕ, true, ◌≡◌, ◌⊎◌, List, [], ◌∷◌, Result, Ok, Err}
+use Rattle.std.specs.Prelude.{ℕ, true, ◌≡◌, ◌⊎◌, ◌≤◌, ◌^◌, List, [], ◌∷◌, Result, Ok, Err, OnOk, IfErr}
 use Rattle.tb_records.specs.declared.limits.Profile.{Profile}
 use Rattle.tb_journal.specs.declared.faults.Fault.TheVariants.{NotEmpty}
 use Rattle.tb_journal.specs.declared.opening.OpenFault.TheVariants as open_faults
-use Rattle.tb_journal.specs.Device.{Disk, LeavesOnly}
+use Rattle.tb_journal.specs.Device.{Disk, LeavesOnly, FailsNone}
 use Rattle.tb_journal.specs.Contents.{Records, contents, recorded}
 use Rattle.tb_journal.specs.Opening.{IsAsBefore}
-use Rattle.tb_journal.specs.Creating.{is_blank, IsUnborn}
+use Rattle.tb_journal.specs.Creating.{is_blank, IsUnborn, IsCreateCause}
 use Rattle.tb_machine.specs.declared.entries.Entry.{Entry}
 use Rattle.tb_machine.specs.Histories.{start as start_state}
 use Rattle.tb_keep.specs.declared.faults.StartFault.{StartFault}
 use Rattle.tb_keep.specs.declared.faults.StartFault.TheVariants as start
 use Rattle.tb_keep.specs.declared.opening.NotKept.{NotKept}
 use Rattle.tb_keep.specs.Keeping.{History, records_of, head_record, Keeping, Keeps}
-use Rattle.tb_keep.specs.Restoration.{StopsReading, IsRestored, IsFromOutside}
+use Rattle.tb_keep.specs.Restoration.{StopsOpening, IsRestored, IsStartCause, HasStartCause, IsNotOfFile, torn_bytes}
 
 -- a history of these rules
 abbrev pub history_of : Profile → ℕ → List Entry → History
@@ -29,6 +29,11 @@ abbrev pub device_left : {D : Type 0} → Result (Keeping D) (NotKept D) → D
 device_left (Ok keeper) = keeper.journal.device
 device_left (Err failed) = failed.device
 
+-- and why it is
+abbrev pub why_left : {T D : Type 0} → Result T (NotKept D) → Result (Unit {0}) StartFault
+why_left (Ok value) = Ok tt
+why_left (Err failed) = Err failed.fault
+
 module _ {D : Type 0} (disk : D → Disk) (profile : Profile) (clients_max : ℕ) where
   -- the keeper of the history that the file had
   pub record IsOpened (file : List ℕ) (keeper : Keeping D) : Type 0 where
@@ -36,32 +41,49 @@ module _ {D : Type 0} (disk : D → Disk) (profile : Profile) (clients_max : ℕ
     pub reads : contents file ≡ Records (recorded file)
     pub found : StandFor (history_of profile clients_max entries) (recorded file)
     pub keeps : Keeps disk (history_of profile clients_max entries) keeper
+    pub cut : keeper.cut ≡ torn_bytes file
 
   -- the keeper of a file that was opened, or of one that was blank
   abbrev pub IsStarted : List ℕ → Keeping D → Type 0
-  IsStarted file keeper = IsOpened file keeper ⊎ ((is_blank file ≡ true) × Keeps disk (history_of profile clients_max []) keeper)
+  IsStarted file keeper = IsOpened file keeper ⊎ ((is_blank file ≡ true) × Keeps disk (history_of profile clients_max []) keeper × (keeper.cut ≡ 0))
 
--- by the bytes that reads handed out: the machine stands after the entries of their records, or it is told why not
-abbrev pub OpensBytes : {D : Type 0} → Result (Keeping D) (NotKept D) → Profile → ℕ → List ℕ → Type 0
-OpensBytes (Ok keeper) profile clients_max file = (contents file ≡ Records (recorded file)) × IsRestored profile clients_max (recorded file) keeper.state
-OpensBytes (Err failed) profile clients_max file = StopsReading failed.fault profile clients_max file
-
--- the same, or the ledger is new, or no byte was found wrong
-abbrev pub StartsBytes : {D : Type 0} → Result (Keeping D) (NotKept D) → Profile → ℕ → List ℕ → Type 0
-StartsBytes (Ok keeper) profile clients_max file = OpensBytes (Ok keeper) profile clients_max file ⊎ (keeper.state ≡ start_state profile clients_max)
-StartsBytes (Err failed) profile clients_max file = OpensBytes (Err failed) profile clients_max file ⊎ IsFromOutside failed.fault
+-- by the file that the reads are of: the machine stands after the entries of its records, and its torn bytes, which are few, were cut
+-- off; or it is told why not
+abbrev pub OpensFile : {D : Type 0} → Result (Keeping D) (NotKept D) → Profile → ℕ → List ℕ → Type 0
+OpensFile (Ok keeper) profile clients_max file =
+    (contents file ≡ Records (recorded file)) × IsRestored profile clients_max (recorded file) keeper.state
+    × (keeper.cut ≡ torn_bytes file) × (torn_bytes file ≤ 2 ^ 22)
+OpensFile (Err failed) profile clients_max file = StopsOpening failed.fault profile clients_max file
 
 -- the file is as it was, and was at each moment
 pub record IsUntouched (before after : Disk) : Type 0 where
   pub seen : after.seen ≡ before.seen
   pub any_moment : LeavesOnly before after (IsAsBefore before)
 
--- where something stands in a file none is created, and the file is as it was
+-- where something stands in a file none is created, the file is as it was, and no sync has failed that had not
 abbrev pub IsCreateRefused : StartFault → Disk → Disk → Type 0
-IsCreateRefused (start.Journal (open_faults.Device NotEmpty)) before after = IsUntouched before after
+IsCreateRefused (start.Journal (open_faults.Device NotEmpty)) before after = IsUntouched before after × (after.sound ≡ before.sound)
 IsCreateRefused (start.Journal (open_faults.Device fault)) before after = Unit {0}
 IsCreateRefused start.NoMemory before after = IsUntouched before after
 IsCreateRefused fault before after = ⊥
+
+-- the cause of a fault: of one of the journal, that which it has when it is created; behind any other no call has failed
+abbrev pub IsCreateStartCause : Disk → Disk → StartFault → Type 0
+IsCreateStartCause before after (start.Journal fault) = IsCreateCause before after fault
+IsCreateStartCause before after fault = FailsNone before after
+
+pub record HasCreateStartCause {T : Type 0} (result : Result T StartFault) (before after : Disk) : Type 0 where
+  pub ok : OnOk result (FailsNone before after)
+  pub cause : IfErr result (IsCreateStartCause before after)
+
+-- the same of a file that is created or opened: it is never NotEmpty
+abbrev pub IsEitherCause : Disk → Disk → StartFault → Type 0
+IsEitherCause before after (start.Journal (open_faults.Device NotEmpty)) = ⊥
+IsEitherCause before after fault = IsCreateStartCause before after fault ⊎ IsStartCause before after fault
+
+pub record HasEitherCause {T : Type 0} (result : Result T StartFault) (before after : Disk) : Type 0 where
+  pub ok : OnOk result (FailsNone before after)
+  pub cause : IfErr result (IsEitherCause before after)
 
 module _ (profile : Profile) (clients_max : ℕ) where
   -- no record, or a head and nothing behind it
@@ -80,12 +102,12 @@ module _ (profile : Profile) (clients_max : ℕ) where
   abbrev pub MayBeStarted : Disk → List ℕ → Type 0
   MayBeStarted before file = MayBeOpened before file ⊎ MayBeCreated before file
 
-  -- why a file is not opened: it is no journal or is damaged, or it begins with records of which the last is none of the next entry
-  -- by these rules. Then, and where there is no memory to restore it, it is as it was. Behind any other fault the device failed, or
-  -- was full
+  -- why a file is not opened: it is no journal or is damaged, it begins with records of which the last is none of the next entry by
+  -- these rules, or too much would have to be cut off. Then, and where there is no memory to restore it, it is as it was. Behind any
+  -- other fault the device failed, or was full (IsStartCause)
   abbrev pub IsRefused : StartFault → Disk → Disk → Type 0
   IsRefused (start.Journal (open_faults.Device fault)) before after = Unit {0}
-  IsRefused fault before after = StopsReading fault profile clients_max before.seen × IsUntouched before after
+  IsRefused fault before after = StopsOpening fault profile clients_max before.seen × IsUntouched before after
 
   abbrev pub IsStartRefused : StartFault → Disk → Disk → Type 0
   IsStartRefused start.NoMemory before after = IsUntouched before after

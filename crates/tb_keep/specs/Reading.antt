@@ -1,12 +1,14 @@
 -- What is read of a kept file, without a write.
 -- Cited by public contracts of: dumps, laws, worked_rows.
-use Rattle.std.specs.Prelude.{ℕ, ◌≡◌, ◌⊎◌, ◌<◌, ◌≤◌, List, [], ◌∷◌, ◌++◌, Result, Ok, Err, None}
+use Rattle.std.specs.Prelude.{ℕ, ◌≡◌, ◌⊎◌, ◌<◌, ◌≤◌, List, [], ◌∷◌, ◌++◌, Result, Ok, Err, OnOk, IfErr, None}
 use Rattle.tb_records.specs.declared.faults.FrameFault.TheVariants.{Device}
 use Rattle.tb_records.specs.declared.limits.Profile.{Profile}
 use Rattle.tb_records.specs.DumpBytes.{head_bytes}
 use Rattle.tb_records.specs.Transport.{Output, Sent, CutOff}
 use Rattle.tb_journal.specs.declared.reading.Extent.{Extent}
+use Rattle.tb_journal.specs.Device.{Disk, FailsNone}
 use Rattle.tb_journal.specs.Contents.{Records, contents, recorded}
+use Rattle.tb_journal.specs.Opening.{IsOpenCause, RefusesFile}
 use Rattle.tb_journal.specs.Reading.{extent_of}
 use Rattle.tb_journal.specs.Scans.{BeginsWith}
 use Rattle.tb_machine.specs.Histories.{State}
@@ -17,7 +19,7 @@ use Rattle.tb_keep.specs.declared.faults.StartFault.{StartFault}
 use Rattle.tb_keep.specs.declared.faults.StartFault.TheVariants as start
 use Rattle.tb_keep.specs.declared.heads.Rules.{Rules}
 use Rattle.tb_keep.specs.Keeping.{History, state_of, head_record, IsLedger}
-use Rattle.tb_keep.specs.Restoration.{StopsJournal, StopsReading}
+use Rattle.tb_keep.specs.Restoration.{StopsReading}
 
 abbrev pub rules_of : Profile → ℕ → Rules
 rules_of profile clients_max = record { profile = profile; clients_max = clients_max }
@@ -39,7 +41,7 @@ HasNoHead file =
 abbrev pub RulesAnswer : Result Rules StartFault → List ℕ → Type 0
 RulesAnswer (Ok rules) file = HasRules rules file
 RulesAnswer (Err start.Head) file = HasNoHead file
-RulesAnswer (Err (start.Journal fault)) file = StopsJournal fault file
+RulesAnswer (Err (start.Journal fault)) file = RefusesFile fault file
 RulesAnswer (Err fault) file = ⊥
 
 -- the same of all records of a file that is read to its end
@@ -60,7 +62,7 @@ pub record IsHistory (rules : Rules) (S : State) (file : List ℕ) : Type 0 wher
 
 -- the file stands for no history: it is not read, it has no head, or a record behind it is none of the next entry
 abbrev pub IsNoHistory : StartFault → List ℕ → Type 0
-IsNoHistory (start.Journal fault) file = StopsJournal fault file
+IsNoHistory (start.Journal fault) file = RefusesFile fault file
 IsNoHistory start.Head file = HasNoHead file
 IsNoHistory fault file = (rules : Rules) × HasRules rules file × StopsReading fault rules.profile rules.clients_max file
 
@@ -100,9 +102,18 @@ DumpsSome rules file before after =
 -- the dump of a file went out; or the file is not read to its end; or the writer failed, and a prefix of a dump went out
 abbrev pub Dumps : Result (Unit {0}) DumpFault → Rules → List ℕ → Output → Output → Type 0
 Dumps (Ok done) rules file before after = (contents file ≡ Records (recorded file)) × Sent (dump_of rules file) before after
-Dumps (Err (dump.Journal fault)) rules file before after = StopsJournal fault file × DumpsSome rules file before after
+Dumps (Err (dump.Journal fault)) rules file before after = RefusesFile fault file × DumpsSome rules file before after
 Dumps (Err (dump.Writer fault)) rules file before after =
     (fault ≡ Device) × ((records : List (List ℕ)) × BeginsWith records file × CutOff (dump_with rules records) before after)
+
+-- the cause of a dump's fault: of one of the journal, that which it has when it is opened; where the writer failed no call has
+abbrev pub IsDumpCause : Disk → Disk → DumpFault → Type 0
+IsDumpCause before after (dump.Journal fault) = IsOpenCause before after fault
+IsDumpCause before after (dump.Writer fault) = FailsNone before after
+
+pub record HasDumpCause {T : Type 0} (result : Result T DumpFault) (before after : Disk) : Type 0 where
+  pub ok : OnOk result (FailsNone before after)
+  pub cause : IfErr result (IsDumpCause before after)
 
 -- of a file that is read to its end this is a prefix of its dump
 abbrev pub WholeDumps : Type 0

@@ -1,12 +1,13 @@
 -- What the restoring of a machine from the records of a file makes.
--- Cited by public contracts of: laws, opening, restoring, worked_rows.
-use Rattle.std.specs.Prelude.{ℕ, ◌≡◌, ◌⊎◌, ◌+◌, ◌<◌, ◌≤◌, IsTrue, List, [], ◌∷◌, ◌++◌, map, fold, Some, Result, Ok, Err}
+-- Cited by public contracts of: dumps, laws, opening, restoring, worked_rows.
+use Rattle.std.specs.Prelude.{ℕ, ◌≡◌, ◌⊎◌, ◌+◌, ◌-◌, ◌^◌, ◌<◌, ◌≤◌, IsTrue, List, [], ◌∷◌, ◌++◌, map, fold, length, codes, refl, Some, Result, Ok, Err, OnOk, IfErr}
 use Rattle.tb_records.specs.declared.limits.Profile.{Profile}
 use Rattle.tb_journal.specs.declared.opening.OpenFault.{OpenFault}
 use Rattle.tb_journal.specs.declared.opening.OpenFault.TheVariants as open_faults
 use Rattle.tb_journal.specs.declared.reading.Extent.{Extent}
-use Rattle.tb_journal.specs.Contents.{Records, contents, recorded}
-use Rattle.tb_journal.specs.Opening.{refused_as}
+use Rattle.tb_journal.specs.Device.{Disk, FailsNone}
+use Rattle.tb_journal.specs.Contents.{Records, contents, journal_of, recorded, records_end}
+use Rattle.tb_journal.specs.Opening.{IsOpenCause, RefusesFile}
 use Rattle.tb_journal.specs.Reading.{extent_of}
 use Rattle.tb_journal.specs.Scans.{BeginsWith}
 use Rattle.tb_records.specs.declared.faults.FrameFault.{FrameFault}
@@ -97,15 +98,37 @@ pub record StopsBeginning (fault : StartFault) (profile : Profile) (clients_max 
   pub begins : BeginsWith records file
   pub stops : StopsFile fault profile clients_max records
 
--- why the reading of a file stops: it is no journal or is damaged, or a call on the device failed
-abbrev pub StopsJournal : OpenFault → List ℕ → Type 0
-StopsJournal (open_faults.Refused why) file = contents file ≡ refused_as why
-StopsJournal (open_faults.Device fault) file = Unit {0}
-
--- why a file is not restored: that, or the head, or a record behind it
+-- why a file is not restored: it is no journal or is damaged, or a call on the device failed; or the head, or a record behind it
 abbrev pub StopsReading : StartFault → Profile → ℕ → List ℕ → Type 0
-StopsReading (start.Journal fault) profile clients_max file = StopsJournal fault file
+StopsReading (start.Journal fault) profile clients_max file = RefusesFile fault file
 StopsReading fault profile clients_max file = StopsBeginning fault profile clients_max file
+
+-- the bytes of a file that stand behind its records and the latch there: what a batch that was not committed has left
+abbrev pub torn_bytes : List ℕ → ℕ
+torn_bytes file = length file - records_end (recorded file) - 1
+
+-- more of them than one batch can have, from this place on
+pub record IsTornTooLong (at bytes : ℕ) (file : List ℕ) : Type 0 where
+  pub reads : contents file ≡ Records (recorded file)
+  pub place : at ≡ records_end (recorded file)
+  pub torn : bytes ≡ torn_bytes file
+  pub many : 2 ^ 22 < bytes
+
+-- why a file is not opened: it is not restored, or so much would have to be cut off
+abbrev pub StopsOpening : StartFault → Profile → ℕ → List ℕ → Type 0
+StopsOpening (start.TornTooLong at bytes) profile clients_max file = IsTornTooLong at bytes file
+StopsOpening fault profile clients_max file = StopsReading fault profile clients_max file
+
+-- the cause of a fault, by what the device has counted since: of one of the journal, that which it has when it is opened; behind any
+-- other, which is the file's own or want of memory, no call on the device has failed
+abbrev pub IsStartCause : Disk → Disk → StartFault → Type 0
+IsStartCause before after (start.Journal fault) = IsOpenCause before after fault
+IsStartCause before after fault = FailsNone before after
+
+-- an error has a cause, and behind an answer that is none no call has failed
+pub record HasStartCause {T : Type 0} (result : Result T StartFault) (before after : Disk) : Type 0 where
+  pub ok : OnOk result (FailsNone before after)
+  pub cause : IfErr result (IsStartCause before after)
 
 -- the machine, and where the records end, or why not
 abbrev pub Restores : Result (State × Extent) StartFault → Profile → ℕ → List ℕ → Type 0
@@ -121,13 +144,28 @@ WholeStops = (fault : StartFault) (profile : Profile) (clients_max : ℕ) (file 
 abbrev pub OnlyMemory : Type 0
 OnlyMemory = (fault : StartFault) (h : History) → IsKeepable h → StopsFile fault h.profile h.clients_max (records_of h) → fault ≡ start.NoMemory
 
--- a fault that says nothing against the file: there is no memory, or the device failed
-abbrev pub IsFromOutside : StartFault → Type 0
-IsFromOutside start.NoMemory = Unit {0}
-IsFromOutside (start.Journal (open_faults.Device fault)) = Unit {0}
-IsFromOutside fault = ⊥
+-- a fault that names nothing of the file: want of memory, or a fault of the device
+abbrev pub IsNotOfFile : StartFault → Type 0
+IsNotOfFile start.NoMemory = Unit {0}
+IsNotOfFile (start.Journal (open_faults.Device fault)) = Unit {0}
+IsNotOfFile fault = ⊥
 
--- so a file that stands for such a history is not refused for what stands in it
-abbrev pub FileOnlyMemory : Type 0
-FileOnlyMemory = (fault : StartFault) (h : History) (file : List ℕ) → IsLedger h file
-    → StopsReading fault h.profile h.clients_max file → IsFromOutside fault
+-- a fault that says nothing against the file, and its cause: a call on the device has failed so; or none has, and there is no memory,
+-- or the file has its greatest length
+abbrev pub IsFromOutside : Disk → Disk → StartFault → Type 0
+IsFromOutside before after fault = IsNotOfFile fault × IsStartCause before after fault
+
+-- so a file that stands for such a history, with no more torn bytes behind it than a batch has, is not refused for what stands in it
+abbrev pub FileOnlyMemory : {D : Type 0} → (D → Disk) → Type 0
+FileOnlyMemory {D} disk = (fault : StartFault) (h : History) (before after : D) → IsLedger h (disk before).seen → torn_bytes (disk before).seen ≤ 2 ^ 22
+    → StopsOpening fault h.profile h.clients_max (disk before).seen → IsStartCause (disk before) (disk after) fault
+    → IsFromOutside (disk before) (disk after) fault
+
+-- rows
+
+-- a file at rest has no torn bytes, and these two are some
+pub none_torn : torn_bytes (journal_of []) ≡ 0
+none_torn = refl
+
+pub two_torn : torn_bytes (journal_of [] ++ 1 ∷ 2 ∷ []) ≡ 2
+two_torn = refl

@@ -1,15 +1,19 @@
 -- How pairs are served in rounds: their entries are committed, and then their replies are told.
 -- Cited by public contracts of: laws, serving.
-use Rattle.std.specs.Prelude.{ℕ, true, false, ◌≡◌, ◌⊎◌, ◌-◌, ◌^◌, List, [], ◌∷◌, ◌++◌, length, map, flat_map, fold, Option, None, Result, Ok, Err, if◌then◌else◌, IsTrue}
+use Rattle.std.specs.Prelude.{ℕ, Bool, true, false, ◌≡◌, ◌⊎◌, ◌+◌, ◌-◌, ◌^◌, ◌<◌, ◌≤◌, List, [], ◌∷◌, ◌++◌, length, map, flat_map, fold, Option, None, Result, Ok, Err, if◌then◌else◌, IsTrue}
 use Rattle.tb_records.specs.declared.faults.FrameFault.{FrameFault}
 use Rattle.tb_records.specs.declared.faults.FrameFault.TheVariants.{Device}
 use Rattle.tb_records.specs.Messages.{Answer, Message}
 use Rattle.tb_records.specs.Inputs.{TimedAnswers}
+use Rattle.tb_records.specs.AtHand.{holds_pair}
 use Rattle.tb_records.specs.Transport.{Input, Output, Counts, Sent, CutOff}
 use Rattle.tb_records.specs.ReplyFrames.{reply_bytes, IsReply}
-use Rattle.tb_journal.specs.Device.{Disk, LeavesOnly}
-use Rattle.tb_journal.specs.Contents.{recorded}
+use Rattle.tb_journal.specs.declared.faults.Fault.{Fault}
+use Rattle.tb_journal.specs.declared.faults.Fault.TheVariants.{Memory, Full, TooLong}
+use Rattle.tb_journal.specs.Device.{Disk, LeavesOnly, HasFailed}
+use Rattle.tb_journal.specs.Contents.{at_rest, recorded}
 use Rattle.tb_journal.specs.Steps.{IsAtRest, IsBeforeOrAfter}
+use Rattle.tb_journal.specs.Ready.{Kept}
 use Rattle.tb_machine.specs.declared.entries.Entry.{Entry}
 use Rattle.tb_machine.specs.declared.serving.RunFault.TheVariants as run
 use Rattle.tb_machine.specs.Histories.{State, fits, answer_to}
@@ -67,16 +71,35 @@ pub record IsRead (answer : Result (Option (ℕ × Message)) FrameFault) (before
   pub answers : TimedAnswers answer before.left after.left
   pub counted : Counts answer before after
 
--- a state, the device with the file, and what was written to those who asked
+-- a state, the device with the file, what is left to read, and what was written to those who asked
 pub record Standing (D : Type 0) : Type 0 where
   pub state : State
   pub device : D
+  pub input : Input
   pub output : Output
+
+-- what stands where a keeper does
+abbrev pub standing_of : {D : Type 0} → Keeping D → Input → Output → Standing D
+standing_of keeper input output = record { state = keeper.state; device = keeper.journal.device; input = input; output = output }
 
 -- the pairs of rounds
 abbrev pub pairs_of : List (List Pair) → List Pair
 pairs_of [] = []
 pairs_of (ps ∷ rounds) = ps ++ pairs_of rounds
+
+-- while something is held back a reader is asked for a pair only where that is at hand whole
+abbrev pub IsPrompt : Bool → Input → Type 0
+IsPrompt held input = held ≡ true → holds_pair input.at_hand ≡ true
+
+-- pairs that are read one after another so; behind the first one its reply is held back
+abbrev pub ReadsPromptly : Bool → List Pair → Input → Input → Type 0
+ReadsPromptly held [] first last = last ≡ first
+ReadsPromptly held (p ∷ ps) first last = IsPrompt held first × ((middle : Input) × Reads (p ∷ []) first middle × ReadsPromptly true ps middle last)
+
+-- whether something is held back behind such pairs
+abbrev pub is_held : Bool → List Pair → Bool
+is_held held [] = held
+is_held held (p ∷ ps) = true
 
 -- a pair is new, and the end of time leaves no time for it
 abbrev pub IsUntimely : State → Pair → Type 0
@@ -92,21 +115,30 @@ IsStop fault S middle after = ⊥
 abbrev pub Pauses : State → Input → Input → Type 0
 Pauses S middle after = (after ≡ middle) ⊎ (IsRead (Ok None) middle after ⊎ ((fault : KeepFault) × IsStop fault S middle after))
 
--- what was read behind the pairs that were served: nothing to the end, a fault, one more pair, or nothing
-abbrev pub Stops : Result ℕ KeepFault → State → ℕ → Input → Input → Type 0
-Stops (Ok k) S count middle after = (k ≡ count) × IsRead (Ok None) middle after
-Stops (Err (keep.Serving (run.Frame fault))) S count middle after = IsRead (Err fault) middle after ⊎ Pauses S middle after
-Stops (Err (keep.Serving run.NoMemory)) S count middle after = (p : Pair) × Reads (p ∷ []) middle after
-Stops (Err (keep.Serving run.TimeExhausted)) S count middle after = IsStop (keep.Serving run.TimeExhausted) S middle after
-Stops (Err (keep.Serving run.TooLong)) S count middle after = (count ≡ 2 ^ 64 - 1) × (after ≡ middle)
-Stops (Err (keep.Journal fault)) S count middle after = ((p : Pair) × Reads (p ∷ []) middle after × (is_new_in S p ≡ true)) ⊎ Pauses S middle after
+-- why a journal lets no record of these bytes wait: it is too long, the journal would be, or there is no memory
+abbrev pub RefusesRecord : {D : Type 0} → Fault → Kept D → List ℕ → Type 0
+RefusesRecord Memory journal bytes = Unit {0}
+RefusesRecord TooLong journal bytes = 2 ^ 24 ≤ length bytes
+RefusesRecord Full journal bytes = 2 ^ 62 < journal.end + length (at_rest journal.waiting) + 8 + length bytes
+RefusesRecord fault journal bytes = ⊥
+
+-- one more pair was read, which is new and has a time, and the journal refused the record of its entry
+pub record IsUnrecorded {D : Type 0} (fault : Fault) (S : State) (journal : Kept D) (middle after : Input) : Type 0 where
+  pub pair : Pair
+  pub read : Reads (pair ∷ []) middle after
+  pub new : is_new_in S pair ≡ true
+  pub time : has_time S pair ≡ true
+  pub refused : RefusesRecord fault journal (dumped (entry_of S pair))
 
 module _ (tells : Type 0) {D : Type 0} (disk : D → Disk) where
-  -- one round: while the file grows nothing is told, and while the replies are told, and held back no more, the file stays
+  -- one round: its pairs are read, and none is waited for while a reply is held back; while the file grows nothing is told, and
+  -- while the replies are told, and held back no more, the file stays; a batch is short
   pub record Round (ps : List Pair) (before after : Standing D) : Type 0 where
+    pub prompt : ReadsPromptly before.output.held ps before.input after.input
     pub served : AreServed before.state ps
     pub state : after.state ≡ state_from before.state ps
     pub commits : tells → Commits (records_from before.state ps) (disk before.device) (disk after.device)
+    pub short : length (at_rest (records_from before.state ps)) ≤ 2 ^ 22
     pub told : Sent (told_from before.state ps) before.output after.output
     pub passed : after.output.held ≡ false
 
@@ -119,33 +151,54 @@ module _ (tells : Type 0) {D : Type 0} (disk : D → Disk) where
     pub same : device ≡ middle.device
     pub silent : output ≡ middle.output
 
-  -- a commit failed: a crash leaves all of the batch or nothing of it, and nothing was told
-  pub record Fails (ps : List Pair) (middle : Standing D) (device : D) (output : Output) : Type 0 where
+  -- a commit failed of entries that are some, for a cause: a crash leaves all of the batch or nothing of it, and nothing was told
+  pub record Fails (fault : Fault) (ps : List Pair) (middle : Standing D) (device : D) (output : Output) : Type 0 where
+    pub some : tells → records_from middle.state ps ≡ [] → ⊥
+    pub cause : tells → HasFailed (disk middle.device) (disk device) fault
     pub any_moment : tells → LeavesOnly (disk middle.device) (disk device) (IsBeforeOrAfter (recorded (disk middle.device).seen) (records_from middle.state ps))
+    pub short : length (at_rest (records_from middle.state ps)) ≤ 2 ^ 22
     pub silent : output ≡ middle.output
 
-  -- the batch was committed, and a prefix of the replies told
+  -- the batch was committed, and a prefix of the replies told, where the writer failed
   pub record BreaksOff (ps : List Pair) (middle : Standing D) (device : D) (output : Output) : Type 0 where
     pub commits : tells → Commits (records_from middle.state ps) (disk middle.device) (disk device)
+    pub short : length (at_rest (records_from middle.state ps)) ≤ 2 ^ 22
     pub cut : CutOff (told_from middle.state ps) middle.output output
 
-  -- how serving ends behind rounds and further pairs: where a frame is none there are no further ones, unless the writer failed,
-  -- and where no time is left there are none
-  abbrev pub EndsBy : Result ℕ KeepFault → List Pair → Standing D → Keeping D → Output → Type 0
-  EndsBy (Ok k) ps middle keeper output = (ps ≡ []) × (keeper.state ≡ middle.state) × Quits middle keeper.journal.device output
-  EndsBy (Err (keep.Journal fault)) ps middle keeper output = Quits middle keeper.journal.device output ⊎ Fails ps middle keeper.journal.device output
-  EndsBy (Err (keep.Serving (run.Frame fault))) ps middle keeper output = ((ps ≡ []) × Quits middle keeper.journal.device output) ⊎ ((fault ≡ Device) × BreaksOff ps middle keeper.journal.device output)
-  EndsBy (Err (keep.Serving run.TimeExhausted)) ps middle keeper output = (ps ≡ []) × Quits middle keeper.journal.device output
-  EndsBy (Err fault) ps middle keeper output = Quits middle keeper.journal.device output
+  -- how serving ends behind rounds, with the pairs ps that were read since: what was read behind these (from input to last), what
+  -- became of them, and the cause
+  abbrev pub Ends : Result ℕ KeepFault → ℕ → List Pair → Standing D → Keeping D → Input → Input → Output → Type 0
+  -- the end was read, and all is told
+  Ends (Ok k) count ps middle keeper input last output =
+      (k ≡ count) × IsRead (Ok None) input last × Round ps middle (standing_of keeper input output)
+  -- no frame was read, and all before it is told; or the writer failed, and a prefix of the last replies is told
+  Ends (Err (keep.Serving (run.Frame fault))) count ps middle keeper input last output =
+      (IsRead (Err fault) input last × Round ps middle (standing_of keeper input output))
+      ⊎ ((fault ≡ Device) × Pauses (state_from middle.state ps) input last × BreaksOff ps middle keeper.journal.device output)
+  -- a pair was read for which there is no time, and all before it is told
+  Ends (Err (keep.Serving run.TimeExhausted)) count ps middle keeper input last output =
+      IsStop (keep.Serving run.TimeExhausted) (state_from middle.state ps) input last × Round ps middle (standing_of keeper input output)
+  -- one more pair was read, for which there is no memory: these pairs are lost
+  Ends (Err (keep.Serving run.NoMemory)) count ps middle keeper input last output =
+      ((p : Pair) × Reads (p ∷ []) input last) × Quits middle keeper.journal.device output
+  -- so many pairs were read that they cannot be counted: these pairs are lost
+  Ends (Err (keep.Serving run.TooLong)) count ps middle keeper input last output =
+      (count ≡ 2 ^ 64 - 1) × (last ≡ input) × Quits middle keeper.journal.device output
+  -- the record of one more pair was refused, and these pairs are lost; or their commit failed
+  Ends (Err (keep.Journal fault)) count ps middle keeper input last output =
+      (IsUnrecorded fault (state_from middle.state ps) keeper.journal input last × Quits middle keeper.journal.device output)
+      ⊎ (Pauses (state_from middle.state ps) input last × Fails fault ps middle keeper.journal.device output)
 
-  -- pairs were read and served in rounds, and further ones were read and not told
+  -- pairs were read and served in rounds, and further ones behind these; what came of them says how serving ended
   pub record Served (result : Result ℕ KeepFault) (before after : Keeping D) (first last : Input) (start written : Output) : Type 0 where
     pub rounds : List (List Pair)
     pub more : List Pair
     pub standing : Standing D
     pub input : Input
-    pub kept : Rounds rounds (record { state = before.state; device = before.journal.device; output = start }) standing
+    pub kept : Rounds rounds (standing_of before first start) standing
     pub served : AreServed standing.state more
     pub read : Reads (pairs_of rounds ++ more) first input
-    pub stops : Stops result (state_from standing.state more) (length (pairs_of rounds ++ more)) input last
-    pub ended : EndsBy result more standing after written
+    pub prompt : ReadsPromptly standing.output.held more standing.input input
+    -- nothing was asked for behind these pairs, or nothing is held back, or a pair was at hand whole
+    pub asked : (last ≡ input) ⊎ IsPrompt (is_held standing.output.held more) input
+    pub ended : Ends result (length (pairs_of rounds ++ more)) more standing after input last written

@@ -1,13 +1,15 @@
 -- What the steps of serving do: for private functions alone.
 -- Cited by private contracts alone, of: serving.
-use Rattle.std.specs.Prelude.{ℕ, Bool, true, false, ◌≡◌, ◌⊎◌, List, [], ◌∷◌, ◌++◌, Result, Ok, Err, Option, None, IsTrue}
+use Rattle.std.specs.Prelude.{ℕ, Bool, true, false, ◌≡◌, ◌⊎◌, ◌+◌, ◌<◌, ◌≤◌, ◌^◌, List, [], ◌∷◌, ◌++◌, length, Result, Ok, Err, Option, None, IsTrue}
 use Rattle.tb_records.specs.declared.faults.FrameFault.{FrameFault}
 use Rattle.tb_records.specs.declared.faults.FrameFault.TheVariants.{Device}
 use Rattle.tb_records.specs.Messages.{Message}
 use Rattle.tb_records.specs.ReplyFrames.{IsReply}
+use Rattle.tb_records.specs.AtHand.{holds_pair}
 use Rattle.tb_records.specs.Transport.{Input, Output, Sent, CutOff}
-use Rattle.tb_journal.specs.Device.{Disk, LeavesOnly}
-use Rattle.tb_journal.specs.Contents.{recorded}
+use Rattle.tb_journal.specs.declared.faults.Fault.{Fault}
+use Rattle.tb_journal.specs.Device.{Disk, LeavesOnly, HasFailed}
+use Rattle.tb_journal.specs.Contents.{at_rest, recorded}
 use Rattle.tb_journal.specs.Steps.{IsBeforeOrAfter}
 use Rattle.tb_journal.specs.Ready.{Kept, IsReady}
 use Rattle.tb_machine.specs.declared.serving.RunFault.TheVariants as run
@@ -19,13 +21,23 @@ use Rattle.tb_machine.specs.Recording.{IsRecord}
 use Rattle.tb_keep.specs.declared.faults.KeepFault.{KeepFault}
 use Rattle.tb_keep.specs.declared.faults.KeepFault.TheVariants as keep
 use Rattle.tb_keep.specs.Keeping.{Keeping}
-use Rattle.tb_keep.specs.Rounds.{IsServed, IsUntimely, Commits, IsRead, IsStop, records_from, told_from}
+use Rattle.tb_keep.specs.Rounds.{IsServed, IsUntimely, Commits, IsRead, IsStop, RefusesRecord, records_from, told_from}
 
 -- a fault of a record that is made to wait: there is no memory for it, or the journal refuses it
-abbrev pub IsRefusal : KeepFault → Type 0
-IsRefusal (keep.Journal fault) = Unit {0}
-IsRefusal (keep.Serving run.NoMemory) = Unit {0}
-IsRefusal fault = ⊥
+abbrev pub IsRefusal : {D : Type 0} → KeepFault → Kept D → List ℕ → Type 0
+IsRefusal (keep.Journal fault) journal bytes = RefusesRecord fault journal bytes
+IsRefusal (keep.Serving run.NoMemory) journal bytes = Unit {0}
+IsRefusal fault journal bytes = ⊥
+
+-- a fault of a pair, before which nothing is told
+abbrev pub IsSudden : KeepFault → Type 0
+IsSudden (keep.Journal fault) = Unit {0}
+IsSudden (keep.Serving run.NoMemory) = Unit {0}
+IsSudden fault = ⊥
+
+-- the greatest block of an entry: 8 bytes, two numbers of 8, and the frame of a request of 8,190 records of 128 bytes
+abbrev pub block_bytes_max : ℕ
+block_bytes_max = 1048392
 
 -- the journal with one more record that waits
 abbrev pub with_record : {D : Type 0} → Kept D → List ℕ → Kept D
@@ -38,12 +50,14 @@ pub record Waits {D : Type 0} (p : Pair) (before after : Keeping D) : Type 0 whe
   pub recorded_is : IsRecord (dumped (entry_of before.state p)) (entry_of before.state p)
   pub state : after.state ≡ before.state
   pub journal : after.journal ≡ with_record before.journal (dumped (entry_of before.state p))
+  pub usable : after.usable ≡ before.usable
 
 -- the request comes back, or a fault came, and all is as it was
 abbrev pub Appends : {D : Type 0} → Result Message KeepFault → Pair → Keeping D → Keeping D → Type 0
 Appends (Ok request) p before after = (request ≡ p.1) × Waits p before after
 Appends (Err (keep.Serving run.TimeExhausted)) p before after = (has_time before.state p ≡ false) × (after ≡ before)
-Appends (Err fault) p before after = IsRefusal fault × (after.journal ≡ before.journal)
+Appends (Err fault) p before after =
+    (has_time before.state p ≡ true) × IsRefusal fault before.journal (dumped (entry_of before.state p)) × (after.journal ≡ before.journal)
 
 -- the reply to a pair is held behind the others, or there is no memory
 abbrev pub HoldsReply : Result (Unit {0}) KeepFault → Pair → State → State → List ℕ → List ℕ → Type 0
@@ -58,6 +72,7 @@ pub record HoldsPair {D : Type 0} (p : Pair) (before after : Keeping D) (held gr
   pub state : after.state ≡ after_pair before.state p
   pub waits : after.journal ≡ record before.journal { waiting = before.journal.waiting ++ records_from before.state (p ∷ []) }
   pub holds : grown ≡ held ++ told_from before.state (p ∷ [])
+  pub usable : after.usable ≡ before.usable
 
 -- a pair had no time
 abbrev pub is_end_of_time : KeepFault → Bool
@@ -67,7 +82,9 @@ is_end_of_time fault = false
 -- or a fault came, and the file stays; where a pair had no time all stays
 abbrev pub KeepsPair : {D : Type 0} → Result (Unit {0}) KeepFault → Pair → Keeping D → Keeping D → List ℕ → List ℕ → Type 0
 KeepsPair (Ok done) p before after held grown = HoldsPair p before after held grown
-KeepsPair (Err (keep.Journal fault)) p before after held grown = (is_new_in before.state p ≡ true) × (after.journal.device ≡ before.journal.device)
+KeepsPair (Err (keep.Journal fault)) p before after held grown =
+    (is_new_in before.state p ≡ true) × (has_time before.state p ≡ true)
+    × RefusesRecord fault before.journal (dumped (entry_of before.state p)) × (after.journal ≡ before.journal)
 KeepsPair (Err (keep.Serving run.TimeExhausted)) p before after held grown = IsUntimely before.state p × (after ≡ before) × (grown ≡ held)
 KeepsPair (Err (keep.Serving run.NoMemory)) p before after held grown = after.journal.device ≡ before.journal.device
 KeepsPair (Err fault) p before after held grown = ⊥
@@ -100,20 +117,27 @@ module _ (tells : Type 0) {D : Type 0} (disk : D → Disk) where
   pub record IsCommitted (before after : Keeping D) : Type 0 where
     pub state : after.state ≡ before.state
     pub none_waits : after.journal.waiting ≡ []
+    pub usable : after.usable ≡ before.usable
+    pub journal : after.journal.usable ≡ true
     pub ready : tells → IsReady disk after.journal
     pub commits : tells → Commits before.journal.waiting (disk before.journal.device) (disk after.journal.device)
 
+  -- the commit of what waits, which is some, failed for a cause
+  pub record IsUncommitted (fault : Fault) (before after : Keeping D) : Type 0 where
+    pub some : before.journal.waiting ≡ [] → ⊥
+    pub cause : tells → HasFailed (disk before.journal.device) (disk after.journal.device) fault
+    pub any_moment : tells → LeavesOnly (disk before.journal.device) (disk after.journal.device) (IsBeforeOrAfter (recorded (disk before.journal.device).seen) before.journal.waiting)
+
   -- what waits was committed, and then what is held was told; a fault came before the one or within the other
   abbrev pub Tells : Result (Unit {0}) KeepFault → Keeping D → Keeping D → List ℕ → List ℕ → Output → Output → Type 0
-  Tells (Err (keep.Journal fault)) before after held left start written =
-      (tells → LeavesOnly (disk before.journal.device) (disk after.journal.device) (IsBeforeOrAfter (recorded (disk before.journal.device).seen) before.journal.waiting))
-      × (written ≡ start)
+  Tells (Err (keep.Journal fault)) before after held left start written = IsUncommitted fault before after × (written ≡ start)
   Tells result before after held left start written = IsCommitted before after × HandsOut result held left start written
 
-  -- or nothing was done
-  abbrev pub MayTell : Result (Unit {0}) KeepFault → Keeping D → Keeping D → List ℕ → List ℕ → Output → Output → Type 0
-  MayTell result before after held left start written =
-      ((result ≡ Ok tt) × (after ≡ before) × (left ≡ held) × (written ≡ start)) ⊎ Tells result before after held left start written
+  -- or nothing was done, where a pair is at hand whole, few bytes of replies are held, and the batch has room for its entry
+  abbrev pub MayTell : List ℕ → Result (Unit {0}) KeepFault → Keeping D → Keeping D → List ℕ → List ℕ → Output → Output → Type 0
+  MayTell at_hand result before after held left start written =
+      ((holds_pair at_hand ≡ true) × (length held < 2 ^ 20) × (length (at_rest before.journal.waiting) + block_bytes_max ≤ 2 ^ 22) × (result ≡ Ok tt) × (after ≡ before) × (left ≡ held) × (written ≡ start))
+      ⊎ Tells result before after held left start written
 
   -- what is held is told before a fault ends serving; which may fail, and then that fault ends it
   abbrev pub EndsTold : KeepFault → KeepFault → Keeping D → Keeping D → List ℕ → List ℕ → Output → Output → Type 0
@@ -123,7 +147,7 @@ module _ (tells : Type 0) {D : Type 0} (disk : D → Disk) where
   -- a fault in serving a pair, behind which nothing is told; or a stop, before which what is held is told
   abbrev pub EndsNext : KeepFault → Keeping D → Keeping D → Input → Input → List ℕ → List ℕ → Output → Output → Type 0
   EndsNext f before after first last held left start written =
-      (IsRefusal f × Next (Err f) before after first last held left × (written ≡ start))
+      (IsSudden f × Next (Err f) before after first last held left × (written ≡ start))
       ⊎ ((stop : KeepFault) × IsStop stop before.state first last × EndsTold stop f before after held left start written)
 
   abbrev pub KeepsNext : Result Bool KeepFault → Keeping D → Keeping D → Input → Input → List ℕ → List ℕ → Output → Output → Type 0

@@ -1,12 +1,11 @@
 //! The history of a kept file, read without a write.
 ghost use Rattle.std.specs.Prelude.{◌≡◌, ℕ, true, List, [], ◌∷◌, IfOk};
-ghost use Rattle.tb_journal.specs.Handed.{SomeHanded};
-ghost use Rattle.tb_journal.specs.Scans.{GoesFurther};
+ghost use Rattle.tb_journal.specs.Scans.{HasRead, GoesFurther};
 ghost use Rattle.tb_keep.specs.Keeping.{head_record};
-ghost use Rattle.tb_keep.specs.Sources.{Which, OfSource, IsReading};
 ghost use Rattle.tb_keep.specs.Entering.{StaysKept, FindsRules};
 ghost use Rattle.tb_keep.specs.Opening.{IsUntouched};
-ghost use Rattle.tb_keep.specs.Reading.{RulesAnswer, RulesIn, FindsHistory, Dumps};
+ghost use Rattle.tb_keep.specs.Restoration.{HasStartCause};
+ghost use Rattle.tb_keep.specs.Reading.{RulesAnswer, RulesIn, FindsHistory, Dumps, HasDumpCause};
 ghost use Rattle.tb_keep.specs.Sending.{SendsNext, SendsAll, SendsBehind};
 
 use crate::faults::{DumpFault, StartFault};
@@ -33,9 +32,12 @@ fn rules_in(head: &[u8]) -> Result<Rules, StartFault>
 
 /// Reads the first record of a file of which nothing was read, and answers the rules that it names.
 fn first_rules<D: Device>(scan: &mut Scan, device: &mut D) -> Result<Rules, StartFault>
-    ensures rules { (which : Which) → IsReading D.tells D.gave which (D.disk device.old).seen [] scan.old
-        → OfSource D.tells D.gave which (D.disk device.old).seen (λ file. FindsRules which result file scan.new) }
+    ensures rules { (file : List ℕ) → D.holds device.old file → HasRead [] file scan.old
+        → FindsRules result file scan.new }
+    ensures same { (file : List ℕ) → D.holds device.old file → D.holds device.new file }
     ensures stays { D.tells → StaysKept (D.disk device.old) (D.disk device.new) }
+    ensures cause { D.tells → HasRead [] (D.disk device.old).seen scan.old
+        → HasStartCause result (D.disk device.old) (D.disk device.new) }
 {
     match read_record(scan, device) {
         Ok(true) => rules_in(scan.record()),
@@ -46,10 +48,11 @@ fn first_rules<D: Device>(scan: &mut Scan, device: &mut D) -> Result<Rules, Star
 
 /// The rules that a file's head names. Head where there is none. No more of the file is read than a piece, or its first record.
 pub fn read_rules<D: Device>(global: Global, device: &mut D) -> Result<Rules, StartFault>
-    ensures rules { D.tells → RulesAnswer result (D.disk device.old).seen }
-    // Of any device, by the bytes that its reads hand out.
-    ensures handed { SomeHanded D.gave (RulesAnswer result) }
+    // Of any device, by the file that its reads are of.
+    ensures rules { (file : List ℕ) → D.holds device.old file → RulesAnswer result file }
+    ensures same { (file : List ℕ) → D.holds device.old file → D.holds device.new file }
     ensures untouched { D.tells → IsUntouched (D.disk device.old) (D.disk device.new) }
+    ensures cause { D.tells → HasStartCause result (D.disk device.old) (D.disk device.new) }
 {
     match Scan::start(global, device) {
         Ok(mut scan) => first_rules(&mut scan, device),
@@ -62,10 +65,11 @@ pub fn read_history<D: Device>(
     global: Global,
     device: &mut D,
 ) -> Result<(Rules, Machine<Global>, Extent), StartFault>
-    ensures found { D.tells → FindsHistory result (D.disk device.old).seen }
-    // Of any device, by the bytes that its reads hand out.
-    ensures handed { SomeHanded D.gave (FindsHistory result) }
+    // Of any device, by the file that its reads are of.
+    ensures found { (file : List ℕ) → D.holds device.old file → FindsHistory result file }
+    ensures same { (file : List ℕ) → D.holds device.old file → D.holds device.new file }
     ensures untouched { D.tells → IsUntouched (D.disk device.old) (D.disk device.new) }
+    ensures cause { D.tells → HasStartCause result (D.disk device.old) (D.disk device.new) }
 {
     match Scan::start(global, device) {
         Ok(mut scan) => history_by(global, &mut scan, device),
@@ -79,9 +83,11 @@ fn history_by<D: Device>(
     scan: &mut Scan,
     device: &mut D,
 ) -> Result<(Rules, Machine<Global>, Extent), StartFault>
-    ensures found { (which : Which) → IsReading D.tells D.gave which (D.disk device.old).seen [] scan.old
-        → OfSource D.tells D.gave which (D.disk device.old).seen (FindsHistory result) }
+    ensures found { (file : List ℕ) → D.holds device.old file → HasRead [] file scan.old → FindsHistory result file }
+    ensures same { (file : List ℕ) → D.holds device.old file → D.holds device.new file }
     ensures stays { D.tells → StaysKept (D.disk device.old) (D.disk device.new) }
+    ensures cause { D.tells → HasRead [] (D.disk device.old).seen scan.old
+        → HasStartCause result (D.disk device.old) (D.disk device.new) }
 {
     match first_rules(scan, device) {
         Ok(rules) => history_behind(global, rules, scan, device),
@@ -96,11 +102,13 @@ fn history_behind<D: Device>(
     scan: &mut Scan,
     device: &mut D,
 ) -> Result<(Rules, Machine<Global>, Extent), StartFault>
-    ensures found { (which : Which)
-        → IsReading D.tells D.gave which (D.disk device.old).seen
-        (head_record rules.profile rules.clients_max ∷ []) scan.old
-        → OfSource D.tells D.gave which (D.disk device.old).seen (FindsHistory result) }
+    ensures found { (file : List ℕ) → D.holds device.old file
+        → HasRead (head_record rules.profile rules.clients_max ∷ []) file scan.old → FindsHistory result file }
+    ensures same { (file : List ℕ) → D.holds device.old file → D.holds device.new file }
     ensures stays { D.tells → StaysKept (D.disk device.old) (D.disk device.new) }
+    ensures cause { D.tells
+        → HasRead (head_record rules.profile rules.clients_max ∷ []) (D.disk device.old).seen scan.old
+        → HasStartCause result (D.disk device.old) (D.disk device.new) }
 {
     let same = rules;
     match entered_behind(global, same, scan, device) {
@@ -115,11 +123,12 @@ fn send_next<D: Device, W: Sink>(
     device: &mut D,
     writer: &mut W,
 ) -> Result<bool, DumpFault>
-    ensures sends { (which : Which) (read : List (List ℕ))
-        → IsReading D.tells D.gave which (D.disk device.old).seen read scan.old
-        → OfSource D.tells D.gave which (D.disk device.old).seen
-        (λ file. SendsNext which result read file scan.new (W.output writer.old) (W.output writer.new)) }
+    ensures sends { (file : List ℕ) (read : List (List ℕ)) → D.holds device.old file → HasRead read file scan.old
+        → SendsNext result read file scan.new (W.output writer.old) (W.output writer.new) }
+    ensures same { (file : List ℕ) → D.holds device.old file → D.holds device.new file }
     ensures stays { D.tells → StaysKept (D.disk device.old) (D.disk device.new) }
+    ensures cause { D.tells → (read : List (List ℕ)) → HasRead read (D.disk device.old).seen scan.old
+        → HasDumpCause result (D.disk device.old) (D.disk device.new) }
     ensures further { IfOk result (λ more. more ≡ true → GoesFurther scan.old scan.new) }
 {
     match read_record(scan, device) {
@@ -138,11 +147,12 @@ fn send_records<D: Device, W: Sink>(
     device: &mut D,
     writer: &mut W,
 ) -> Result<(), DumpFault>
-    ensures sends { (which : Which) (read : List (List ℕ))
-        → IsReading D.tells D.gave which (D.disk device.old).seen read scan.old
-        → OfSource D.tells D.gave which (D.disk device.old).seen
-        (λ file. SendsAll result read file (W.output writer.old) (W.output writer.new)) }
+    ensures sends { (file : List ℕ) (read : List (List ℕ)) → D.holds device.old file → HasRead read file scan.old
+        → SendsAll result read file (W.output writer.old) (W.output writer.new) }
+    ensures same { (file : List ℕ) → D.holds device.old file → D.holds device.new file }
     ensures stays { D.tells → StaysKept (D.disk device.old) (D.disk device.new) }
+    ensures cause { D.tells → (read : List (List ℕ)) → HasRead read (D.disk device.old).seen scan.old
+        → HasDumpCause result (D.disk device.old) (D.disk device.new) }
 {
     loop {
         match send_next(scan, device, writer) {
@@ -159,10 +169,12 @@ fn send_behind_first<D: Device, W: Sink>(
     device: &mut D,
     writer: &mut W,
 ) -> Result<(), DumpFault>
-    ensures sends { (which : Which) → IsReading D.tells D.gave which (D.disk device.old).seen [] scan.old
-        → OfSource D.tells D.gave which (D.disk device.old).seen
-        (λ file. SendsBehind result file (W.output writer.old) (W.output writer.new)) }
+    ensures sends { (file : List ℕ) → D.holds device.old file → HasRead [] file scan.old
+        → SendsBehind result file (W.output writer.old) (W.output writer.new) }
+    ensures same { (file : List ℕ) → D.holds device.old file → D.holds device.new file }
     ensures stays { D.tells → StaysKept (D.disk device.old) (D.disk device.new) }
+    ensures cause { D.tells → HasRead [] (D.disk device.old).seen scan.old
+        → HasDumpCause result (D.disk device.old) (D.disk device.new) }
 {
     match read_record(scan, device) {
         Ok(true) => send_records(scan, device, writer),
@@ -178,10 +190,12 @@ fn dump_by<D: Device, W: Sink>(
     rules: Rules,
     writer: &mut W,
 ) -> Result<(), DumpFault>
-    ensures dumps { (which : Which) → IsReading D.tells D.gave which (D.disk device.old).seen [] scan.old
-        → OfSource D.tells D.gave which (D.disk device.old).seen
-        (λ file. Dumps result rules file (W.output writer.old) (W.output writer.new)) }
+    ensures dumps { (file : List ℕ) → D.holds device.old file → HasRead [] file scan.old
+        → Dumps result rules file (W.output writer.old) (W.output writer.new) }
+    ensures same { (file : List ℕ) → D.holds device.old file → D.holds device.new file }
     ensures stays { D.tells → StaysKept (D.disk device.old) (D.disk device.new) }
+    ensures cause { D.tells → HasRead [] (D.disk device.old).seen scan.old
+        → HasDumpCause result (D.disk device.old) (D.disk device.new) }
 {
     let head = DumpHead {
         profile: rules.profile,
@@ -202,12 +216,12 @@ pub fn write_dump<D: Device, W: Sink>(
     rules: Rules,
     writer: &mut W,
 ) -> Result<(), DumpFault>
-    ensures dumps { D.tells
-        → Dumps result rules (D.disk device.old).seen (W.output writer.old) (W.output writer.new) }
-    // Of any device, by the bytes that its reads hand out.
-    ensures handed { SomeHanded D.gave
-        (λ file. Dumps result rules file (W.output writer.old) (W.output writer.new)) }
+    // Of any device, by the file that its reads are of.
+    ensures dumps { (file : List ℕ) → D.holds device.old file
+        → Dumps result rules file (W.output writer.old) (W.output writer.new) }
+    ensures same { (file : List ℕ) → D.holds device.old file → D.holds device.new file }
     ensures untouched { D.tells → IsUntouched (D.disk device.old) (D.disk device.new) }
+    ensures cause { D.tells → HasDumpCause result (D.disk device.old) (D.disk device.new) }
 {
     match Scan::start(global, device) {
         Ok(mut scan) => dump_by(&mut scan, device, rules, writer),

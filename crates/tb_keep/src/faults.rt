@@ -19,7 +19,7 @@ pub enum KeepFault {
 }
 
 impl KeepFault {
-    /// The fault's number: 1 to 4 for those of serving, 5 to 9 for those of the journal.
+    /// The fault's number: 1 to 4 for those of serving, 5 to 10 for those of the journal.
     pub fn number(self) -> u8
         ensures { result ≡ keep_fault_number self }
     {
@@ -86,10 +86,13 @@ pub enum StartFault {
     Entry(RestoreFault),
     /// There is no memory.
     NoMemory,
+    /// Behind the last whole record, which ends at this offset, stand more bytes than a batch can have that was not committed:
+    /// so many, behind the latch there. They are not cut off.
+    TornTooLong { at: u64, bytes: u64 },
 }
 
 impl StartFault {
-    /// The fault's number, 1 to 6.
+    /// The fault's number, 1 to 7.
     pub fn number(self) -> u8
         ensures { result ≡ start_fault_number self }
     {
@@ -100,6 +103,7 @@ impl StartFault {
             StartFault::Record { .. } => 4,
             StartFault::Entry(_) => 5,
             StartFault::NoMemory => 6,
+            StartFault::TornTooLong { .. } => 7,
         }
     }
 
@@ -114,6 +118,7 @@ impl StartFault {
             StartFault::Record { .. } => "Record",
             StartFault::Entry(_) => "Entry",
             StartFault::NoMemory => "NoMemory",
+            StartFault::TornTooLong { .. } => "TornTooLong",
         }
     }
 }

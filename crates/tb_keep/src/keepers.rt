@@ -1,12 +1,12 @@
 //! A keeper: a machine, and the journal that its entries stand in.
-ghost use Rattle.std.specs.Prelude.{◌≡◌};
+ghost use Rattle.std.specs.Prelude.{◌≡◌, true};
 
 use std::alloc::Global;
 use std::marker::Model;
 use tb_journal::{Device, Journal};
 use tb_machine::Machine;
 
-/// A machine, and the journal that its entries stand in. After a fault it is not to be used again: the file is opened anew.
+/// A machine, and the journal that its entries stand in. After a fault it cannot serve any more: the file is opened again.
 #[derive(Drop)]
 pub struct Keeper<D: Device> {
     pub(crate) global: Global,
@@ -14,6 +14,10 @@ pub struct Keeper<D: Device> {
     pub(crate) machine: Machine<Global>,
     // Room for the record of the next entry.
     pub(crate) buffer: Vec<u8>,
+    // The torn bytes that the start cut off.
+    pub(crate) cut: u64,
+    // No call of `keep` has failed.
+    pub(crate) usable: bool,
 }
 
 impl<D: Device> Model for Keeper<D> {
@@ -21,20 +25,29 @@ impl<D: Device> Model for Keeper<D> {
 
     ghost Value = { Keeping D };
 
-    ghost view = { λ k. record { journal = k.journal; state = k.machine } };
+    ghost view = { λ k. record { journal = k.journal; state = k.machine; cut = k.cut; usable = k.usable } };
 }
 
 impl<D: Device> Keeper<D> {
-    /// A keeper of a machine that stands after the journal's entries.
-    pub(crate) fn new(global: Global, journal: Journal<D>, machine: Machine<Global>) -> Keeper<D>
+    /// A keeper of a machine that stands after the journal's entries. So many torn bytes were cut off.
+    pub(crate) fn new(
+        global: Global,
+        journal: Journal<D>,
+        machine: Machine<Global>,
+        cut: u64,
+    ) -> Keeper<D>
         ensures journal { result.journal ≡ journal }
         ensures state { result.state ≡ machine }
+        ensures cut { result.cut ≡ cut }
+        ensures usable { result.usable ≡ true }
     {
         Keeper {
             global,
             journal,
             machine,
             buffer: Vec::new(global),
+            cut,
+            usable: true,
         }
     }
 
@@ -43,6 +56,14 @@ impl<D: Device> Keeper<D> {
         ensures { result.now ≡ self.now.journal }
     {
         &self.journal
+    }
+
+    /// How many bytes the start cut off: what a batch that was not committed had left behind the records and the latch there.
+    /// 0 where there were none.
+    pub fn cut_bytes(&self) -> u64
+        ensures { result ≡ self.now.cut }
+    {
+        self.cut
     }
 
     /// The machine, as it stands after all entries.

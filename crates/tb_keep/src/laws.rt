@@ -2,7 +2,7 @@
 ghost use Rattle.std.specs.Prelude.{List};
 ghost use Rattle.tb_machine.specs.Scripts.{Pair};
 ghost use Rattle.tb_records.specs.Transport.{Sent};
-ghost use Rattle.tb_keep.specs.Again.{OneHistory, OneLedger, GoesOnAfter, AnyCrash};
+ghost use Rattle.tb_keep.specs.Again.{OneHistory, OneLedger, GoesOnAfter, AnyCrash, AfterKill};
 ghost use Rattle.tb_keep.specs.Reading.{DumpIsOfHistory, WholeRules, WholeNoHead, WholeDumps};
 ghost use Rattle.tb_keep.specs.Restoration.{OnlyMemory, FileOnlyMemory, WholeStops};
 ghost use Rattle.tb_keep.specs.Moments.{WhileCommitting, WhileTelling, Lasts, RoundsAreServed};
@@ -31,6 +31,12 @@ pub fn any_crash<D: Device>()
     ensures { AnyCrash D.tells D.disk }
 {}
 
+/// Where the process alone ends, at any moment of `keep`, no power is lost, and the next one reads what stood in the file: that is a
+/// file such as a crash leaves.
+pub fn after_kill<D: Device>()
+    ensures { AfterKill D.tells D.disk }
+{}
+
 /// What is opened again after a crash: a file stands for one history, and the machine behind the entries of pairs is the one
 /// that served these pairs. So a request that is sent again gets what it would have got with no crash between.
 pub fn opened_again()
@@ -39,11 +45,12 @@ pub fn opened_again()
     ensures goes_on { GoesOnAfter }
 {}
 
-/// A file that stands for a history is refused for want of memory alone, where the device does not fail: where a head or a
-/// record is refused, the records are those of no history of these rules.
-pub fn only_memory()
+/// A file that stands for a history, and has no more torn bytes behind its records than one batch, is refused for want of memory
+/// alone, where no call on the device has failed: where a head or a record is refused, the records are those of no history of these
+/// rules.
+pub fn only_memory<D: Device>()
     ensures records { OnlyMemory }
-    ensures file { FileOnlyMemory }
+    ensures file { FileOnlyMemory D.disk }
 {}
 
 /// A start tells what it finds in records that a file begins with, since it reads no further. Where the file is read to its

@@ -35,4 +35,4 @@ pub use heads::{Rules, read_head, write_head};
 pub use keepers::Keeper;
 pub use opening::{NotKept, create};
 pub use restoring::restored;
-pub use serving::{HELD_BYTES_MAX, keep};
+pub use serving::{BATCH_BYTES_MAX, HELD_BYTES_MAX, keep};

@@ -1,21 +1,22 @@
 //! A kept file is created, or opened after a crash.
-ghost use Rattle.std.specs.Prelude.{◌≡◌, ◌≤◌, true, [], Ok, IfOk, IfErr, OnOk, MatchResult};
-ghost use Rattle.tb_journal.specs.Device.{IsOnDisk, LeavesOnly};
+ghost use Rattle.std.specs.Prelude.{◌≡◌, ◌≤◌, ◌-◌, true, ℕ, List, [], length, Ok, IfOk, IfErr, OnOk, MatchResult};
+ghost use Rattle.tb_journal.specs.Device.{IsOnDisk, LeavesOnly, HasCause, HasOwnCause, IsOfCall};
 ghost use Rattle.tb_journal.specs.Contents.{contents, recorded};
-ghost use Rattle.tb_journal.specs.Handed.{SomeHanded};
 ghost use Rattle.tb_journal.specs.Reading.{extent_of};
 ghost use Rattle.tb_journal.specs.Ready.{IsReady};
 ghost use Rattle.tb_journal.specs.Creating.{is_blank};
 ghost use Rattle.tb_machine.specs.Histories.{start};
-ghost use Rattle.tb_keep.specs.Keeping.{Keeps, IsFresh};
-ghost use Rattle.tb_keep.specs.Restoration.{IsRestoredFrom, IsFromOutside};
-ghost use Rattle.tb_keep.specs.Opening.{OpensBytes, StartsBytes, IsOpened, IsStarted, HasNoEntry, MayBeOpened, MayBeCreated, MayBeStarted, IsRefused, IsCreateRefused, IsStartRefused, history_of, device_left};
-ghost use Rattle.tb_keep.specs.Headed.{HasHead, HasRecords, IsOfDevice, OpensOnly, journal_left};
+ghost use Rattle.tb_keep.specs.Keeping.{Keeps, IsFresh, IsUsable};
+ghost use Rattle.tb_keep.specs.Restoration.{IsRestoredFrom, IsNotOfFile, HasStartCause, torn_bytes};
+ghost use Rattle.tb_keep.specs.Opening.{OpensFile, IsOpened, IsStarted, HasNoEntry, MayBeOpened, MayBeCreated, MayBeStarted, IsRefused, IsCreateRefused, IsStartRefused, HasCreateStartCause, HasEitherCause, IsUntouched, history_of, device_left, why_left};
+ghost use Rattle.tb_keep.specs.Entering.{StaysKept};
+ghost use Rattle.tb_keep.specs.Headed.{HasHead, HasRecords, IsOfDevice, HasDeviceCause, OpensOnly, journal_left};
 
 use crate::faults::StartFault;
 use crate::heads::{Rules, write_head};
 use crate::keepers::Keeper;
 use crate::restoring::restored;
+use crate::serving::BATCH_BYTES_MAX;
 use std::alloc::Global;
 use tb_journal::{Device, Extent, Fault, Journal, NotOpened, OpenFault};
 use tb_machine::Machine;
@@ -40,6 +41,7 @@ fn not_kept<D: Device>(failed: NotOpened<D>) -> NotKept<D>
 
 /// Commits the head of a file without records.
 fn commit_head<D: Device>(journal: &mut Journal<D>, rules: Rules) -> Result<(), Fault>
+    requires usable { journal.old.usable ≡ true }
     requires ready { D.tells → IsReady D.disk journal.old }
     requires none_waits { D.tells → journal.old.waiting ≡ [] }
     requires no_records { D.tells → recorded (D.disk journal.old.device).seen ≡ [] }
@@ -48,6 +50,8 @@ fn commit_head<D: Device>(journal: &mut Journal<D>, rules: Rules) -> Result<(), 
         → LeavesOnly (D.disk journal.old.device) (D.disk journal.new.device)
         (HasNoEntry rules.profile rules.clients_max) }
     ensures fault { D.tells → IfErr result (λ fault. IsOfDevice (StartFault.Journal (OpenFault.Device fault))) }
+    ensures cause { D.tells → HasOwnCause result (D.disk journal.old.device) (D.disk journal.new.device) }
+    ensures usable { OnOk result (journal.new.usable ≡ true) }
 {
     let head = write_head(rules.profile, rules.clients_max);
     match journal.append(&head) {
@@ -58,6 +62,7 @@ fn commit_head<D: Device>(journal: &mut Journal<D>, rules: Rules) -> Result<(), 
 
 /// Commits the head of a file without records. On a fault the device is given back.
 fn headed<D: Device>(journal: Journal<D>, rules: Rules) -> Result<Journal<D>, NotKept<D>>
+    requires usable { journal.usable ≡ true }
     requires ready { D.tells → IsReady D.disk journal }
     requires none_waits { D.tells → journal.waiting ≡ [] }
     requires no_records { D.tells → recorded (D.disk journal.device).seen ≡ [] }
@@ -65,7 +70,10 @@ fn headed<D: Device>(journal: Journal<D>, rules: Rules) -> Result<Journal<D>, No
     ensures any_moment { D.tells
         → LeavesOnly (D.disk journal.device) (D.disk (journal_left result)) (HasNoEntry rules.profile rules.clients_max) }
     ensures fault { D.tells → IfErr result (λ failed. IsOfDevice failed.fault) }
-    ensures outside { IfErr result (λ failed. IsFromOutside failed.fault) }
+    ensures cause { D.tells
+        → HasDeviceCause (why_left result) (D.disk journal.device) (D.disk (journal_left result)) }
+    ensures usable { IfOk result (λ headed. headed.usable ≡ true) }
+    ensures outside { IfErr result (λ failed. IsNotOfFile failed.fault) }
 {
     let mut journal = journal;
     match commit_head(&mut journal, rules) {
@@ -83,6 +91,7 @@ fn create_headed<D: Device>(
     device: D,
     rules: Rules,
 ) -> Result<Journal<D>, NotKept<D>>
+    requires sound { D.tells → (D.disk device).sound ≡ true }
     ensures head { D.tells → IfOk result (HasHead D.disk rules.profile rules.clients_max) }
     ensures blank { D.tells → IfOk result (λ _. is_blank (D.disk device).seen ≡ true) }
     ensures any_moment { D.tells
@@ -90,7 +99,9 @@ fn create_headed<D: Device>(
         (MayBeCreated rules.profile rules.clients_max (D.disk device)) }
     ensures refused { D.tells
         → IfErr result (λ failed. IsCreateRefused failed.fault (D.disk device) (D.disk failed.device)) }
-    ensures outside { IfErr result (λ failed. IsFromOutside failed.fault) }
+    ensures cause { D.tells → HasCreateStartCause (why_left result) (D.disk device) (D.disk (journal_left result)) }
+    ensures usable { IfOk result (λ headed. headed.usable ≡ true) }
+    ensures outside { IfErr result (λ failed. IsNotOfFile failed.fault) }
 {
     match tb_journal::create(global, device) {
         Ok(journal) => headed(journal, rules),
@@ -99,8 +110,9 @@ fn create_headed<D: Device>(
 }
 
 /// Creates a kept ledger without entries in an empty file. Where something stands in the file the fault is NotEmpty, and the
-/// file is as it was.
+/// file is as it was. No sync may have failed on the device before.
 pub fn create<D: Device>(global: Global, device: D, rules: Rules) -> Result<Keeper<D>, NotKept<D>>
+    requires sound { D.tells → (D.disk device).sound ≡ true }
     ensures kept { D.tells → IfOk result (Keeps D.disk (history_of rules.profile rules.clients_max [])) }
     ensures fresh { D.tells → IfOk result (IsFresh D.disk) }
     ensures blank { D.tells → IfOk result (λ _. is_blank (D.disk device).seen ≡ true) }
@@ -110,9 +122,12 @@ pub fn create<D: Device>(global: Global, device: D, rules: Rules) -> Result<Keep
         (MayBeCreated rules.profile rules.clients_max (D.disk device)) }
     ensures refused { D.tells
         → IfErr result (λ failed. IsCreateRefused failed.fault (D.disk device) (D.disk failed.device)) }
+    ensures cause { D.tells → HasCreateStartCause (why_left result) (D.disk device) (D.disk (device_left result)) }
     // Of any device.
     ensures empty { IfOk result (λ keeper. keeper.state ≡ start rules.profile rules.clients_max) }
-    ensures outside { IfErr result (λ failed. IsFromOutside failed.fault) }
+    ensures uncut { IfOk result (λ keeper. keeper.cut ≡ 0) }
+    ensures usable { IfOk result IsUsable }
+    ensures outside { IfErr result (λ failed. IsNotOfFile failed.fault) }
 {
     let _clients = rules.clients_max.get();
     let Ok(machine) = Machine::new_in(global, global, rules.profile, rules.clients_max) else {
@@ -122,7 +137,7 @@ pub fn create<D: Device>(global: Global, device: D, rules: Rules) -> Result<Keep
         });
     };
     match create_headed(global, device, rules) {
-        Ok(journal) => Ok(Keeper::new(global, journal, machine)),
+        Ok(journal) => Ok(Keeper::new(global, journal, machine, 0)),
         Err(failed) => Err(failed),
     }
 }
@@ -135,6 +150,7 @@ fn open_headed<D: Device>(
     extent: Extent,
 ) -> Result<Journal<D>, NotKept<D>>
     requires few { extent.count ≤ extent.end }
+    requires sound { D.tells → (D.disk device).sound ≡ true }
     requires kept { D.tells → IsOnDisk (D.disk device) }
     requires read { D.tells → extent_of (contents (D.disk device).seen) ≡ Ok extent }
     ensures opened { D.tells
@@ -143,7 +159,9 @@ fn open_headed<D: Device>(
         → LeavesOnly (D.disk device) (D.disk (journal_left result))
         (OpensOnly rules.profile rules.clients_max (recorded (D.disk device).seen)) }
     ensures fault { D.tells → IfErr result (λ failed. IsOfDevice failed.fault) }
-    ensures outside { IfErr result (λ failed. IsFromOutside failed.fault) }
+    ensures cause { D.tells → HasStartCause (why_left result) (D.disk device) (D.disk (journal_left result)) }
+    ensures usable { IfOk result (λ journal. journal.usable ≡ true) }
+    ensures outside { IfErr result (λ failed. IsNotOfFile failed.fault) }
 {
     match Journal::open(global, device, extent) {
         Ok(journal) => {
@@ -157,8 +175,57 @@ fn open_headed<D: Device>(
     }
 }
 
-/// The keeper of a file that was read to this extent, from which a machine was restored.
+/// The keeper of a file that was read to this extent, from which a machine was restored. So many torn bytes are cut off.
 fn open_restored<D: Device>(
+    global: Global,
+    device: D,
+    rules: Rules,
+    extent: Extent,
+    machine: Machine<Global>,
+    cut: u64,
+) -> Result<Keeper<D>, NotKept<D>>
+    requires few { extent.count ≤ extent.end }
+    requires sound { D.tells → (D.disk device).sound ≡ true }
+    requires kept { D.tells → IsOnDisk (D.disk device) }
+    requires restored { D.tells
+        → IsRestoredFrom rules.profile rules.clients_max (D.disk device).seen machine extent }
+    requires torn { D.tells → cut ≡ torn_bytes (D.disk device).seen }
+    ensures opened { D.tells
+        → IfOk result (IsOpened D.disk rules.profile rules.clients_max (D.disk device).seen) }
+    ensures fresh { D.tells → IfOk result (IsFresh D.disk) }
+    ensures any_moment { D.tells
+        → LeavesOnly (D.disk device) (D.disk (device_left result))
+        (OpensOnly rules.profile rules.clients_max (recorded (D.disk device).seen)) }
+    ensures fault { D.tells → IfErr result (λ failed. IsOfDevice failed.fault) }
+    ensures cause { D.tells → HasStartCause (why_left result) (D.disk device) (D.disk (device_left result)) }
+    ensures usable { IfOk result IsUsable }
+    ensures any_device { MatchResult result (λ keeper. (keeper.state ≡ machine) × (keeper.cut ≡ cut))
+        (λ failed. IsNotOfFile failed.fault) }
+{
+    match open_headed(global, device, rules, extent) {
+        Ok(journal) => Ok(Keeper::new(global, journal, machine, cut)),
+        Err(failed) => Err(failed),
+    }
+}
+
+/// The number of torn bytes of a file that was read to this extent: those behind its records and the latch there.
+fn torn_behind<D: Device>(device: &mut D, extent: Extent) -> Result<u64, Fault>
+    ensures torn { (file : List ℕ) → D.holds device.old file → extent_of (contents file) ≡ Ok extent
+        → IfOk result (λ torn. torn ≡ torn_bytes file) }
+    ensures same { (file : List ℕ) → D.holds device.old file → D.holds device.new file }
+    ensures stays { D.tells → StaysKept (D.disk device.old) (D.disk device.new) }
+    ensures named { IfErr result IsOfCall }
+    ensures cause { D.tells → HasCause result (D.disk device.old) (D.disk device.new) }
+{
+    match device.len() {
+        Ok(len) => Ok(len.saturating_sub(extent.end).saturating_sub(1) as u64),
+        Err(fault) => Err(fault),
+    }
+}
+
+/// The keeper of a file that was read to this extent, from which a machine was restored. Where more torn bytes stand behind its
+/// records than one batch can have, it is refused.
+fn open_short<D: Device>(
     global: Global,
     device: D,
     rules: Rules,
@@ -166,6 +233,7 @@ fn open_restored<D: Device>(
     machine: Machine<Global>,
 ) -> Result<Keeper<D>, NotKept<D>>
     requires few { extent.count ≤ extent.end }
+    requires sound { D.tells → (D.disk device).sound ≡ true }
     requires kept { D.tells → IsOnDisk (D.disk device) }
     requires restored { D.tells
         → IsRestoredFrom rules.profile rules.clients_max (D.disk device).seen machine extent }
@@ -174,25 +242,48 @@ fn open_restored<D: Device>(
     ensures fresh { D.tells → IfOk result (IsFresh D.disk) }
     ensures any_moment { D.tells
         → LeavesOnly (D.disk device) (D.disk (device_left result))
-        (OpensOnly rules.profile rules.clients_max (recorded (D.disk device).seen)) }
-    ensures fault { D.tells → IfErr result (λ failed. IsOfDevice failed.fault) }
-    ensures any_device { MatchResult result (λ keeper. keeper.state ≡ machine)
-        (λ failed. IsFromOutside failed.fault) }
+        (MayBeOpened rules.profile rules.clients_max (D.disk device)) }
+    ensures refused { D.tells
+        → IfErr result
+        (λ failed.
+        IsRefused rules.profile rules.clients_max failed.fault (D.disk device) (D.disk failed.device)) }
+    ensures cause { D.tells → HasStartCause (why_left result) (D.disk device) (D.disk (device_left result)) }
+    ensures usable { IfOk result IsUsable }
+    ensures handed { (file : List ℕ) → D.holds device file
+        → IsRestoredFrom rules.profile rules.clients_max file machine extent
+        → OpensFile result rules.profile rules.clients_max file }
 {
-    match open_headed(global, device, rules, extent) {
-        Ok(journal) => Ok(Keeper::new(global, journal, machine)),
-        Err(failed) => Err(failed),
+    let mut device = device;
+    match torn_behind(&mut device, extent) {
+        Ok(torn) => {
+            if torn > BATCH_BYTES_MAX as u64 {
+                let fault = StartFault::TornTooLong {
+                    at: extent.end as u64,
+                    bytes: torn,
+                };
+                return Err(NotKept { device, fault });
+            }
+            open_restored(global, device, rules, extent, machine, torn)
+        }
+        Err(fault) => Err(NotKept {
+            device,
+            fault: StartFault::Journal(OpenFault::Device(fault)),
+        }),
     }
 }
 
 impl<D: Device> Keeper<D> {
     /// Opens a kept ledger: its machine stands after the entries that the file has. It is read in pieces, and each record is
-    /// entered before the next is read. A file without records gets a head. What a crash left behind the records is cut off.
+    /// entered before the next is read. A file without records gets a head. What a crash left behind the records is cut off, if
+    /// it is no more than one batch can have: more is damage, and the file stays as it was (TornTooLong). No sync may have
+    /// failed on the device before.
     pub fn open(global: Global, device: D, rules: Rules) -> Result<Keeper<D>, NotKept<D>>
+        requires sound { D.tells → (D.disk device).sound ≡ true }
         ensures opened { D.tells
             → IfOk result (IsOpened D.disk rules.profile rules.clients_max (D.disk device).seen) }
         // So `keep` may serve.
         ensures fresh { D.tells → IfOk result (IsFresh D.disk) }
+        ensures usable { IfOk result IsUsable }
         // A crash at any moment of the call leaves the history that was there, so that the call may be made again.
         ensures any_moment { D.tells
             → LeavesOnly (D.disk device) (D.disk (device_left result))
@@ -202,22 +293,26 @@ impl<D: Device> Keeper<D> {
             → IfErr result
             (λ failed.
             IsRefused rules.profile rules.clients_max failed.fault (D.disk device) (D.disk failed.device)) }
-        // Of any device, by the bytes that its reads hand out.
-        ensures handed { SomeHanded D.gave (OpensBytes result rules.profile rules.clients_max) }
+        ensures cause { D.tells → HasStartCause (why_left result) (D.disk device) (D.disk (device_left result)) }
+        // Of any device, by the file that its reads are of.
+        ensures handed { (file : List ℕ) → D.holds device file
+            → OpensFile result rules.profile rules.clients_max file }
     {
         let mut device = device;
         let same = rules;
         match restored(global, same, &mut device) {
-            Ok((machine, extent)) => open_restored(global, device, rules, extent, machine),
+            Ok((machine, extent)) => open_short(global, device, rules, extent, machine),
             Err(fault) => Err(NotKept { device, fault }),
         }
     }
 
-    /// Creates a kept ledger in an empty file, and opens that of any other one.
+    /// Creates a kept ledger in an empty file, and opens that of any other one. No sync may have failed on the device before.
     pub fn start(global: Global, device: D, rules: Rules) -> Result<Keeper<D>, NotKept<D>>
+        requires sound { D.tells → (D.disk device).sound ≡ true }
         ensures started { D.tells
             → IfOk result (IsStarted D.disk rules.profile rules.clients_max (D.disk device).seen) }
         ensures fresh { D.tells → IfOk result (IsFresh D.disk) }
+        ensures usable { IfOk result IsUsable }
         ensures any_moment { D.tells
             → LeavesOnly (D.disk device) (D.disk (device_left result))
             (MayBeStarted rules.profile rules.clients_max (D.disk device)) }
@@ -225,8 +320,7 @@ impl<D: Device> Keeper<D> {
             → IfErr result
             (λ failed.
             IsStartRefused rules.profile rules.clients_max failed.fault (D.disk device) (D.disk failed.device)) }
-        // Of any device, by the bytes that its reads hand out.
-        ensures handed { SomeHanded D.gave (StartsBytes result rules.profile rules.clients_max) }
+        ensures cause { D.tells → HasEitherCause (why_left result) (D.disk device) (D.disk (device_left result)) }
     {
         let same = rules;
         match create(global, device, same) {

@@ -1,15 +1,15 @@
 //! The restoring of a machine from the records of a file behind its head.
-ghost use Rattle.std.specs.Prelude.{◌≡◌, ◌≤◌, ◌+◌, ℕ, true, List, [], ◌∷◌, Ok, IfOk};
+ghost use Rattle.std.specs.Prelude.{◌≡◌, ◌≤◌, ◌+◌, ℕ, true, List, [], ◌∷◌, Ok, IfOk, IfErr, OnOk};
 ghost use Rattle.tb_journal.specs.Device.{IsOnDisk};
 ghost use Rattle.tb_journal.specs.Contents.{Records, contents};
-ghost use Rattle.tb_journal.specs.Handed.{SomeHanded};
+ghost use Rattle.tb_journal.specs.Opening.{HasOpenCause};
 ghost use Rattle.tb_journal.specs.Reading.{extent_of};
-ghost use Rattle.tb_journal.specs.Scans.{BeginsWith, GoesFurther};
+ghost use Rattle.tb_journal.specs.Scans.{BeginsWith, HasRead, GoesFurther};
 ghost use Rattle.tb_machine.specs.Recording.{IsRecord};
 ghost use Rattle.tb_keep.specs.Keeping.{head_record};
-ghost use Rattle.tb_keep.specs.Restoration.{ReadsRecord, RestoresRecord, Restores};
+ghost use Rattle.tb_keep.specs.Restoration.{ReadsRecord, RestoresRecord, Restores, HasStartCause};
 ghost use Rattle.tb_keep.specs.Opening.{IsUntouched};
-ghost use Rattle.tb_keep.specs.Sources.{Which, OfSource, IsReading, IsNext};
+ghost use Rattle.tb_keep.specs.Sources.{IsNext};
 ghost use Rattle.tb_keep.specs.Entering.{StaysKept, ReadsHead, EntersNext, EntersAll, FindsBehind};
 
 use crate::faults::StartFault;
@@ -61,10 +61,12 @@ fn restore_record(
 
 /// Reads the next record, and answers whether there is one.
 pub(crate) fn read_record<D: Device>(scan: &mut Scan, device: &mut D) -> Result<bool, OpenFault>
-    ensures reads { (which : Which) (read : List (List ℕ))
-        → IsReading D.tells D.gave which (D.disk device.old).seen read scan.old
-        → OfSource D.tells D.gave which (D.disk device.old).seen (λ file. IsNext which result read file scan.new) }
+    ensures reads { (file : List ℕ) (read : List (List ℕ))
+        → D.holds device.old file → HasRead read file scan.old → IsNext result read file scan.new }
+    ensures same { (file : List ℕ) → D.holds device.old file → D.holds device.new file }
     ensures stays { D.tells → StaysKept (D.disk device.old) (D.disk device.new) }
+    ensures cause { D.tells → (read : List (List ℕ)) → HasRead read (D.disk device.old).seen scan.old
+        → HasOpenCause result (D.disk device.old) (D.disk device.new) }
     ensures further { IfOk result (λ more. more ≡ true → GoesFurther scan.old scan.new) }
 {
     scan.next(device)
@@ -72,10 +74,12 @@ pub(crate) fn read_record<D: Device>(scan: &mut Scan, device: &mut D) -> Result<
 
 /// Reads the head of a file of which nothing was read, and answers whether there is one.
 fn read_first<D: Device>(scan: &mut Scan, device: &mut D, rules: Rules) -> Result<bool, StartFault>
-    ensures head { (which : Which) → IsReading D.tells D.gave which (D.disk device.old).seen [] scan.old
-        → OfSource D.tells D.gave which (D.disk device.old).seen
-        (λ file. ReadsHead which result rules.profile rules.clients_max file scan.new) }
+    ensures head { (file : List ℕ) → D.holds device.old file → HasRead [] file scan.old
+        → ReadsHead result rules.profile rules.clients_max file scan.new }
+    ensures same { (file : List ℕ) → D.holds device.old file → D.holds device.new file }
     ensures stays { D.tells → StaysKept (D.disk device.old) (D.disk device.new) }
+    ensures cause { D.tells → HasRead [] (D.disk device.old).seen scan.old
+        → HasStartCause result (D.disk device.old) (D.disk device.new) }
 {
     match read_record(scan, device) {
         Ok(true) => match check_head(scan.record(), rules) {
@@ -94,11 +98,12 @@ fn enter_next<D: Device>(
     scan: &mut Scan,
     device: &mut D,
 ) -> Result<bool, StartFault>
-    ensures enters { (which : Which) (read : List (List ℕ))
-        → IsReading D.tells D.gave which (D.disk device.old).seen read scan.old
-        → OfSource D.tells D.gave which (D.disk device.old).seen
-        (λ file. EntersNext which result read file scan.new machine.old machine.new) }
+    ensures enters { (file : List ℕ) (read : List (List ℕ)) → D.holds device.old file → HasRead read file scan.old
+        → EntersNext result read file scan.new machine.old machine.new }
+    ensures same { (file : List ℕ) → D.holds device.old file → D.holds device.new file }
     ensures stays { D.tells → StaysKept (D.disk device.old) (D.disk device.new) }
+    ensures cause { D.tells → (read : List (List ℕ)) → HasRead read (D.disk device.old).seen scan.old
+        → HasStartCause result (D.disk device.old) (D.disk device.new) }
     ensures further { IfOk result (λ more. more ≡ true → GoesFurther scan.old scan.new) }
 {
     match read_record(scan, device) {
@@ -119,11 +124,12 @@ fn enter_all<D: Device>(
     scan: &mut Scan,
     device: &mut D,
 ) -> Result<(), StartFault>
-    ensures enters { (which : Which) (read : List (List ℕ))
-        → IsReading D.tells D.gave which (D.disk device.old).seen read scan.old
-        → OfSource D.tells D.gave which (D.disk device.old).seen
-        (λ file. EntersAll result read file scan.new machine.old machine.new) }
+    ensures enters { (file : List ℕ) (read : List (List ℕ)) → D.holds device.old file → HasRead read file scan.old
+        → EntersAll result read file scan.new machine.old machine.new }
+    ensures same { (file : List ℕ) → D.holds device.old file → D.holds device.new file }
     ensures stays { D.tells → StaysKept (D.disk device.old) (D.disk device.new) }
+    ensures cause { D.tells → (read : List (List ℕ)) → HasRead read (D.disk device.old).seen scan.old
+        → HasStartCause result (D.disk device.old) (D.disk device.new) }
 {
     loop {
         match enter_next(global, machine, scan, device) {
@@ -141,12 +147,14 @@ pub(crate) fn entered_behind<D: Device>(
     scan: &mut Scan,
     device: &mut D,
 ) -> Result<(Machine<Global>, Extent), StartFault>
-    ensures found { (which : Which)
-        → IsReading D.tells D.gave which (D.disk device.old).seen
-        (head_record rules.profile rules.clients_max ∷ []) scan.old
-        → OfSource D.tells D.gave which (D.disk device.old).seen (FindsBehind result rules) }
+    ensures found { (file : List ℕ) → D.holds device.old file
+        → HasRead (head_record rules.profile rules.clients_max ∷ []) file scan.old → FindsBehind result rules file }
     ensures few { IfOk result (λ found. found.1.count ≤ found.1.end) }
+    ensures same { (file : List ℕ) → D.holds device.old file → D.holds device.new file }
     ensures stays { D.tells → StaysKept (D.disk device.old) (D.disk device.new) }
+    ensures cause { D.tells
+        → HasRead (head_record rules.profile rules.clients_max ∷ []) (D.disk device.old).seen scan.old
+        → HasStartCause result (D.disk device.old) (D.disk device.new) }
 {
     let _clients = rules.clients_max.get();
     let Ok(mut machine) = Machine::new_in(global, global, rules.profile, rules.clients_max) else {
@@ -167,6 +175,7 @@ fn without_entries(
     requires few { extent.count ≤ extent.end }
     ensures found { (file : List ℕ) → contents file ≡ Records [] → BeginsWith [] file
         → extent_of (contents file) ≡ Ok extent → Restores result rules.profile rules.clients_max file }
+    ensures fault { IfErr result (λ fault. fault ≡ StartFault.NoMemory) }
     ensures few { IfOk result (λ found. found.1.count ≤ found.1.end) }
 {
     let _clients = rules.clients_max.get();
@@ -183,11 +192,13 @@ fn restored_by<D: Device>(
     scan: &mut Scan,
     device: &mut D,
 ) -> Result<(Machine<Global>, Extent), StartFault>
-    ensures found { (which : Which) → IsReading D.tells D.gave which (D.disk device.old).seen [] scan.old
-        → OfSource D.tells D.gave which (D.disk device.old).seen
-        (Restores result rules.profile rules.clients_max) }
+    ensures found { (file : List ℕ) → D.holds device.old file → HasRead [] file scan.old
+        → Restores result rules.profile rules.clients_max file }
     ensures few { IfOk result (λ found. found.1.count ≤ found.1.end) }
+    ensures same { (file : List ℕ) → D.holds device.old file → D.holds device.new file }
     ensures stays { D.tells → StaysKept (D.disk device.old) (D.disk device.new) }
+    ensures cause { D.tells → HasRead [] (D.disk device.old).seen scan.old
+        → HasStartCause result (D.disk device.old) (D.disk device.new) }
 {
     let same = rules;
     match read_first(scan, device, same) {
@@ -205,12 +216,15 @@ pub fn restored<D: Device>(
     rules: Rules,
     device: &mut D,
 ) -> Result<(Machine<Global>, Extent), StartFault>
-    ensures found { D.tells → Restores result rules.profile rules.clients_max (D.disk device.old).seen }
-    // Of any device, by the bytes that its reads hand out.
-    ensures handed { SomeHanded D.gave (Restores result rules.profile rules.clients_max) }
+    // Of any device, by the file that its reads are of.
+    ensures found { (file : List ℕ) → D.holds device.old file → Restores result rules.profile rules.clients_max file }
     ensures few { IfOk result (λ found. found.1.count ≤ found.1.end) }
-    ensures kept { D.tells → IfOk result (λ _. IsOnDisk (D.disk device.new)) }
+    // Where no sync has failed before.
+    ensures kept { D.tells → (D.disk device.old).sound ≡ true → OnOk result (IsOnDisk (D.disk device.new)) }
+    ensures sound { D.tells → OnOk result ((D.disk device.new).sound ≡ (D.disk device.old).sound) }
+    ensures same { (file : List ℕ) → D.holds device.old file → D.holds device.new file }
     ensures untouched { D.tells → IsUntouched (D.disk device.old) (D.disk device.new) }
+    ensures cause { D.tells → HasStartCause result (D.disk device.old) (D.disk device.new) }
 {
     match Scan::start(global, device) {
         Ok(mut scan) => restored_by(global, rules, &mut scan, device),

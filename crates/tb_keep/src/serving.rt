@@ -1,11 +1,11 @@
 //! The serving of a kept ledger: the entries of pairs are committed, and then the replies that rest on them are told.
-ghost use Rattle.std.specs.Prelude.{◌≡◌, ◌++◌, true, false, [], ◌∷◌, IfErr, OnOk};
+ghost use Rattle.std.specs.Prelude.{◌≡◌, ◌++◌, true, false, [], ◌∷◌, IfErr, OnOk, OnErr};
 ghost use Rattle.tb_journal.specs.Ready.{IsReady};
 ghost use Rattle.tb_machine.specs.Dumps.{dumped};
 ghost use Rattle.tb_machine.specs.Histories.{fits};
 ghost use Rattle.tb_machine.specs.Recording.{IsRecord};
 ghost use Rattle.tb_machine.specs.Runs.{is_new_in};
-ghost use Rattle.tb_keep.specs.Keeping.{IsFresh};
+ghost use Rattle.tb_keep.specs.Keeping.{IsFresh, IsUsable};
 ghost use Rattle.tb_keep.specs.Rounds.{Served};
 ghost use Rattle.tb_keep.specs.Steps.{IsRefusal, Appends, HoldsReply, KeepsPair, KeepsNext, HandsOut, Tells, MayTell, EndsTold, is_end_of_time, with_record};
 
@@ -22,15 +22,22 @@ use tb_sessions::Class;
 /// Where so many bytes of replies are held they are told, even if more pairs are at hand.
 pub const HELD_BYTES_MAX: usize = 1 << 20;
 
+/// What is committed at once has at most so many bytes.
+pub const BATCH_BYTES_MAX: usize = 1 << 22;
+
+/// The greatest block of an entry: 8 bytes, two numbers of 8 bytes, and the frame of a request of 8,190 records.
+const BLOCK_BYTES_MAX: usize = 8 + 16 + 48 + 8190 * 128;
+
 /// Lets the record of an entry wait for the next commit. The buffer is the caller's, so that each record needs no new one.
 fn append_entry<D: Device>(
     journal: &mut Journal<D>,
     buffer: &mut Vec<u8>,
     entry: &Entry,
 ) -> Result<(), KeepFault>
+    requires { journal.old.usable ≡ true }
     ensures waits { OnOk result (journal.new ≡ with_record journal.old (dumped entry.now)) }
     ensures fits { OnOk result (IsRecord (dumped entry.now) entry.now) }
-    ensures stays { IfErr result (λ f. IsRefusal f × (journal.new ≡ journal.old)) }
+    ensures stays { IfErr result (λ f. IsRefusal f journal.old (dumped entry.now) × (journal.new ≡ journal.old)) }
 {
     buffer.clear();
     if write_entry(entry, buffer).is_err() {
@@ -46,7 +53,8 @@ fn append_new<D: Device>(
     moment: u64,
     request: Request,
 ) -> Result<Request, KeepFault>
-    requires { is_new_in keeper.old.state (moment, request) ≡ true }
+    requires new { is_new_in keeper.old.state (moment, request) ≡ true }
+    requires usable { keeper.old.journal.usable ≡ true }
     ensures { Appends result (moment, request) keeper.old keeper.new }
 {
     let Some(entry) = keeper.machine.next_entry(request, moment) else {
@@ -82,6 +90,7 @@ fn keep_pair<D: Device>(
     moment: u64,
     request: Request,
 ) -> Result<(), KeepFault>
+    requires { keeper.old.journal.usable ≡ true }
     ensures { KeepsPair result (moment, request) keeper.old keeper.new replies.old.bytes.items
         replies.new.bytes.items }
 {
@@ -113,7 +122,8 @@ fn tell<D: Device, W: Sink>(
     replies: &mut Replies,
     writer: &mut W,
 ) -> Result<(), KeepFault>
-    requires { D.tells → IsReady D.disk keeper.old.journal }
+    requires usable { keeper.old.journal.usable ≡ true }
+    requires ready { D.tells → IsReady D.disk keeper.old.journal }
     ensures { Tells D.tells D.disk result keeper.old keeper.new replies.old.bytes.items
         replies.new.bytes.items (W.output writer.old) (W.output writer.new) }
 {
@@ -121,18 +131,23 @@ fn tell<D: Device, W: Sink>(
     hand_out(replies, writer)
 }
 
-/// Tells the replies where the next pair may have to be waited for, or where they are many.
+/// Tells the replies where the next pair may have to be waited for, where they are many, or where the batch may have no room
+/// for one more entry.
 fn tell_before_waiting<D: Device, R: Source, W: Sink>(
     keeper: &mut Keeper<D>,
     replies: &mut Replies,
     reader: &R,
     writer: &mut W,
 ) -> Result<(), KeepFault>
-    requires { D.tells → IsReady D.disk keeper.old.journal }
-    ensures { MayTell D.tells D.disk result keeper.old keeper.new replies.old.bytes.items
-        replies.new.bytes.items (W.output writer.old) (W.output writer.new) }
+    requires usable { keeper.old.journal.usable ≡ true }
+    requires ready { D.tells → IsReady D.disk keeper.old.journal }
+    ensures { MayTell D.tells D.disk (R.input reader.now).at_hand result keeper.old keeper.new
+        replies.old.bytes.items replies.new.bytes.items (W.output writer.old) (W.output writer.new) }
 {
-    if holds_pair(reader.at_hand()) && replies.len() < HELD_BYTES_MAX {
+    if holds_pair(reader.at_hand())
+        && replies.len() < HELD_BYTES_MAX
+        && keeper.journal.waiting_bytes() <= BATCH_BYTES_MAX - BLOCK_BYTES_MAX
+    {
         return Ok(());
     }
     tell(keeper, replies, writer)
@@ -152,7 +167,8 @@ fn tell_and_stop<D: Device, W: Sink>(
     writer: &mut W,
     stop: KeepFault,
 ) -> KeepFault
-    requires { D.tells → IsReady D.disk keeper.old.journal }
+    requires usable { keeper.old.journal.usable ≡ true }
+    requires ready { D.tells → IsReady D.disk keeper.old.journal }
     ensures { EndsTold D.tells D.disk stop result keeper.old keeper.new replies.old.bytes.items
         replies.new.bytes.items (W.output writer.old) (W.output writer.new) }
 {
@@ -171,7 +187,8 @@ fn keep_next<D: Device, R: Source, W: Sink>(
     reader: &mut R,
     writer: &mut W,
 ) -> Result<bool, KeepFault>
-    requires { D.tells → IsReady D.disk keeper.old.journal }
+    requires usable { keeper.old.journal.usable ≡ true }
+    requires ready { D.tells → IsReady D.disk keeper.old.journal }
     ensures { KeepsNext D.tells D.disk result keeper.old keeper.new (R.input reader.old) (R.input reader.new)
         replies.old.bytes.items replies.new.bytes.items (W.output writer.old) (W.output writer.new) }
 {
@@ -193,20 +210,19 @@ fn keep_next<D: Device, R: Source, W: Sink>(
     }
 }
 
-/// Serves pairs, a moment and the frame of a request each, until they end, and answers the number of replies told. Each
-/// was told when the entries that it rests on were in the file. Where a frame is none, or the end of time leaves no time for
-/// a request, all before it is answered. After any other fault nothing more is told: what was read since the last commit is
-/// not answered. The keeper is not to be used again.
-pub fn keep<D: Device, R: Source, W: Sink>(
+/// Serves pairs until they end, and answers the number of replies told.
+fn keep_all<D: Device, R: Source, W: Sink>(
     alloc: Global,
     keeper: &mut Keeper<D>,
     reader: &mut R,
     writer: &mut W,
 ) -> Result<u64, KeepFault>
-    requires { D.tells → IsFresh D.disk keeper.old }
+    requires usable { keeper.old.journal.usable ≡ true }
+    requires fresh { D.tells → IsFresh D.disk keeper.old }
     ensures served { Served D.tells D.disk result keeper.old keeper.new (R.input reader.old)
         (R.input reader.new) (W.output writer.old) (W.output writer.new) }
     ensures fresh { D.tells → OnOk result (IsFresh D.disk keeper.new) }
+    ensures usable { OnOk result ((keeper.new.usable ≡ keeper.old.usable) × (keeper.new.journal.usable ≡ true)) }
 {
     let mut replies = Replies::new(alloc);
     for k in 0..u64::MAX {
@@ -217,4 +233,32 @@ pub fn keep<D: Device, R: Source, W: Sink>(
         }
     }
     Err(KeepFault::Serving(RunFault::TooLong))
+}
+
+/// Serves pairs, a moment and the frame of a request each, until they end, and answers the number of replies told. Each
+/// was told when the entries that it rests on were in the file. Where a frame is none, or the end of time leaves no time for
+/// a request, all before it is answered. After any other fault nothing more is told: what was read since the last commit is
+/// not answered. After any fault the keeper cannot serve any more.
+pub fn keep<D: Device, R: Source, W: Sink>(
+    alloc: Global,
+    keeper: &mut Keeper<D>,
+    reader: &mut R,
+    writer: &mut W,
+) -> Result<u64, KeepFault>
+    // Of any device.
+    requires usable { IsUsable keeper.old }
+    requires fresh { D.tells → IsFresh D.disk keeper.old }
+    ensures served { Served D.tells D.disk result keeper.old keeper.new (R.input reader.old)
+        (R.input reader.new) (W.output writer.old) (W.output writer.new) }
+    ensures fresh { D.tells → OnOk result (IsFresh D.disk keeper.new) }
+    ensures usable { OnOk result (IsUsable keeper.new) }
+    ensures ended { OnErr result (keeper.new.usable ≡ false) }
+{
+    match keep_all(alloc, keeper, reader, writer) {
+        Ok(count) => Ok(count),
+        Err(fault) => {
+            keeper.usable = false;
+            Err(fault)
+        }
+    }
 }

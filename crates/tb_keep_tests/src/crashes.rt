@@ -1,15 +1,15 @@
 //! Crashes at each moment of serving, and files that fail at each of their calls: what was told is in the file.
 ghost use Rattle.tb_journal.specs.Memory.{memory_disk};
-ghost use Rattle.tb_keep.specs.Keeping.{IsFresh};
+ghost use Rattle.tb_keep.specs.Keeping.{IsFresh, IsUsable};
 
 use crate::scripts::{
-    bytes_left, bytes_of, created, expect, file_of, kept, outcome, replies, rules, script,
-    script_from, serve, sure,
+    answered, bytes_left, bytes_of, created, expect, file_of, kept, outcome, replies, rules,
+    script, script_from, serve, sure,
 };
 use std::alloc::Global;
 use std::process::Abort;
 use tb_journal::{Fault, Memory, OpenFault};
-use tb_keep::{Keeper, StartFault, create};
+use tb_keep::{KeepFault, Keeper, StartFault, create};
 
 /// What a torn write leaves in its range.
 const TORN: &[&[u8]] = &[&[], &[0; 40], &[255; 40], &[255]];
@@ -19,7 +19,8 @@ const AGAIN: &[usize] = &[0, 0, 1, 2, 5];
 
 /// The ledger of a file with these bytes.
 fn started(rt: &impl Abort, alloc: Global, left: &[u8]) -> Keeper<Memory>
-    ensures { IsFresh memory_disk result }
+    ensures fresh { IsFresh memory_disk result }
+    ensures usable { IsUsable result }
 {
     let file = file_of(rt, alloc, left);
     sure(rt, Keeper::start(alloc, file, rules(rt)))
@@ -128,7 +129,8 @@ fn entries_told(rt: &impl Abort, alloc: Global, length: usize) -> u64 {
 
 /// Serves the script over a keeper; gives the file as it reads, and the replies.
 fn served_by(rt: &impl Abort, alloc: Global, keeper: Keeper<Memory>) -> (Vec<u8>, Vec<u8>)
-    requires { IsFresh memory_disk keeper }
+    requires fresh { IsFresh memory_disk keeper }
+    requires usable { IsUsable keeper }
 {
     let mut keeper = keeper;
     let (_, told) = serve(alloc, &mut keeper, &script(rt, alloc, 6));
@@ -163,20 +165,30 @@ fn each_call_fails_once(rt: HostRuntime) {
     }
 }
 
-/// The calls of an opening: a sync, the file with its end, and the repair with two syncs.
-const OPENING: u64 = 7;
+/// What is told where each call of an opening fails, one after another: a sync, the file and its end, its length, and the
+/// repair with two syncs.
+const OPENING: [Fault; 8] = [
+    Fault::SyncFailed,
+    Fault::Failed,
+    Fault::Failed,
+    Fault::Failed,
+    Fault::Failed,
+    Fault::SyncFailed,
+    Fault::Failed,
+    Fault::SyncFailed,
+];
 
-/// The call of a number fails: that is told, and the next opening finds all entries.
-fn expect_opening(rt: &impl Abort, alloc: Global, bytes: &[u8], number: u64) {
+/// A call of a number fails: that is told, and the next opening finds all entries.
+fn expect_opening(
+    rt: &impl Abort,
+    alloc: Global,
+    bytes: &[u8],
+    number: u64,
+    want: Option<StartFault>,
+) {
     let mut file = file_of(rt, alloc, bytes);
     file.fail_at(number);
     let (found, left) = outcome(rt, alloc, Keeper::open(alloc, file, rules(rt)));
-    let failed = StartFault::Journal(OpenFault::Device(Fault::Failed));
-    let want = if number <= OPENING {
-        Some(failed)
-    } else {
-        None
-    };
     expect(rt, found == want);
     expect(rt, entries_in(rt, alloc, &left) == 4);
 }
@@ -185,7 +197,39 @@ fn expect_opening(rt: &impl Abort, alloc: Global, bytes: &[u8], number: u64) {
 fn each_call_of_an_opening_fails_once(rt: HostRuntime) {
     let alloc = rt.alloc();
     let (_, bytes) = kept(&rt, alloc, &script(&rt, alloc, 6));
-    for number in 1..=OPENING + 1 {
-        expect_opening(&rt, alloc, &bytes, number);
+    let mut number = 1u64;
+    for fault in OPENING {
+        let want = StartFault::Journal(OpenFault::Device(fault));
+        expect_opening(&rt, alloc, &bytes, number, Some(want));
+        number = number.saturating_add(1);
+    }
+    expect_opening(&rt, alloc, &bytes, number, None);
+}
+
+/// The calls that create a ledger.
+const CREATING: u64 = 9;
+
+/// The calls of serving by turns that are syncs, of the first entry and of the second: each ends it, with the replies to so many
+/// bytes told before.
+const SYNCS: [(u64, usize); 4] = [(2, 0), (4, 0), (6, 48), (8, 48)];
+
+/// What serving the script over a new file answers whose call of a number fails, and how many bytes of replies it told.
+fn ended_by(rt: &impl Abort, alloc: Global, number: u64) -> (Result<u64, KeepFault>, usize) {
+    let mut file = file_of(rt, alloc, &[]);
+    file.fail_at(number);
+    let mut keeper = sure(rt, create(alloc, file, rules(rt)));
+    let (result, told) = answered(alloc, &mut keeper, &script(rt, alloc, 6));
+    drop(keeper);
+    (result, told.len())
+}
+
+/// A sync fails, and then the device works again: serving goes on with nothing.
+#[test]
+fn a_failed_sync_ends_serving(rt: HostRuntime) {
+    let alloc = rt.alloc();
+    let failed = Err(KeepFault::Journal(Fault::SyncFailed));
+    for (number, told) in SYNCS {
+        let ended = ended_by(&rt, alloc, CREATING.saturating_add(number));
+        expect(&rt, ended == (failed, told));
     }
 }

@@ -48,7 +48,12 @@ const CALLS: u64 = 3;
 fn expect_failing(rt: &impl Abort, alloc: Global, file: &mut Memory, number: u64, want: &[u8]) {
     file.fail_at(number);
     let (result, written) = dumped(rt, alloc, file);
-    let failed = DumpFault::Journal(OpenFault::Device(Fault::Failed));
+    let fault = if number == 1 {
+        Fault::SyncFailed
+    } else {
+        Fault::Failed
+    };
+    let failed = DumpFault::Journal(OpenFault::Device(fault));
     expect(
         rt,
         result == if number <= CALLS { Err(failed) } else { Ok(()) },

@@ -8,8 +8,12 @@
 //! - `crashes`: crashes at each moment, and each call that fails.
 //! - `serving`: what is served over a file.
 //! - `pieces`: files longer than a piece.
+//! - `torn`: torn bytes that are cut off, or refused.
+//! - `conversations`: replies that leave before the next pair is waited for.
 #![tactic(auto)]
 
+#[cfg(test)]
+mod conversations;
 #[cfg(test)]
 mod crashes;
 #[cfg(test)]
@@ -22,3 +26,5 @@ mod pieces;
 mod scripts;
 #[cfg(test)]
 mod serving;
+#[cfg(test)]
+mod torn;

@@ -1,4 +1,5 @@
 //! Files that are opened, created or refused.
+ghost use Rattle.std.specs.Prelude.{◌≡◌, true};
 ghost use Rattle.tb_journal.specs.Memory.{memory_disk};
 ghost use Rattle.tb_journal.specs.Ready.{IsReady};
 
@@ -26,8 +27,10 @@ fn is_new(bytes: &[u8]) -> bool {
 
 /// Lets a record wait that is not empty.
 fn append_some(rt: &impl Abort, journal: &mut Journal<Memory>, bytes: &[u8])
-    requires { IsReady memory_disk journal.old }
-    ensures { IsReady memory_disk journal.new }
+    requires usable { journal.old.usable ≡ true }
+    requires ready { IsReady memory_disk journal.old }
+    ensures usable { journal.new.usable ≡ true }
+    ensures ready { IsReady memory_disk journal.new }
 {
     if !bytes.is_empty() {
         expect(rt, journal.append(bytes) == Ok(()));

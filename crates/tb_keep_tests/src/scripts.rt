@@ -1,12 +1,12 @@
 //! Scripts by the bytes that the formats give, and what serves them.
 ghost use Rattle.std.specs.Prelude.{◌≡◌, true, Ok};
 ghost use Rattle.tb_journal.specs.Memory.{memory_disk};
-ghost use Rattle.tb_keep.specs.Keeping.{IsFresh};
+ghost use Rattle.tb_keep.specs.Keeping.{IsFresh, IsUsable};
 
 use std::alloc::Global;
 use std::process::Abort;
 use tb_journal::Memory;
-use tb_keep::{Keeper, NotKept, Rules, StartFault, create, keep};
+use tb_keep::{KeepFault, Keeper, NotKept, Rules, StartFault, create, keep};
 use tb_machine::run;
 use tb_records::{ClientsMax, Counting, Profile};
 
@@ -148,14 +148,17 @@ pub fn rules(rt: &impl Abort) -> Rules {
 }
 
 /// A file in memory with these bytes.
-pub fn file_of(rt: &impl Abort, alloc: Global, bytes: &[u8]) -> Memory {
+pub fn file_of(rt: &impl Abort, alloc: Global, bytes: &[u8]) -> Memory
+    ensures { (memory_disk result).sound ≡ true }
+{
     let copy = sure(rt, Vec::from_slice(alloc, bytes));
     sure(rt, Memory::new(alloc, copy))
 }
 
 /// A ledger that is created in a new file.
 pub fn created(rt: &impl Abort, alloc: Global) -> Keeper<Memory>
-    ensures { IsFresh memory_disk result }
+    ensures fresh { IsFresh memory_disk result }
+    ensures usable { IsUsable result }
 {
     let file = file_of(rt, alloc, &[]);
     sure(rt, create(alloc, file, rules(rt)))
@@ -191,13 +194,27 @@ pub fn outcome(
 }
 
 /// What serving over a keeper answers, and the replies.
-pub fn serve(alloc: Global, keeper: &mut Keeper<Memory>, script: &[u8]) -> (bool, Vec<u8>)
-    requires { IsFresh memory_disk keeper.old }
+pub fn answered(
+    alloc: Global,
+    keeper: &mut Keeper<Memory>,
+    script: &[u8],
+) -> (Result<u64, KeepFault>, Vec<u8>)
+    requires fresh { IsFresh memory_disk keeper.old }
+    requires usable { IsUsable keeper.old }
 {
     let mut reader = Counting::new(script);
     let mut writer = Counting::new(Vec::new(alloc));
     let result = keep(alloc, keeper, &mut reader, &mut writer);
-    (result.is_ok(), writer.into_inner())
+    (result, writer.into_inner())
+}
+
+/// Whether serving over a keeper ends well, and the replies.
+pub fn serve(alloc: Global, keeper: &mut Keeper<Memory>, script: &[u8]) -> (bool, Vec<u8>)
+    requires fresh { IsFresh memory_disk keeper.old }
+    requires usable { IsUsable keeper.old }
+{
+    let (result, replies) = answered(alloc, keeper, script);
+    (result.is_ok(), replies)
 }
 
 /// What serving a script over a new file tells, and the bytes of the file then.

@@ -1,6 +1,6 @@
 //! What is served over a file: the replies, and the calls on the file.
 ghost use Rattle.tb_journal.specs.Memory.{memory_disk};
-ghost use Rattle.tb_keep.specs.Keeping.{IsFresh};
+ghost use Rattle.tb_keep.specs.Keeping.{IsFresh, IsUsable};
 
 use crate::crashes::entries_in;
 use crate::scripts::{
@@ -11,7 +11,7 @@ use std::alloc::Global;
 use std::io::BufReader;
 use std::process::Abort;
 use tb_journal::Memory;
-use tb_keep::{HELD_BYTES_MAX, KeepFault, Keeper, keep};
+use tb_keep::{BATCH_BYTES_MAX, HELD_BYTES_MAX, KeepFault, Keeper, keep};
 use tb_machine::RunFault;
 use tb_records::{Buffered, Counting, FrameFault, Source};
 
@@ -60,7 +60,8 @@ struct Outcome {
 
 /// What serving by a reader leaves. The keeper is let go.
 fn served<R: Source>(alloc: Global, keeper: Keeper<Memory>, reader: &mut R) -> Outcome
-    requires { IsFresh memory_disk keeper }
+    requires fresh { IsFresh memory_disk keeper }
+    requires usable { IsUsable keeper }
 {
     let mut keeper = keeper;
     let before = keeper.journal().device().moments();
@@ -113,6 +114,7 @@ fn pairs_at_hand_share_a_commit(rt: HostRuntime) {
     let alloc = rt.alloc();
     expect_commits(&rt, alloc, &script(&rt, alloc, 6));
     expect(&rt, HELD_BYTES_MAX == 1048576);
+    expect(&rt, BATCH_BYTES_MAX == 4194304);
 }
 
 /// The first two pairs of the script, and a third one.

@@ -22,9 +22,9 @@ use Rattle.tb_keep.specs.declared.faults.KeepFault.TheVariants as keep
 use Rattle.tb_keep.specs.declared.faults.StartFault.{StartFault}
 use Rattle.tb_keep.specs.declared.faults.StartFault.TheVariants as start
 use Rattle.tbd.specs.declared.faults.Damage.{Damage}
-use Rattle.tbd.specs.declared.faults.Damage.TheVariants.{Block, Record, Entry}
+use Rattle.tbd.specs.declared.faults.Damage.TheVariants.{Block, Record, Entry, Torn}
 use Rattle.tbd.specs.declared.faults.Fault.{Fault}
-use Rattle.tbd.specs.declared.faults.Fault.TheVariants.{Usage, Device, Missing, Forbidden, Unopened, NoMemory, Request, Locked, NotAJournal, NoHead, Damaged, OtherRules, Full}
+use Rattle.tbd.specs.declared.faults.Fault.TheVariants.{Usage, Device, Missing, Forbidden, Unopened, NoMemory, Request, Locked, NotAJournal, NoHead, Damaged, OtherRules, Full, SyncFailed}
 
 -- what the faults of the libraries are here
 
@@ -34,6 +34,7 @@ disk_fault disk.Failed = Device
 disk_fault disk.Full = Full
 disk_fault disk.TooLong = Request run.TooLong
 disk_fault disk.NotEmpty = NotAJournal
+disk_fault disk.SyncFailed = SyncFailed
 
 abbrev pub refused_fault : Refusal → Fault
 refused_fault refusal.NotAJournal = NotAJournal
@@ -50,6 +51,7 @@ started_fault start.OtherRules = OtherRules
 started_fault (start.Record place fault) = Damaged (Record place fault)
 started_fault (start.Entry fault) = Damaged (Entry fault)
 started_fault start.NoMemory = NoMemory
+started_fault (start.TornTooLong at bytes) = Damaged (Torn at bytes)
 
 abbrev pub dumped_fault : DumpFault → Fault
 dumped_fault (dump.Journal fault) = opened_fault fault
@@ -80,11 +82,13 @@ fault_status NoHead = 5
 fault_status (Damaged damage) = 6
 fault_status OtherRules = 7
 fault_status Full = 8
+fault_status SyncFailed = 9
 
 abbrev pub damage_text : Damage → List ℕ
 damage_text (Block at) = codes "at byte " ++ decimal at
 damage_text (Record place fault) = codes "record " ++ decimal place ++ codes ": " ++ fault_name fault
 damage_text (Entry fault) = codes "record " ++ decimal fault.place ++ codes ": " ++ unfit_name fault.cause
+damage_text (Torn at bytes) = decimal bytes ++ (codes " bytes behind byte " ++ (decimal at ++ codes ", more than one batch can have"))
 
 -- the fault's name, and words behind it where there is more to say
 abbrev pub fault_text : Fault → List ℕ
@@ -101,3 +105,4 @@ fault_text NoHead = codes "NotAJournal: the first record is no ledger's head"
 fault_text (Damaged damage) = codes "Damaged: " ++ damage_text damage
 fault_text OtherRules = codes "OtherRules: tbd check shows those that the file was made with"
 fault_text Full = codes "Full"
+fault_text SyncFailed = codes "SyncFailed: restart the machine or copy the file before the next start"

@@ -17,6 +17,8 @@ pub enum Damage {
     Record { place: u64, fault: FrameFault },
     /// The entry may not come next.
     Entry(RestoreFault),
+    /// Behind the records, which end at this offset, stand more bytes than a batch can have that was not committed.
+    Torn { at: u64, bytes: u64 },
 }
 
 /// Why the program ends with a status other than 0.
@@ -48,6 +50,8 @@ pub enum Fault {
     OtherRules,
     /// The disk is full.
     Full,
+    /// A sync of the file failed: what was written may be lost, though reads still return it.
+    SyncFailed,
 }
 
 /// The fault of a call on a journal or its file.
@@ -60,6 +64,7 @@ pub fn disk_fault(fault: tb_journal::Fault) -> Fault
         tb_journal::Fault::Full => Fault::Full,
         tb_journal::Fault::TooLong => Fault::Request(RunFault::TooLong),
         tb_journal::Fault::NotEmpty => Fault::NotAJournal,
+        tb_journal::Fault::SyncFailed => Fault::SyncFailed,
     }
 }
 
@@ -94,6 +99,7 @@ pub fn started_fault(fault: StartFault) -> Fault
         StartFault::Record { place, fault } => Fault::Damaged(Damage::Record { place, fault }),
         StartFault::Entry(fault) => Fault::Damaged(Damage::Entry(fault)),
         StartFault::NoMemory => Fault::NoMemory,
+        StartFault::TornTooLong { at, bytes } => Fault::Damaged(Damage::Torn { at, bytes }),
     }
 }
 
@@ -144,6 +150,7 @@ impl Fault {
             Fault::Damaged(_) => 6,
             Fault::OtherRules => 7,
             Fault::Full => 8,
+            Fault::SyncFailed => 9,
         }
     }
 }
@@ -159,6 +166,12 @@ impl fmt::Display for Damage {
             Damage::Block { at } => write!(f, "at byte {at}"),
             Damage::Record { place, fault } => write!(f, "record {place}: {fault}"),
             Damage::Entry(fault) => write!(f, "record {}: {}", fault.place, fault.cause),
+            Damage::Torn { at, bytes } => {
+                write!(
+                    f,
+                    "{bytes} bytes behind byte {at}, more than one batch can have"
+                )
+            }
         }
     }
 }
@@ -186,6 +199,11 @@ impl fmt::Display for Fault {
                 f.write_str("OtherRules: tbd check shows those that the file was made with")
             }
             Fault::Full => f.write_str("Full"),
+            Fault::SyncFailed => {
+                f.write_str(
+                    "SyncFailed: restart the machine or copy the file before the next start",
+                )
+            }
         }
     }
 }

@@ -1,13 +1,11 @@
-use Rattle.std.proofs.Common.{arith}
-use Rattle.std.proofs.lemmas.Grind.{common_steps}
 use Rattle.tb_journal.proofs.Repairing.{end_within, end_left, repair_failed, repair_done}
 use Rattle.tb_journal.proofs.opening.repair.Goals as goal
 
-pub cut_kept-requires-clause-within : goal.cut_kept-requires-clause-within
-cut_kept-requires-clause-within g c t = end_within (g.D.Device.disk c.args.device.now) (c.requires.reads t) c.args.end (c.requires.ends t)
+pub cut_kept-requires : goal.cut_kept-requires
+cut_kept-requires g c = record { within = λ t. end_within (g.D.Device.disk c.args.device.now) (c.requires.reads t) c.args.end (c.requires.ends t) }
 
-pub write_kept-requires-clause-within : goal.write_kept-requires-clause-within
-write_kept-requires-clause-within g c t = grind (arith, common_steps, end_left)
+pub write_kept-requires : goal.write_kept-requires
+write_kept-requires g c = record { within = λ t. end_left (g.D.Device.disk c.args.device.now) (c.requires.reads t) c.args.end (c.requires.ends t) (g.D.Device.disk c.cut_kept.new.device) c.cut_kept.result c.in-Ok.is (c.cut_kept.ensures t) }
 
 pub returns-in-Ok : goal.returns-in-Ok
 returns-in-Ok g c t =

@@ -1,14 +1,12 @@
-use Rattle.tb_keep.proofs.Sources.{so_holds}
 use Rattle.tb_keep.proofs.WholeFiles.{is_history, is_no_history}
 use Rattle.tb_keep.proofs.dumps.history_behind.Goals as goal
 
 pub returns-in-Ok-clause-found : goal.returns-in-Ok-clause-found
-returns-in-Ok-clause-found g c which has =
-    so_holds g.D.Device.tells g.D.Device.gave which (g.D.Device.disk c.args.device.now).seen _ _
-    (λ file found. (is_history c.args.rules file c.in-Ok.machine c.in-Ok.extent found.0 found.1, found.1.extent_is))
-    (c.in-Ok.ensures.found which has)
+returns-in-Ok-clause-found g c file holds has =
+    let found = c.in-Ok.ensures.found file holds has in
+    (is_history c.args.rules file c.in-Ok.machine c.in-Ok.extent found.0 found.1, found.1.extent_is)
 
 pub returns-in-Err-clause-found : goal.returns-in-Err-clause-found
-returns-in-Err-clause-found g c which has =
-    so_holds g.D.Device.tells g.D.Device.gave which (g.D.Device.disk c.args.device.now).seen _ _ (λ file found. is_no_history c.in-Err.fault c.args.rules file found.0 found.1)
-    (c.in-Err.ensures.found which has)
+returns-in-Err-clause-found g c file holds has =
+    let found = c.in-Err.ensures.found file holds has in
+    is_no_history c.in-Err.fault c.args.rules file found.0 found.1

@@ -1,14 +1,15 @@
-use Rattle.std.proofs.Common.{[]}
-use Rattle.tb_keep.specs.Sources.{OnDisk, HandedOut}
-use Rattle.tb_keep.proofs.Sources.{read_on_disk, on_disk, read_handed, seen_now}
+use Rattle.std.proofs.Common.{[], ℕ, List, sym, subst}
+use Rattle.tb_journal.specs.Scans.{HasRead}
+use Rattle.tb_keep.proofs.Causes.{has_start_then}
 use Rattle.tb_keep.proofs.dumps.read_history.Goals as goal
 
 pub returns-in-Ok-clause-found : goal.returns-in-Ok-clause-found
-returns-in-Ok-clause-found g c t =
-    let old = (g.D.Device.disk c.args.device.now).seen in
-    let now = (g.D.Device.disk c.start.new.device).seen in
-    on_disk g.D.Device.tells g.D.Device.gave old now _ (c.start.ensures.seen t)
-    (c.history_by.ensures.found OnDisk (seen_now g.D.Device.tells g.D.Device.gave OnDisk old now _ (λ t. c.start.ensures.seen t) (read_on_disk g.D.Device.tells g.D.Device.gave t old [] c.in-Ok.scan (c.in-Ok.ensures.begun t).0)))
+returns-in-Ok-clause-found g c file holds = c.history_by.ensures.found file (c.in-Ok.ensures.same file holds) (c.in-Ok.ensures.begun file holds)
 
-pub returns-in-Ok-clause-handed : goal.returns-in-Ok-clause-handed
-returns-in-Ok-clause-handed g c = c.history_by.ensures.found HandedOut (read_handed g.D.Device.tells g.D.Device.gave (g.D.Device.disk c.start.new.device).seen c.in-Ok.scan c.in-Ok.ensures.handed)
+pub returns-in-Ok-clause-cause : goal.returns-in-Ok-clause-cause
+returns-in-Ok-clause-cause g c t =
+    let old = g.D.Device.disk c.args.device.now in
+    let mid = g.D.Device.disk c.start.new.device in
+    let seen = c.start.ensures.seen t in
+    let here = subst (λ (f : List ℕ). HasRead [] f c.in-Ok.scan) (sym seen) (c.in-Ok.ensures.begun old.seen (g.met.D.Device.holds_seen c.args.device.now t)) in
+    has_start_then old mid (g.D.Device.disk c.history_by.new.device) (c.in-Ok.ensures.cause t).ok seen c.history_by.result (c.history_by.ensures.cause t here)

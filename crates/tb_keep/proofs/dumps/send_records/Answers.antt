@@ -1,41 +1,60 @@
-use Rattle.std.proofs.Common.{◌++◌, arith, sym}
-use Rattle.tb_keep.proofs.Sources.{seen_now, so_holds}
+use Rattle.std.proofs.Common.{◌++◌, List, ℕ, sym, subst}
+use Rattle.tb_journal.specs.Scans.{HasRead}
+use Rattle.tb_journal.proofs.Causes.{none_since}
+use Rattle.tb_keep.proofs.Causes.{has_dump_then}
 use Rattle.tb_keep.proofs.Entered.{stays_then}
 use Rattle.tb_keep.proofs.Dumping.{sending_more, sending_done, sending_not}
 use Rattle.tb_keep.proofs.dumps.send_records.Goals as goal
 
 pub loop-fault-preserved : goal.loop-fault-preserved
 loop-fault-preserved g c = record {
+  same = λ file holds. c.in-Ok-true.ensures.same file (c.loop-fault.invariant.same file holds);
   stays = λ t. stays_then (g.D.Device.disk c.args.device.now) (g.D.Device.disk c.loop-fault.device) (g.D.Device.disk c.send_next.new.device) (g.met.D.Device.counts_now c.loop-fault.device)
       (c.loop-fault.invariant.stays t) (c.send_next.ensures.stays t);
-  sending = λ which read has.
-      let old = (g.D.Device.disk c.args.device.now).seen in
-      let now = (g.D.Device.disk c.loop-fault.device).seen in
-      let (file, source, (records, at, sent)) = c.loop-fault.invariant.sending which read has in
-      seen_now g.D.Device.tells g.D.Device.gave which now old _ (λ t. sym (c.loop-fault.invariant.stays t).untouched.seen)
-      (so_holds g.D.Device.tells g.D.Device.gave which now _ _ (λ file next. sending_more which read records file c.send_next.new.scan (g.W.Sink.output c.args.writer.now) (g.W.Sink.output c.loop-fault.writer) (g.W.Sink.output c.send_next.new.writer) sent next)
-      ((rw c.in-Ok-true.field-0-test at c.in-Ok-true.ensures.sends) which (read ++ records) (seen_now g.D.Device.tells g.D.Device.gave which old now _ (λ t. (c.loop-fault.invariant.stays t).untouched.seen) (file, source, at))));
+  none = λ t read has.
+      let old = g.D.Device.disk c.args.device.now in
+      let now = g.D.Device.disk c.loop-fault.device in
+      let (records, at, sent) = c.loop-fault.invariant.sending old.seen read (g.met.D.Device.holds_seen c.args.device.now t) has in
+      let here = subst (λ (f : List ℕ). HasRead (read ++ records) f c.loop-fault.scan) (sym (c.loop-fault.invariant.stays t).untouched.seen) at in
+      none_since old now (g.D.Device.disk c.send_next.new.device) (c.loop-fault.invariant.none t read has) (c.in-Ok-true.ensures.cause t (read ++ records) here).ok;
+  sending = λ file read holds has.
+      let (records, at, sent) = c.loop-fault.invariant.sending file read holds has in
+      sending_more read records file c.send_next.new.scan (g.W.Sink.output c.args.writer.now) (g.W.Sink.output c.loop-fault.writer) (g.W.Sink.output c.send_next.new.writer) sent
+      ((rw c.in-Ok-true.field-0-test at c.in-Ok-true.ensures.sends) file (read ++ records) (c.loop-fault.invariant.same file holds) at);
 }
 
 pub returns-in-Ok-false-clause-sends : goal.returns-in-Ok-false-clause-sends
-returns-in-Ok-false-clause-sends g c which read has =
-    let old = (g.D.Device.disk c.args.device.now).seen in
-    let now = (g.D.Device.disk c.loop-fault.device).seen in
-    let (file, source, (records, at, sent)) = c.loop-fault.invariant.sending which read has in
-    seen_now g.D.Device.tells g.D.Device.gave which now old _ (λ t. sym (c.loop-fault.invariant.stays t).untouched.seen)
-    (so_holds g.D.Device.tells g.D.Device.gave which now _ _ (λ file next. sending_done which read records file c.send_next.new.scan (g.W.Sink.output c.args.writer.now) (g.W.Sink.output c.loop-fault.writer) (g.W.Sink.output c.send_next.new.writer) sent next)
-    ((rw c.in-Ok-false.field-0-test at c.in-Ok-false.ensures.sends) which (read ++ records) (seen_now g.D.Device.tells g.D.Device.gave which old now _ (λ t. (c.loop-fault.invariant.stays t).untouched.seen) (file, source, at))))
+returns-in-Ok-false-clause-sends g c file read holds has =
+    let (records, at, sent) = c.loop-fault.invariant.sending file read holds has in
+    sending_done read records file c.send_next.new.scan (g.W.Sink.output c.args.writer.now) (g.W.Sink.output c.loop-fault.writer) (g.W.Sink.output c.send_next.new.writer) sent
+    ((rw c.in-Ok-false.field-0-test at c.in-Ok-false.ensures.sends) file (read ++ records) (c.loop-fault.invariant.same file holds) at)
+
+pub returns-in-Ok-false-clause-cause : goal.returns-in-Ok-false-clause-cause
+returns-in-Ok-false-clause-cause g c t read has =
+    let old = g.D.Device.disk c.args.device.now in
+    let now = g.D.Device.disk c.loop-fault.device in
+    let (records, at, sent) = c.loop-fault.invariant.sending old.seen read (g.met.D.Device.holds_seen c.args.device.now t) has in
+    let here = subst (λ (f : List ℕ). HasRead (read ++ records) f c.loop-fault.scan) (sym (c.loop-fault.invariant.stays t).untouched.seen) at in
+    record { ok = none_since old now (g.D.Device.disk c.send_next.new.device) (c.loop-fault.invariant.none t read has) (c.in-Ok-false.ensures.cause t (read ++ records) here).ok; cause = tt }
 
 pub returns-in-Err-clause-sends : goal.returns-in-Err-clause-sends
-returns-in-Err-clause-sends g c which read has =
-    let old = (g.D.Device.disk c.args.device.now).seen in
-    let now = (g.D.Device.disk c.loop-fault.device).seen in
-    let (file, source, (records, at, sent)) = c.loop-fault.invariant.sending which read has in
-    seen_now g.D.Device.tells g.D.Device.gave which now old _ (λ t. sym (c.loop-fault.invariant.stays t).untouched.seen)
-    (so_holds g.D.Device.tells g.D.Device.gave which now _ _ (λ file next. sending_not which read records file c.send_next.new.scan (g.W.Sink.output c.args.writer.now) (g.W.Sink.output c.loop-fault.writer) (g.W.Sink.output c.send_next.new.writer) sent c.in-Err.fault next)
-    (c.in-Err.ensures.sends which (read ++ records) (seen_now g.D.Device.tells g.D.Device.gave which old now _ (λ t. (c.loop-fault.invariant.stays t).untouched.seen) (file, source, at))))
+returns-in-Err-clause-sends g c file read holds has =
+    let (records, at, sent) = c.loop-fault.invariant.sending file read holds has in
+    sending_not read records file c.send_next.new.scan (g.W.Sink.output c.args.writer.now) (g.W.Sink.output c.loop-fault.writer) (g.W.Sink.output c.send_next.new.writer) sent c.in-Err.fault
+    (c.in-Err.ensures.sends file (read ++ records) (c.loop-fault.invariant.same file holds) at)
 
 pub returns-in-Err-clause-stays : goal.returns-in-Err-clause-stays
 returns-in-Err-clause-stays g c t =
     stays_then (g.D.Device.disk c.args.device.now) (g.D.Device.disk c.loop-fault.device) (g.D.Device.disk c.send_next.new.device) (g.met.D.Device.counts_now c.loop-fault.device)
     (c.loop-fault.invariant.stays t) (c.send_next.ensures.stays t)
+
+pub returns-in-Err-clause-cause : goal.returns-in-Err-clause-cause
+returns-in-Err-clause-cause g c t read has =
+    let old = g.D.Device.disk c.args.device.now in
+    let now = g.D.Device.disk c.loop-fault.device in
+    let (records, at, sent) = c.loop-fault.invariant.sending old.seen read (g.met.D.Device.holds_seen c.args.device.now t) has in
+    let here = subst (λ (f : List ℕ). HasRead (read ++ records) f c.loop-fault.scan) (sym (c.loop-fault.invariant.stays t).untouched.seen) at in
+    record {
+      ok = tt;
+      cause = (has_dump_then old now (g.D.Device.disk c.send_next.new.device) (c.loop-fault.invariant.none t read has) (c.loop-fault.invariant.stays t).untouched.seen _ (c.in-Err.ensures.cause t (read ++ records) here)).cause;
+    }

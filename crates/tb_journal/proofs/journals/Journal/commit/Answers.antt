@@ -12,6 +12,6 @@ invariant_of-self g c = grind (arith, common_steps, fewer)
 
 pub returns-in-Ok-clause-ready : goal.returns-in-Ok-clause-ready
 returns-in-Ok-clause-ready g c t =
-    let ready = subst (λ (j : Kept g.row.D.Denot). IsReady g.D.Device.disk j) (sym c.self.view_is) (c.requires t) in
+    let ready = subst (λ (j : Kept g.row.D.Denot). IsReady g.D.Device.disk j) (sym c.self.view_is) (c.requires.ready t) in
     let done = (c.in-Ok.ensures t c.self.inside.batch c.bytes.ensures.fits c.bytes.ensures.spells (omega (arith, c.count.ensures, c.if-count-eq0.false))).ok in
-    next_ready g.D.Device.disk _ c.publish.new.device _ _ c.clear.new.self ready done.0 done.1 (omega (arith, ap length c.bytes-in-Ok.ensures.spells)) (omega (arith, c.count-in-Ok.ensures))
+    next_ready g.D.Device.disk _ c.publish.new.device _ _ c.clear.new.self _ ready done.0 done.1 (omega (arith, ap length c.bytes-in-Ok.ensures.spells)) (omega (arith, c.count-in-Ok.ensures))

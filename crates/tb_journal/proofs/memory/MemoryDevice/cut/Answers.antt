@@ -1,13 +1,17 @@
-use Rattle.std.proofs.Common.{sym, ◌∙◌}
-use Rattle.tb_journal.proofs.Past.{cut_failed, cut_done}
+use Rattle.std.proofs.Common.{inl, refl, Ok, Err}
+use Rattle.tb_journal.proofs.Past.{failed_by, has_cut}
 use Rattle.tb_journal.proofs.memory.MemoryDevice.cut.Goals as goal
 
-pub returns-then-trips : goal.returns-then-trips
-returns-then-trips c t =
-    cut_failed c.args.self.now.first.items c.args.self.now.calls.items c.push.new.self.items c.args.self.now.bytes.items c.args.self.now.fuse c.trips.new.fuse c.trips.ensures.counted
-    c.args.len c.in_ok-push.ensures.items (sym c.trips.ensures.fails ∙ c.if-trips.true)
+pub returns-then-not-shown-clause-cuts : goal.returns-then-not-shown-clause-cuts
+returns-then-not-shown-clause-cuts c t =
+    let old = c.args.self.now in
+    let failed = failed_by old.first.items old.calls.items c.push_call.new.calls.items old.bytes.items old.bytes.items old.failures c.count.new.self old.sound old.sound
+    c.of_call.result c.count.result c.count.ensures.same (inl c.of_call.ensures) c.count.ensures.counted c.count.ensures.others in
+    has_cut old.first.items old.calls.items c.push_call.new.calls.items old.bytes.items old.bytes.items old.failures c.count.new.self old.sound
+    (Err c.count.result) (record { ok = tt; cause = failed }) c.args.len tt _ c.in-Ok.ensures.ok
 
-pub returns : goal.returns
-returns c t =
-    cut_done c.args.self.now.first.items c.args.self.now.calls.items c.push.new.self.items c.args.self.now.bytes.items c.args.self.now.fuse c.trips.new.fuse c.trips.ensures.counted
-    c.args.len c.in_ok-push.ensures.items c.truncate.new.self.items c.truncate.ensures.items
+pub returns-else-not-shown-clause-cuts : goal.returns-else-not-shown-clause-cuts
+returns-else-not-shown-clause-cuts c t =
+    let old = c.args.self.now in
+    has_cut old.first.items old.calls.items c.push_call.new.calls.items old.bytes.items c.truncate.new.self.items old.failures old.failures old.sound
+    (Ok tt) (record { ok = λ fault. refl; cause = tt }) c.args.len c.truncate.ensures.items _ c.in-Ok.ensures.ok

@@ -1,14 +1,21 @@
-use Rattle.std.proofs.Common.{ℕ, List, ap, sym, ◌∙◌}
+use Rattle.std.proofs.Common.{inl, refl, ap, ◌∙◌, List, ℕ, Ok, Err}
 use Rattle.tb_journal.specs.Device.{overwritten}
-use Rattle.tb_journal.proofs.Past.{write_failed, write_done}
+use Rattle.tb_journal.proofs.Past.{failed_by, wrote}
 use Rattle.tb_journal.proofs.memory.MemoryDevice.write_at.Goals as goal
 
-pub returns-then-trips : goal.returns-then-trips
-returns-then-trips c t =
-    write_failed c.args.self.now.first.items c.args.self.now.calls.items c.push.new.self.items c.args.self.now.bytes.items c.args.self.now.fuse c.trips.new.fuse c.trips.ensures.counted
-    c.in_ok-bytes.bytes c.args.at c.args.bytes.now c.in_ok-bytes.ensures.items c.in_ok-push.ensures.items (sym c.trips.ensures.fails ∙ c.if-trips.true)
+pub returns-then-not-shown-clause-writes : goal.returns-then-not-shown-clause-writes
+returns-then-not-shown-clause-writes c t =
+    let old = c.args.self.now in
+    let kept = c.in-Ok.ensures.ok in
+    let failed = failed_by old.first.items old.calls.items c.push_write.new.calls.items old.bytes.items old.bytes.items old.failures c.count.new.self old.sound old.sound
+    c.of_call.result c.count.result c.count.ensures.same (inl c.of_call.ensures) c.count.ensures.counted c.count.ensures.others in
+    wrote old.first.items old.calls.items c.push_write.new.calls.items old.bytes.items old.bytes.items old.failures c.count.new.self old.sound
+    (Err c.count.result) (record { ok = tt; cause = failed }) c.args.at c.args.bytes.now tt kept.0 _ kept.1 kept.2
 
-pub returns : goal.returns
-returns c t =
-    write_done c.args.self.now.first.items c.args.self.now.calls.items c.push.new.self.items c.args.self.now.bytes.items c.args.self.now.fuse c.trips.new.fuse c.trips.ensures.counted
-    c.in_ok-bytes.bytes c.args.at c.args.bytes.now c.in_ok-bytes.ensures.items c.in_ok-push.ensures.items c.in_ok-next.next.items (c.in_ok-next.ensures ∙ ap (λ (f : List ℕ). overwritten f c.args.at c.args.bytes.now) c.deref.ensures.value)
+pub returns-else-not-shown-clause-writes : goal.returns-else-not-shown-clause-writes
+returns-else-not-shown-clause-writes c t =
+    let old = c.args.self.now in
+    let kept = c.in-Ok.ensures.ok in
+    wrote old.first.items old.calls.items c.push_write.new.calls.items old.bytes.items c.in-Ok.next.items old.failures old.failures old.sound
+    (Ok tt) (record { ok = λ fault. refl; cause = tt }) c.args.at c.args.bytes.now
+    (c.in-Ok.ensures.next ∙ ap (λ (f : List ℕ). overwritten f c.args.at c.args.bytes.now) c.deref.ensures.value) kept.0 _ kept.1 kept.2

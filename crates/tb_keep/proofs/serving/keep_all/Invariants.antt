@@ -1,5 +1,5 @@
 use Rattle.tb_keep.proofs.Going.{Going}
-use Rattle.tb_keep.proofs.serving.keep.Given as goal
+use Rattle.tb_keep.proofs.serving.keep_all.Given as goal
 
 abbrev pub invariant-loop-k : goal.invariant-loop-k
 invariant-loop-k g l =

@@ -1,0 +1,7 @@
+use Rattle.std.proofs.Common.{rules}
+use Rattle.tb_journal.proofs.FirstWrite.{all_left_alone}
+use Rattle.tb_journal.proofs.creating.create.Goals as goal
+
+pub returns-in-Ok-true-clause-untouched : goal.returns-in-Ok-true-clause-untouched
+returns-in-Ok-true-clause-untouched g c t =
+    all_left_alone g.D.Device.disk (g.D.Device.disk c.args.device) (g.D.Device.disk c.finds_blank.new.device) c.begin.result (search rules) (c.begin.ensures.cause t)

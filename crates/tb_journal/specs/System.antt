@@ -1,0 +1,123 @@
+-- What the system's calls on an open file do, as POSIX has them.
+-- Cited by public contracts of: systems.
+use Rattle.std.specs.Prelude.{◌≡◌, ◌≢◌, ◌⊎◌, ℕ, ◌≤◌, true, false, List, [], ◌∷◌, length, take, drop, Result, Ok, IfOk, IfErr, OnOk, IsErrOf, refl}
+use Rattle.std.proofs.Common.{arith, inl}
+use Rattle.std.specs.declared.io.ErrorKind.{ErrorKind}
+use Rattle.std.specs.declared.io.ErrorKind.TheVariants as kinds
+use Rattle.tb_journal.specs.declared.faults.Fault.{Fault}
+use Rattle.tb_journal.specs.declared.faults.Fault.TheVariants as faults
+use Rattle.tb_journal.specs.Device.{Disk, Only, AddsNone, Follows, Torn, Cut, Elapses, FailsNone, HasFailed, IsLookedAt, overwritten}
+
+-- the fault of a call that answered so: no space, no quota and a file at its greatest length are a full disk
+unfoldable pub fault_of : ErrorKind → Fault
+fault_of kinds.OutOfMemory = faults.Memory
+fault_of kinds.StorageFull = faults.Full
+fault_of kinds.QuotaExceeded = faults.Full
+fault_of kinds.FileTooLarge = faults.Full
+fault_of _ = faults.Failed
+
+-- the fault of a sync that answered so: behind any but want of memory nothing is known of the file
+unfoldable pub sync_fault_of : ErrorKind → Fault
+sync_fault_of kinds.OutOfMemory = faults.Memory
+sync_fault_of _ = faults.SyncFailed
+
+-- an error is a failure, under the name of its fault; an interruption is none
+pub record Counts {T : Type 0} (fault : ErrorKind → Fault) (result : Result T ErrorKind) (before after : Disk) : Type 0 where
+  pub ok : OnOk result (FailsNone before after)
+  pub interrupted : IsErrOf result kinds.Interrupted → FailsNone before after
+  pub failed : IfErr result (λ kind. kind ≢ kinds.Interrupted → HasFailed before after (fault kind))
+
+-- a read of some bytes from an offset on, maybe fewer than there is room for; none only at the end, or where there is no room
+pub record Preads (offset : ℕ) (into : List ℕ) (result : Result ℕ ErrorKind) (before after : Disk) : Type 0 where
+  pub bytes : IfOk result (λ count. take count into ≡ take count (drop offset before.seen))
+  pub end : result ≡ Ok 0 → (length into ≡ 0) ⊎ (length before.seen ≤ offset)
+  pub looks : IsLookedAt before after
+  pub counts : Counts fault_of result before after
+
+-- a change of which nothing is durable: what a crash might have left it still may
+pub record Changes (step : List ℕ → List ℕ → Type 0) (before after : Disk) : Type 0 where
+  pub crash : Follows step before after
+  pub still : AddsNone after before
+  pub time : Elapses before after
+  pub sound : after.sound ≡ before.sound
+
+-- a write of some bytes at an offset, at least one and maybe not all
+pub record Pwrites (offset : ℕ) (bytes : List ℕ) (result : Result ℕ ErrorKind) (before after : Disk) : Type 0 where
+  pub some : IfOk result (λ count. 1 ≤ length bytes → 1 ≤ count)
+  pub written : IfOk result (λ count. after.seen ≡ overwritten before.seen offset (take count bytes))
+  pub interrupted : IsErrOf result kinds.Interrupted → after.seen ≡ before.seen
+  pub changes : Changes (Torn offset (length bytes)) before after
+  pub counts : Counts fault_of result before after
+
+-- a cut
+pub record Ftruncates (len : ℕ) (result : Result (Unit {0}) ErrorKind) (before after : Disk) : Type 0 where
+  pub cut : OnOk result (after.seen ≡ take len before.seen)
+  pub interrupted : IsErrOf result kinds.Interrupted → after.seen ≡ before.seen
+  pub changes : Changes (Cut len) before after
+  pub counts : Counts fault_of result before after
+
+-- a sync, before the end of which a crash may leave what it might have left, or what a read returns. Behind one that has
+-- failed none keeps anything, whatever it answers
+pub record Fdatasyncs (result : Result (Unit {0}) ErrorKind) (before after : Disk) : Type 0 where
+  pub durable : OnOk result (before.sound ≡ true → Only before.seen after.may_leave)
+  pub sound : OnOk result (after.sound ≡ before.sound)
+  pub interrupted : IsErrOf result kinds.Interrupted → after.sound ≡ before.sound
+  pub unsound : IfErr result (λ kind. kind ≢ kinds.Interrupted → after.sound ≡ false)
+  pub seen : after.seen ≡ before.seen
+  pub crash : (c : List ℕ) → after.may_leave c → before.may_leave c ⊎ (c ≡ before.seen)
+  pub time : Elapses before after
+  pub counts : Counts sync_fault_of result before after
+
+-- the file's length. No signal interrupts it
+pub record Fstats (result : Result ℕ ErrorKind) (before after : Disk) : Type 0 where
+  pub len : IfOk result (λ len. len ≡ length before.seen)
+  pub looks : IsLookedAt before after
+  pub ok : OnOk result (FailsNone before after)
+  pub failed : IfErr result (λ kind. HasFailed before after (fault_of kind))
+
+-- rows
+
+pub no_quota_is_full : fault_of kinds.QuotaExceeded ≡ faults.Full
+unfolding fault_of
+no_quota_is_full = refl
+
+pub no_permission_is_failed : fault_of kinds.PermissionDenied ≡ faults.Failed
+unfolding fault_of
+no_permission_is_failed = refl
+
+-- a disk with these bytes, that no sync has kept yet
+abbrev fresh : List ℕ → Disk
+fresh bytes = record { seen = bytes; may_leave = λ left. Unit {0}; moment = 0; left_since = λ t left. Unit {0}; failures = λ fault. 0; sound = true }
+
+-- a write of two bytes that takes one
+pub a_short_write : Pwrites 1 (8 ∷ 9 ∷ []) (Ok 1) (fresh (7 ∷ 7 ∷ 7 ∷ [])) (fresh (7 ∷ 8 ∷ 7 ∷ []))
+a_short_write = record {
+  some = λ asked. omega arith;
+  written = refl;
+  interrupted = λ is. absurd (cc);
+  changes = record {
+    crash = λ left _. (left, tt, record { before = refl; after = refl; no_shorter = omega arith; no_longer = omega arith });
+    still = λ left _. tt;
+    time = record { later = omega arith; nothing_else = λ t left le since. inl since; keeps = λ t left le since. since };
+    sound = refl;
+  };
+  counts = record { ok = λ fault. refl; interrupted = λ is fault. refl; failed = tt };
+}
+
+-- a read of three bytes that gives two is not the end
+pub a_short_read : Preads 0 (5 ∷ 6 ∷ 0 ∷ []) (Ok 2) (fresh (5 ∷ 6 ∷ 7 ∷ [])) (fresh (5 ∷ 6 ∷ 7 ∷ []))
+a_short_read = record {
+  bytes = refl;
+  end = λ is. absurd (cc);
+  looks = record {
+    seen = refl;
+    crash = λ left _. tt;
+    time = record { later = omega arith; nothing_else = λ t left le since. inl since; keeps = λ t left le since. since };
+    sound = refl;
+  };
+  counts = record { ok = λ fault. refl; interrupted = λ is fault. refl; failed = tt };
+}
+
+pub a_sync_without_space_has_failed : sync_fault_of kinds.StorageFull ≡ faults.SyncFailed
+unfolding sync_fault_of
+a_sync_without_space_has_failed = refl

@@ -1,0 +1,194 @@
+//! A file of a system as a device: whole reads and writes, of calls that take a part, are interrupted or fail.
+ghost use Rattle.std.specs.Prelude.{◌≡◌, ◌+◌, ◌^◌, ◌<◌, ◌≤◌, length, IfOk, IfErr, refl};
+ghost use Rattle.tb_journal.specs.Device.{Cuts, Syncs, IsOfCall, IsOfSync};
+ghost use Rattle.tb_journal.specs.System.{fault_of, sync_fault_of};
+ghost use Rattle.tb_journal.specs.Posix.{ReadsSome, WritesSome};
+
+use crate::devices::Device;
+use crate::faults::Fault;
+use crate::systems::System;
+use std::io::ErrorKind;
+
+/// A file of a system. It keeps what `Device` says wherever the system's calls keep what `System` says.
+#[derive(Drop)]
+pub struct Posix<S> {
+    system: S,
+}
+
+impl<S: System> Posix<S> {
+    /// The device of an open file.
+    pub fn new(system: S) -> Posix<S>
+        ensures { result ≡ record { system = system } }
+    {
+        Posix { system }
+    }
+
+    /// The open file.
+    pub fn system(&self) -> &S
+        ensures { result.now ≡ self.now.system }
+    {
+        &self.system
+    }
+}
+
+impl<S: System> Device for Posix<S> {
+    ghost tells = { S.tells };
+
+    ghost disk = { λ file. S.disk file.system };
+
+    ghost holds = { λ file bytes. S.tells × (bytes ≡ (S.disk file.system).seen) };
+
+    ghost holds_seen = { λ file tells. (tells, refl) };
+
+    ghost stays = { λ file. S.stays file.system };
+
+    ghost counts_now = { λ file. S.counts_now file.system };
+
+    ghost only_now = { λ file. S.only_now file.system };
+
+    fn read_at(&mut self, at: usize, into: &mut [u8]) -> Result<usize, Fault> {
+        let mut count = 0;
+        while count < into.len() {
+            match read_some(&mut self.system, offset_of(at, count), &mut into[count..]) {
+                Ok(0) => return Ok(count),
+                Ok(more) => count += more,
+                Err(fault) => return Err(fault),
+            }
+        }
+        Ok(count)
+    }
+
+    fn len(&mut self) -> Result<usize, Fault> {
+        match self.system.fstat() {
+            Ok(len) => Ok(len as usize),
+            Err(kind) => Err(fault_of(kind)),
+        }
+    }
+
+    fn write_at(&mut self, at: usize, bytes: &[u8]) -> Result<(), Fault> {
+        let mut count = 0;
+        while count < bytes.len() {
+            match write_some(&mut self.system, offset_of(at, count), &bytes[count..]) {
+                Ok(written) => count += written,
+                Err(fault) => return Err(fault),
+            }
+        }
+        Ok(())
+    }
+
+    fn cut(&mut self, len: usize) -> Result<(), Fault> {
+        cut_once(&mut self.system, len)
+    }
+
+    fn sync(&mut self) -> Result<(), Fault> {
+        sync_once(&mut self.system)
+    }
+}
+
+// The offset of the byte that stands so many behind this one.
+fn offset_of(at: usize, count: usize) -> u64
+    ensures { at + count < 2 ^ 64 → result ≡ at + count }
+{
+    (at as u64).saturating_add(count as u64)
+}
+
+// Reads some bytes, again as long as a signal interrupts the call.
+fn read_some<S: System>(system: &mut S, offset: u64, into: &mut [u8]) -> Result<usize, Fault>
+    ensures within { IfOk result (λ count. count ≤ length into.new) }
+    ensures names { IfErr result IsOfCall }
+    ensures reads { S.tells → ReadsSome offset into.new result (S.disk system.old) (S.disk system.new) }
+{
+    for _ in 0..u64::MAX {
+        match system.pread(into, offset) {
+            Ok(count) => return Ok(count),
+            Err(kind) => match kind {
+                ErrorKind::Interrupted => {}
+                _ => return Err(fault_of(kind)),
+            },
+        }
+    }
+    Err(Fault::Failed)
+}
+
+// Writes some of some bytes, at least one, again as long as a signal interrupts the call.
+fn write_some<S: System>(system: &mut S, offset: u64, bytes: &[u8]) -> Result<usize, Fault>
+    requires some { 1 ≤ length bytes.now }
+    requires within { S.tells → offset ≤ length (S.disk system.old).seen }
+    ensures some { IfOk result (λ count. 1 ≤ count) }
+    ensures within { IfOk result (λ count. count ≤ length bytes.now) }
+    ensures names { IfErr result IsOfCall }
+    ensures writes { S.tells
+        → WritesSome offset bytes.now result (S.disk system.old) (S.disk system.new) }
+{
+    for _ in 0..u64::MAX {
+        match system.pwrite(bytes, offset) {
+            Ok(0) => return Err(Fault::Failed),
+            Ok(count) => return Ok(count),
+            Err(kind) => match kind {
+                ErrorKind::Interrupted => {}
+                _ => return Err(fault_of(kind)),
+            },
+        }
+    }
+    Err(Fault::Failed)
+}
+
+// Cuts the file, again as long as a signal interrupts the call.
+fn cut_once<S: System>(system: &mut S, len: usize) -> Result<(), Fault>
+    requires { S.tells → len ≤ length (S.disk system.old).seen }
+    ensures names { IfErr result IsOfCall }
+    ensures cuts { S.tells → Cuts len result (S.disk system.old) (S.disk system.new) }
+{
+    for _ in 0..u64::MAX {
+        match system.ftruncate(len as u64) {
+            Ok(()) => return Ok(()),
+            Err(kind) => match kind {
+                ErrorKind::Interrupted => {}
+                _ => return Err(fault_of(kind)),
+            },
+        }
+    }
+    Err(Fault::Failed)
+}
+
+// Syncs the file, again as long as a signal interrupts the call.
+fn sync_once<S: System>(system: &mut S) -> Result<(), Fault>
+    ensures names { IfErr result IsOfSync }
+    ensures syncs { S.tells → Syncs result (S.disk system.old) (S.disk system.new) }
+{
+    for _ in 0..u64::MAX {
+        match system.fdatasync() {
+            Ok(()) => return Ok(()),
+            Err(kind) => match kind {
+                ErrorKind::Interrupted => {}
+                _ => return Err(sync_fault_of(kind)),
+            },
+        }
+    }
+    Err(Fault::SyncFailed)
+}
+
+// The fault of a call that answered so.
+#[tactic(auto, unfolding(crate::specs::System::fault_of))]
+fn fault_of(kind: ErrorKind) -> Fault
+    ensures is { result ≡ fault_of kind }
+    ensures names { IsOfCall result }
+{
+    match kind {
+        ErrorKind::OutOfMemory => Fault::Memory,
+        ErrorKind::StorageFull | ErrorKind::QuotaExceeded | ErrorKind::FileTooLarge => Fault::Full,
+        _ => Fault::Failed,
+    }
+}
+
+// The fault of a sync that answered so.
+#[tactic(auto, unfolding(crate::specs::System::sync_fault_of))]
+fn sync_fault_of(kind: ErrorKind) -> Fault
+    ensures is { result ≡ sync_fault_of kind }
+    ensures names { IsOfSync result }
+{
+    match kind {
+        ErrorKind::OutOfMemory => Fault::Memory,
+        _ => Fault::SyncFailed,
+    }
+}
