@@ -165,6 +165,153 @@ while len(wrong) < 60:
 check("what stands before a wrong place goes on", [it for it in wrong if place_told(it[0][: it[1]]) not in (None, it[1])], [])
 check("with the byte there nothing goes on", [it for it in wrong if it[1] < len(it[0]) and place_told(it[0][: it[1] + 1]) != it[1]], [])
 
+# names, by tables that are written here and nowhere in the programs: numbers as they stand in frames
+
+OPERATIONS = {2: "register", 129: "create_accounts", 130: "create_transfers", 131: "lookup_accounts", 132: "lookup_transfers"}
+STATUSES = ["reply", "no_session", "session_too_low", "newer_session", "older", "collision", "newer_request", "not_yet"]
+ACCOUNT_FLAGS = {1: "linked", 2: "debits_must_not_exceed_credits", 4: "credits_must_not_exceed_debits", 8: "history", 16: "imported", 32: "closed"}
+TRANSFER_FLAGS = {
+    1: "linked",
+    2: "pending",
+    4: "post_pending_transfer",
+    8: "void_pending_transfer",
+    16: "balancing_debit",
+    32: "balancing_credit",
+    64: "closing_debit",
+    128: "closing_credit",
+    256: "imported",
+}
+ACCOUNT_RESULTS = {
+    1: "linked_event_failed",
+    2: "linked_event_chain_open",
+    3: "timestamp_must_be_zero",
+    4: "reserved_field",
+    5: "reserved_flag",
+    6: "id_must_not_be_zero",
+    7: "id_must_not_be_int_max",
+    8: "flags_are_mutually_exclusive",
+    9: "debits_pending_must_be_zero",
+    10: "debits_posted_must_be_zero",
+    11: "credits_pending_must_be_zero",
+    12: "credits_posted_must_be_zero",
+    13: "ledger_must_not_be_zero",
+    14: "code_must_not_be_zero",
+    15: "exists_with_different_flags",
+    16: "exists_with_different_user_data_128",
+    17: "exists_with_different_user_data_64",
+    18: "exists_with_different_user_data_32",
+    19: "exists_with_different_ledger",
+    20: "exists_with_different_code",
+    21: "exists",
+}
+TRANSFER_RESULTS = {
+    1: "linked_event_failed",
+    2: "linked_event_chain_open",
+    3: "timestamp_must_be_zero",
+    4: "reserved_flag",
+    5: "id_must_not_be_zero",
+    6: "id_must_not_be_int_max",
+    7: "flags_are_mutually_exclusive",
+    8: "debit_account_id_must_not_be_zero",
+    9: "debit_account_id_must_not_be_int_max",
+    10: "credit_account_id_must_not_be_zero",
+    11: "credit_account_id_must_not_be_int_max",
+    12: "accounts_must_be_different",
+    13: "pending_id_must_be_zero",
+    14: "pending_id_must_not_be_zero",
+    15: "pending_id_must_not_be_int_max",
+    16: "pending_id_must_be_different",
+    17: "timeout_reserved_for_pending_transfer",
+    19: "ledger_must_not_be_zero",
+    20: "code_must_not_be_zero",
+    21: "debit_account_not_found",
+    22: "credit_account_not_found",
+    23: "accounts_must_have_the_same_ledger",
+    24: "transfer_must_have_the_same_ledger_as_accounts",
+    25: "pending_transfer_not_found",
+    26: "pending_transfer_not_pending",
+    27: "pending_transfer_has_different_debit_account_id",
+    28: "pending_transfer_has_different_credit_account_id",
+    29: "pending_transfer_has_different_ledger",
+    30: "pending_transfer_has_different_code",
+    31: "exceeds_pending_transfer_amount",
+    32: "pending_transfer_has_different_amount",
+    33: "pending_transfer_already_posted",
+    34: "pending_transfer_already_voided",
+    35: "pending_transfer_expired",
+    36: "exists_with_different_flags",
+    37: "exists_with_different_debit_account_id",
+    38: "exists_with_different_credit_account_id",
+    39: "exists_with_different_amount",
+    40: "exists_with_different_pending_id",
+    41: "exists_with_different_user_data_128",
+    42: "exists_with_different_user_data_64",
+    43: "exists_with_different_user_data_32",
+    44: "exists_with_different_timeout",
+    45: "exists_with_different_code",
+    46: "exists",
+    47: "overflows_debits_pending",
+    48: "overflows_credits_pending",
+    49: "overflows_debits_posted",
+    50: "overflows_credits_posted",
+    51: "overflows_debits",
+    52: "overflows_credits",
+    53: "overflows_timeout",
+    54: "exceeds_credits",
+    55: "exceeds_debits",
+    64: "closing_transfer_must_be_pending",
+    65: "debit_account_already_closed",
+    66: "credit_account_already_closed",
+    67: "exists_with_different_ledger",
+    68: "id_already_failed",
+}
+ACCOUNT_FIELDS = "id debits_pending debits_posted credits_pending credits_posted user_data_128 user_data_64 user_data_32 reserved ledger code flags timestamp".split()
+TRANSFER_FIELDS = "id debit_account_id credit_account_id amount pending_id user_data_128 user_data_64 user_data_32 timeout ledger code flags timestamp".split()
+
+
+def reply_frame(operation, status, body):
+    """The frame of a reply of client 7: to a request in session 5, or to its register."""
+    session, request = (0, 0) if operation == 2 and status else (9, 0) if operation == 2 else (5, 6)
+    return (7).to_bytes(16, "little") + struct.pack("<QIBB2xIQ4x", session, request, operation, status, len(body), 0 if status else 9) + body
+
+
+def shown_reply(operation, status, body=b""):
+    """The object that is told of a reply."""
+    status, lines, line = run(TBT, ["replies"], reply_frame(operation, status, body))
+    return json.loads(lines) if (status, line) == (0, b"") else (status, line)
+
+
+def flags_of(table, bits):
+    """The names of the flags of a number, and what has no name as a number."""
+    rest = bits & ~sum(table)
+    return [table[it] for it in sorted(table) if bits & it] + ([str(rest)] if rest else [])
+
+
+def shown_record(fields, table, numbers):
+    """The object of a record with these numbers."""
+    names = flags_of(table, numbers[11])
+    return {it: names if it == "flags" else n if it in ("user_data_32", "reserved", "timeout", "ledger", "code") else str(n) for it, n in zip(fields, numbers)}
+
+
+told = [(number, status, shown_reply(number, status)) for number in OPERATIONS for status in range(8)]
+wanted = [(OPERATIONS[number], STATUSES[status], []) for number, status, it in told]
+check("each operation and status by its name", [(it["operation"], it["status"], it["results"]) for number, status, it in told], wanted)
+for operation, table in [(129, ACCOUNT_RESULTS), (130, TRANSFER_RESULTS)]:
+    numbers = range(1, 100)
+    body = b"".join(struct.pack("<II", index, number) for index, number in enumerate(numbers))
+    wanted = [{"index": index, "result": table.get(number, str(number))} for index, number in enumerate(numbers)]
+    check(f"each result of {OPERATIONS[operation]} by its name", shown_reply(operation, 0, body)["results"], wanted)
+for operation, fields, table in [(131, ACCOUNT_FIELDS, ACCOUNT_FLAGS), (132, TRANSFER_FIELDS, TRANSFER_FLAGS)]:
+    records = [[201 + k for k in range(11)] + [bits, 213] for bits in [1 << k for k in range(16)] + [0, 65535]]
+    body = b"".join(record(it[:6], it[6:]) for it in records)
+    check(f"each field and flag of {OPERATIONS[operation]}", shown_reply(operation, 0, body)["results"], [shown_record(fields, table, it) for it in records])
+    for bit, name in table.items():
+        text = f"client=7 request=1 {OPERATIONS[operation - 2]} flags={name};".encode()
+        check(f"flag {name} of {OPERATIONS[operation - 2]} is read", run(TBT, ["script"], text)[1][56 + 118 : 56 + 120], struct.pack("<H", bit))
+talk = b"client=7 register; client=8 session=1 request=1 lookup_accounts; client=7 session=2 request=1 lookup_accounts; client=7 session=1 request=2 lookup_accounts;"
+told = [json.loads(it)["status"] for it in run(TBT, ["run", "2"], talk)[1].splitlines()]
+check("refusals by their names", told, ["reply", "no_session", "newer_session", "newer_request"])
+
 # words in, answers out: as through a script, tbs and its replies
 
 
@@ -351,6 +498,16 @@ ended = time.time_ns()
 check("a conversation on a terminal", (without_moments(shown), status), (without_moments(wanted), 2))
 moments = [int(it) for it in MOMENT.findall(shown)]
 check("its moments are the clock's", (len(moments), all(began <= it <= ended for it in moments)), (len(MOMENT.findall(wanted)), True))
+
+# the largest statement
+
+FULL = " ".join(f"{it}={2**128 - 1}" for it in ACCOUNT_FIELDS[:6]) + f" user_data_64={2**64 - 1} user_data_32={2**32 - 1} reserved={2**32 - 1} ledger={2**32 - 1} code=65535 flags=65535 timestamp={2**64 - 1}"
+largest = ("client=7 request=1 create_accounts " + ", ".join([FULL] * 8190) + ";").encode()
+status, script, line = run(TBT, ["script"], largest)
+check("8190 full accounts are a statement", (status, line, script[56:] == b"\xff" * 128 * 8190), (0, b"", True))
+check("one more is too many", run(TBT, ["script"], largest[:-1] + b", id=1;")[:2], (2, b""))
+check("/dev/full", subprocess.run([TBT, "--version"], stdout=open("/dev/full", "wb"), stderr=subprocess.PIPE).stderr, b"tbt: Device\n")
+check("its status", subprocess.run([TBT, "--version"], stdout=open("/dev/full", "wb"), stderr=subprocess.DEVNULL).returncode, 1)
 
 # dumps: their pairs, their audit, and what is wrong
 

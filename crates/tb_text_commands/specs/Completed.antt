@@ -5,7 +5,7 @@ use Rattle.std.specs.Prelude.{ℕ, true, ◌≡◌, ◌&&◌, ◌==◌, ◌+◌,
 use Rattle.std.specs.Option.{is_some, option_and_then, option_or}
 use Rattle.std.specs.Fmt.{decimal}
 use Rattle.tb_records.specs.declared.operations.Operation.TheVariants.{Register}
-use Rattle.tb_records.specs.Messages.{Answer}
+use Rattle.tb_records.specs.Messages.{Answer, Message}
 use Rattle.tb_sessions.specs.Judged.{row_of}
 use Rattle.tb_sessions.specs.declared.rows.Row.{Row}
 use Rattle.tb_text_commands.specs.Heads.{begins_operation, first_word, head_of, is_register, operation_named}
@@ -24,6 +24,10 @@ standing_behind session request = if nat_lt (request + 1) (2 ^ 32) then Open ses
 abbrev pub standing_by : ℕ → Option Answer → Standing
 standing_by commit None = Closed (commit + 1)
 standing_by commit (Some reply) = standing_behind reply.session reply.request
+
+-- behind a statement with this request, where nothing but statements tells of clients: a session of 0 is not known
+abbrev pub standing_told : Message → Standing
+standing_told r = if r.session == 0 then Unknown else standing_behind r.session r.request
 
 -- in a machine with these rows of clients, behind so many entries
 abbrev pub standing_in : List Row → ℕ → ℕ → Standing

@@ -1,7 +1,10 @@
+pub mod Answered
+pub mod Audits
 pub mod Completed
 pub mod Ends
 pub mod Heads
 pub mod Forms
+pub mod Names
 pub mod Statuses
 pub mod Taken
 pub mod Whole

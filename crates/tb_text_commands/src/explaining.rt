@@ -177,7 +177,7 @@ fn follow(
     }
 }
 
-/// What is told of the entries of a dump, which stand behind its head.
+/// What is told of the entries of a dump, which stand behind its head. They are counted without a mark.
 fn explain_entries(
     alloc: Global,
     machine: &mut Machine<Global>,
@@ -186,12 +186,11 @@ fn explain_entries(
 ) -> Result<String, AllocError> {
     let total = bytes.len();
     let mut rest = entries;
-    for number in 1..u64::MAX {
-        let at = total.saturating_sub(rest.len());
+    for _ in 0..u64::MAX {
         let place = Place {
             unit: "entry",
-            number,
-            at,
+            number: machine.commit().saturating_add(1),
+            at: total.saturating_sub(rest.len()),
         };
         let mut reader = Counting::new(rest);
         match read_item_from(alloc, &mut reader) {

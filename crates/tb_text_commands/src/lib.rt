@@ -19,9 +19,11 @@
 //! - `scripts`: `script`, `requests`, `replies`, the forms between statements, scripts and replies.
 //! - `dumps`: `dump`, `pairs`, the forms that read a dump.
 //! - `running`: `run`, statements served and answered as they come.
+//! - `waits`: pending transfers whose timeouts run.
 //! - `auditing`: `audit`, a dump joined with what its replay gives.
 //! - `explaining`: `explain`, where and why `tbs` stops in a script or a dump.
 //! - `commands`: `command`, each form over any reader and writer.
+//! - `host`: `serve`, a form between buffers, and the fault of words that cannot be had.
 //! - `completing_laws`: what holds of every statement that is completed, and rows of it.
 //! - `whole_laws`: rows of what is whole.
 //!
@@ -39,6 +41,7 @@ mod explaining;
 mod faults;
 mod heads;
 mod help;
+mod host;
 mod intake;
 mod lines;
 mod lists;
@@ -48,8 +51,10 @@ mod running;
 mod script_standings;
 mod scripts;
 mod statements;
+mod waits;
 pub mod whole_laws;
 
 pub use arguments::{Form, read_form};
 pub use commands::command;
 pub use faults::Fault;
+pub use host::{fault_of, refuse, serve};

@@ -1,4 +1,9 @@
 //! Replies and entries as lines of JSON.
+ghost use Rattle.std.specs.Prelude.{◌≡◌, codes, false};
+ghost use Rattle.tb_records.specs.Messages.{is_operation};
+ghost use Rattle.tb_records.specs.Operations.{operation_code, operation_name};
+ghost use Rattle.tb_text_commands.specs.Names.{status_word};
+
 use crate::lists::{EventResults, Ids, Judged, List, Records};
 use crate::objects::{Object, Plain, Record, Shown};
 use crate::results::results_of;
@@ -18,7 +23,9 @@ fn line<T: Serialize>(alloc: Global, object: &T) -> Result<Vec<u8>, AllocError> 
 }
 
 /// The name of a status.
-fn status_name(status: Status) -> &'static str {
+fn status_name(status: Status) -> &'static str
+    ensures { result.now ≡ status_word status }
+{
     match status {
         Status::Reply => "reply",
         Status::NoSession => "no_session",
@@ -32,7 +39,11 @@ fn status_name(status: Status) -> &'static str {
 }
 
 /// The name of an operation's number.
-fn operation_name(operation: u8) -> &'static str {
+fn operation_name(operation: u8) -> &'static str
+    ensures named { (known : Operation) → operation_code known ≡ operation
+        → result.now ≡ operation_name known }
+    ensures unknown { is_operation operation ≡ false → result.now ≡ codes "unknown" }
+{
     match Operation::from_code(operation) {
         Some(operation) => operation.name(),
         None => "unknown",
@@ -173,9 +184,9 @@ pub fn judged_line(
 }
 
 /// The line of a pending transfer that expired at a time.
-pub fn expired_line(alloc: Global, time: u64, transfer: &Transfer) -> Result<Vec<u8>, AllocError> {
+pub fn expired_line(alloc: Global, time: u128, transfer: &Transfer) -> Result<Vec<u8>, AllocError> {
     let object = Object {
-        fields: &[("time", Shown::Digits(u128::from(time)))],
+        fields: &[("time", Shown::Digits(time))],
         name: "expired",
         last: &Plain(&transfer.fields()),
     };

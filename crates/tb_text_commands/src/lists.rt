@@ -1,4 +1,7 @@
 //! Lists of records, ids and results, each item an object.
+ghost use Rattle.std.specs.Prelude.{◌≡◌, if◌then◌else◌, unwrap_or};
+ghost use Rattle.tb_text_commands.specs.Audits.{is_accepted};
+
 use crate::objects::{Object, Plain, Record, Shown, result_shown};
 use crate::results::{is_accepted, outcome_of};
 use serde::{Described, Serialize, Serializer};
@@ -74,10 +77,16 @@ pub struct Judged<'a> {
 
 impl Judged<'_> {
     /// An event as it was recorded, or as it was asked for where it was not accepted.
-    fn made<R: Record>(&self, index: usize, event: &R) -> R {
-        match event.kept_by(self.machine) {
-            Some(made) if is_accepted(self.results, index) => made,
-            _ => *event,
+    fn made<R: Record>(&self, index: usize, event: &R) -> R
+        ensures { result
+            ≡ (if is_accepted self.now.results.now index
+            then unwrap_or (R.kept event.now self.now.machine.now) event.now
+            else event.now) }
+    {
+        if is_accepted(self.results, index) {
+            event.kept_by(self.machine).unwrap_or(*event)
+        } else {
+            *event
         }
     }
 }

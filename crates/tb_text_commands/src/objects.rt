@@ -1,5 +1,8 @@
 //! Records, ids and results as JSON objects: the fields by their names, numbers of 64 and 128 bits as strings, flags and
 //! results by name.
+ghost use Rattle.std.specs.Prelude.{◌≡◌, Option};
+ghost use Rattle.tb_machine.specs.Histories.{State};
+
 use serde::{Described, Serialize, Serializer};
 use std::alloc::Global;
 use tb_machine::Machine;
@@ -114,14 +117,22 @@ impl<T: Serialize> Serialize for Object<'_, T> {
 
 /// A record that is shown as an object.
 pub trait Record: Copy {
+    // The record with the same id in a state.
+    ghost kept: { Self → State → Option Self };
+
     /// Its fields.
     fn fields(&self) -> [Field; 13];
 
     /// The record with the same id that a machine has.
-    fn kept_by(&self, machine: &Machine<Global>) -> Option<Self>;
+    fn kept_by(&self, machine: &Machine<Global>) -> Option<Self>
+        ensures { result ≡ kept self.now machine.now };
 }
 
 impl Record for Account {
+    ghost use Rattle.tb_ledger.specs.Books.{account_now};
+
+    ghost kept = { λ account state. account_now state.books account.id };
+
     fn fields(&self) -> [Field; 13] {
         [
             ("id", Shown::Digits(self.id)),
@@ -146,6 +157,10 @@ impl Record for Account {
 }
 
 impl Record for Transfer {
+    ghost use Rattle.tb_ledger.specs.Books.{transfer_at};
+
+    ghost kept = { λ transfer state. transfer_at state.books transfer.id };
+
     fn fields(&self) -> [Field; 13] {
         [
             ("id", Shown::Digits(self.id)),

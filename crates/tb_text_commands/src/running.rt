@@ -2,6 +2,7 @@
 ghost use Rattle.std.specs.Prelude.{◌≡◌, false, IfErr, IfOk, OnOk, Some};
 ghost use Rattle.tb_records.specs.Transport.{Input};
 ghost use Rattle.tb_sessions.specs.Judged.{class_of};
+ghost use Rattle.tb_text_commands.specs.Answered.{Answers, Enters};
 ghost use Rattle.tb_text_commands.specs.Completed.{standing_in};
 ghost use Rattle.tb_text_commands.specs.Ends.{Ended, IsOfInput, Written, is_passing};
 ghost use Rattle.tb_text_commands.specs.Taken.{waiting};
@@ -61,12 +62,39 @@ impl<C: Clock> Server<'_, C> {
     /// Enters a new request that comes at a moment, where there is a time for it.
     fn enter(&mut self, moment: u64, request: Request) -> Result<(), Fault>
         requires { class_of self.old.machine.rows request ≡ Class.New }
-        ensures { IfErr result IsOfInput }
+        ensures fault { IfErr result IsOfInput }
+        ensures entered { Enters result self.old.machine self.new.machine (moment, request) }
+        ensures last { self.new.last ≡ self.old.last }
     {
         let Some(entry) = self.machine.next_entry(request, moment) else {
             return Err(Fault::TimeExhausted);
         };
         self.machine.enter(entry).map_err(|_| Fault::NoMemory)
+    }
+
+    /// Answers a request that comes at a moment: the refusal, or None where it gets the reply that its client's row keeps. A
+    /// new one is entered first.
+    fn answer(&mut self, moment: u64, request: Request) -> Result<Option<Reply>, Fault>
+        ensures fault { IfErr result IsOfInput }
+        ensures answers { Answers (class_of self.old.machine.rows request) result self.old.machine
+            self.new.machine (moment, request) }
+        ensures last { self.new.last ≡ self.old.last }
+    {
+        match self.machine.class(&request) {
+            Class::New => {
+                self.enter(moment, request)?;
+                Ok(None)
+            }
+            Class::Repeat => {
+                drop(request);
+                Ok(None)
+            }
+            class => {
+                let refusal = Reply::refusal(&request, status_of(class));
+                drop(request);
+                Ok(Some(refusal))
+            }
+        }
     }
 
     /// The line of the reply that a client's row keeps.
@@ -77,26 +105,23 @@ impl<C: Clock> Server<'_, C> {
         }
     }
 
-    /// Serves a request that comes at a moment, and answers the line of its reply. A new one is entered first.
+    /// Serves a request that comes at a moment, and answers the line of its reply.
     fn reply_to(&mut self, moment: u64, request: Request) -> Result<Vec<u8>, Fault>
-        ensures { IfErr result IsOfInput }
+        ensures fault { IfErr result IsOfInput }
+        ensures last { self.new.last ≡ self.old.last }
     {
         let client = request.client();
-        match self.machine.class(&request) {
-            Class::New => self.enter(moment, request)?,
-            Class::Repeat => drop(request),
-            class => {
-                let refusal = Reply::refusal(&request, status_of(class));
-                drop(request);
-                return Ok(reply_line(self.alloc, &refusal)?);
-            }
-        }
-        Ok(self.stored_line(client)?)
+        let line = match self.answer(moment, request)? {
+            Some(refusal) => reply_line(self.alloc, &refusal),
+            None => self.stored_line(client),
+        };
+        Ok(line?)
     }
 
-    /// Serves a request that comes at a moment, and writes the line of its reply.
+    /// Serves a request that comes at a moment, and writes the line of its reply. Its client is the one named last.
     fn serve<W: Sink>(&mut self, moment: u64, request: Request, writer: &mut W) -> Result<(), Fault>
-        ensures { Written result (W.output writer.old) (W.output writer.new) }
+        ensures written { Written result (W.output writer.old) (W.output writer.new) }
+        ensures last { self.new.last ≡ request.client }
     {
         self.last = request.client();
         let line = self.reply_to(moment, request)?;

@@ -1,7 +1,8 @@
 //! What statements tell of clients: the one named last, their sessions, and the numbers of their requests.
-ghost use Rattle.std.specs.BTreeMap.{get};
+ghost use Rattle.std.specs.BTreeMap.{Updates, get};
 ghost use Rattle.std.specs.Ordering.{nat_cmp};
-ghost use Rattle.std.specs.Prelude.{IfErr, unwrap_or};
+ghost use Rattle.std.specs.Prelude.{◌≡◌, IfErr, OnOk, Some, unwrap_or};
+ghost use Rattle.tb_text_commands.specs.Completed.{standing_told};
 ghost use Rattle.tb_text_commands.specs.declared.completing.Standing.TheVariants.{Unknown};
 ghost use Rattle.tb_text_commands.specs.Ends.{IsOfInput};
 
@@ -51,7 +52,10 @@ impl ScriptStandings {
 
     /// Notes a request: its client is the one named last, and has its session, but for a register, whose reply tells that.
     fn note_one(&mut self, request: &Request) -> Result<(), Fault>
-        ensures { IfErr result IsOfInput }
+        ensures fault { IfErr result IsOfInput }
+        ensures last { self.new.last ≡ Some request.now.client }
+        ensures noted { OnOk result (Updates nat_cmp self.old.clients self.new.clients request.now.client
+            (Some (standing_told request.now))) }
     {
         let standing = match request.session() {
             0 => Standing::Unknown,

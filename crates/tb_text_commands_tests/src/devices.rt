@@ -1,9 +1,10 @@
 //! Readers and writers that fail, and how often the line of faults is written.
 use crate::comparing::{holds, same};
-use crate::forms::{first_moment, status_where};
+use crate::forms::{first_moment, status_where, words_of};
 use std::io::{self, Error, ErrorKind, Read, Write};
 use std::process::Abort;
 use tb_records::{Counting, Sink, Source};
+use tb_text_commands::{fault_of, refuse, serve};
 
 /// A reader that fails once after its bytes, and is at its end from then on.
 #[derive(Drop)]
@@ -104,4 +105,120 @@ fn failing_writer(rt: HostRuntime) {
             fail_writing(&rt, form, bytes);
         }
     }
+}
+
+/// A writer that takes all bytes, and fails to flush them.
+#[derive(Drop)]
+struct Unflushed {}
+
+impl Write for Unflushed {
+    fn write(&mut self, bytes: &[u8]) -> io::Result<usize> {
+        Ok(bytes.len())
+    }
+
+    fn flush(&mut self) -> io::Result<()> {
+        Err(Error::from(ErrorKind::Other))
+    }
+}
+
+/// Says that words over an empty input and an output that loses what it is given end in status 1, and that Device is all
+/// that is told.
+fn loses<W: Write + Drop>(rt: &(impl Abort + AllocGlobal), words: &[&str], talks: bool, output: W) {
+    let owned = words_of(rt, words);
+    let mut faults = Counting::new(Vec::new(rt.alloc()));
+    let status = serve(
+        rt.alloc(),
+        &first_moment(),
+        owned.as_slice(),
+        talks,
+        b"".as_slice(),
+        output,
+        &mut faults,
+    );
+    drop(owned);
+    let line = faults.into_inner();
+    same(rt, line.as_slice(), b"tbt: Device\n");
+    drop(line);
+    holds(rt, status == 1, &status);
+}
+
+/// Words whose output stays in the buffer.
+const PAGES: [&[&str]; 2] = [&["--version"], &["--help"]];
+
+/// Output that is lost with its buffer is a fault, by pipes and where statements are typed.
+#[test]
+fn lost_output(rt: HostRuntime) {
+    for words in PAGES {
+        for talks in [false, true] {
+            loses(&rt, words, talks, Closed { asked: 0 });
+            loses(&rt, words, talks, Unflushed {});
+        }
+    }
+}
+
+/// What is served between buffers: a word, an input, the status, the output and the line of faults.
+const BUFFERED: [(&str, &[u8], u8, &[u8], &[u8]); 3] = [
+    ("script", b"", 0, b"", b""),
+    ("--version", b"", 0, b"tbt 0.1.0\n", b""),
+    (
+        "dump",
+        b"TBSDUMP1\x01\0\0\0\x02\0\0\0\0",
+        2,
+        b"{\"profile\":1,\"clients_max\":2}\n",
+        b"tbt: Short\n",
+    ),
+];
+
+/// Says that a word over an input between buffers leaves this output and this line.
+fn serves(
+    rt: &(impl Abort + AllocGlobal),
+    word: &str,
+    input: &[u8],
+    status: u8,
+    output: &[u8],
+    line: &[u8],
+) {
+    let words = words_of(rt, &[word]);
+    let mut written = Vec::new(rt.alloc());
+    let mut faults = Counting::new(Vec::new(rt.alloc()));
+    let left = serve(
+        rt.alloc(),
+        &first_moment(),
+        words.as_slice(),
+        false,
+        input,
+        &mut written,
+        &mut faults,
+    );
+    drop(words);
+    same(rt, written.as_slice(), output);
+    drop(written);
+    let told = faults.into_inner();
+    same(rt, told.as_slice(), line);
+    drop(told);
+    holds(rt, left == status, &left);
+}
+
+#[test]
+fn served_between_buffers(rt: HostRuntime) {
+    for (word, input, status, output, line) in BUFFERED {
+        serves(&rt, word, input, status, output, line);
+    }
+}
+
+/// Says that an error of the system, in place of the words, ends in a status with a line that begins so.
+fn refuses(rt: &(impl Abort + AllocGlobal), kind: ErrorKind, status: u8, start: &str) {
+    let mut faults = Counting::new(Vec::new(rt.alloc()));
+    let left = refuse(&fault_of(&Error::from(kind)), &mut faults);
+    let line = faults.into_inner();
+    holds(rt, line.as_slice().starts_with(start.as_bytes()), &start);
+    drop(line);
+    holds(rt, left == status, &left);
+}
+
+/// Where there is no memory for the words, that is told; where one is no text, the page of usage is.
+#[test]
+fn words_that_cannot_be_had(rt: HostRuntime) {
+    refuses(&rt, ErrorKind::OutOfMemory, 1, "tbt: NoMemory\n");
+    refuses(&rt, ErrorKind::InvalidData, 2, "Usage: tbt FORM\n");
 }

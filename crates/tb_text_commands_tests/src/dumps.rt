@@ -1,17 +1,8 @@
 //! Dumps as objects, as scripts, joined with their replay, and explained.
 use crate::comparing::{holds, same};
 use crate::forms::{Row, done_by, expect_left, leaves, left_by, put};
+use crate::histories::{ACCOUNTS, DumpRow, LOOKUP, Made, REGISTER, dump_leaves, dump_of};
 use std::process::Abort;
-
-/// An entry of a history: a commit number, a time and a statement.
-type Made = (u64, u64, &'static str);
-
-const REGISTER: &str = "at=1 client=7 register;\n";
-
-const ACCOUNTS: &str =
-    "at=3 client=7 session=1 request=1 create_accounts id=1 ledger=700 code=10, id=2 ledger=700 code=10;\n";
-
-const LOOKUP: &str = "at=2000000000 client=7 session=1 request=4 lookup_accounts id=2;\n";
 
 /// The entries of a history.
 const HISTORY: [Made; 5] = [
@@ -44,54 +35,6 @@ const AUDITED: &str = r#"{"profile":1,"clients_max":2}
 {"commit":"5","time":"2000000000","account":{"id":"1","debits_pending":"0","debits_posted":"40","credits_pending":"0","credits_posted":"0","user_data_128":"0","user_data_64":"0","user_data_32":0,"reserved":0,"ledger":700,"code":10,"flags":[],"timestamp":"2"}}
 "#;
 
-/// Appends an entry of a history.
-fn put_entry(rt: &(impl Abort + AllocGlobal), out: &mut Vec<u8>, entry: &Made) {
-    let (commit, time, statement) = entry;
-    let pair = done_by(rt, &["script"], statement.as_bytes());
-    put(rt, out, &commit.to_le_bytes());
-    put(rt, out, &time.to_le_bytes());
-    put(rt, out, pair.get(8..).unwrap_or(&[]));
-    drop(pair);
-}
-
-/// The dump of entries by profile 1 for two clients, with a mark behind so many of them.
-fn dump_of(rt: &(impl Abort + AllocGlobal), entries: &[Made], mark: Option<usize>) -> Vec<u8> {
-    let mut bytes = Vec::new(rt.alloc());
-    put(rt, &mut bytes, b"TBSDUMP1\x01\0\0\0\x02\0\0\0");
-    for (k, entry) in entries.iter().enumerate() {
-        if mark == Some(k) {
-            let line = b"\0\0\0\0\0\0\0\0\x02\0\0\0\0\0\0\0";
-            put(rt, &mut bytes, line);
-        }
-        put_entry(rt, &mut bytes, entry);
-    }
-    bytes
-}
-
-/// Words over the dump of entries, with a mark behind so many of them, and what they leave.
-struct DumpRow {
-    words: &'static [&'static str],
-    entries: &'static [Made],
-    mark: Option<usize>,
-    status: u8,
-    output: &'static str,
-    line: &'static str,
-}
-
-/// Says that a row is kept.
-fn dump_leaves(rt: &(impl Abort + AllocGlobal), row: &DumpRow) {
-    let dump = dump_of(rt, row.entries, row.mark);
-    let wanted = Row {
-        words: row.words,
-        input: dump.as_slice(),
-        status: row.status,
-        output: row.output,
-        line: row.line,
-    };
-    leaves(rt, &wanted);
-    drop(dump);
-}
-
 /// The statements of a history, one behind another.
 fn text_of(rt: &(impl Abort + AllocGlobal), entries: &[Made]) -> Vec<u8> {
     let mut text = Vec::new(rt.alloc());
@@ -104,7 +47,7 @@ fn text_of(rt: &(impl Abort + AllocGlobal), entries: &[Made]) -> Vec<u8> {
 /// A dump's entries are the pairs that make it.
 #[test]
 fn pairs_again(rt: HostRuntime) {
-    let dump = dump_of(&rt, &HISTORY, Some(2));
+    let dump = dump_of(&rt, 1, &HISTORY, Some(2));
     let script = done_by(&rt, &["pairs"], dump.as_slice());
     drop(dump);
     let back = left_by(&rt, &["requests"], script.as_slice());
@@ -127,7 +70,7 @@ fn expect_cut(rt: &(impl Abort + AllocGlobal), form: &str, dump: &[u8], length: 
 /// The same behind any byte.
 #[test]
 fn cut_dumps(rt: HostRuntime) {
-    let dump = dump_of(&rt, &HISTORY[..2], Some(1));
+    let dump = dump_of(&rt, 1, &HISTORY[..2], Some(1));
     holds(&rt, dump.len() == 416, &"the length of a dump");
     for form in ["dump", "pairs", "audit"] {
         for length in 0..416 {
@@ -147,6 +90,7 @@ const AUDITED_REGISTER: &str = r#"{"profile":1,"clients_max":2}
 const DUMPS: [DumpRow; 6] = [
     DumpRow {
         words: &["audit", "--account", "1"],
+        profile: 1,
         entries: &HISTORY,
         mark: None,
         status: 0,
@@ -155,6 +99,7 @@ const DUMPS: [DumpRow; 6] = [
     },
     DumpRow {
         words: &["explain"],
+        profile: 1,
         entries: &HISTORY,
         mark: Some(3),
         status: 0,
@@ -163,6 +108,7 @@ const DUMPS: [DumpRow; 6] = [
     },
     DumpRow {
         words: &["explain"],
+        profile: 1,
         entries: &[(1, 1, REGISTER), (3, 2, REGISTER)],
         mark: None,
         status: 0,
@@ -171,6 +117,7 @@ const DUMPS: [DumpRow; 6] = [
     },
     DumpRow {
         words: &["audit"],
+        profile: 1,
         entries: &[(1, 1, REGISTER), (3, 2, REGISTER)],
         mark: None,
         status: 2,
@@ -179,6 +126,7 @@ const DUMPS: [DumpRow; 6] = [
     },
     DumpRow {
         words: &["explain"],
+        profile: 1,
         entries: &[(1, 1, REGISTER), (2, 2, ACCOUNTS)],
         mark: None,
         status: 0,
@@ -187,6 +135,7 @@ const DUMPS: [DumpRow; 6] = [
     },
     DumpRow {
         words: &["explain"],
+        profile: 1,
         entries: &[(1, 1, REGISTER), (2, 9, LOOKUP)],
         mark: None,
         status: 0,

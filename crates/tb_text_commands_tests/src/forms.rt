@@ -15,7 +15,7 @@ pub struct Left {
 }
 
 /// The words of a command line.
-fn words_of(rt: &(impl Abort + AllocGlobal), words: &[&str]) -> Vec<String> {
+pub fn words_of(rt: &(impl Abort + AllocGlobal), words: &[&str]) -> Vec<String> {
     let mut owned = Vec::new(rt.alloc());
     for word in words {
         let copy = word.to_string(rt.alloc()).expect(rt, "memory");

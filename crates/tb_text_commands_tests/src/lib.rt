@@ -5,11 +5,17 @@
 //! - `comparing`: what is compared, in one place.
 //! - `forms`: a form over bytes in memory.
 //! - `served`: statements, their scripts and replies.
-//! - `objects`: records, replies and results as JSON.
+//! - `large`: the largest statement.
+//! - `objects`: records, replies, statuses and results as JSON.
+//! - `histories`: histories as dumps.
 //! - `dumps`: dumps as objects, as scripts, audited and explained.
+//! - `audits`: by which profile entries are judged, expiries, and events that were refused.
+//! - `explained`: what is said of scripts and dumps, beside what the server makes of them.
 //! - `devices`: readers and writers that fail.
 #![tactic(auto)]
 
+#[cfg(test)]
+mod audits;
 #[cfg(test)]
 mod comparing;
 #[cfg(test)]
@@ -17,7 +23,13 @@ mod devices;
 #[cfg(test)]
 mod dumps;
 #[cfg(test)]
+mod explained;
+#[cfg(test)]
 mod forms;
+#[cfg(test)]
+mod histories;
+#[cfg(test)]
+mod large;
 #[cfg(test)]
 mod objects;
 #[cfg(test)]

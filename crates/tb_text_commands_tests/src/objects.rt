@@ -2,13 +2,19 @@
 use crate::forms::{Row, leaves, put};
 use std::process::Abort;
 
-/// The frame of a reply of client 7 in session 5.
-fn reply_frame(rt: &(impl Abort + AllocGlobal), operation: u8, commit: u8, body: &[u8]) -> Vec<u8> {
+/// The frame of a reply of client 7 in session 5, with a status.
+fn reply_frame(
+    rt: &(impl Abort + AllocGlobal),
+    operation: u8,
+    status: u8,
+    commit: u8,
+    body: &[u8],
+) -> Vec<u8> {
     let length = u32::try_from(body.len()).unwrap_or(0);
     let mut frame = Vec::new(rt.alloc());
     let client = [7, 0, 0, 0, 0, 0, 0, 0, 0, 0, 0, 0, 0, 0, 0, 0];
     put(rt, &mut frame, &client);
-    let numbers = [5, 0, 0, 0, 0, 0, 0, 0, 6, 0, 0, 0, operation, 0, 0, 0];
+    let numbers = [5, 0, 0, 0, 0, 0, 0, 0, 6, 0, 0, 0, operation, status, 0, 0];
     put(rt, &mut frame, &numbers);
     put(rt, &mut frame, &length.to_le_bytes());
     put(rt, &mut frame, &[commit, 0, 0, 0, 0, 0, 0, 0, 0, 0, 0, 0]);
@@ -35,17 +41,22 @@ fn record(rt: &(impl Abort + AllocGlobal), first: u8, flags: u16) -> Vec<u8> {
     bytes
 }
 
-/// Says that the reply of a body is told by this line.
-fn tells(rt: &(impl Abort + AllocGlobal), operation: u8, body: &[u8], line: &str) {
-    let frame = reply_frame(rt, operation, 9, body);
+/// Says that a reply is told by this line.
+fn tells_frame(rt: &(impl Abort + AllocGlobal), frame: &[u8], line: &str) {
     let row = Row {
         words: &["replies"],
-        input: frame.as_slice(),
+        input: frame,
         status: 0,
         output: line,
         line: "",
     };
     leaves(rt, &row);
+}
+
+/// Says that the reply of a body is told by this line.
+fn tells(rt: &(impl Abort + AllocGlobal), operation: u8, body: &[u8], line: &str) {
+    let frame = reply_frame(rt, operation, 0, 9, body);
+    tells_frame(rt, frame.as_slice(), line);
     drop(frame);
 }
 
@@ -100,5 +111,61 @@ const NAMED: [(u8, &str); 2] = [
 fn result_names(rt: HostRuntime) {
     for (operation, line) in NAMED {
         tells(&rt, operation, &CODES, line);
+    }
+}
+
+/// Numbers of statuses other than that of a reply, operations, and the line of a refusal.
+const REFUSALS: [(u8, u8, &str); 7] = [
+    (
+        1,
+        129,
+        r#"{"client":"7","session":"5","request":6,"operation":"create_accounts","status":"no_session","commit":"0","results":[]}
+"#,
+    ),
+    (
+        2,
+        130,
+        r#"{"client":"7","session":"5","request":6,"operation":"create_transfers","status":"session_too_low","commit":"0","results":[]}
+"#,
+    ),
+    (
+        3,
+        131,
+        r#"{"client":"7","session":"5","request":6,"operation":"lookup_accounts","status":"newer_session","commit":"0","results":[]}
+"#,
+    ),
+    (
+        4,
+        132,
+        r#"{"client":"7","session":"5","request":6,"operation":"lookup_transfers","status":"older","commit":"0","results":[]}
+"#,
+    ),
+    (
+        5,
+        129,
+        r#"{"client":"7","session":"5","request":6,"operation":"create_accounts","status":"collision","commit":"0","results":[]}
+"#,
+    ),
+    (
+        6,
+        130,
+        r#"{"client":"7","session":"5","request":6,"operation":"create_transfers","status":"newer_request","commit":"0","results":[]}
+"#,
+    ),
+    (
+        7,
+        131,
+        r#"{"client":"7","session":"5","request":6,"operation":"lookup_accounts","status":"not_yet","commit":"0","results":[]}
+"#,
+    ),
+];
+
+/// Each status is told by its name.
+#[test]
+fn status_names(rt: HostRuntime) {
+    for (status, operation, line) in REFUSALS {
+        let frame = reply_frame(&rt, operation, status, 0, &[]);
+        tells_frame(&rt, frame.as_slice(), line);
+        drop(frame);
     }
 }

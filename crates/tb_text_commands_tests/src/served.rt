@@ -23,6 +23,44 @@ const REPLIED: &str =
 {"client":"7","session":"1","request":2,"operation":"lookup_accounts","status":"reply","commit":"3","results":[{"id":"2","debits_pending":"0","debits_posted":"0","credits_pending":"0","credits_posted":"0","user_data_128":"0","user_data_64":"0","user_data_32":0,"reserved":0,"ledger":700,"code":10,"flags":[],"timestamp":"12"}]}
 "#;
 
+/// A request for each way in which a server refuses one, and the repeat of the last one that was taken.
+const REFUSED: &[u8] = b"client=7 register; at=1 client=8 register;
+at=1 client=8 session=2 request=1 lookup_accounts id=1;
+at=1 client=8 session=2 request=2 lookup_accounts id=1;
+at=1 client=9 session=1 request=1 lookup_accounts id=1;
+at=1 client=8 session=1 request=3 lookup_accounts id=1;
+at=1 client=8 session=3 request=3 lookup_accounts id=1;
+at=1 client=8 session=2 request=1 lookup_accounts id=1;
+at=1 client=8 session=2 request=2 lookup_accounts id=2;
+at=1 client=8 session=2 request=4 lookup_accounts id=1;
+at=1 client=8 session=2 request=2 lookup_accounts id=1;
+";
+
+/// What is replied to them.
+const REFUSALS: &str =
+    r#"{"client":"7","session":"1","request":0,"operation":"register","status":"reply","commit":"1","results":[]}
+{"client":"8","session":"2","request":0,"operation":"register","status":"reply","commit":"2","results":[]}
+{"client":"8","session":"2","request":1,"operation":"lookup_accounts","status":"reply","commit":"3","results":[]}
+{"client":"8","session":"2","request":2,"operation":"lookup_accounts","status":"reply","commit":"4","results":[]}
+{"client":"9","session":"1","request":1,"operation":"lookup_accounts","status":"no_session","commit":"0","results":[]}
+{"client":"8","session":"1","request":3,"operation":"lookup_accounts","status":"session_too_low","commit":"0","results":[]}
+{"client":"8","session":"3","request":3,"operation":"lookup_accounts","status":"newer_session","commit":"0","results":[]}
+{"client":"8","session":"2","request":1,"operation":"lookup_accounts","status":"older","commit":"0","results":[]}
+{"client":"8","session":"2","request":2,"operation":"lookup_accounts","status":"collision","commit":"0","results":[]}
+{"client":"8","session":"2","request":4,"operation":"lookup_accounts","status":"newer_request","commit":"0","results":[]}
+{"client":"8","session":"2","request":2,"operation":"lookup_accounts","status":"reply","commit":"4","results":[]}
+"#;
+
+/// The last moment is served, and a repeat at any; behind it there is no time for a new request.
+const LAST_MOMENTS: &[u8] =
+    b"at=9223372036854775807 client=7 register; at=18446744073709551615 client=7 register; at=0 client=8 register;";
+
+/// The reply to both registers of client 7.
+const LAST_REPLIES: &str =
+    r#"{"client":"7","session":"1","request":0,"operation":"register","status":"reply","commit":"1","results":[]}
+{"client":"7","session":"1","request":0,"operation":"register","status":"reply","commit":"1","results":[]}
+"#;
+
 /// A statement becomes its moment and its frame, and is printed as it was.
 #[test]
 fn register_both_ways(rt: HostRuntime) {
@@ -44,7 +82,21 @@ const NOT_ZERO: &str =
 
 /// Words in, answers out. A wrong statement is told by its line and column, what was right before it is served, and nothing
 /// behind it. A client is not registered for a statement that is wrong.
-const TALKS: [Row<'static>; 6] = [
+const TALKS: [Row<'static>; 8] = [
+    Row {
+        words: &["run", "2"],
+        input: REFUSED,
+        status: 0,
+        output: REFUSALS,
+        line: "",
+    },
+    Row {
+        words: &["run", "2"],
+        input: LAST_MOMENTS,
+        status: 2,
+        output: LAST_REPLIES,
+        line: "tbt: TimeExhausted\n",
+    },
     Row {
         words: &["run", "2"],
         input: TALK,
@@ -139,10 +191,17 @@ client=1 register;
 client=1 session=1 request=5 lookup_accounts;
 ";
 
+/// The client that is meant is the one named last, not the first.
+const LAST_NAMED: (&str, &str) = (
+    "client=7 register; client=8 register; lookup_accounts; client=7 lookup_accounts; lookup_accounts;",
+    "client=7 register; client=8 register; client=8 session=2 request=1 lookup_accounts; client=7 session=1 request=1 lookup_accounts; client=7 session=1 request=2 lookup_accounts;",
+);
+
 /// What is left out is filled in as the machine has it.
 #[test]
 fn left_out(rt: HostRuntime) {
     leave_the_same(&rt, &["run", "2"], (SHORT, WHOLE));
+    leave_the_same(&rt, &["run", "2"], LAST_NAMED);
 }
 
 /// Accounts 1 and 2 of client 7, before which it is registered, and what is kept of them.
@@ -213,7 +272,11 @@ fn left_out_behind_an_eviction(rt: HostRuntime) {
 }
 
 /// Statements for `script`, and the whole ones that they stand for.
-const SCRIPTS: [(&str, &str); 4] = [
+const SCRIPTS: [(&str, &str); 5] = [
+    (
+        "client=7 session=3 request=5 lookup_accounts; client=8 session=4 request=1 lookup_accounts; lookup_accounts;",
+        "client=7 session=3 request=5 lookup_accounts; client=8 session=4 request=1 lookup_accounts; client=8 session=4 request=2 lookup_accounts;",
+    ),
     (
         "client=7 register; session=1 lookup_accounts; lookup_accounts; register;",
         "client=7 register; client=7 session=1 request=1 lookup_accounts; client=7 session=1 request=2 lookup_accounts; client=7 register;",
@@ -283,7 +346,17 @@ fn faults_of_what_is_left_out(rt: HostRuntime) {
 }
 
 /// Arguments that are named, and the line that says what is wrong with them.
-const WRONG_WORDS: [(&[&str], &str); 8] = [
+const WRONG_WORDS: [(&[&str], &str); 12] = [
+    (&["run", "x", "3"], "tbt: run x 3: CLIENTS_MAX is 1 to 64\n"),
+    (&["run", "2", "1", "x"], "tbt: run 2: too many words\n"),
+    (
+        &["audit", "--accounts", "1"],
+        "tbt: audit --accounts: only --account and an id may follow\n",
+    ),
+    (
+        &["audit", "--account", "x"],
+        "tbt: audit --account x: an account's id is 0 to 2^128 - 1, in decimal digits\n",
+    ),
     (
         &["serve"],
         "tbt: serve: unknown; tbt --help shows the forms\n",

@@ -1,0 +1,9 @@
+use Rattle.std.proofs.Common.{◌≡◌, drop}
+use Rattle.avl_tree.specs.Map.{entries}
+use Rattle.tb_text_commands.specs.Audits.{watched_from}
+use Rattle.tb_text_commands.proofs.waits.Waits.watch.Given as goal
+
+abbrev pub invariant-loop-index : goal.invariant-loop-index
+invariant-loop-index l =
+    watched_from l.machine.books l.results l.index (drop l.index l.events) (entries l.self.by_end)
+    ≡ watched_from l.machine.books l.results 0 l.events (entries l.initial.self.by_end)

@@ -1,0 +1,86 @@
+//! The forms between a program's arguments, its input and its output.
+ghost use Rattle.std.specs.Prelude.{◌≡◌, ◌<◌};
+ghost use Rattle.tb_text_commands.specs.Statuses.{TellsOf, fault_status};
+
+use crate::commands::command;
+use crate::faults::Fault;
+use std::alloc::Global;
+use std::io::{self, BufReader, BufWriter, Read, Write};
+use std::time::Clock;
+use tb_commands::put_line;
+use tb_records::{Buffered, Counting, Sink};
+
+/// The bytes of input and of output that are held at a time.
+const BUFFER: usize = 65536;
+
+/// The fault where the words cannot be had: a word is no text, or there is no memory for them.
+pub fn fault_of(error: &io::Error) -> Fault {
+    match error.kind() {
+        io::ErrorKind::OutOfMemory => Fault::NoMemory,
+        _ => Fault::Usage,
+    }
+}
+
+/// Tells a fault, and answers its status.
+pub fn refuse<E: Sink>(fault: &Fault, faults: &mut E) -> u8
+    ensures value { result ≡ fault_status fault.now }
+    ensures known { result < 3 }
+    ensures told { TellsOf fault.now (E.output faults.old) (E.output faults.new) }
+{
+    fault.tell(faults);
+    fault.status()
+}
+
+/// The status of a command whose output is left to its buffer. What is lost there is a fault that comes before any other.
+fn finish<W: Write + Drop, E: Sink>(mut output: W, status: u8, line: &[u8], faults: &mut E) -> u8
+    requires { status < 3 }
+    ensures { result < 3 }
+{
+    if output.flush().is_err() {
+        return refuse(&Fault::Device, faults);
+    }
+    put_line(line, faults);
+    status
+}
+
+/// Does what the words ask for between an input and an output, both buffered, and answers the exit status. Where
+/// statements are typed, each fault is told when it comes; else the line of a fault waits until all output is out.
+pub fn serve<C: Clock, R: Read + Drop, W: Write + Drop, E: Sink>(
+    alloc: Global,
+    clock: &C,
+    words: &[String],
+    talks: bool,
+    input: R,
+    output: W,
+    faults: &mut E,
+) -> u8
+    ensures known { result < 3 }
+{
+    let input = BufReader::with_capacity(alloc, BUFFER, input);
+    let output = BufWriter::with_capacity(alloc, BUFFER, output);
+    let (Ok(input), Ok(output)) = (input, output) else {
+        return refuse(&Fault::NoMemory, faults);
+    };
+    let mut reader = Buffered::new(input);
+    let mut writer = Counting::new(output);
+    if talks {
+        let status = command(alloc, clock, words, true, &mut reader, &mut writer, faults);
+        return finish(writer.into_inner(), status, &[], faults);
+    }
+    let mut line = Counting::new(Vec::new(alloc));
+    let status = command(
+        alloc,
+        clock,
+        words,
+        false,
+        &mut reader,
+        &mut writer,
+        &mut line,
+    );
+    finish(
+        writer.into_inner(),
+        status,
+        line.into_inner().as_slice(),
+        faults,
+    )
+}
