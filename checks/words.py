@@ -1,7 +1,8 @@
 #!/usr/bin/env python3
-"""Checks the language of the pages: README.md, CONTRIBUTING.md, CHANGELOG.md and docs/.
+"""Checks the language of the pages: README.md, CONTRIBUTING.md, CHANGELOG.md, docs/ and the
+crates' pages CALLING.md.
 
-- All pages together have at most 40,000 words, README.md at most 90 lines.
+- All pages but CALLING.md together have at most 40,000 words, README.md at most 90 lines.
 - No sentence has more than 40 words. A code span counts as one word; a list item and a cell of a
   table are looked at alone.
 - None has a word of the list below, for which the field has a common term.
@@ -93,10 +94,11 @@ def uncommon_words(text: str):
 
 def main() -> int:
     total = 0
-    for page in pages():
+    counted = pages()
+    for page in [*counted, *sorted(ROOT.glob("crates/*/CALLING.md"))]:
         text, name = page.read_text(), page.relative_to(ROOT)
         words = len(text.split())
-        total += words
+        total += words if page in counted else 0
         if "--count" in sys.argv:
             print(f"{words:>7} {name}")
         for wrong in [*long_sentences(text), *uncommon_words(text)]:
