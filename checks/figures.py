@@ -95,9 +95,11 @@ def state() -> str:
     runs = of_kind("gate")
     last, whole = runs[0], next(row for row in runs if is_whole(row))
     first = {row["machine"]: row for row in of_kind("start") if "tb_script" in row["subject"]}
+    # The note of a run that was not green ends with what failed.
+    failed = "" if last["failed"] == "0" else f" ({last['note'].split('; ')[-1]})"
     return (
         f"Version {version()} (CHANGELOG.md). The last `rt ci` ({when(last)}) ended in "
-        f"{outcome(last)}; the last whole one that was green\n"
+        f"{outcome(last)}{failed}; the last whole one that was green\n"
         f"({when(whole)}) took {whole['value']} minutes on four cores. The first line took "
         f"{first['fast']['value']} to {first['slow']['value']} minutes in an "
         "earlier, shorter form (docs/work/PROVING.md).\n"
