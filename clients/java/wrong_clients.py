@@ -216,7 +216,8 @@ def compiled(folder, edit):
         with open(path, "w", encoding="utf-8") as it:
             it.write(text.replace(old, new))
     sources = glob.glob(f"{folder}/src/main/**/*.java", recursive=True)
-    tests = [f"{folder}/src/test/java/tbclient/{it}.java" for it in ("ConformanceRunner", "WarmTls")]
+    beside = f"{folder}/src/test/java/tbclient"
+    tests = [f"{beside}/{it}.java" for it in ("ConformanceRunner", "WarmTls")]
     words = ["javac", "-nowarn", "--release", "17", "-d", f"{folder}/classes", *sources, *tests]
     ran = subprocess.run(words, capture_output=True, text=True)
     if ran.returncode:
