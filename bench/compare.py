@@ -18,6 +18,10 @@ import sys
 import tempfile
 
 HERE = os.path.dirname(os.path.abspath(__file__))
+sys.path.insert(0, os.path.join(HERE, "..", "checks"))
+
+import tried  # noqa: E402
+
 TBS = os.environ.get("PROGRAM", os.path.join(HERE, "..", "crates", "tbs", "out", "tbs"))
 PEERS = ["plain", "lean"]
 WORKLOADS = ["rising", "pending", "chains", "expiring", "single", "lookups", "mixed", "random"]
@@ -86,8 +90,12 @@ def compare(name, count, turns, programs, folder):
 
 
 def main():
-    count = int(sys.argv[1]) if len(sys.argv) > 1 else 100000
-    turns = int(sys.argv[2]) if len(sys.argv) > 2 else 3
+    parser = tried.arguments(__doc__)
+    parser.add_argument("size", metavar="SIZE", type=tried.count, nargs="?", default=100000)
+    parser.add_argument("turns", metavar="TURNS", type=tried.count, nargs="?", default=3)
+    given = parser.parse_args()
+    count, turns = given.size, given.turns
+    tried.built(TBS)
     with tempfile.TemporaryDirectory() as folder:
         programs = [[TBS, "run", "64"]] + [compile_peer(name, folder) for name in PEERS]
         head = " ".join(
@@ -98,7 +106,8 @@ def main():
         )
         for name in WORKLOADS:
             compare(name, count, turns, programs, folder)
+    return 0
 
 
 if __name__ == "__main__":
-    main()
+    tried.main(main)

@@ -20,8 +20,9 @@ import sys
 import tempfile
 
 HERE = os.path.dirname(os.path.abspath(__file__))
-sys.path.insert(0, os.path.join(HERE, "..", "clients", "python"))
+sys.path[:0] = [os.path.join(HERE, "..", "clients", "python"), os.path.join(HERE, "..", "checks")]
 
+import tried  # noqa: E402
 from compare import run  # noqa: E402
 from tb_client import reply_length  # noqa: E402
 
@@ -87,8 +88,12 @@ def compare(name, count, turns, folder):
 
 
 def main():
-    count = int(sys.argv[1]) if len(sys.argv) > 1 else 100000
-    turns = int(sys.argv[2]) if len(sys.argv) > 2 else 3
+    parser = tried.arguments(__doc__)
+    parser.add_argument("size", metavar="SIZE", type=tried.count, nargs="?", default=100000)
+    parser.add_argument("turns", metavar="TURNS", type=tried.count, nargs="?", default=3)
+    given = parser.parse_args()
+    count, turns = given.size, given.turns
+    tried.built(TBS, TBD)
     print(
         f"{'workload':10} {'events':>8} {'run s':>8} {'tbd s':>8} {'start s':>8} {'tbd':>6} "
         f"{'start':>6} {'syncs':>6}  replies"
@@ -96,7 +101,8 @@ def main():
     with tempfile.TemporaryDirectory() as folder:
         for name in WORKLOADS:
             compare(name, count, turns, folder)
+    return 0
 
 
 if __name__ == "__main__":
-    main()
+    tried.main(main)

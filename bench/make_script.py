@@ -10,12 +10,21 @@ single    requests of one transfer by 60 clients, each tenth repeated
 lookups   batches of 8190 ids of accounts and of transfers by turns, among 10,000 of each
 mixed     small batches of everything, right and wrong, for comparing replies
 """
+import argparse
 import random
 import struct
 import sys
 
-workload, size, seed = sys.argv[1], int(sys.argv[2]), int(sys.argv[3])
-rng = random.Random(seed)
+WORKLOADS = "rising random pending chains expiring single lookups mixed".split()
+parser = argparse.ArgumentParser(
+    description=__doc__, formatter_class=argparse.RawDescriptionHelpFormatter
+)
+parser.add_argument("workload", metavar="WORKLOAD", choices=WORKLOADS, help=", ".join(WORKLOADS))
+parser.add_argument("size", metavar="SIZE", type=int, help="how many events")
+parser.add_argument("seed", metavar="SEED", type=int, help="of its random numbers")
+given = parser.parse_args()
+workload, size = given.workload, given.size
+rng = random.Random(given.seed)
 out = sys.stdout.buffer
 MAX = (1 << 128) - 1
 

@@ -2,9 +2,8 @@
 """What published copies and ports cost: takes next to the one-thread machine, reads next to a busy
 writer and orders of ports, against plain Rust.
 
-  (cd crates/tb_bench && rt run)                    # builds crates/tb_bench/out/tb_bench
-  python3 bench/threads.py [TURNS [TABLE..]]        # prints the tables; the best of TURNS runs
-  (5)
+  (cd crates/tb_bench && rt run)               # builds crates/tb_bench/out/tb_bench
+  python3 bench/threads.py [TURNS [TABLE..]]   # prints the tables; the best of TURNS runs (5)
 
 A TABLE is takes, reads, ports or memory; with none, all four. Programs that are compared run by
 turns. Memory is what is added to the resident size over 50 batches of 8190 transfers, in bytes a
@@ -17,6 +16,10 @@ import sys
 import tempfile
 
 TOP = pathlib.Path(__file__).resolve().parent.parent
+sys.path.insert(0, str(TOP / "checks"))
+
+import tried  # noqa: E402
+
 BENCH = TOP / "crates" / "tb_bench" / "out" / "tb_bench"
 
 
@@ -136,13 +139,19 @@ TABLES = {"takes": print_takes, "reads": print_reads, "ports": print_ports, "mem
 
 
 def main():
-    turns = int(sys.argv[1]) if len(sys.argv) > 1 else 5
-    if not BENCH.exists():
-        sys.exit(f"build {BENCH} first: (cd crates/tb_bench && rt run)")
+    parser = tried.arguments(__doc__)
+    parser.add_argument("turns", metavar="TURNS", type=tried.count, nargs="?", default=5)
+    parser.add_argument("tables", metavar="TABLE", nargs="*", help=", ".join(TABLES))
+    given = parser.parse_args()
+    for name in given.tables:
+        if name not in TABLES:
+            parser.error(f"there is no table {name}: {', '.join(TABLES)}")
+    tried.built(BENCH, how="build it first: (cd crates/tb_bench && rt run)")
     with tempfile.TemporaryDirectory() as folder:
-        for name in sys.argv[2:] or TABLES:
-            TABLES[name](turns, folder)
+        for name in given.tables or TABLES:
+            TABLES[name](given.turns, folder)
+    return 0
 
 
 if __name__ == "__main__":
-    main()
+    tried.main(main)

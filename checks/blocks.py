@@ -22,7 +22,6 @@ import pathlib
 import re
 import shutil
 import subprocess
-import sys
 import tempfile
 
 import pages
@@ -133,6 +132,7 @@ def blocks():
 
 
 def main() -> int:
+    tried.arguments(__doc__).parse_args()
     for place, kind, block, before in blocks():
         try:
             if check(kind, block, before, place):
@@ -147,4 +147,4 @@ def main() -> int:
 
 
 if __name__ == "__main__":
-    sys.exit(main())
+    tried.main(main)

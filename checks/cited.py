@@ -1,11 +1,14 @@
 #!/usr/bin/env python3
 """Counts the definitions that public contracts reach.
 
-    checks/cited.py [CRATE ..]          a row for each library, and the sum
-    checks/cited.py --bounds            fails where the lines that public contracts reach are more
-    than LINES_MAX checks/cited.py --list [CRATE ..]   also the definitions of specs/ that no public
-    contract reaches checks/cited.py --heads [--write]   tells each file of specs/ whose head does
-    not say who cites it, or writes these heads
+    checks/cited.py [CRATE ..]
+        a row for each library, and the sum
+    checks/cited.py --bounds
+        fails where the lines that public contracts reach are more than LINES_MAX
+    checks/cited.py --list [CRATE ..]
+        also the definitions of specs/ that no public contract reaches
+    checks/cited.py --heads [--write]
+        each file of specs/ whose head does not say who cites it; writes these heads
 
 A public contract is one of a function that the crate exports: of a `pub fn` of an exported name or
 module, of a trait for an exported type, and of what a ghost line of such an impl says, but for its
@@ -22,7 +25,8 @@ gives its numbers.
 """
 import os
 import re
-import sys
+
+import tried
 
 TOP = os.path.dirname(os.path.dirname(os.path.abspath(__file__)))
 IMPORT = re.compile(r"\s*(?:ghost )?use Rattle\.(\w+)\.(specs|proofs)\.([\w.]+)\.\{([^}]*)\}")
@@ -254,21 +258,29 @@ def check_heads(every, writes):
 
 
 def main():
-    words = sys.argv[1:]
+    parser = tried.arguments(__doc__)
+    parser.add_argument("--bounds", action="store_true", help="fail above the bound")
+    parser.add_argument("--list", action="store_true", help="name what no contract reaches")
+    parser.add_argument("--heads", action="store_true", help="compare the heads of specs/")
+    parser.add_argument("--write", action="store_true", help="with --heads: write them")
+    parser.add_argument("crates", metavar="CRATE", nargs="*")
+    given = parser.parse_args()
     every = {}
     for crate in crates():
         every |= definitions(crate)
-    if "--heads" in words:
-        sys.exit(check_heads(every, "--write" in words) > 0)
-    listed = "--list" in words
-    wanted = [it for it in words if it != "--list"] or crates()
+    if given.heads:
+        return int(check_heads(every, given.write) > 0)
+    for crate in given.crates:
+        if crate not in crates():
+            parser.error(f"there is no library {crate}")
+    wanted = given.crates or crates()
     reached = reached_from(
         every, set().union(*(found for crate in crates() for found in contracts(crate).values()))
     )
-    if "--bounds" in words:
+    if given.bounds:
         count = sum(every[it][0] for it in reached)
         print(f"{count} lines that public contracts reach; bound {LINES_MAX}")
-        sys.exit(count > LINES_MAX)
+        return int(count > LINES_MAX)
     total = [0, 0]
     print("| crate | lines that public contracts reach | all lines of definitions |\n|---|---|---|")
     for crate in wanted:
@@ -277,11 +289,12 @@ def main():
         total = [total[0] + row[0], total[1] + row[1]]
         if row[1]:
             print(f"| {crate} | {row[0]} | {row[1]} |")
-        for it in sorted(own) if listed else ():
+        for it in sorted(own) if given.list else ():
             if it not in reached:
                 print(f"    {it[1]}.{it[2]}: {own[it]} lines")
     print(f"| all | {total[0]} | {total[1]} |")
+    return 0
 
 
 if __name__ == "__main__":
-    main()
+    tried.main(main)

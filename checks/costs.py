@@ -10,9 +10,9 @@ holds for a check at one job: run `rt check --jobs 1` in a crate that has nothin
 check --jobs N` for all), and then this script. Parts that were kept from an earlier check keep
 their older times and are not counted.
 """
-import argparse
 import os
-import sys
+
+import tried
 
 ROOT = os.path.dirname(os.path.dirname(os.path.abspath(__file__)))
 # What a function's proof is made of; `Lts` says what the function does, drops included.
@@ -101,9 +101,7 @@ def show(crate, most):
 
 
 def main():
-    words = argparse.ArgumentParser(
-        description=__doc__, formatter_class=argparse.RawDescriptionHelpFormatter
-    )
+    words = tried.arguments(__doc__)
     words.add_argument(
         "--most", type=int, default=10, help="how many items of each crate are listed (10)"
     )
@@ -119,4 +117,4 @@ def main():
 
 
 if __name__ == "__main__":
-    sys.exit(main())
+    tried.main(main)

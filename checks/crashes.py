@@ -11,7 +11,6 @@ with all that was acknowledged until then, and each tenth is opened by the progr
 drops syncs and a program that answers first have to be caught. A small file system is filled where
 this user may mount one. Ends in 'N passed, M failed'.
 """
-import argparse
 import functools
 import os
 import random
@@ -447,14 +446,13 @@ def full(tbd, folder, rng):
 
 
 def main():
-    parser = argparse.ArgumentParser(
-        description=__doc__, formatter_class=argparse.RawDescriptionHelpFormatter
-    )
+    parser = tried.arguments(__doc__)
     parser.add_argument("--tbd", default=os.path.join(ROOT, "crates", "tbd", "out", "tbd"))
     parser.add_argument("--rounds", type=int, default=120)
     parser.add_argument("--images", type=int, default=20, help="files that are made at each write")
     parser.add_argument("--seed", type=int, default=1)
     given = parser.parse_args()
+    tried.built(given.tbd)
     rng = random.Random(given.seed)
     with tempfile.TemporaryDirectory() as folder:
         shim = os.path.join(folder, "shim.so")
@@ -469,4 +467,4 @@ def main():
 
 
 if __name__ == "__main__":
-    sys.exit(main())
+    tried.main(main)

@@ -630,11 +630,14 @@ def through_readers(chance, frames):
 
 
 def main():
+    parser = tried.arguments(__doc__)
+    parser.add_argument("frames", metavar="FRAMES", type=tried.count, nargs="?", default=20000)
+    parser.add_argument("seed", metavar="SEED", type=tried.count, nargs="?", default=1)
+    given = parser.parse_args()
     tried.built(PROGRAM, READER)
-    frames = int(sys.argv[1]) if len(sys.argv) > 1 else 20000
-    seed = int(sys.argv[2]) if len(sys.argv) > 2 else 1
-    print(f"seed {seed}")
-    chance, start = random.Random(seed), time.monotonic()
+    frames = given.frames
+    print(f"seed {given.seed}")
+    chance, start = random.Random(given.seed), time.monotonic()
     failed = through_readers(chance, frames) + through_program(chance, frames)
     print(
         f"{time.monotonic() - start:.0f} seconds; "
@@ -644,4 +647,4 @@ def main():
 
 
 if __name__ == "__main__":
-    sys.exit(main())
+    tried.main(main)

@@ -13,7 +13,6 @@ definition changes. Ends in 'N passed, M failed': passed are the edits that the 
 With --texts it proves nothing: it tells each edit whose old text is not in its file exactly
 once, so that `rt must-fail` could not apply it. That takes a second, so run it on each change.
 """
-import argparse
 import os
 import re
 import shutil
@@ -21,6 +20,8 @@ import subprocess
 import sys
 import tempfile
 from concurrent.futures import ThreadPoolExecutor, as_completed
+
+import tried
 
 ROOT = os.path.dirname(os.path.dirname(os.path.abspath(__file__)))
 FOLDERS = ("must-fail", "must-fail-release")
@@ -151,9 +152,7 @@ def judge(crate, edits, lines):
 
 
 def main():
-    words = argparse.ArgumentParser(
-        description=__doc__, formatter_class=argparse.RawDescriptionHelpFormatter
-    )
+    words = tried.arguments(__doc__)
     words.add_argument(
         "--jobs",
         type=int,
@@ -199,4 +198,4 @@ def main():
 
 
 if __name__ == "__main__":
-    sys.exit(main())
+    tried.main(main)

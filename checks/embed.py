@@ -3,8 +3,9 @@
 program's own replies; and compares the names, layouts and frames of the header, the wrapper in Rust
 and the client with the definitions and with each other. First build the library and the program:
 
-    (cd crates/tb_embed && rt lib) && (cd crates/tbs && rt run -- run 2) < examples/first.script >
-    /dev/null checks/embed.py
+    (cd crates/tb_embed && rt lib)
+    (cd crates/tbs && rt run -- run 2) < examples/first.script > /dev/null
+    checks/embed.py
 
 checks/embed/names.py and checks/embed/frames.py are the parts that need neither. Prints a line for
 each case, and 'N passed, M failed'. Needs cc, c++, rustc and Linux; what is not there is told and
@@ -449,6 +450,7 @@ def calls_a_second(found, folder):
 
 
 def main():
+    tried.arguments(__doc__).parse_args()
     for path, how in (
         (LIBRARY, "`rt lib` in crates/tb_embed"),
         (PROGRAM, "`rt run` in crates/tbs"),
@@ -485,4 +487,4 @@ def main():
 
 
 if __name__ == "__main__":
-    sys.exit(main())
+    tried.main(main)

@@ -1,8 +1,8 @@
 #!/usr/bin/env python3
 """Writes the figures that pages quote from docs/work/runs.csv, and checks that they are up to date.
 
-    checks/figures.py           ends in 'N passed, 0 failed'; a line for each block that is not what
-    runs.csv gives checks/figures.py --write   writes the blocks
+    checks/figures.py           ends in 'N passed, 0 failed'; a line for each block that differs
+    checks/figures.py --write   writes the blocks
 
 A row of runs.csv is one run of the gate, of a crate, of a benchmark or of a check;
 docs/work/PROVING.md has its columns. A block of a page is between `<!-- figures: NAME -->` and
@@ -14,7 +14,6 @@ import csv
 import pathlib
 import re
 import subprocess
-import sys
 
 import tried
 
@@ -313,7 +312,9 @@ def check_rows() -> None:
 
 
 def main() -> int:
-    writes, seen = "--write" in sys.argv[1:], set()
+    parser = tried.arguments(__doc__)
+    parser.add_argument("--write", action="store_true", help="write the blocks")
+    writes, seen = parser.parse_args().write, set()
     check_rows()
     for page in pages():
         text = page.read_text()
@@ -339,4 +340,4 @@ def main() -> int:
 
 
 if __name__ == "__main__":
-    sys.exit(main())
+    tried.main(main)

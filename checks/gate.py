@@ -11,12 +11,12 @@ proof of a library or program and its building, "tests" the second proof of a cr
 script looks at the provers that run and at what they have used, so what a prover uses in its last
 half second is not counted.
 """
-import argparse
 import os
 import re
 import subprocess
-import sys
 import time
+
+import tried
 
 ROOT = os.path.dirname(os.path.dirname(os.path.abspath(__file__)))
 TICK = os.sysconf("SC_CLK_TCK")
@@ -99,7 +99,7 @@ def table(used):
 
 
 def main():
-    parser = argparse.ArgumentParser(description=__doc__.splitlines()[0])
+    parser = tried.arguments(__doc__)
     parser.add_argument(
         "--log", default="/tmp/gate.log", help="where what the gate prints goes (/tmp/gate.log)"
     )
@@ -121,8 +121,8 @@ def main():
         print("".join(log.readlines()[-3:]), end="")
     print(f"{minutes:.0f} minutes on {len(os.sched_getaffinity(0))} cores\n")
     print("\n".join(table(used)))
-    sys.exit(gate.returncode)
+    return gate.returncode
 
 
 if __name__ == "__main__":
-    main()
+    tried.main(main)

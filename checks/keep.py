@@ -8,7 +8,6 @@ Clients retry as docs/use/CLIENTS.md says: each sends one request at a time, and
 program fail or lie by checks/keep/shim.c, which wants gcc. With --builds two wrong bodies are built too, unproved, by `rt try` in a copy, and run
 under strace: one that replies before it commits and one that does not sync have to be caught. Ends in 'N passed, M failed'.
 """
-import argparse
 import os
 import random
 import re
@@ -445,13 +444,14 @@ def flips(tbd, folder, data, gates, entries, count, rng):
 
 
 def main():
-    parser = argparse.ArgumentParser(description=__doc__, formatter_class=argparse.RawDescriptionHelpFormatter)
+    parser = tried.arguments(__doc__)
     parser.add_argument("--tbd", default=os.path.join(ROOT, "crates", "tbd", "out", "tbd"))
     parser.add_argument("--kills", type=int, default=1000)
     parser.add_argument("--flips", type=int, default=10000)
     parser.add_argument("--seed", type=int, default=1)
     parser.add_argument("--builds", action="store_true", help="builds that are wrong, too")
     asked = parser.parse_args()
+    tried.built(asked.tbd)
     rng = random.Random(asked.seed)
     with tempfile.TemporaryDirectory() as folder:
         shim = os.path.join(folder, "shim.so")
@@ -465,8 +465,8 @@ def main():
         faults(asked.tbd, folder, shim)
         reads(asked.tbd, folder, shim, data)
         kills(asked.tbd, folder, asked.kills, rng)
-    sys.exit(tried.status())
+    return tried.status()
 
 
 if __name__ == "__main__":
-    main()
+    tried.main(main)

@@ -20,7 +20,6 @@ Usage: checks/pages.py. Ends in 'N passed, 0 failed'. checks/blocks.py looks at 
 import functools
 import pathlib
 import re
-import sys
 
 import tried
 
@@ -231,6 +230,7 @@ def glossed():
 
 
 def main() -> int:
+    tried.arguments(__doc__).parse_args()
     for check in (examples, heads, first_statements, walks, named_files, paths, believed, glossed):
         for place, wrong in check():
             tried.case(place, wrong is None, wrong, quietly=True)
@@ -238,4 +238,4 @@ def main() -> int:
 
 
 if __name__ == "__main__":
-    sys.exit(main())
+    tried.main(main)

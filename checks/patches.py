@@ -8,13 +8,13 @@ repository and runs the crate's tests there by `rt try --test`, with checks in p
 passes where that test does not, and every other test does. First it runs the tests of each crate
 without a patch: all of them must pass. Ends in 'N passed, M failed'.
 """
-import argparse
 import os
 import re
 import shutil
 import subprocess
-import sys
 import tempfile
+
+import tried
 
 ROOT = os.path.dirname(os.path.dirname(os.path.abspath(__file__)))
 FOLDER = f"{ROOT}/checks/patches"
@@ -79,9 +79,7 @@ def judge(name, whole):
 
 
 def main():
-    words = argparse.ArgumentParser(
-        description=__doc__, formatter_class=argparse.RawDescriptionHelpFormatter
-    )
+    words = tried.arguments(__doc__)
     words.add_argument("names", nargs="*", metavar="NAME")
     given = words.parse_args()
     known = sorted(it[: -len(".patch")] for it in os.listdir(FOLDER) if it.endswith(".patch"))
@@ -99,4 +97,4 @@ def main():
 
 
 if __name__ == "__main__":
-    sys.exit(main())
+    tried.main(main)

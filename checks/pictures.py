@@ -11,7 +11,6 @@ here fail too.
 """
 import pathlib
 import re
-import sys
 from html import escape
 
 import figures
@@ -406,7 +405,9 @@ PICTURES = {it.__name__: it for it in (crates, request, copies, crash, speed, ke
 
 
 def main() -> int:
-    writes = "--write" in sys.argv[1:]
+    parser = tried.arguments(__doc__)
+    parser.add_argument("--write", action="store_true", help="write the pictures")
+    writes = parser.parse_args().write
     shown = set(
         re.findall(r"pictures/(\w+)\.svg", "".join(it.read_text() for it in figures.pages()))
     )
@@ -430,4 +431,4 @@ def main() -> int:
 
 
 if __name__ == "__main__":
-    sys.exit(main())
+    tried.main(main)

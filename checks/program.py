@@ -15,7 +15,6 @@ import select
 import signal
 import struct
 import subprocess
-import sys
 import tempfile
 import time
 
@@ -645,6 +644,7 @@ def memory():
 
 
 def main():
+    tried.arguments(__doc__).parse_args()
     tried.built(PROGRAM)
     inputs()
     conversations()
@@ -662,4 +662,4 @@ def main():
 
 
 if __name__ == "__main__":
-    sys.exit(main())
+    tried.main(main)

@@ -50,10 +50,12 @@ def run(words: list[str]) -> tuple[int, float, str]:
 
 
 def main() -> int:
-    chosen = sys.argv[1:] or [*CHECKS, "flake8"]
-    unknown = [it for it in chosen if it not in CHECKS and it != "flake8"]
-    if unknown:
-        sys.exit(f"no such check: {' '.join(unknown)}; there are {' '.join(CHECKS)} flake8")
+    parser = tried.arguments(__doc__)
+    parser.add_argument("scripts", metavar="SCRIPT", nargs="*", help=", ".join([*CHECKS, "flake8"]))
+    chosen = parser.parse_args().scripts or [*CHECKS, "flake8"]
+    for it in chosen:
+        if it not in CHECKS and it != "flake8":
+            parser.error(f"there is no check {it}: {' '.join(CHECKS)} flake8")
     commands = {it: [sys.executable, "-B", *words] for it, words in CHECKS.items() if it in chosen}
     if "flake8" in chosen and shutil.which("flake8"):
         commands["flake8"] = ["flake8"]
@@ -69,4 +71,4 @@ def main() -> int:
 
 
 if __name__ == "__main__":
-    sys.exit(main())
+    tried.main(main)

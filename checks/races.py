@@ -18,6 +18,8 @@ import subprocess
 import sys
 import tempfile
 
+import tried
+
 TOP = os.path.dirname(os.path.dirname(os.path.abspath(__file__)))
 RUNS = {
     "tbs": [["storm", "2", "3"], ["storm", "16", "1000"]],
@@ -170,7 +172,13 @@ def run(program, words):
 
 
 def main():
-    times = int(sys.argv[1]) if len(sys.argv) > 1 else 3
+    parser = tried.arguments(__doc__)
+    parser.add_argument("times", metavar="TIMES", type=tried.count, nargs="?", default=3)
+    times = parser.parse_args().times
+    tried.built(*(f"{TOP}/crates/{crate}/out/{crate}" for crate in RUNS))
+    for command in ("rt", "cc"):
+        if not shutil.which(command):
+            sys.exit(f"{command} is not installed")
     kit = os.path.dirname(os.path.dirname(os.path.realpath(shutil.which("rt"))))
     passed = failed = 0
     for crate, runs in RUNS.items():
@@ -200,4 +208,4 @@ def main():
 
 
 if __name__ == "__main__":
-    sys.exit(main())
+    tried.main(main)

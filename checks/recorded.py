@@ -13,7 +13,6 @@ have to be among them, and lookups.
 import os
 import re
 import subprocess
-import sys
 import time
 
 import tried
@@ -32,9 +31,12 @@ def counts_of(told):
 
 
 def main():
+    parser = tried.arguments(__doc__)
+    parser.add_argument("answers", metavar="ANSWERS", type=tried.count, nargs="?", default=50000)
+    parser.add_argument("seed", metavar="SEED", type=tried.count, nargs="?", default=1)
+    given = parser.parse_args()
     tried.built(PROGRAM)
-    answers = int(sys.argv[1]) if len(sys.argv) > 1 else 50000
-    seed = int(sys.argv[2]) if len(sys.argv) > 2 else 1
+    answers, seed = given.answers, given.seed
     checked = failed = 0
     met = {}
     while checked < answers:
@@ -71,4 +73,4 @@ def main():
 
 
 if __name__ == "__main__":
-    sys.exit(main())
+    tried.main(main)

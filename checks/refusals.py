@@ -16,7 +16,6 @@ import collections
 import os
 import struct
 import subprocess
-import sys
 import tempfile
 
 import tried
@@ -618,6 +617,7 @@ def devices(refuser):
 
 
 def main():
+    tried.arguments(__doc__).parse_args()
     tried.built(PROGRAM, AGAIN)
     with tempfile.TemporaryDirectory() as folder:
         refuser = Refuser(folder)
@@ -628,4 +628,4 @@ def main():
 
 
 if __name__ == "__main__":
-    sys.exit(main())
+    tried.main(main)

@@ -20,7 +20,8 @@ today.
 import collections
 import os
 import re
-import sys
+
+import tried
 
 TOP = os.path.dirname(os.path.dirname(os.path.abspath(__file__)))
 SHARED, DIFFERENT = 6, 4
@@ -82,8 +83,14 @@ def runs(files, least):
 
 
 def main():
-    by_shape = "--shape" in sys.argv[1:]
-    crates = [it for it in sys.argv[1:] if it != "--shape"]
+    parser = tried.arguments(__doc__)
+    parser.add_argument("--shape", action="store_true", help="alike but for names and numbers")
+    parser.add_argument("crates", metavar="CRATE", nargs="*")
+    given = parser.parse_args()
+    by_shape, crates = given.shape, given.crates
+    for crate in crates:
+        if not os.path.isdir(f"{TOP}/crates/{crate}"):
+            parser.error(f"there is no crate {crate}")
     files = {path: counted(path, shape_of if by_shape else str) for path in sources()}
 
     def place(path, at, length):
@@ -105,4 +112,4 @@ def main():
 
 
 if __name__ == "__main__":
-    sys.exit(main())
+    tried.main(main)

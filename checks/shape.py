@@ -3,8 +3,7 @@
 
     checks/shape.py [CRATE ..]           a row for each crate, and the sum
     checks/shape.py --list [CRATE ..]    also each clause over 160 columns, and each function with
-    more than 8 clauses
-                                         or 40 lines
+                                         more than 8 clauses or 40 lines
     checks/shape.py --at REV [CRATE ..]  the same of an earlier commit
     checks/shape.py --bounds             only the figures with a bound; fails where one is above it
 
@@ -19,11 +18,9 @@ and casts for all. A bound is what the code has today; where a figure falls, low
 
 It reads the sources alone.
 """
-import argparse
 import os
 import re
 import subprocess
-import sys
 import tempfile
 
 import tried
@@ -197,7 +194,7 @@ def check_bounds():
 
 def main():
     global TOP
-    parser = argparse.ArgumentParser(description="Measures the form of the code.")
+    parser = tried.arguments(__doc__)
     parser.add_argument("crates", nargs="*", metavar="CRATE")
     parser.add_argument(
         "--list", action="store_true", help="also name the clauses and functions that are too long"
@@ -217,4 +214,4 @@ def main():
 
 
 if __name__ == "__main__":
-    sys.exit(main())
+    tried.main(main)

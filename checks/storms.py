@@ -10,7 +10,6 @@ Prints a line for each storm, and 'N passed, M failed'.
 """
 import os
 import subprocess
-import sys
 import time
 
 import tried
@@ -30,12 +29,15 @@ def totals(clients, transfers):
 
 
 def main():
+    parser = tried.arguments(__doc__)
+    parser.add_argument("times", metavar="TIMES", type=tried.count, nargs="?", default=3)
+    times = parser.parse_args().times
     tried.built(PROGRAM)
-    times = int(sys.argv[1]) if len(sys.argv) > 1 else 3
     passed = failed = 0
     for clients, transfers in [(16, 1000), (2, 3)]:
         wanted, spent, right = (0, totals(clients, transfers), b""), [], 0
-        for _ in range(times):
+        for turn in range(times):
+            tried.progress(f"storm {clients} {transfers}", turn, times)
             start = time.monotonic()
             ran = subprocess.run(
                 [PROGRAM, "storm", str(clients), str(transfers)],
@@ -51,6 +53,7 @@ def main():
                     f"FAILED: storm {clients} {transfers}: {ran.returncode}, {ran.stdout}, "
                     f"{ran.stderr}"
                 )
+        tried.progress(f"storm {clients} {transfers}", times, times)
         passed, failed = passed + right, failed + times - right
         print(
             f"storm {clients} {transfers}: {right} of {times} with the four lines, "
@@ -61,4 +64,4 @@ def main():
 
 
 if __name__ == "__main__":
-    sys.exit(main())
+    tried.main(main)

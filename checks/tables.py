@@ -12,12 +12,13 @@ checks/tables.py`, and one with `end of NAME`. Pages may have such marks too: --
 Prints a line for each difference, and 'N compared, M differ'. Status 1 where something differs.
 Not generated, and witnesses of their own: the servers of bench/, and name_tests of tb_records.
 """
-import argparse
 import copy
 import glob
 import os
 import re
 import sys
+
+import tried
 
 sys.dont_write_bytecode = True
 sys.path.insert(0, os.path.dirname(os.path.abspath(__file__)))
@@ -285,9 +286,7 @@ def try_each(table):
 
 
 def main():
-    parser = argparse.ArgumentParser(
-        description=__doc__, formatter_class=argparse.RawDescriptionHelpFormatter
-    )
+    parser = tried.arguments(__doc__)
     one = parser.add_mutually_exclusive_group()
     one.add_argument("--write", action="store_true", help="generate again")
     one.add_argument(
@@ -315,4 +314,4 @@ def main():
 
 
 if __name__ == "__main__":
-    sys.exit(main())
+    tried.main(main)

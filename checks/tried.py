@@ -1,6 +1,8 @@
-"""What the scripts of checks/ share: cases that are counted and told, and programs that have to
-be there."""
+"""What the scripts of checks/ share: cases that are counted and told, programs that have to be
+there, their arguments, and their ends."""
+import argparse
 import os
+import subprocess
 import sys
 
 passed = failed = 0
@@ -21,6 +23,44 @@ def built(*programs, how="build it first, as the head of this file says"):
     for program in programs:
         if not os.access(program, os.X_OK):
             sys.exit(f"{program} is not there: {how}")
+
+
+def arguments(page):
+    """A parser of a script's arguments, whose help is the script's page."""
+    return argparse.ArgumentParser(
+        description=page, formatter_class=argparse.RawDescriptionHelpFormatter
+    )
+
+
+def count(text):
+    """An argument that is a whole number from 1 on."""
+    if not text.isascii() or not text.isdigit() or int(text) == 0:
+        raise argparse.ArgumentTypeError(f"'{text}' is no whole number from 1 on")
+    return int(text)
+
+
+def progress(what, done, total):
+    """Tells on a terminal how far a long run is, in one line that is written over."""
+    if sys.stderr.isatty():
+        end = "\n" if done == total else ""
+        print(f"\r{what}: {done} of {total}\x1b[K", end=end, file=sys.stderr, flush=True)
+
+
+def main(run):
+    """Ends the script with the status that `run` answers. What its user can mend is told in a line
+    and no traceback: a file or program that is not there, a command that failed or did not end,
+    an interrupt."""
+    try:
+        sys.exit(run())
+    except KeyboardInterrupt:
+        print("interrupted", file=sys.stderr)
+        sys.exit(130)
+    except (FileNotFoundError, PermissionError) as why:
+        sys.exit(f"{why.filename}: {why.strerror}")
+    except subprocess.CalledProcessError as why:
+        sys.exit(f"{why.cmd[0]} failed with status {why.returncode}: {' '.join(map(str, why.cmd))}")
+    except subprocess.TimeoutExpired as why:
+        sys.exit(f"{why.cmd[0]} did not end within {why.timeout:.0f} seconds")
 
 
 def status():

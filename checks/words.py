@@ -12,7 +12,6 @@ page.
 """
 import pathlib
 import re
-import sys
 
 import tried
 
@@ -93,13 +92,16 @@ def uncommon_words(text: str):
 
 
 def main() -> int:
+    parser = tried.arguments(__doc__)
+    parser.add_argument("--count", action="store_true", help="print the words of each page")
+    given = parser.parse_args()
     total = 0
     counted = pages()
     for page in [*counted, *sorted(ROOT.glob("crates/*/CALLING.md"))]:
         text, name = page.read_text(), page.relative_to(ROOT)
         words = len(text.split())
         total += words if page in counted else 0
-        if "--count" in sys.argv:
+        if given.count:
             print(f"{words:>7} {name}")
         for wrong in [*long_sentences(text), *uncommon_words(text)]:
             tried.case(f"{name}, {wrong}", False)
@@ -111,4 +113,4 @@ def main() -> int:
 
 
 if __name__ == "__main__":
-    sys.exit(main())
+    tried.main(main)
