@@ -1,6 +1,6 @@
 #!/usr/bin/env python3
-"""Runs tbs and two plain Rust servers on the same scripts by turns, compares their replies byte for
-byte, and prints what they cost.
+"""Runs tbs and three plain Rust servers on the same scripts by turns, compares their replies byte
+for byte, and prints what they cost.
 
 compare.py [SIZE [TURNS]]: SIZE events a workload (100000), the least CPU time of TURNS turns
 (3). Needs rustc, and crates/tbs/out/tbs as `rt run` in crates/tbs leaves it; PROGRAM names another.
@@ -8,8 +8,8 @@ Scripts are made from a seed in a temporary folder.
 
 For each program: CPU time in seconds, how much of it the system took, its greatest memory in
 MiB, and its page faults in thousands. The last columns are the ratios of the first one's time to
-those of the baselines (plain.rs, and lean.rs, which runs fewer instructions), and whether all
-replies were the same.
+those of the baselines (plain.rs over BTreeMaps, lean.rs, which runs fewer instructions, and hash.rs
+over hash maps), and whether all replies were the same.
 """
 import filecmp
 import os
@@ -23,7 +23,7 @@ sys.path.insert(0, os.path.join(HERE, "..", "checks"))
 import tried  # noqa: E402
 
 TBS = os.environ.get("PROGRAM", os.path.join(HERE, "..", "crates", "tbs", "out", "tbs"))
-PEERS = ["plain", "lean"]
+PEERS = ["plain", "lean", "hash"]
 WORKLOADS = ["rising", "pending", "chains", "expiring", "single", "lookups", "mixed", "random"]
 
 

@@ -1,9 +1,11 @@
 #!/usr/bin/env python3
 """Writes a script of request frames to standard output: make_script.py WORKLOAD SIZE SEED.
 
-rising    batches of 8190 transfers with rising ids between 10,000 accounts
+rising    batches of 8190 transfers with rising ids between 10,000 accounts (--accounts N)
 random    the same with random ids
-pending   pending transfers, then their posts and voids
+zipf      the same with rising ids, where few accounts have most transfers
+pending   pending transfers, then their posts and voids, batch by batch
+resolving pending transfers, then posts and voids of all of them in a random order
 chains    chains of 5, each tenth broken
 expiring  pending transfers that expire as moments go on
 single    requests of one transfer by 60 clients, each tenth repeated
@@ -11,19 +13,22 @@ lookups   batches of 8190 ids of accounts and of transfers by turns, among 10,00
 mixed     small batches of everything, right and wrong, for comparing replies
 """
 import argparse
+import bisect
+import itertools
 import random
 import struct
 import sys
 
-WORKLOADS = "rising random pending chains expiring single lookups mixed".split()
+WORKLOADS = "rising random zipf pending resolving chains expiring single lookups mixed".split()
 parser = argparse.ArgumentParser(
     description=__doc__, formatter_class=argparse.RawDescriptionHelpFormatter
 )
 parser.add_argument("workload", metavar="WORKLOAD", choices=WORKLOADS, help=", ".join(WORKLOADS))
 parser.add_argument("size", metavar="SIZE", type=int, help="how many events")
 parser.add_argument("seed", metavar="SEED", type=int, help="of its random numbers")
+parser.add_argument("--accounts", metavar="N", type=int, default=10000, help="accounts (10000)")
 given = parser.parse_args()
-workload, size = given.workload, given.size
+workload, size, many = given.workload, given.size, given.accounts
 rng = random.Random(given.seed)
 out = sys.stdout.buffer
 MAX = (1 << 128) - 1
@@ -119,29 +124,64 @@ def two(n):
     return d, c if c < d else c + 1
 
 
-def bulk(ids):
+def zipf_pairs():
+    """Draws two accounts, the nth of which is drawn in proportion to 1 / n; which account is the
+    nth is drawn too, so that those that are drawn often lie anywhere."""
+    places = [*range(1, many + 1)]
+    rng.shuffle(places)
+    sums = [*itertools.accumulate(1 / n for n in range(1, many + 1))]
+
+    def draw(_):
+        d = c = places[bisect.bisect_left(sums, rng.random() * sums[-1])]
+        while c == d:
+            c = places[bisect.bisect_left(sums, rng.random() * sums[-1])]
+        return d, c
+
+    return draw
+
+
+def bulk(ids, pairs=two):
     c = Client(7)
     register(c)
-    accounts_for(c, 10000)
+    accounts_for(c, many)
     for first in range(0, size, 8190):
         events = []
         for i in range(first, min(size, first + 8190)):
-            d, k = two(10000)
+            d, k = pairs(many)
             events.append(transfer(ids(i), d, k, rng.randint(1, 1000)))
+        request(c, 130, events)
+
+
+def resolving():
+    c = Client(7)
+    register(c)
+    accounts_for(c, many)
+    count = size // 2
+    for first in range(0, count, 8190):
+        ids = range(1000000 + first, 1000000 + min(count, first + 8190))
+        request(c, 130, [transfer(id, *two(many), 100, flags=2) for id in ids])
+    order = [*range(1000000, 1000000 + count)]
+    rng.shuffle(order)
+    for first in range(0, count, 8190):
+        events = [
+            transfer(10**9 + id, 0, 0, *how, pending=id, ledger=0, code=0)
+            for id in order[first : first + 8190]
+            for how in [(MAX, 4) if rng.random() < 0.7 else (0, 8)]
+        ]
         request(c, 130, events)
 
 
 def pending():
     c = Client(7)
     register(c)
-    accounts_for(c, 10000)
+    accounts_for(c, many)
     for first in range(0, size // 2, 4095):
         n = min(size // 2, first + 4095) - first
         request(
             c,
             130,
             [
-                transfer(1000000 + first + i, *two(10000), rng.randint(1, 1000), flags=2)
+                transfer(1000000 + first + i, *two(many), rng.randint(1, 1000), flags=2)
                 for i in range(n)
             ],
         )
@@ -166,12 +206,12 @@ def pending():
 def chains():
     c = Client(7)
     register(c)
-    accounts_for(c, 10000)
+    accounts_for(c, many)
     for first in range(0, size, 8190):
         n = min(size, first + 8190) - first
         events = []
         for i in range(n):
-            d, k = two(10000)
+            d, k = two(many)
             broken = (i // 5) % 10 == 9 and i % 5 == 3
             linked = i % 5 != 4 and i + 1 < n
             events.append(
@@ -186,14 +226,14 @@ def expiring():
     global now
     c = Client(7)
     register(c)
-    accounts_for(c, 10000)
+    accounts_for(c, many)
     for first in range(0, size, 819):
         n = min(size, first + 819) - first
         request(
             c,
             130,
             [
-                transfer(1000000 + first + i, *two(10000), 5, flags=2, timeout=rng.randint(1, 5))
+                transfer(1000000 + first + i, *two(many), 5, flags=2, timeout=rng.randint(1, 5))
                 for i in range(n)
             ],
         )
@@ -314,7 +354,9 @@ def mixed():
 {
     "rising": lambda: bulk(lambda i: 1000000 + i),
     "random": lambda: bulk(lambda i: rng.getrandbits(127) + 1),
+    "zipf": lambda: bulk(lambda i: 1000000 + i, zipf_pairs()),
     "pending": pending,
+    "resolving": resolving,
     "chains": chains,
     "expiring": expiring,
     "single": single,
