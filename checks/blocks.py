@@ -7,7 +7,8 @@ First build both programs:
     checks/blocks.py
 
 - text: statements are read by `tbt script`; any other text is left alone.
-- console: is in checks/terminal.txt, which checks/text.py types on a terminal.
+- console: is in checks/terminal.txt or checks/repl.txt, which checks/text.py and checks/repl.py
+  type on a terminal.
 - json, directly after statements: the replies to them, as `tbs run` and `tbt replies` give them.
 - python: compiled. sh: read by `bash -n`. c: compiled as far as its syntax goes, where cc is there.
 - rust: is there word for word, but for its imports, in a crate that the gate proves
@@ -97,8 +98,9 @@ def check(kind: str, block: str, before: str | None, name: str) -> bool:
     elif kind == "json" and before is not None:
         compare_replies(before, block)
     elif kind == "console":
-        if block not in (ROOT / "checks" / "terminal.txt").read_text():
-            raise Wrong("is not in checks/terminal.txt")
+        typed = [ROOT / "checks" / it for it in ("terminal.txt", "repl.txt")]
+        if not any(block in it.read_text() for it in typed):
+            raise Wrong("is not in checks/terminal.txt or checks/repl.txt")
     elif kind == "python":
         compile_python(block, name)
     elif kind == "sh":

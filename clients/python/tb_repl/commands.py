@@ -1,0 +1,190 @@
+"""The command `tb-repl`."""
+from __future__ import annotations
+
+import argparse
+import os
+import secrets
+import shutil
+import ssl
+import sys
+from typing import Optional
+
+from tb_client import ClientError, Program, Socket, Transport
+
+from .ledgers import Ledger, Served
+from .lines import Lines, print_pages
+from .statements import Tbt, Wrong, split, typed, with_moments
+from .tables import answer_shown
+
+HELP = """Statements end with `;`. What comes before the operation may be left out:
+
+    [at=MOMENT] [client=N] [session=N] [request=N] OPERATION EVENTS;
+
+    create_accounts id=1 ledger=700 code=10, id=2 ledger=700 code=10;
+    create_transfers id=11 debit_account_id=1 credit_account_id=2 amount=100 ledger=700 code=10;
+    lookup_accounts id=1, id=2;
+    lookup_transfers id=11;
+    register;
+
+A moment is nanoseconds since 1970, or a date: at=2026-11-26T10:00:00Z.
+docs/use/STATEMENTS.md has all fields and flags; the tab key completes them.
+
+    help       this page
+    sessions   the clients of this terminal, their sessions and last requests
+    json       answers as JSON, a line each; `table` goes back
+    exit       ends, as `quit` and Ctrl-D do
+"""
+
+
+def found(name: str, given: Optional[str], option: str) -> str:
+    """The path of a program: the one that is given, else one of this name on PATH."""
+    path = given or os.environ.get(name.upper()) or shutil.which(name)
+    if not path or not os.access(path, os.X_OK):
+        sys.exit(f"tb-repl: {path or name} is not there: name the program by {option}")
+    return path
+
+
+def address_of(text: str) -> "str | tuple[str, int]":
+    """A Unix socket's path, or a host and a port."""
+    host, colon, port = text.rpartition(":")
+    if colon and "/" not in text and port.isdigit():
+        return host.strip("[]"), int(port)
+    return text
+
+
+def context_of(given: argparse.Namespace) -> Optional[ssl.SSLContext]:
+    if not (given.ca or given.certificate):
+        return None
+    context = ssl.create_default_context(cafile=given.ca)
+    if given.certificate:
+        context.load_cert_chain(given.certificate, given.key)
+    return context
+
+
+def transport_of(given: argparse.Namespace) -> Transport:
+    if given.connect:
+        addresses = [address_of(it) for it in given.connect.split(",")]
+        return Socket(addresses, tls=context_of(given))  # type: ignore[arg-type]
+    return Program(found("tbs", given.program, "--program"), given.clients_max, given.profile)
+
+
+class Repl:
+    """Reads statements, prints answers."""
+
+    def __init__(self, ledger: Ledger, lines: Lines, as_json: bool) -> None:
+        self.ledger, self.lines, self.as_json = ledger, lines, as_json
+        self.was_wrong = False
+
+    def run(self) -> int:
+        """Serves what is typed until it ends. On a terminal a wrong statement is told, and the next
+        one is read; from a file or a pipe it ends the command."""
+        rest = ""
+        while True:
+            try:
+                line = self.lines.next(". " if rest else "> ")
+            except KeyboardInterrupt:
+                # what was typed of a statement is dropped
+                print()
+                rest = self.lines.before = ""
+                continue
+            if line is None:
+                return self._ended(rest)
+            if not rest and line.strip() in ("exit", "quit"):
+                return 0
+            if not rest and self._is_command(line.strip()):
+                continue
+            whole, rest = split(f"{rest}\n{line}" if rest else line)
+            if not all(map(self._serve, whole)) and not self.lines.is_terminal:
+                return 2
+            self.lines.before = rest
+
+    def _ended(self, rest: str) -> int:
+        if rest and not self.lines.is_terminal:
+            print("tb-repl: the last statement has no `;`", file=sys.stderr)
+            return 2
+        return 0
+
+    def _is_command(self, word: str) -> bool:
+        if word == "help":
+            print(HELP, end="")
+        elif word in ("json", "table"):
+            self.as_json = word == "json"
+        elif word == "sessions":
+            for client, session in self.ledger.sessions.items():
+                print(f"client {client}: session {session.number}, last request {session.last}")
+            if not self.ledger.sessions:
+                print("no client is registered yet; the first statement registers one")
+        return word in ("help", "json", "table", "sessions")
+
+    def _serve(self, text: str) -> bool:
+        """Whether a statement was served; what went wrong is told."""
+        try:
+            for served in self.ledger.serve(typed(with_moments(text))):
+                self._print(served)
+        except Wrong as why:
+            print(why, file=sys.stderr, flush=True)
+            return False
+        except ClientError as why:
+            print(f"tb-repl: {why}", file=sys.stderr, flush=True)
+            return False
+        return True
+
+    def _print(self, served: Served) -> None:
+        if self.as_json:
+            print(served.reply, flush=True)
+            return
+        width = shutil.get_terminal_size((100, 24)).columns
+        print_pages(answer_shown(served, width), self.lines.is_terminal)
+
+
+def arguments() -> argparse.ArgumentParser:
+    parser = argparse.ArgumentParser(
+        prog="tb-repl",
+        description="A ledger at a terminal. Without --connect it runs a server of its own, whose "
+        "ledger ends with it.",
+    )
+    parser.add_argument(
+        "--connect",
+        metavar="ADDRESS",
+        help="a server that listens: a Unix socket's path or HOST:PORT; several with commas",
+    )
+    parser.add_argument("--ca", metavar="FILE", help="over TLS: who signs the server's certificate")
+    parser.add_argument("--certificate", metavar="FILE", help="over TLS: this client's certificate")
+    parser.add_argument("--key", metavar="FILE", help="over TLS: its key")
+    parser.add_argument("--program", metavar="FILE", help="the server to run (tbs on PATH)")
+    parser.add_argument("--tbt", metavar="FILE", help="what reads statements (tbt on PATH)")
+    parser.add_argument("--clients-max", metavar="N", type=int, default=64, help="1 to 64 (64)")
+    parser.add_argument("--profile", metavar="N", type=int, default=1, help="1 or 2 (1)")
+    parser.add_argument("--client", metavar="ID", type=int, help="the client's id (drawn)")
+    parser.add_argument("--json", action="store_true", help="answers as JSON, a line each")
+    return parser
+
+
+def main() -> int:
+    parser = arguments()
+    given = parser.parse_args()
+    if given.key and not given.certificate:
+        parser.error("--key comes with --certificate")
+    if given.client is not None and not 0 < given.client < 2**128:
+        parser.error("--client is 1 to 2^128 - 1")
+    tbt = Tbt(found("tbt", given.tbt, "--tbt"))
+    client = given.client or (1 if not given.connect else secrets.randbits(127) + 1)
+    lines = Lines()
+
+    def tell(text: str) -> None:
+        print(f"tb-repl: {text}", file=sys.stderr, flush=True)
+
+    try:
+        ledger = Ledger(transport_of(given), tbt, tell, client)
+    except (ClientError, OSError) as why:
+        sys.exit(f"tb-repl: {why}")
+    if lines.is_terminal:
+        print("A statement ends with `;`; `help` shows some, `exit` ends.")
+    try:
+        return Repl(ledger, lines, given.json).run()
+    except KeyboardInterrupt:
+        print()
+        return 130
+    finally:
+        lines.close()
+        ledger.close()

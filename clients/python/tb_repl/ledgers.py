@@ -1,0 +1,104 @@
+"""The ledger that is asked: the sessions of this terminal, and what to do when a reply is lost."""
+from __future__ import annotations
+
+import re
+import time
+from typing import Callable, NamedTuple
+
+from tb_client import CannotConnect, NoMemory, Reply, ReplyLost, Request, Status, Transport
+
+from .statements import REGISTER, Tbt, Typed, bare
+
+TRIES = 8
+PAUSE_MAX = 5.0
+
+
+class Session(NamedTuple):
+    """A client's session, and the number of its last request that was answered."""
+
+    number: int
+    last: int
+
+
+class Served(NamedTuple):
+    """A request, and its reply as JSON."""
+
+    request: Request
+    reply: str
+
+
+class Ledger:
+    """Sends statements over a transport. What a statement leaves out is filled in as `tbt run`
+    does: the client named last, its session, the next number, the clock's moment."""
+
+    def __init__(
+        self, transport: Transport, tbt: Tbt, tell: Callable[[str], None], client: int
+    ) -> None:
+        self.transport, self.tbt, self.tell = transport, tbt, tell
+        self.client = client
+        self.sessions: dict[int, Session] = {}
+
+    def serve(self, statement: Typed) -> list[Served]:
+        """The answers to a statement, to a register before it among them."""
+        client = self._client_of(statement)
+        filled = {"at": time.time_ns(), "client": client}
+        if statement.operation == "register":
+            return [self._send(statement, filled)]
+        served = []
+        if not statement.fields & {"session", "request"} and client not in self.sessions:
+            # a wrong statement registers nobody
+            self._pair(statement, {**filled, "session": 1, "request": 1})
+            served.append(self._send(REGISTER, filled))
+        if not statement.fields >= {"client", "request"}:
+            session = self.sessions.get(client, Session(0, 0))
+            filled |= {"session": session.number, "request": session.last + 1}
+        return [*served, self._send(statement, filled)]
+
+    def _client_of(self, statement: Typed) -> int:
+        """The client that a statement names, else the one named last. A number that is none is
+        left to `tbt`, which tells its place."""
+        head = bare(statement.text).split(statement.operation or ";")[0]
+        named = re.search(r"\bclient\s*=\s*(0x[0-9a-fA-F]+|[0-9]+)\b", head)
+        return int(named[1], 0 if named[1].startswith("0x") else 10) if named else self.client
+
+    def _pair(self, statement: Typed, filled: dict[str, int]) -> tuple[int, bytes]:
+        left_out = {it: value for it, value in filled.items() if it not in statement.fields}
+        return self.tbt.pair(statement, left_out)
+
+    def _send(self, statement: Typed, filled: dict[str, int]) -> Served:
+        moment, frame = self._pair(statement, filled)
+        request = Request.from_bytes(frame)
+        reply = self._exchange(moment, frame)
+        self._learn(request, Reply.from_bytes(reply))
+        return Served(request, self.tbt.spelled(reply))
+
+    def _exchange(self, moment: int, frame: bytes) -> bytes:
+        """Sends the same bytes until their reply is here; the last try's fault is the caller's."""
+        for turn in range(2, TRIES + 1):
+            try:
+                return self.transport.exchange(moment, frame)
+            except (ReplyLost, NoMemory, CannotConnect) as why:
+                self.tell(f"{why}; the same bytes go out again, try {turn} of {TRIES}")
+                time.sleep(min(PAUSE_MAX, 0.05 * 2**turn))
+        return self.transport.exchange(moment, frame)
+
+    def _learn(self, request: Request, reply: Reply) -> None:
+        """Keeps the session and the number of a request that was answered, and drops a session
+        that ended."""
+        client, known = request.client, self.sessions.get(request.client)
+        if reply.status == Status.Reply:
+            self.client = client
+            last = known.last if known and known.number == reply.session else 0
+            self.sessions[client] = Session(reply.session, max(last, request.number))
+        elif (
+            reply.status in (Status.NoSession, Status.SessionTooLow)
+            and known
+            and known.number == request.session
+        ):
+            del self.sessions[client]
+            self.tell(f"client {client} has no session any more; its next statement registers it")
+
+    def close(self) -> None:
+        close = getattr(self.transport, "close", None)
+        if close:
+            close()

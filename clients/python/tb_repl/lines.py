@@ -1,0 +1,107 @@
+"""Lines of a terminal: editing, history, completion; and pages for answers that are long."""
+from __future__ import annotations
+
+import contextlib
+import os
+import pathlib
+import shutil
+import subprocess
+import sys
+from typing import Iterator, Optional
+
+from tb_client import Account, AccountFlags, Transfer, TransferFlags
+
+from .statements import HEAD_FIELDS, OPERATIONS, bare
+
+try:
+    import readline
+except ImportError:  # a Python without it: lines come as the terminal gives them
+    readline = None  # type: ignore[assignment]
+
+COMMANDS = ("help", "exit", "quit", "sessions", "json", "table")
+FIELDS = {
+    "create_accounts": [*Account.__dataclass_fields__],
+    "create_transfers": [*Transfer.__dataclass_fields__],
+    "lookup_accounts": ["id"],
+    "lookup_transfers": ["id"],
+}
+FLAGS = {"create_accounts": AccountFlags, "create_transfers": TransferFlags}
+HISTORY_MAX = 10_000
+
+
+def history_path() -> pathlib.Path:
+    """Where typed lines are kept, in the place that the system gives programs for their state."""
+    state = os.environ.get("XDG_STATE_HOME") or os.path.expanduser("~/.local/state")
+    return pathlib.Path(state) / "tb-repl" / "history"
+
+
+def words_at(before: str) -> list[str]:
+    """What may be written behind the text of a statement, up to the word that is being typed."""
+    head = bare(before)
+    operation = next((it for it in OPERATIONS if f"{it} " in head), None)
+    if operation is None:
+        starts = [] if head.strip() else list(COMMANDS)
+        return [*starts, *OPERATIONS, *(f"{it}=" for it in HEAD_FIELDS)]
+    last = head.rstrip("abcdefghijklmnopqrstuvwxyz_0123456789").split()[-1:]
+    if last and last[0].startswith("flags=") and operation in FLAGS:
+        return [it.name or "" for it in FLAGS[operation]]
+    if last and last[0] == "amount=":
+        return ["amount_max"]
+    return [f"{it}=" for it in FIELDS.get(operation, [])]
+
+
+class Lines:
+    """Lines from a terminal or a file. `before` is what was typed of the statement already."""
+
+    def __init__(self) -> None:
+        self.before = ""
+        self.is_terminal = sys.stdin.isatty() and sys.stdout.isatty()
+        if readline and self.is_terminal:
+            self._prepare()
+
+    def _prepare(self) -> None:
+        path = history_path()
+        with contextlib.suppress(OSError):
+            path.parent.mkdir(mode=0o700, parents=True, exist_ok=True)
+            os.close(os.open(path, os.O_CREAT | os.O_APPEND | os.O_WRONLY, 0o600))
+            readline.read_history_file(path)
+        readline.set_history_length(HISTORY_MAX)
+        readline.set_completer_delims(" \t\n,;|=")
+        readline.set_completer(self._completed)
+        readline.parse_and_bind("tab: complete")
+        readline.parse_and_bind("set enable-bracketed-paste off")
+
+    def _completed(self, word: str, number: int) -> Optional[str]:
+        typed = readline.get_line_buffer()[: readline.get_begidx()]
+        if number == 0:
+            last = typed.rsplit(";", 1)[-1] if ";" in typed else self.before + typed
+            self.found = [it for it in words_at(last) if it.startswith(word)]
+        return self.found[number] if number < len(self.found) else None
+
+    def next(self, prompt: str) -> Optional[str]:
+        """The next line without its end; None where there is none."""
+        if self.is_terminal:
+            try:
+                return input(prompt)
+            except EOFError:
+                print()
+                return None
+        line = sys.stdin.readline()
+        return line.rstrip("\n") if line else None
+
+    def close(self) -> None:
+        if readline and self.is_terminal:
+            with contextlib.suppress(OSError):
+                readline.write_history_file(history_path())
+
+
+def print_pages(lines: Iterator[str], by_pager: bool) -> None:
+    """Prints lines; through a pager where they are more than the terminal shows."""
+    text = list(lines)
+    pager = os.environ.get("PAGER") or ("less -FRSX" if shutil.which("less") else "")
+    height = shutil.get_terminal_size().lines
+    if by_pager and pager and len(text) > height - 2:
+        with contextlib.suppress(BrokenPipeError):
+            subprocess.run(pager, shell=True, input="\n".join(text) + "\n", text=True, check=False)
+        return
+    print("\n".join(text), flush=True)

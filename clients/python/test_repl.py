@@ -1,0 +1,251 @@
+"""Statements, sessions and tables of tb_repl, over a server and a `tbt` that stand in for those of
+the repository. checks/repl.py runs the command over the built programs on a terminal.
+
+    python3 -m unittest test_repl
+"""
+import io
+import os
+import tempfile
+import unittest
+from contextlib import redirect_stderr, redirect_stdout
+from unittest import mock
+
+from tb_client import Direct, Operation, Reply, ReplyLost, Request, Transfer
+from tb_repl import commands, ledgers, lines, statements, tables
+
+ACCOUNT = {
+    "id": "2",
+    "debits_pending": "0",
+    "debits_posted": "0",
+    "credits_pending": "0",
+    "credits_posted": "100",
+    "user_data_128": "0",
+    "user_data_64": "0",
+    "user_data_32": 0,
+    "reserved": 0,
+    "ledger": 700,
+    "code": 10,
+    "flags": ["linked", "history"],
+    "timestamp": "1764151200123456789",
+}
+
+
+class Reader:
+    """Stands in for `tbt`: a statement's frame by its words, and the status of a reply."""
+
+    def pair(self, statement, filled):
+        words = dict(it.split("=") for it in statement.text.split() if "=" in it)
+        head = {it: int(words.get(it, filled.get(it, 0))) for it in statements.HEAD_FIELDS}
+        if "wrong" in statement.text:
+            raise statements.Wrong("tbt: wrong")
+        kind = Operation[statement.operation]
+        request = 0 if kind == Operation.register else head["request"]
+        session = 0 if kind == Operation.register else head["session"]
+        return head["at"], Request(head["client"], session, request, kind, ()).to_bytes()
+
+    def spelled(self, reply):
+        return str(Reply.from_bytes(reply).status)
+
+
+class Server:
+    """Answers each request with the status that is next, 0 where none is; loses what it is told."""
+
+    def __init__(self, statuses=(), lost=()):
+        self.frames, self.statuses, self.lost = [], list(statuses), list(lost)
+
+    def serve(self, moment, frame):
+        self.frames.append(frame)
+        if len(self.frames) in self.lost:
+            raise ReplyLost("no reply in 5 seconds")
+        it = Request.from_bytes(frame)
+        status = self.statuses.pop(0) if self.statuses else 0
+        commit = 0 if status else len(self.frames)
+        session = commit if it.operation == Operation.register else it.session
+        return Reply(it.client, session, it.number, it.operation, status, commit, b"").to_bytes()
+
+    def asked(self):
+        return [
+            (it.client, it.session, it.number, it.operation.name)
+            for it in map(Request.from_bytes, self.frames)
+        ]
+
+
+def ledger(server):
+    told = []
+    return ledgers.Ledger(Direct(server.serve), Reader(), told.append, 5), told
+
+
+def serve(it, text):
+    return [served.reply for served in it.serve(statements.typed(text))]
+
+
+class Statements(unittest.TestCase):
+    def test_split(self):
+        self.assertEqual(statements.split("a; b;\nc"), (["a;", " b;"], "\nc"))
+        self.assertEqual(statements.split("a # no; end\n;"), (["a # no; end\n;"], ""))
+        self.assertEqual(statements.split("a; # only a comment"), (["a;"], ""))
+        self.assertEqual(statements.split("  "), ([], ""))
+
+    def test_typed(self):
+        it = statements.typed("at=1 client = 7 lookup_accounts id=3;")
+        self.assertEqual((it.fields, it.operation), ({"at", "client"}, "lookup_accounts"))
+        self.assertEqual(statements.typed("creat_accounts id=1;").operation, "")
+        it = statements.typed("# session=4\nregister;")
+        self.assertEqual((it.fields, it.operation), (set(), "register"))
+
+    def test_dates(self):
+        for date, moment in (
+            ("2026-11-26T10:00:00Z", 1795687200000000000),
+            ("2026-11-26T10:00:00.123456789Z", 1795687200123456789),
+            ("2026-11-26", 1795651200000000000),
+            ("1970-01-01T00:00Z", 0),
+        ):
+            with self.subTest(date):
+                made = statements.with_moments(f"at={date} register;")
+                self.assertEqual(int(made.split()[0][3:]), moment)
+                self.assertEqual(len(made), max(len(f"at={date} register;"), len(made)))
+        for date in ("2026-13-01", "2026-02-30", "1969-12-31"):
+            with self.subTest(date), self.assertRaises(statements.Wrong):
+                statements.with_moments(f"at={date} register;")
+        text = "at=5 lookup_accounts id=1;"
+        self.assertEqual(statements.with_moments(text), text)
+
+    def test_fault_has_the_line_as_typed(self):
+        told = "tbt: line 5, column 3: unknown field 'x'\n  x\n"
+        self.assertEqual(
+            statements.shown_fault(told, 4), "tbt: line 1, column 3: unknown field 'x'\n  x"
+        )
+
+
+class Ledger(unittest.TestCase):
+    def test_registers_and_numbers(self):
+        server = Server()
+        it, _ = ledger(server)
+        serve(it, "lookup_accounts ;")
+        serve(it, "lookup_accounts ;")
+        serve(it, "client=9 lookup_accounts ;")
+        serve(it, "lookup_accounts ;")
+        self.assertEqual(
+            server.asked(),
+            [
+                (5, 0, 0, "register"),
+                (5, 1, 1, "lookup_accounts"),
+                (5, 1, 2, "lookup_accounts"),
+                (9, 0, 0, "register"),
+                (9, 4, 1, "lookup_accounts"),
+                (9, 4, 2, "lookup_accounts"),
+            ],
+        )
+
+    def test_a_wrong_statement_sends_nothing(self):
+        server = Server()
+        it, _ = ledger(server)
+        with self.assertRaises(statements.Wrong):
+            serve(it, "lookup_accounts wrong ;")
+        self.assertEqual(server.frames, [])
+
+    def test_a_lost_reply_sends_the_same_bytes_again(self):
+        server = Server(lost=[2, 3])
+        it, told = ledger(server)
+        with mock.patch.object(ledgers.time, "sleep"):
+            serve(it, "lookup_accounts ;")
+        self.assertEqual(len(server.frames), 4)
+        self.assertEqual(len(set(server.frames[1:])), 1)
+        self.assertIn("the same bytes go out again, try 2 of 8", told[0])
+
+    def test_the_last_try_is_the_callers(self):
+        server = Server(lost=range(2, 100))
+        it, told = ledger(server)
+        with mock.patch.object(ledgers.time, "sleep"), self.assertRaises(ReplyLost):
+            serve(it, "lookup_accounts ;")
+        self.assertEqual((len(server.frames), len(told)), (1 + ledgers.TRIES, ledgers.TRIES - 1))
+
+    def test_an_eviction_registers_again(self):
+        server = Server(statuses=[0, 0, 2])
+        it, told = ledger(server)
+        for _ in range(3):
+            serve(it, "lookup_accounts ;")
+        self.assertEqual(
+            [asked[3] for asked in server.asked()],
+            ["register", "lookup_accounts", "lookup_accounts", "register", "lookup_accounts"],
+        )
+        self.assertIn("no session any more", told[0])
+
+    def test_a_refused_number_is_not_kept(self):
+        server = Server(statuses=[0, 0, 6])
+        it, _ = ledger(server)
+        serve(it, "lookup_accounts ;")
+        serve(it, "request=9 lookup_accounts ;")
+        serve(it, "lookup_accounts ;")
+        self.assertEqual([asked[2] for asked in server.asked()], [0, 1, 9, 2])
+
+
+class Tables(unittest.TestCase):
+    def test_dates(self):
+        self.assertEqual(tables.date_of(1764151200123456789), "2025-11-26T10:00:00.123456789Z")
+        self.assertEqual(tables.date_of(11), "1970-01-01T00:00:00.000000011Z")
+        self.assertEqual(tables.date_of(2**63 - 1), "2262-04-11T23:47:16.854775807Z")
+
+    def test_columns(self):
+        self.assertEqual(
+            tables.columns_of([ACCOUNT]),
+            "id debits_posted credits_posted ledger code flags timestamp".split(),
+        )
+
+    def test_a_table_where_it_fits_else_blocks(self):
+        wide = [*tables.records_shown([ACCOUNT, ACCOUNT], 200)]
+        self.assertEqual(len(wide), 4)
+        self.assertEqual(wide[2].index("700") + 3, wide[0].index("ledger") + 6)
+        narrow = [*tables.records_shown([ACCOUNT, ACCOUNT], 40)]
+        self.assertEqual(narrow.count(""), 1)
+        self.assertIn("credits_posted  100", narrow)
+
+    def test_results(self):
+        transfers = tuple(Transfer(id=it, debit_account_id=1, credit_account_id=2) for it in (4, 8))
+        request = Request(1, 1, 1, Operation.create_transfers, transfers)
+        found = [*tables.results_shown(request, [{"index": 1, "result": "exists"}])]
+        self.assertEqual(found[2].split(), ["1", "8", "exists"])
+        self.assertEqual(found[3], "1 of 2 transfers created")
+
+
+class Completion(unittest.TestCase):
+    def test_words(self):
+        self.assertIn("create_accounts", lines.words_at(""))
+        self.assertIn("help", lines.words_at(""))
+        self.assertNotIn("help", lines.words_at("client=1 "))
+        self.assertIn("debit_account_id=", lines.words_at("create_transfers id=1 "))
+        self.assertIn("pending", lines.words_at("create_transfers id=1 flags="))
+        self.assertIn("linked", lines.words_at("create_accounts id=1 flags=history|"))
+        self.assertEqual(lines.words_at("create_transfers id=1 amount="), ["amount_max"])
+        self.assertEqual(lines.words_at("lookup_accounts "), ["id="])
+
+
+class Command(unittest.TestCase):
+    def fault(self, *words):
+        told = io.StringIO()
+        with redirect_stderr(told), redirect_stdout(io.StringIO()):
+            with mock.patch("sys.argv", ["tb-repl", *words]):
+                with self.assertRaises(SystemExit) as end:
+                    commands.main()
+        return told.getvalue() + str(end.exception.code)
+
+    def test_wrong_arguments(self):
+        self.assertIn("--client", self.fault("--client", "0"))
+        self.assertIn("--certificate", self.fault("--key", "k"))
+        self.assertIn("name the program by --tbt", self.fault("--tbt", "/nowhere"))
+        with tempfile.NamedTemporaryFile() as program:
+            os.chmod(program.name, 0o755)
+            self.assertIn(
+                "name the program by --program",
+                self.fault("--tbt", program.name, "--program", "/nowhere"),
+            )
+
+    def test_addresses(self):
+        self.assertEqual(commands.address_of("ledger.sock"), "ledger.sock")
+        self.assertEqual(commands.address_of("/run/a:7"), "/run/a:7")
+        self.assertEqual(commands.address_of("localhost:3000"), ("localhost", 3000))
+        self.assertEqual(commands.address_of("[::1]:3000"), ("::1", 3000))
+
+
+if __name__ == "__main__":
+    unittest.main()
