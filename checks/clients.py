@@ -91,6 +91,7 @@ def types():
             "--cache-dir",
             kept,
             "tb_client",
+            "tb_host",
             "tb_listen.py",
             "conformance_runner.py",
             "example.py",
@@ -219,11 +220,12 @@ def told():
         for names in re.findall(r"^\| ([A-Z][A-Za-z, ]+) \|", rows, re.M)
         for name in names.split(", ")
     } - {"Name"}
-    with open(f"{CLIENT}/tb_client/frames.py", encoding="utf-8") as frames, open(
-        f"{CLIENT}/tb_listen.py", encoding="utf-8"
-    ) as listener:
+    with open(f"{CLIENT}/tb_client/frames.py", encoding="utf-8") as frames:
         tests = frames.read().split("def request_fault")[1].split("\ndef ")[0]
-        code = listener.read()
+    code = ""
+    for name in ("command", "connections", "lines", "serving"):
+        with open(f"{CLIENT}/tb_host/{name}.py", encoding="utf-8") as part:
+            code += part.read()
     wanted = set(re.findall(r'\("(\w+)", ', tests)) | set(
         re.findall(r'(?:Told\(|given\.(?:idle|slow), |stop\(|return |else )"([A-Z]\w+)"', code)
     )

@@ -1,0 +1,151 @@
+"""Connections of clients: a request, its reply, the next request."""
+from __future__ import annotations
+
+import argparse
+import asyncio
+import contextlib
+from typing import Protocol, Set
+
+from tb_client.frames import reply_length, request_fault
+from tb_client.layout import HEADER
+
+from .lines import TOLD, Told, in_time, say
+from .process import drain
+
+# seconds for which a client that is told why may still send, so that it reads why and is not cut
+# off before
+LAST_READ = 1.0
+
+
+class Asked(Protocol):
+    """What answers requests."""
+
+    async def ask(self, frame: bytes) -> bytes:
+        """The reply to a request. Raises `Told` where there is none."""
+
+
+class Listener:
+    """Takes connections, and serves each: a request, its reply, the next request."""
+
+    def __init__(self, command: Asked, given: argparse.Namespace) -> None:
+        self.command, self.given = command, given
+        self.open: Set[asyncio.Task[None]] = set()
+        self.served: Set[asyncio.Task[None]] = set()  # those that are not told why they are closed
+        self.at_rest: Set[asyncio.Task[None]] = set()  # those that wait for a request
+        self.leaving = 0  # connections that were told why, and may still send
+        self.why = ""  # why no more requests are taken
+
+    async def take(self, reader: asyncio.StreamReader, writer: asyncio.StreamWriter) -> None:
+        """Serves a connection until it ends."""
+        task = asyncio.current_task()
+        assert task is not None
+        self.open.add(task)
+        try:
+            writer.transport.set_write_buffer_limits(
+                0
+            )  # so that a reply has left this process before the next request is read
+            why = (
+                await self._serve(task, reader, writer)
+                if len(self.served) < self.given.connections
+                else "Busy"
+            )
+            await self._close(reader, writer, why)
+        finally:
+            self.open.discard(task)
+
+    async def _serve(
+        self, task: asyncio.Task[None], reader: asyncio.StreamReader, writer: asyncio.StreamWriter
+    ) -> str:
+        """Answers requests until the connection is to be closed, and then why that is."""
+        self.served.add(task)
+        try:
+            while not self.why:
+                writer.write(await self.command.ask(await self._request(task, reader)))
+                if writer.transport.get_write_buffer_size():
+                    await in_time(writer.drain(), self.given.slow, "Slow")
+            return self.why
+        except Told as told:
+            return str(told)
+        except asyncio.CancelledError:
+            return self.why
+        except asyncio.IncompleteReadError as end:
+            return "Short" if end.partial else ""
+        except OSError:
+            return ""
+        finally:
+            self.served.discard(task)
+
+    async def _request(self, task: asyncio.Task[None], reader: asyncio.StreamReader) -> bytes:
+        """The next request, whose frame was tested before it is waited for whole."""
+        self.at_rest.add(task)
+        try:
+            header = await in_time(reader.readexactly(HEADER), self.given.idle, "Idle")
+            fault = request_fault(header)
+            if fault:
+                raise Told(fault)
+            length = reply_length(header) - HEADER
+            return (
+                header + await in_time(reader.readexactly(length), self.given.slow, "Slow")
+                if length
+                else header
+            )
+        except asyncio.IncompleteReadError as end:
+            if end.expected == HEADER:
+                raise
+            raise Told("Short") from None
+        finally:
+            self.at_rest.discard(task)
+
+    async def _close(
+        self, reader: asyncio.StreamReader, writer: asyncio.StreamWriter, why: str
+    ) -> None:
+        """Tells why, where there is something to tell, and closes the connection."""
+        if why not in (
+            "",
+            "Short",
+            "Stopping",
+            "ProgramEnded",
+        ):  # who is gone amid a frame is no fault to be told here
+            say(f"a connection is closed: {why}")
+        with contextlib.suppress(
+            OSError, asyncio.TimeoutError, asyncio.CancelledError
+        ):  # nothing is left to be done
+            try:
+                if (
+                    why and not writer.transport.get_write_buffer_size()
+                ):  # behind a part of a reply nothing can be told
+                    writer.write(f"{TOLD}{why}\n".encode("ascii"))
+                    writer.write_eof()
+                    await self._read_on(reader)
+                    writer.close()
+                    await asyncio.wait_for(writer.wait_closed(), LAST_READ)
+            finally:
+                writer.transport.abort()
+
+    async def _read_on(self, reader: asyncio.StreamReader) -> None:
+        """Reads what still comes, and does nothing with it. A connection that is closed before it
+        is read cuts its client off, and what the client was told may be lost. No more connections
+        stay so than may be served."""
+        if self.leaving >= self.given.connections:
+            return
+        self.leaving += 1
+        try:
+            await asyncio.wait_for(drain(reader), LAST_READ)
+        finally:
+            self.leaving -= 1
+
+    async def stop(self, why: str) -> None:
+        """Takes no more requests, and waits until those that were taken are answered."""
+        self.why = why
+        for task in list(self.at_rest):
+            task.cancel()
+        await self._gone(self.given.slow)
+
+    async def _gone(self, seconds: float) -> None:
+        """Waits until no connection is open."""
+        if self.open:
+            await asyncio.wait(list(self.open), timeout=seconds)
+
+    async def leave(self) -> None:
+        """Waits until those that lost their command are told so."""
+        await self._gone(3 * LAST_READ)

@@ -1,0 +1,102 @@
+"""Sockets before a ledger server that speaks over pipes: many clients, one ledger.
+
+    tb_listen.py [OPTIONS] -- COMMAND [WORD ..]
+    tb_listen.py --unix ledger.sock -- crates/tbd/out/tbd run ledger.journal 64
+
+It runs the command, which reads pairs of a moment and a request, and writes replies in their order,
+as `tbd run` and `tbs run` do. On a socket it takes requests without a moment, one after another on
+each connection, gives each its moment, and brings each reply to the connection that asked.
+docs/use/CLIENTS.md says how to use it; `tb_client.Socket` is the client's side.
+
+A command that ends in the words `run FILE CLIENTS_MAX [PROFILE]`, as that of `tbd`, keeps its
+ledger in FILE (a name of digits alone is given with its folder, as ./64). Where a signal ended it,
+it is started again. Before it is started for the first time, the same command with `check FILE` in
+their place tells the ledger's last time, which must not lie ahead of the clock. Any other command
+is taken for one that keeps its ledger in memory: it is never started again.
+
+What a client may do wrong ends its own connection alone. Before it is closed it is told why, by a
+line of fewer bytes than a frame has: `tb_listen: ` and a name. Status 0: ended by SIGTERM or
+SIGINT, with all that was taken answered. Status 1: it cannot listen, the ledger lies ahead of the
+clock, or the command failed. Status 2: wrong arguments. A fault that the command named is handed
+on, with its own line and status.
+"""
+from __future__ import annotations
+
+import argparse
+import asyncio
+import sys
+import time
+from typing import Sequence
+
+from .arguments import add_command, add_places, add_times, ahead
+from .command import Command, journal_at, last_time
+from .lines import Ended, say
+from .moments import SECOND, Moments
+from .serving import listen_on, stop_signals, until
+from .sockets import bound, make_room
+
+
+async def begin(given: argparse.Namespace) -> Moments:
+    """Moments that go on where the ledger is. Raises `Ended` where it lies ahead of the clock,
+    and more than was allowed."""
+    at = journal_at(given.command)
+    last = 0 if at is None else await last_time(given.command, at)
+    is_ahead = (last - time.time_ns()) / SECOND
+    if is_ahead > given.ahead:
+        raise Ended(
+            f"the ledger's last time is {is_ahead:.3f} s ahead of this computer's clock: set the "
+            "clock right, or allow it by --ahead SECONDS",
+            1,
+        )
+    return Moments(last)
+
+
+async def listen(given: argparse.Namespace) -> None:
+    """Listens before the command, until a signal comes or the command ends."""
+    stopping, beginning = stop_signals(), asyncio.ensure_future(begin(given))
+    try:
+        if not await until(beginning, stopping):
+            return
+        moments = beginning.result()
+        with bound(given) as place:
+            await listen_on(place, Command(given.command, moments, given.slow), given, stopping)
+    finally:
+        stopping.cancel()
+
+
+def words(given: Sequence[str]) -> argparse.Namespace:
+    """The words of the command line. A wrong one is told, and ends the program with status 2."""
+    usage = "%(prog)s [OPTIONS] -- COMMAND [WORD ..]"
+    parser = argparse.ArgumentParser(
+        usage=usage,
+        description=__doc__,
+        formatter_class=argparse.RawDescriptionHelpFormatter,
+        allow_abbrev=False,
+    )
+    add_places(parser)
+    add_times(parser)
+    may_lie = (
+        "how far the ledger's last time may lie ahead of the clock "
+        "when the command is started first (0)"
+    )
+    parser.add_argument("--ahead", metavar="SECONDS", type=ahead, default=0.0, help=may_lie)
+    add_command(parser)
+    found = parser.parse_args(given)
+    if not found.command[0]:
+        parser.error("an empty word is no COMMAND")
+    return found
+
+
+def main() -> int:
+    given = words(sys.argv[1:])
+    try:
+        make_room(given.connections)
+        asyncio.run(listen(given))
+    except Ended as ended:
+        say(str(ended))
+        return ended.status
+    return 0
+
+
+if __name__ == "__main__":
+    sys.exit(main())

@@ -1,0 +1,211 @@
+"""A server as a process: its start, its end, and its start again."""
+from __future__ import annotations
+
+import asyncio
+import contextlib
+import errno
+import os
+import signal
+import time
+from typing import Any, List, Optional, Sequence, Tuple
+
+from .lines import LINES, Ended, Wanting, say
+
+LAST_WORDS = 1.0  # seconds for which what a command wrote may still come when it has ended
+WATCH = 0.1  # seconds after which a command is looked at again, to see whether it has ended
+# seconds before the command is started again; the last one from then on
+PAUSES = (0.1, 0.5, 2.0, 5.0)
+STEADY = 60.0  # seconds after which a command that ends is one that was well until then
+WANTS = (errno.EMFILE, errno.ENFILE, errno.EAGAIN, errno.ENOMEM)
+
+
+async def started(words: Sequence[str], stdin: int) -> asyncio.subprocess.Process:
+    pipe = asyncio.subprocess.PIPE
+    try:
+        return await asyncio.create_subprocess_exec(
+            *words, stdin=stdin, stdout=pipe, stderr=pipe, start_new_session=True
+        )
+    except OSError as error:
+        kind = Wanting if error.errno in WANTS else Ended
+        raise kind(f"{words[0]} does not start: {error.strerror}", 1) from None
+
+
+def kill(process: asyncio.subprocess.Process) -> None:
+    """Ends a process, and what it started, at once."""
+    with contextlib.suppress(ProcessLookupError):
+        os.killpg(process.pid, signal.SIGKILL)
+
+
+def last_line(told: bytes) -> str:
+    lines = told.decode(errors="replace").strip().splitlines()
+    return lines[-1] if lines else ""
+
+
+def signal_of(status: int) -> int:
+    """The signal that ended a process, or what it started for that: a shell tells it by 128 and
+    its number. 0 where none did."""
+    return -status if status < 0 else status - 128 if 128 < status < 128 + signal.NSIG else 0
+
+
+def end_of(status: int) -> str:
+    number = signal_of(status)
+    if not number:
+        return f"with status {status}"
+    with contextlib.suppress(ValueError):
+        return f"by {signal.Signals(number).name}"
+    return f"by signal {number}"
+
+
+async def exited(process: asyncio.subprocess.Process) -> int:
+    """The status of a process, once it has ended. What it started may hold its pipes open beyond
+    that, and `wait` would wait for these."""
+    while process.returncode is None:
+        await asyncio.sleep(WATCH)
+    return process.returncode
+
+
+class ServerProcess:
+    """A server as a process, which is started again where a signal ended it and it `keeps` its
+    ledger. What is written to it, and what its replies are for, is a subclass's."""
+
+    def __init__(self, words: Sequence[str], patience: float, keeps: bool) -> None:
+        self.words, self.patience, self.keeps = words, patience, keeps
+        # while pairs may be written to it
+        self.process: Optional[asyncio.subprocess.Process] = None
+        self.ready, self.stopping = asyncio.Event(), asyncio.Event()
+        self.is_closed = self.is_over = False
+
+    async def read_replies(
+        self, process: asyncio.subprocess.Process, stdout: asyncio.StreamReader
+    ) -> None:
+        """Reads what the process writes, until there is no more."""
+        raise NotImplementedError
+
+    def lost(self) -> None:
+        """The process has ended: what was asked of it has no reply yet."""
+        raise NotImplementedError
+
+    async def run(self) -> None:
+        """Runs the command until its input is closed, and again where a signal ended it and it
+        keeps its ledger. Raises `Ended` where it ends for another reason."""
+        try:
+            lives = quick = 0
+            while True:
+                began = time.monotonic()
+                try:
+                    status, line = await self._run_once()
+                    if self.is_closed and status == 0:
+                        return
+                    ended = self._end_by_signal(status, line)
+                    lives += 1
+                except Wanting as want:
+                    if not lives:
+                        raise
+                    ended = str(want)
+                quick = 0 if time.monotonic() - began > STEADY else quick
+                await self._pause(ended, PAUSES[min(quick, len(PAUSES) - 1)])
+                quick += 1
+        finally:
+            self.is_over = True
+            self.ready.set()
+
+    def _end_by_signal(self, status: int, line: str) -> str:
+        """How the command ended, where it may be started again. Raises `Ended` where it may not."""
+        number = signal_of(status)
+        if line and not number:
+            raise Ended(line, status or 1)
+        ended = f"{self.words[0]} ended {end_of(status)}{line and f' ({line})'}"
+        if not number or not self.keeps or self.stopping.is_set():
+            raise Ended(ended, 1 if number else status or 1)
+        return ended
+
+    async def _pause(self, ended: str, seconds: float) -> None:
+        """Waits before the command is started again. Raises `Ended` where the listener is to end
+        meanwhile."""
+        say(f"{ended}, and is started again in {seconds:g} s")
+        with contextlib.suppress(asyncio.TimeoutError):
+            await asyncio.wait_for(self.stopping.wait(), seconds)
+            raise Ended(f"{ended}, and is not started again", 1)
+
+    async def _run_once(self) -> Tuple[int, str]:
+        """Runs the command once. Answers its status and its last line on standard error."""
+        process = await started(self.words, asyncio.subprocess.PIPE)
+        assert process.stdin and process.stdout and process.stderr
+        telling = asyncio.ensure_future(tail(process.stderr))
+        reading = asyncio.ensure_future(self.read_replies(process, process.stdout))
+        watching = asyncio.ensure_future(exited(process))
+        if self.is_closed:
+            process.stdin.close()
+        self.process = process
+        self.ready.set()
+        try:
+            await first(reading, watching)
+            await asyncio.wait(
+                [reading], timeout=LAST_WORDS
+            )  # what it wrote before it ended is read to its end
+        finally:
+            self.process = None
+            self.ready.clear()
+            self.lost()
+            process.stdin.close()
+            await self._wait_for_end(process, watching, [reading, telling])
+            await close_pipes(process.stdin, process.stdout)
+        reading.result()
+        return watching.result(), last_line(telling.result())
+
+    async def _wait_for_end(
+        self,
+        process: asyncio.subprocess.Process,
+        watching: asyncio.Future[int],
+        pipes: List[asyncio.Task[Any]],
+    ) -> None:
+        """Waits until a process that gets no more requests has ended, and what it started. Ends
+        them where they do not."""
+        await asyncio.wait([watching], timeout=self.patience)
+        if watching.done():
+            await asyncio.wait(pipes, timeout=LAST_WORDS)
+        if not all(it.done() for it in pipes):
+            kill(process)  # with what it started, which may have the ledger's file open
+            await asyncio.wait(pipes, timeout=LAST_WORDS)
+        for it in pipes:
+            it.cancel()
+        await asyncio.wait([watching, *pipes])
+
+    def close(self) -> None:
+        """Ends the script. The command then answers what it has, and ends."""
+        self.is_closed = True
+        self.stopping.set()
+        if self.process is not None and self.process.stdin is not None:
+            self.process.stdin.close()
+
+    def kill(self) -> None:
+        if self.process is not None:
+            kill(self.process)
+
+
+async def tail(stream: asyncio.StreamReader) -> bytes:
+    """The last bytes of a stream, once it has ended or is waited for no longer."""
+    kept = b""
+    with contextlib.suppress(asyncio.CancelledError):
+        while more := await stream.read(LINES):
+            kept = (kept + more)[-LINES:]
+    return kept
+
+
+async def drain(stream: asyncio.StreamReader) -> None:
+    while await stream.read(1 << 16):
+        pass
+
+
+async def close_pipes(stdin: asyncio.StreamWriter, stdout: asyncio.StreamReader) -> None:
+    """Waits for the ends of pipes, so that none is open when the listener ends."""
+    for end in (stdin.wait_closed(), drain(stdout)):
+        with contextlib.suppress(
+            asyncio.TimeoutError, OSError
+        ):  # that a pipe broke was seen where replies are read
+            await asyncio.wait_for(end, LAST_WORDS)
+    await asyncio.sleep(0.01)
+
+
+async def first(*futures: asyncio.Future[Any]) -> None:
+    await asyncio.wait(futures, return_when=asyncio.FIRST_COMPLETED)
