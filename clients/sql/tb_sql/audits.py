@@ -1,0 +1,236 @@
+"""Reads the lines of `tbt audit`, and enters them."""
+
+from __future__ import annotations
+
+import json
+import os
+import select
+from typing import Any, Callable, Dict, Iterator, List, Optional, Union
+
+from .errors import Refused
+from .model import Books, Position, entry_hash
+from .postgres_store import PostgresStore
+from .sqlite_store import SqliteStore
+
+Store = Union[SqliteStore, PostgresStore]
+
+EVENTS_MAX = 20_000  # of a transaction, and those of the entry that reaches it
+IDLE = 0.2  # seconds without a line, after which what is whole is written
+CHUNK = 1 << 20
+ENTRY = b'{"commit":"'
+
+
+def lines_of(input: int) -> Iterator[Optional[bytes]]:
+    """The lines that come from a file's number, each with its end; None where none comes for a
+    while. The last one may lack its end."""
+    pieces: List[bytes] = []
+    while True:
+        if not select.select([input], [], [], IDLE)[0]:
+            yield None
+        data = os.read(input, CHUNK)
+        if not data:
+            break
+        *whole, rest = data.split(b"\n")
+        for line in whole:
+            pieces.append(line)
+            yield b"".join(pieces) + b"\n"
+            pieces.clear()
+        if rest:
+            pieces.append(rest)
+    if pieces:
+        yield b"".join(pieces)
+
+
+def store_of(name: str) -> Store:
+    """The database of this name: a URL of PostgreSQL, or a file."""
+    if name.startswith(("postgresql://", "postgres://")):
+        return PostgresStore(name)
+    return SqliteStore(name)
+
+
+class Loading:
+    """Enters what an audit says into a database, from where that is."""
+
+    def __init__(self, store: Store, until: Optional[int] = None) -> None:
+        self.store = store
+        self.until = until  # the last commit that is entered
+        self.entries = self.events = 0  # that were entered
+        self.line = 0
+        self._before = store.position()
+        self._books = Books(store, _copy(self._before)) if self._before else None
+        self._expired: List[Dict[str, Any]] = []
+        self._is_met = not self._before or self._before.commit_number == 0
+        self._has_begun = False
+
+    @property
+    def commit_number(self) -> int:
+        return self._books.position.commit_number if self._books else 0
+
+    @property
+    def is_done(self) -> bool:
+        """Says that the last commit that is wanted was entered."""
+        return self.until is not None and self.commit_number >= self.until
+
+    @property
+    def time(self) -> int:
+        return self._books.position.time if self._books else 0
+
+    def read(
+        self, lines: Iterator[Optional[bytes]], tell: Callable[[], None] = lambda: None
+    ) -> None:
+        """Enters lines to their end. What is whole is written, also where a line is cut off."""
+        is_cut = False
+        for line in lines:
+            if line is None:
+                self.write()
+            elif not line.endswith(b"\n"):
+                is_cut = True
+            else:
+                self.line += 1
+                self.take(line)
+                if self._books and self._books.changes.events >= EVENTS_MAX:
+                    self.write()
+                    tell()
+            if self.is_done:
+                break
+        self.write()
+        if is_cut:
+            raise Refused(f"the input ends within line {self.line + 1}")
+
+    def ended(self) -> None:
+        """Refuses a whole history that ends before the kept entries do."""
+        if not self._has_begun:
+            raise Refused("the input has no head: it is no audit of a dump")
+        if not self._is_met and self._before:
+            raise Refused(
+                f"this history ends before entry {self._before.commit_number}, the last one in "
+                f"{self.store.path}: it is another ledger's, or an older copy. {AGAIN}"
+            )
+
+    def again(self) -> None:
+        """Says that the next line is the first one of a history that was read before."""
+        self._has_begun, self._expired = False, []
+        self.line = 0
+        self._is_met = self.commit_number == 0
+
+    def write(self) -> None:
+        """Writes what was entered since the last time."""
+        books = self._books
+        if books is None or (self._before and not self._is_ahead(books)):
+            return
+        changes = books.take()
+        self.store.write(changes, books.position, self._before)
+        books.written(changes)
+        self._before = _copy(books.position)
+
+    def _is_ahead(self, books: Books) -> bool:
+        before = self._before
+        return before is None or (books.position.commit_number, books.position.profile) != (
+            before.commit_number,
+            before.profile,
+        )
+
+    def take(self, line: bytes) -> None:
+        """Enters a line, or the part of an entry that it is."""
+        if line.startswith(ENTRY):
+            commit = self._commit_of(line)
+            if commit < self.commit_number and not self._is_met:
+                self._has_begun, self._expired = True, []
+                return
+        shown = self._parsed(line)
+        try:
+            if "profile" in shown:
+                self._take_head(shown)
+            elif "expired" in shown:
+                self._expired.append(shown)
+            elif "events" in shown:
+                self._take_entry(shown)
+            elif "account" not in shown:
+                raise Refused(f"line {self.line}: no line of an audit: {line[:60]!r}")
+        except (KeyError, TypeError, ValueError):
+            raise Refused(f"line {self.line}: no line of an audit: {line[:60]!r}") from None
+
+    def _commit_of(self, line: bytes) -> int:
+        digits = line[len(ENTRY) : line.find(b'"', len(ENTRY))]
+        if not digits.isdigit() or len(digits) > 19:
+            raise Refused(f"line {self.line}: no line of an audit: {line[:60]!r}")
+        return int(digits)
+
+    def _parsed(self, line: bytes) -> Dict[str, Any]:
+        try:
+            shown = json.loads(line)
+        except ValueError:
+            shown = None
+        if not isinstance(shown, dict):
+            raise Refused(f"line {self.line}: no line of an audit: {line[:60]!r}")
+        return shown
+
+    def _take_head(self, shown: Dict[str, Any]) -> None:
+        if "clients_max" not in shown:
+            self._take_mark(shown)
+            return
+        head = json.dumps({it: shown[it] for it in ("profile", "clients_max")})
+        if self._has_begun:
+            raise Refused(f"line {self.line}: a second head: load one history at a time")
+        self._has_begun = True
+        if self._books is None:
+            self._books = Books(self.store, Position(head, int(shown["profile"])))
+        elif self._books.position.head != head:
+            raise Refused(
+                f"this is another ledger's history: its head is {head}, and that in "
+                f"{self.store.path} is {self._books.position.head}. {AGAIN}"
+            )
+
+    def _take_mark(self, shown: Dict[str, Any]) -> None:
+        if self._books is None:
+            raise Refused("the input has no head: it is no audit of a dump")
+        self._books.position.profile = int(shown["profile"])
+
+    def _take_entry(self, entry: Dict[str, Any]) -> None:
+        books, commit = self._books, int(entry["commit"])
+        if books is None:
+            raise Refused("the input has no head: it is no audit of a dump")
+        self._has_begun = True
+        expired, self._expired = self._expired, []
+        if commit == books.position.commit_number and not self._is_met:
+            self._meet(entry, commit)
+        elif commit != books.position.commit_number + 1:
+            raise Refused(
+                f"entry {commit} comes where entry {books.position.commit_number + 1} is next"
+            )
+        elif not self._is_met:
+            raise Refused(f"entry {commit - 1} is not in the input: it cannot be compared")
+        else:
+            books.enter(entry, expired)
+            self.entries += 1
+            self.events += len(entry["events"])
+
+    def _meet(self, entry: Dict[str, Any], commit: int) -> None:
+        """Compares the entry that was the last one with what is kept of it."""
+        before = self._before
+        if (
+            before is not None
+            and before.commit_number == commit
+            and before.hash != entry_hash(entry)
+        ):
+            raise Refused(
+                f"entry {commit} is another one than that in {self.store.path}: this is another "
+                f"ledger's history, or one that lost its end in a power loss. {AGAIN}"
+            )
+        self._is_met = True
+
+
+AGAIN = "Load it into a new database, or delete this one and load again: nothing is lost by that."
+
+
+def _copy(position: Position) -> Position:
+    return Position(
+        position.head,
+        position.profile,
+        position.commit_number,
+        position.time,
+        position.hash,
+        position.accounts,
+        position.transfers,
+        position.refused,
+    )

@@ -1,0 +1,185 @@
+"""The command tb-sql: its words, and what each does."""
+
+from __future__ import annotations
+
+import argparse
+import signal
+import sys
+import time
+from typing import Any, List, Optional
+
+from . import __version__
+from .audits import Loading, lines_of, store_of
+from .errors import Failed, Stop
+from .numbers import time_text
+from .sources import Ledger
+
+LOAD = """Reads an audit (`tbt audit`) from standard input, or a kept ledger's file, into tables.
+What the tables have already is passed over, so the same command goes on where the last one
+stopped. FILE is a file of SQLite, made where there is none, or a URL of PostgreSQL."""
+SERVE = """Shows the tables as pages, on the loopback interface alone, without writing."""
+CHECK = """Computes the balances again from the postings, and compares. With --server also asks a
+server for its accounts, which takes a session and an entry for each 8190 accounts."""
+STATUSES = """Exit status: 0 done; 1 a file, a program or a database failed, or a check found a
+difference; 2 the input or the words are wrong."""
+
+
+class Progress:
+    """Says on a terminal how far a load is, at most each half second."""
+
+    def __init__(self, loading: Loading, is_shown: bool) -> None:
+        self.loading = loading
+        self.is_shown = is_shown
+        self.began = self.last = time.monotonic()
+
+    def tell(self) -> None:
+        now = time.monotonic()
+        if self.is_shown and now - self.last >= 0.5:
+            self.last = now
+            speed = self.loading.events / (now - self.began)
+            print(
+                f"\r\x1b[Kcommit {self.loading.commit_number:,}: {self.loading.events:,} events, "
+                f"{speed:,.0f} a second",
+                end="",
+                file=sys.stderr,
+                flush=True,
+            )
+
+    def end(self) -> None:
+        if self.is_shown:
+            print("\r\x1b[K", end="", file=sys.stderr, flush=True)
+
+
+def load(given: argparse.Namespace) -> int:
+    """Loads, and says how far the tables are."""
+    if given.follow and not given.ledger:
+        raise_usage("--follow goes with --ledger; an audit on standard input is followed anyway")
+    ledger = Ledger(given.ledger, given.tbd, given.tbt) if given.ledger else None
+    store = store_of(given.file)
+    try:
+        loading = Loading(store)
+        progress = Progress(loading, sys.stderr.isatty() and not given.quiet)
+        try:
+            read(loading, ledger, given.follow, progress)
+        finally:
+            progress.end()
+    finally:
+        store.close()
+    if not given.quiet:
+        print(
+            f"entries {loading.entries:,}, events {loading.events:,}: they came to {store.path}; "
+            f"its last entry is {loading.commit_number:,}, at {time_text(loading.time)}"
+        )
+    return 0
+
+
+def read(loading: Loading, ledger: Optional[Ledger], follow: bool, progress: Progress) -> None:
+    """Reads the input to its end, or until a signal where it is followed."""
+    if ledger is None:
+        loading.read(lines_of(sys.stdin.fileno()), progress.tell)
+        loading.ended()
+    elif not follow:
+        if not ledger.read(loading, progress.tell):
+            raise Failed(
+                f"another process has {ledger.path} open: end it first, or wait by --follow"
+            )
+    else:
+        signal.signal(signal.SIGTERM, signal.default_int_handler)
+        try:
+            ledger.follow(loading, progress.tell)
+        except KeyboardInterrupt:
+            pass
+
+
+def raise_usage(words: str) -> None:
+    raise Usage(words)
+
+
+class Usage(Stop):
+    """The words of the command are wrong."""
+
+    status = 2
+
+
+def serve(given: argparse.Namespace) -> int:
+    """Serves the pages until a signal."""
+    from .pages.server import serve_pages
+
+    return serve_pages(given.file, given.port, given.ledger)
+
+
+def check(given: argparse.Namespace) -> int:
+    """Prints the first difference, or what was compared."""
+    from .checking import check_tables
+
+    return check_tables(given)
+
+
+def port(text: str) -> int:
+    if not text.isascii() or not text.isdigit() or int(text) > 65535:
+        raise argparse.ArgumentTypeError("a port is 0 to 65535")
+    return int(text)
+
+
+def add_ledger(parser: argparse.ArgumentParser, what: str) -> None:
+    parser.add_argument("--ledger", metavar="FILE", help=what)
+    parser.add_argument("--tbd", metavar="PROGRAM", help="the program tbd (or the variable TBD)")
+    parser.add_argument("--tbt", metavar="PROGRAM", help="the program tbt (or the variable TBT)")
+
+
+def words() -> argparse.ArgumentParser:
+    parser = argparse.ArgumentParser(
+        prog="tb-sql",
+        description="A ledger's history as tables: exact, and safe to delete and make again.",
+        epilog=STATUSES,
+    )
+    parser.add_argument("--version", action="version", version=f"tb-sql {__version__}")
+    commands = parser.add_subparsers(dest="command", required=True, metavar="COMMAND")
+    it = commands.add_parser(
+        "load", help="read a history into tables", description=LOAD, epilog=STATUSES
+    )
+    it.add_argument("file", metavar="FILE", help="a file of SQLite, or postgresql://..")
+    add_ledger(it, "the file of a kept ledger, in place of standard input")
+    it.add_argument("--follow", action="store_true", help="go on with what comes, until a signal")
+    it.add_argument("--quiet", action="store_true", help="print nothing but faults")
+    it.set_defaults(run=load)
+    it = commands.add_parser("serve", help="show the tables as pages", description=SERVE)
+    it.add_argument("file", metavar="FILE", help="a file of SQLite")
+    it.add_argument("--port", type=port, default=8642, help="the port on 127.0.0.1 (%(default)s)")
+    it.add_argument(
+        "--ledger", metavar="FILE", help="the kept ledger's file, to show when it last changed"
+    )
+    it.set_defaults(run=serve)
+    it = commands.add_parser(
+        "check", help="compute balances again", description=CHECK, epilog=STATUSES
+    )
+    it.add_argument("file", metavar="FILE", help="a file of SQLite")
+    it.add_argument("--server", metavar="ADDRESS", help="a Unix socket's path, or HOST:PORT")
+    it.add_argument(
+        "--wait",
+        type=float,
+        default=10.0,
+        metavar="SECONDS",
+        help="how long to wait for a load to reach the server's answer (%(default)g)",
+    )
+    add_ledger(it, "the server's file, to load what is later than the tables")
+    it.set_defaults(run=check)
+    return parser
+
+
+def main(arguments: Optional[List[str]] = None) -> int:
+    """Runs the command; its exit status."""
+    given: Any = words().parse_args(arguments)
+    try:
+        return int(given.run(given))
+    except Stop as stop:
+        print(f"tb-sql: {stop}", file=sys.stderr)
+        return stop.status
+    except BrokenPipeError:
+        sys.stderr.close()
+        return 1
+    except OSError as error:
+        print(f"tb-sql: {error}", file=sys.stderr)
+        return 1
+    except KeyboardInterrupt:
+        return 130

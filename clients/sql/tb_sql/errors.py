@@ -1,0 +1,19 @@
+"""What ends a command, each with its exit status."""
+
+
+class Stop(Exception):
+    """Ends a command with a line on standard error, and a status."""
+
+    status = 1
+
+
+class Failed(Stop):
+    """A file, a program or a database failed."""
+
+    status = 1
+
+
+class Refused(Stop):
+    """The input is wrong, or is not of this ledger."""
+
+    status = 2

@@ -1,0 +1,1 @@
+"""The tables as pages: read-only, on the loopback interface, without script."""

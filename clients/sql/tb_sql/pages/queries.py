@@ -1,0 +1,319 @@
+"""What the pages ask the tables. Each question takes a bounded number of steps through an index,
+whatever the history's length; only the trial balance looks at each account."""
+
+from __future__ import annotations
+
+import sqlite3
+from typing import Any, Dict, Iterator, List, NamedTuple, Optional, Tuple
+
+from ..numbers import Number
+from ..sqlite_store import check_schema, connect_read_only
+
+ROWS = 50  # of a page
+POINTS = 240  # of a chart of an account
+BARS = 48
+LAST = (1 << 63) - 1
+
+Row = sqlite3.Row
+
+
+class Range(NamedTuple):
+    """Times from the first one on, up to and without the last one."""
+
+    start: int = 0
+    end: int = LAST
+
+
+class Page(NamedTuple):
+    """Rows, the newest first, and where the pages next to it begin."""
+
+    rows: List[Row]
+    newer: Optional[int]
+    older: Optional[int]
+
+
+class Bar(NamedTuple):
+    """What was counted in a span of time."""
+
+    start: int
+    end: int
+    transfers: int
+    refused: int
+
+
+class Summary(NamedTuple):
+    """An account's postings within a range: the sums before it, and behind it."""
+
+    first: int
+    last: int
+    debits: int
+    credits: int
+    opening: int
+    closing: int
+
+
+class Tables:
+    """A connection for one request: all that it reads is of one moment."""
+
+    def __init__(self, path: str) -> None:
+        self._connection = connect_read_only(path)
+        self._connection.row_factory = sqlite3.Row
+        check_schema(self._connection, path)
+        self._connection.isolation_level = None
+        self._connection.execute("BEGIN")
+
+    def close(self) -> None:
+        self._connection.close()
+
+    def one(self, text: str, *values: Any) -> Optional[Row]:
+        row: Optional[Row] = self._connection.execute(text, values).fetchone()
+        return row
+
+    def all(self, text: str, *values: Any) -> List[Row]:
+        return self._connection.execute(text, values).fetchall()
+
+    def each(self, text: str, *values: Any) -> Tuple[List[str], Iterator[Row]]:
+        """The names of the columns, and the rows one after another."""
+        cursor = self._connection.execute(text, values)
+        return [it[0] for it in cursor.description], cursor
+
+    def position(self) -> Row:
+        row = self.one("SELECT * FROM position")
+        assert row is not None
+        return row
+
+    def counts(self) -> Dict[str, int]:
+        """How many accounts, transfers and refused events there are, and open pending transfers."""
+        row = self.one(
+            "SELECT accounts_so_far, transfers_so_far, refused_so_far FROM entries"
+            " ORDER BY commit_number DESC LIMIT 1"
+        )
+        pending = self.one("SELECT count(*) FROM transfers WHERE state = 'pending'")
+        assert pending is not None
+        accounts, transfers, refused = row or (0, 0, 0)
+        return {
+            "accounts": accounts,
+            "transfers": transfers,
+            "refused": refused,
+            "pending": pending[0],
+        }
+
+    def times(self) -> Tuple[int, int]:
+        """The first entry's time and the last one's."""
+        row = self.one("SELECT min(time), max(time) FROM entries")
+        return (row[0], row[1]) if row and row[0] is not None else (0, 0)
+
+    def trial_balance(self) -> List[Row]:
+        return self.all("SELECT * FROM trial_balance ORDER BY ledger")
+
+    def activity(self, range: Range) -> List[Bar]:
+        """Transfers and refused events by spans of time of one length."""
+        first, last = self.times()
+        start, end = max(range.start, first), min(range.end, last + 1)
+        if start >= end:
+            return []
+        step = max(1, -(-(end - start) // BARS))
+        bars, before = [], self._so_far(start)
+        while start < end:
+            after = self._so_far(start + step)
+            bars.append(Bar(start, start + step, after[0] - before[0], after[1] - before[1]))
+            start, before = start + step, after
+        return bars
+
+    def _so_far(self, time: int) -> Tuple[int, int]:
+        """Transfers and refused events of the entries before a time."""
+        row = self.one(
+            "SELECT transfers_so_far, refused_so_far FROM entries WHERE time < ?"
+            " ORDER BY time DESC LIMIT 1",
+            min(time, LAST),
+        )
+        return (row[0], row[1]) if row else (0, 0)
+
+    def refusals(self, limit: int = 100) -> List[Row]:
+        return self.all(
+            "SELECT * FROM refusals ORDER BY events DESC, operation, result LIMIT ?", limit
+        )
+
+    def account(self, id: Number) -> Optional[Row]:
+        return self.one("SELECT * FROM accounts WHERE id = ?", id)
+
+    def transfer(self, id: Number) -> Optional[Row]:
+        return self.one("SELECT * FROM transfers WHERE id = ?", id)
+
+    def entry(self, commit: int) -> Optional[Row]:
+        return self.one("SELECT * FROM entries WHERE commit_number = ?", commit)
+
+    def refused_by_id(self, id: Number) -> List[Row]:
+        return self.all(
+            "SELECT r.*, e.time FROM refused AS r JOIN entries AS e USING (commit_number)"
+            " WHERE r.id = ? ORDER BY commit_number DESC, place DESC LIMIT ?",
+            id,
+            ROWS,
+        )
+
+    def sessions_of(self, client: Number) -> List[Row]:
+        return self.all(
+            "SELECT DISTINCT s.* FROM entries AS e JOIN session_list AS s"
+            " ON s.session = e.commit_number WHERE e.client = ? AND e.operation = 'register'"
+            " ORDER BY s.session DESC LIMIT ?",
+            client,
+            ROWS,
+        )
+
+    def summary(self, id: Number, range: Range) -> Optional[Summary]:
+        """The account's postings within a range; nothing where there are none."""
+        within = "FROM postings WHERE account_id = ? AND timestamp >= ? AND timestamp < ?"
+        first = self.one(f"SELECT * {within} ORDER BY timestamp LIMIT 1", id, *range)
+        last = self.one(f"SELECT * {within} ORDER BY timestamp DESC LIMIT 1", id, *range)
+        if first is None or last is None:
+            return None
+        debits_before = int(first["debits_posted"]) - int(first["debit"])
+        credits_before = int(first["credits_posted"]) - int(first["credit"])
+        return Summary(
+            first["number"],
+            last["number"],
+            int(last["debits_posted"]) - debits_before,
+            int(last["credits_posted"]) - credits_before,
+            debits_before - credits_before,
+            int(last["balance"]),
+        )
+
+    def balance_before(self, id: Number, time: int) -> int:
+        """The posted balance before a time."""
+        row = self.one(
+            "SELECT balance FROM postings WHERE account_id = ? AND timestamp < ?"
+            " ORDER BY timestamp DESC LIMIT 1",
+            id,
+            time,
+        )
+        return int(row[0]) if row else 0
+
+    def statement(
+        self, id: Number, range: Range, before: Optional[int], after: Optional[int]
+    ) -> Page:
+        """A page of an account's postings."""
+        return self._page(
+            "SELECT * FROM postings WHERE account_id = ? AND {}", [id], range, before, after
+        )
+
+    def transfers(self, range: Range, before: Optional[int], after: Optional[int]) -> Page:
+        return self._page("SELECT * FROM transfers WHERE {}", [], range, before, after)
+
+    def accounts(self, ledger: Optional[int], before: Optional[int], after: Optional[int]) -> Page:
+        if ledger is None:
+            return self._page("SELECT * FROM accounts WHERE {}", [], Range(), before, after)
+        return self._page(
+            "SELECT * FROM accounts WHERE ledger = ? AND {}", [ledger], Range(), before, after
+        )
+
+    def _page(
+        self,
+        text: str,
+        values: List[Any],
+        range: Range,
+        before: Optional[int],
+        after: Optional[int],
+        key: str = "timestamp",
+    ) -> Page:
+        """A page of rows by a key: those before one of it, those after one, or the newest."""
+        start, end = range.start, range.end
+        if after is not None:
+            order, start = "ASC", max(start, after + 1)
+        else:
+            order, end = "DESC", min(end, before) if before is not None else end
+        asked = f"{text.format(f'{key} >= ? AND {key} < ?')} ORDER BY {key} {order} LIMIT ?"
+        rows = self.all(asked, *values, start, end, ROWS + 1)
+        is_more, rows = len(rows) > ROWS, rows[:ROWS]
+        if after is not None:
+            rows.reverse()
+        if not rows:
+            return Page([], None, None)
+        newest, oldest = rows[0][key], rows[-1][key]
+        is_newer = is_more if after is not None else before is not None
+        is_older = after is not None or is_more
+        return Page(rows, newest if is_newer else None, oldest if is_older else None)
+
+    def balances(self, id: Number, range: Range) -> Tuple[List[Tuple[int, int]], bool]:
+        """Points of an account's balance: each posting where there are few, else the last one
+        before each of some moments. Says whether each posting is among them."""
+        found = self.summary(id, range)
+        if found is None:
+            return [], True
+        within = "account_id = ? AND timestamp >= ? AND timestamp < ?"
+        if found.last - found.first < POINTS:
+            rows = self.all(
+                f"SELECT timestamp, balance FROM postings WHERE {within} ORDER BY timestamp",
+                id,
+                *range,
+            )
+            return [(it[0], int(it[1])) for it in rows], True
+        ends = self.one(
+            f"SELECT min(timestamp), max(timestamp) FROM postings WHERE {within}", id, *range
+        )
+        assert ends is not None
+        first, last = ends
+        points = []
+        for at in _moments(first, last):
+            row = self.one(
+                "SELECT timestamp, balance FROM postings WHERE account_id = ? AND timestamp <= ?"
+                " ORDER BY timestamp DESC LIMIT 1",
+                id,
+                at,
+            )
+            assert row is not None
+            points.append((at, int(row[1])))
+        return points, False
+
+    def pending_of(self, id: Number) -> List[Row]:
+        """The open pending transfers of an account, by expiry."""
+        of_account = "SELECT * FROM transfers WHERE state = 'pending' AND {}_account_id = ?"
+        return self.all(
+            f"SELECT * FROM ({of_account.format('debit')} UNION ALL {of_account.format('credit')})"
+            " ORDER BY expires_at IS NULL, expires_at, timestamp LIMIT ?",
+            id,
+            id,
+            ROWS,
+        )
+
+    def pending(self, limit: int) -> List[Row]:
+        """The open pending transfers that expire first."""
+        rows = self.all(
+            "SELECT * FROM transfers WHERE state = 'pending' AND expires_at IS NOT NULL"
+            " ORDER BY expires_at LIMIT ?",
+            limit,
+        )
+        if len(rows) < limit:
+            rows += self.all(
+                "SELECT * FROM transfers WHERE state = 'pending' AND expires_at IS NULL LIMIT ?",
+                limit - len(rows),
+            )
+        return rows
+
+    def refused(
+        self, operation: str, result: str, before: Optional[Tuple[int, int]]
+    ) -> Tuple[List[Row], Optional[Tuple[int, int]]]:
+        """Refused events of a reason, the latest first, and the place before which more are."""
+        rows = self.all(
+            "SELECT r.*, e.time FROM refused AS r JOIN entries AS e USING (commit_number)"
+            " WHERE r.operation = ? AND r.result = ? AND (r.commit_number, r.place) < (?, ?)"
+            " ORDER BY r.commit_number DESC, r.place DESC LIMIT ?",
+            operation,
+            result,
+            *(before or (LAST, 0)),
+            ROWS + 1,
+        )
+        if len(rows) <= ROWS:
+            return rows, None
+        last = rows[ROWS - 1]
+        return rows[:ROWS], (last["commit_number"], last["place"])
+
+    def sessions(self, before: Optional[int], after: Optional[int]) -> Page:
+        return self._page(
+            "SELECT * FROM session_list WHERE {}", [], Range(), before, after, key="session"
+        )
+
+
+def _moments(first: int, last: int) -> Iterator[int]:
+    """Moments at equal distances, the first and the last one among them."""
+    for at in range(POINTS + 1):
+        yield first + (last - first) * at // POINTS

@@ -1,0 +1,289 @@
+"""The tables and views, for SQLite and for PostgreSQL.
+
+In SQLite a column of numbers of 64 or 128 bits has no type: with one, digits of TEXT would become a
+REAL, and be rounded.
+"""
+
+from __future__ import annotations
+
+from typing import Callable, Dict, List
+
+SCHEMA = 1  # the number of these tables; another one is made again from the history
+
+# Each table: its columns, with their kinds, and what follows them.
+TABLES: Dict[str, List[str]] = {
+    "position": [
+        "one small PRIMARY KEY CHECK (one = 1)",
+        "schema small NOT NULL",
+        "head text NOT NULL",
+        "profile small NOT NULL",
+        "commit_number whole NOT NULL",
+        "time whole NOT NULL",
+        "hash text NOT NULL",
+    ],
+    "entries": [
+        "commit_number whole PRIMARY KEY",
+        "time whole NOT NULL UNIQUE",
+        "client wide NOT NULL",
+        "session whole NOT NULL",
+        "request whole NOT NULL",
+        "operation text NOT NULL",
+        "events small NOT NULL",
+        "refused small NOT NULL",
+        "accounts_so_far whole NOT NULL",
+        "transfers_so_far whole NOT NULL",
+        "refused_so_far whole NOT NULL",
+    ],
+    "sessions": [
+        "session whole PRIMARY KEY",
+        "client wide NOT NULL",
+        "requests whole NOT NULL",
+        "last_commit whole NOT NULL",
+        "evicted_by whole",
+    ],
+    "accounts": [
+        "timestamp whole PRIMARY KEY",
+        "id wide NOT NULL UNIQUE",
+        "debits_pending wide NOT NULL",
+        "debits_posted wide NOT NULL",
+        "credits_pending wide NOT NULL",
+        "credits_posted wide NOT NULL",
+        "user_data_128 wide NOT NULL",
+        "user_data_64 wide NOT NULL",
+        "user_data_32 whole NOT NULL",
+        "ledger whole NOT NULL",
+        "code small NOT NULL",
+        "flags small NOT NULL",
+        "postings whole NOT NULL",
+        "commit_number whole NOT NULL",
+    ],
+    "transfers": [
+        "timestamp whole PRIMARY KEY",
+        "id wide NOT NULL UNIQUE",
+        "debit_account_id wide NOT NULL",
+        "credit_account_id wide NOT NULL",
+        "amount wide NOT NULL",
+        "pending_id wide NOT NULL",
+        "user_data_128 wide NOT NULL",
+        "user_data_64 wide NOT NULL",
+        "user_data_32 whole NOT NULL",
+        "timeout whole NOT NULL",
+        "ledger whole NOT NULL",
+        "code small NOT NULL",
+        "flags small NOT NULL",
+        "commit_number whole NOT NULL",
+        "state text",
+        "expires_at whole",
+        "ended_at whole",
+        "ended_by wide",
+    ],
+    "postings": [
+        "account_id wide NOT NULL",
+        "timestamp whole NOT NULL",
+        "number whole NOT NULL",
+        "transfer_id wide NOT NULL",
+        "counterparty_id wide NOT NULL",
+        "debit wide NOT NULL",
+        "credit wide NOT NULL",
+        "debits_posted wide NOT NULL",
+        "credits_posted wide NOT NULL",
+        "balance wide NOT NULL",
+        "PRIMARY KEY (account_id, timestamp)",
+    ],
+    "refused": [
+        "commit_number whole NOT NULL",
+        "place small NOT NULL",
+        "operation text NOT NULL",
+        "result text NOT NULL",
+        "id wide NOT NULL",
+        "event text NOT NULL",
+        "PRIMARY KEY (commit_number, place)",
+    ],
+}
+# Rows of these lie in the order of their keys (SQLite).
+BY_KEY = ("postings", "refused")
+
+INDEXES = [
+    "CREATE INDEX accounts_by_ledger ON accounts(ledger)",
+    "CREATE INDEX entries_by_client ON entries(client)",
+    "CREATE INDEX pending_by_expiry ON transfers(expires_at) WHERE state = 'pending'",
+    "CREATE INDEX pending_by_debit ON transfers(debit_account_id) WHERE state = 'pending'",
+    "CREATE INDEX pending_by_credit ON transfers(credit_account_id) WHERE state = 'pending'",
+    "CREATE INDEX refused_by_id ON refused(id)",
+    "CREATE INDEX refused_by_reason ON refused(operation, result, commit_number)",
+]
+
+SUMS = ("debits_pending", "debits_posted", "credits_pending", "credits_posted")
+
+STATEMENT = """
+CREATE VIEW statement AS
+SELECT p.account_id, p.number, {time} AS time, p.counterparty_id, p.debit, p.credit, p.balance,
+    p.transfer_id, p.timestamp
+FROM postings AS p"""
+
+PENDING_TRANSFERS = """
+CREATE VIEW pending_transfers AS
+SELECT t.id, {expiry} AS expires, t.debit_account_id, t.credit_account_id, t.amount, t.ledger,
+    t.code, {time} AS time, t.expires_at, t.timestamp
+FROM transfers AS t WHERE t.state = 'pending'
+ORDER BY t.expires_at IS NULL, t.expires_at, t.timestamp"""
+
+REFUSALS = """
+CREATE VIEW refusals AS
+SELECT operation, result, count(*) AS events, min(commit_number) AS first_commit,
+    max(commit_number) AS last_commit
+FROM refused GROUP BY operation, result"""
+
+RETRIES = """
+CREATE VIEW retries AS
+SELECT r.id, r.operation, r.commit_number, r.place, {time} AS time
+FROM refused AS r JOIN entries AS e ON e.commit_number = r.commit_number
+WHERE r.result = 'exists'"""
+
+SESSION_LIST = """
+CREATE VIEW session_list AS
+SELECT s.session, s.client, {registered} AS registered, s.requests, s.last_commit, {last} AS last,
+    s.evicted_by, {evicted} AS evicted, e.time AS registered_at, l.time AS last_at,
+    v.time AS evicted_at
+FROM sessions AS s
+JOIN entries AS e ON e.commit_number = s.session
+JOIN entries AS l ON l.commit_number = s.last_commit
+LEFT JOIN entries AS v ON v.commit_number = s.evicted_by"""
+
+EVICTIONS = """
+CREATE VIEW evictions AS
+SELECT s.evicted_by AS commit_number, {evicted} AS time, s.session, s.client,
+    v.client AS by_client, s.requests, s.last_commit
+FROM sessions AS s JOIN entries AS v ON v.commit_number = s.evicted_by"""
+
+
+def _sqlite_time(column: str) -> str:
+    """The text of a time in nanoseconds, exact."""
+    return (
+        f"strftime('%Y-%m-%dT%H:%M:%S', {column} / 1000000000, 'unixepoch')"
+        f" || printf('.%09dZ', {column} % 1000000000)"
+    )
+
+
+def _postgres_time(column: str) -> str:
+    return (
+        f"to_char(to_timestamp({column} / 1000000000) AT TIME ZONE 'UTC',"
+        " 'YYYY-MM-DD\"T\"HH24:MI:SS')"
+        f" || '.' || lpad(({column} % 1000000000)::text, 9, '0') || 'Z'"
+    )
+
+
+LIMB = 10_000_000_000  # a part of a number: ten decimal digits
+
+
+def _limb(column: str, at: int) -> str:
+    """Ten digits of a number, the lowest ones at 0."""
+    if at > 1:
+        integer = "0"
+    else:
+        integer = f"{column} / {LIMB}" if at else f"{column} % {LIMB}"
+    text = f"CAST(substr({column}, {-10 * (at + 1)}, 10) AS INTEGER)"
+    return f"CASE typeof({column}) WHEN 'integer' THEN {integer} ELSE {text} END"
+
+
+def _sqlite_trial_balance() -> str:
+    """Sums of four limbs of ten digits each, and their carries: exact for sums of any length.
+    `sum` over TEXT would be a REAL, and over great INTEGERs an overflow."""
+    limbs = ",\n".join(
+        f"    sum({_limb(column, at)}) AS {column}_{at}" for column in SUMS for at in range(4)
+    )
+    carried, shown = [], []
+    for column in SUMS:
+        carry = f"{column}_0"
+        carried.append(f"    {column}_0 % {LIMB} AS {column}_0")
+        for at in range(1, 4):
+            carry = f"({column}_{at} + {carry} / {LIMB})"
+            digits = carry if at == 3 else f"{carry} % {LIMB}"
+            carried.append(f"    {digits} AS {column}_{at}")
+        low, next_one = f"{column}_0", f"{column}_1"
+        is_integer = (
+            f"{column}_3 = 0 AND {column}_2 = 0 AND ({next_one} < 922337203"
+            f" OR ({next_one} = 922337203 AND {low} <= 6854775807))"
+        )
+        text = f"ltrim(printf('%d%010d%010d%010d', {column}_3, {column}_2, {next_one}, {low}), '0')"
+        shown.append(
+            f"    CASE WHEN {is_integer}\n        THEN {next_one} * {LIMB} + {low}"
+            f" ELSE {text} END AS {column}"
+        )
+    return (
+        "CREATE VIEW trial_balance AS\nWITH limbs AS (SELECT ledger, count(*) AS accounts,\n"
+        + limbs
+        + "\nFROM accounts GROUP BY ledger), carried AS (SELECT ledger, accounts,\n"
+        + ",\n".join(carried)
+        + "\nFROM limbs), sums AS (SELECT ledger, accounts,\n"
+        + ",\n".join(shown)
+        + "\nFROM carried)\nSELECT *, debits_pending = credits_pending"
+        " AND debits_posted = credits_posted AS balances FROM sums"
+    )
+
+
+POSTGRES_TRIAL_BALANCE = (
+    "CREATE VIEW trial_balance AS SELECT ledger, count(*) AS accounts, "
+    + ", ".join(f"sum({it}) AS {it}" for it in SUMS)
+    + ", sum(debits_pending) = sum(credits_pending)"
+    " AND sum(debits_posted) = sum(credits_posted) AS balances FROM accounts GROUP BY ledger"
+)
+
+SQLITE_KINDS = {"small": "INTEGER", "whole": "INTEGER", "wide": "", "text": "TEXT"}
+POSTGRES_KINDS = {"small": "integer", "whole": "bigint", "wide": "numeric(39)", "text": "text"}
+
+
+def columns(table: str) -> List[str]:
+    """The names of a table's columns."""
+    return [it.split()[0] for it in TABLES[table] if not it.startswith("PRIMARY KEY")]
+
+
+def _column(column: str, kinds: Dict[str, str]) -> str:
+    if column.startswith("PRIMARY KEY"):
+        return column
+    name, kind, *rest = column.split()
+    return " ".join(it for it in (name, kinds[kind], *rest) if it)
+
+
+def _table(table: str, kinds: Dict[str, str]) -> str:
+    rows = ",\n    ".join(_column(it, kinds) for it in TABLES[table])
+    return f"CREATE TABLE {table} (\n    {rows}\n)"
+
+
+def _plain_views(shown: Callable[[str], str]) -> List[str]:
+    """The views that both have, by what shows a time."""
+    return [
+        STATEMENT.format(time=shown("p.timestamp")),
+        PENDING_TRANSFERS.format(time=shown("t.timestamp"), expiry=shown("t.expires_at")),
+        REFUSALS,
+        RETRIES.format(time=shown("e.time")),
+        SESSION_LIST.format(
+            registered=shown("e.time"), last=shown("l.time"), evicted=shown("v.time")
+        ),
+        EVICTIONS.format(evicted=shown("v.time")),
+    ]
+
+
+def sqlite_schema() -> List[str]:
+    """The statements that make the tables and views in SQLite."""
+    tables = [
+        _table(it, SQLITE_KINDS) + (" WITHOUT ROWID" if it in BY_KEY else "") for it in TABLES
+    ]
+    return [*tables, *INDEXES, _sqlite_trial_balance(), *_plain_views(_sqlite_time)]
+
+
+def postgres_schema() -> List[str]:
+    """The statements that make the tables and views in PostgreSQL."""
+    tables = [_table(it, POSTGRES_KINDS) for it in TABLES]
+    return [*tables, *INDEXES, POSTGRES_TRIAL_BALANCE, *_plain_views(_postgres_time)]
+
+
+VIEWS = (
+    "statement",
+    "trial_balance",
+    "pending_transfers",
+    "refusals",
+    "retries",
+    "session_list",
+    "evictions",
+)

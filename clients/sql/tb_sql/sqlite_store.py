@@ -1,0 +1,201 @@
+"""The tables in a file of SQLite."""
+
+from __future__ import annotations
+
+import os
+import pathlib
+import sqlite3
+from typing import Any, Iterable, List, Optional, Sequence, Tuple
+
+from .errors import Failed, Refused
+from .model import Account, Changes, OpenSession, PendingTransfer, Position
+from .numbers import Number, held
+from .schema import SCHEMA, TABLES, columns, sqlite_schema
+
+CACHE_KIB = 65_536
+PATIENCE = 30.0  # seconds, for another process that writes
+
+
+def connect_read_only(path: str) -> sqlite3.Connection:
+    """A connection that cannot write. Where its folder cannot be written either, the file is read
+    as one that nobody changes."""
+    if not os.path.exists(path):
+        raise Failed(f"there is no file {path}: tb-sql load makes it")
+    address = pathlib.Path(path).resolve().as_uri()
+    for mode in ("mode=ro", "immutable=1"):
+        try:
+            connection = sqlite3.connect(
+                f"{address}?{mode}", uri=True, timeout=PATIENCE, check_same_thread=False
+            )
+            connection.execute("PRAGMA query_only = 1")
+            connection.execute("SELECT 1 FROM sqlite_master").fetchone()
+            return connection
+        except sqlite3.DatabaseError as error:
+            fault = str(error)
+        if os.path.exists(f"{path}-wal"):
+            break
+    raise Failed(f"{path}: {fault}")
+
+
+def check_schema(connection: sqlite3.Connection, path: str) -> None:
+    """Refuses a database without these tables."""
+    try:
+        found = connection.execute("SELECT schema FROM position").fetchone()
+    except sqlite3.DatabaseError as error:
+        raise Refused(f"{path} is no database of tb-sql: {error}") from None
+    if found is None or found[0] != SCHEMA:
+        raise Refused(
+            f"{path} has the tables of another version: delete it, and load the history again"
+        )
+
+
+class SqliteStore:
+    """A file of SQLite that one process writes, while others read it."""
+
+    def __init__(self, path: str) -> None:
+        self.path = path
+        self.is_new = False
+        try:
+            self._connection = sqlite3.connect(path, timeout=PATIENCE, isolation_level=None)
+            self._connection.execute("PRAGMA journal_mode = WAL")
+            self._connection.execute("PRAGMA synchronous = NORMAL")
+            self._connection.execute(f"PRAGMA cache_size = -{CACHE_KIB}")
+            self._look()
+        except sqlite3.Error as error:
+            raise Failed(f"{path}: {error}") from None
+
+    def _look(self) -> None:
+        tables = self._connection.execute("SELECT name FROM sqlite_master WHERE type = 'table'")
+        names = {name for (name,) in tables}
+        self.is_new = not names
+        if not self.is_new:
+            check_schema(self._connection, self.path)
+
+    def close(self) -> None:
+        self._connection.close()
+
+    def position(self) -> Optional[Position]:
+        """How far the tables are; nothing where there are none."""
+        if self.is_new:
+            return None
+        row = self._connection.execute(
+            "SELECT head, profile, commit_number, time, hash FROM position"
+        ).fetchone()
+        sums = self._connection.execute(
+            "SELECT accounts_so_far, transfers_so_far, refused_so_far FROM entries"
+            " ORDER BY commit_number DESC LIMIT 1"
+        ).fetchone()
+        return Position(*row, *(sums or (0, 0, 0)))
+
+    def account(self, id: Number) -> Optional[Account]:
+        row = self._connection.execute(
+            "SELECT debits_pending, debits_posted, credits_pending, credits_posted, flags, postings"
+            " FROM accounts WHERE id = ?",
+            (id,),
+        ).fetchone()
+        return Account(id, None, *map(int, row)) if row else None
+
+    def pending_transfer(self, id: Number) -> Optional[PendingTransfer]:
+        row = self._connection.execute(
+            "SELECT amount, debit_account_id, credit_account_id, flags FROM transfers"
+            " WHERE id = ? AND state = 'pending'",
+            (id,),
+        ).fetchone()
+        return PendingTransfer(int(row[0]), *row[1:]) if row else None
+
+    def open_sessions(self) -> List[OpenSession]:
+        if self.is_new:
+            return []
+        rows = self._connection.execute(
+            "SELECT session, client, requests, last_commit FROM sessions WHERE evicted_by IS NULL"
+        )
+        return [OpenSession(*row) for row in rows]
+
+    def write(self, changes: Changes, position: Position, before: Optional[Position]) -> None:
+        """Writes rows and the position that they lead to, in one transaction."""
+        try:
+            self._connection.execute("BEGIN IMMEDIATE")
+            try:
+                self._write(changes, position, before)
+                self._connection.execute("COMMIT")
+            except BaseException:
+                if self._connection.in_transaction:
+                    self._connection.execute("ROLLBACK")
+                raise
+        except sqlite3.Error as error:
+            raise Failed(f"{self.path}: {error}") from None
+        self.is_new = False
+
+    def _write(self, changes: Changes, position: Position, before: Optional[Position]) -> None:
+        if before is None:
+            for statement in sqlite_schema():
+                self._connection.execute(statement)
+        self._move(position, before)
+        for account in changes.changed.values():
+            if account.row is not None:
+                account.row[2:6] = _sums(account)
+                account.row[11:13] = account.flags, account.postings
+        self._insert("entries", changes.entries)
+        self._insert("accounts", changes.accounts)
+        self._insert("transfers", changes.transfers)
+        self._insert("postings", changes.postings)
+        self._insert("refused", changes.refused)
+        self._connection.executemany(
+            "UPDATE accounts SET debits_pending = ?, debits_posted = ?, credits_pending = ?,"
+            " credits_posted = ?, flags = ?, postings = ? WHERE id = ?",
+            (
+                (*_sums(it), it.flags, it.postings, it.id)
+                for it in changes.changed.values()
+                if it.row is None
+            ),
+        )
+        self._connection.executemany(
+            "UPDATE transfers SET state = ?, ended_at = ?, ended_by = ? WHERE id = ?", changes.ended
+        )
+        self._connection.executemany(
+            "INSERT INTO sessions VALUES (?, ?, ?, ?, NULL) ON CONFLICT (session) DO UPDATE"
+            " SET requests = excluded.requests, last_commit = excluded.last_commit",
+            (
+                (it.session, it.client, it.requests, it.last_commit)
+                for it in changes.sessions.values()
+            ),
+        )
+        self._connection.executemany(
+            "UPDATE sessions SET evicted_by = ? WHERE session = ?", changes.evicted
+        )
+
+    def _move(self, position: Position, before: Optional[Position]) -> None:
+        row = (position.profile, position.commit_number, position.time, position.hash)
+        if before is None:
+            self._connection.execute(
+                "INSERT INTO position VALUES (1, ?, ?, ?, ?, ?, ?)", (SCHEMA, position.head, *row)
+            )
+            return
+        moved = self._connection.execute(
+            "UPDATE position SET profile = ?, commit_number = ?, time = ?, hash = ?"
+            " WHERE commit_number = ? AND hash = ?",
+            (*row, before.commit_number, before.hash),
+        )
+        if moved.rowcount != 1:
+            raise Failed(f"{self.path}: another load writes to it")
+
+    def _insert(self, table: str, rows: Iterable[Sequence[Any]]) -> None:
+        places = ", ".join("?" * len(columns(table)))
+        self._connection.executemany(f"INSERT INTO {table} VALUES ({places})", rows)
+
+
+def _sums(account: Account) -> Tuple[Number, Number, Number, Number]:
+    return (
+        held(account.debits_pending),
+        held(account.debits_posted),
+        held(account.credits_pending),
+        held(account.credits_posted),
+    )
+
+
+def contents(connection: sqlite3.Connection) -> List[Tuple[str, List[Any]]]:
+    """All rows of all tables, in the order of their keys: equal for equal databases."""
+    return [
+        (table, connection.execute(f"SELECT * FROM {table} ORDER BY 1, 2").fetchall())
+        for table in TABLES
+    ]

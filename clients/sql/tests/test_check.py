@@ -1,0 +1,108 @@
+"""The check: what is right passes, and each kind of fault is found."""
+
+import unittest
+
+from support import Tables  # noqa: I001
+from audits import MAX, Audit, account, transfer
+from test_load import history
+
+
+class Check(Tables):
+    def setUp(self):
+        super().setUp()
+        self.load(history())
+
+    def found(self, *changes):
+        for text in changes:
+            self.change(text)
+        status, out, said = self.said("check", self.path)
+        self.assertEqual((status, out), (1, ""), said)
+        self.assertEqual(said.count("\n"), 1)
+        return said
+
+    def test_right(self):
+        status, out, said = self.said("check", self.path)
+        self.assertEqual((status, said), (0, ""))
+        self.assertIn("8 accounts of 1 ledgers are the sums of 80 postings", out)
+
+    def test_great_amounts(self):
+        path = str(self.room / "great.sqlite")
+        audit = Audit().register().accounts(account(1), account(MAX - 1))
+        self.load(audit.transfers(transfer(5, 1, MAX - 1, MAX)), path)
+        self.assertEqual(self.said("check", path)[0], 0)
+
+    def test_sums(self):
+        self.assertIn(
+            "account 3: debits_posted: ",
+            self.found("UPDATE accounts SET debits_posted =" " debits_posted + 1 WHERE id = 3"),
+        )
+
+    def test_pending_sums(self):
+        self.assertIn(
+            "account 2: credits_pending: ",
+            self.found("UPDATE accounts SET credits_pending = 999" " WHERE id = 2"),
+        )
+
+    def test_running_sums(self):
+        self.assertIn(
+            "account 1, posting 2: ",
+            self.found(
+                "UPDATE postings SET balance = balance + 1 WHERE" " account_id = 1 AND number = 2"
+            ),
+        )
+
+    def test_lost_posting(self):
+        self.assertIn(
+            "its postings are not of its amount",
+            self.found("DELETE FROM postings WHERE account_id = 1 AND number = 3"),
+        )
+
+    def test_posting_of_another_amount(self):
+        self.assertIn(
+            "transfer 1000: its postings",
+            self.found("UPDATE transfers SET amount = amount + 1" " WHERE id = 1000"),
+        )
+
+    def test_state(self):
+        """A transfer that expired, and is pending in the tables."""
+        self.assertIn(
+            "_pending: ",
+            self.found("UPDATE transfers SET state = 'pending' WHERE state = 'expired'")
+            if self.rows("SELECT 1 FROM transfers WHERE state = 'expired'")
+            else self.found("UPDATE transfers SET state = 'pending' WHERE state = 'voided'"),
+        )
+
+    def test_limits(self):
+        self.assertIn("exceed its credits", self.found("UPDATE accounts SET flags = 2"))
+
+    def test_other_limit(self):
+        self.assertIn("exceed its debits", self.found("UPDATE accounts SET flags = 4"))
+
+    def test_ledgers(self):
+        self.assertIn("debits posted", self.found("UPDATE accounts SET ledger = 5 WHERE id = 4"))
+
+    def test_entries(self):
+        self.assertIn(
+            "the entry behind 4: 6", self.found("DELETE FROM entries WHERE" " commit_number = 5")
+        )
+
+    def test_lost_transfer(self):
+        self.assertIn(
+            "created records",
+            self.found("DELETE FROM transfers WHERE id = 2005"),
+        )
+
+    def test_position(self):
+        self.assertIn("the last entry", self.found("UPDATE position SET commit_number = 3"))
+
+    def test_closed(self):
+        path = str(self.room / "closed.sqlite")
+        audit = Audit().register().accounts(account(1), account(2))
+        self.load(audit.transfers(transfer(5, 1, 2, 1, ["pending", "closing_debit"])), path)
+        self.assertEqual(self.said("check", path)[0], 0)
+        self.path = path
+        self.assertIn("account 1: a closing", self.found("UPDATE accounts SET flags = 0"))
+
+
+if __name__ == "__main__":
+    unittest.main()
