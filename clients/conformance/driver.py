@@ -12,23 +12,55 @@ from certificates import server_context
 from runner import Ended
 from server import Connections, Failed, Server
 
-CALL = 15.0  # seconds that a call may take
+CALL = 60.0  # seconds that a call may take
+HASTE = 5.0  # seconds: a client's limit below that is one that its scenario means to be reached
+TIMES = ("timeout", "within", "pause", "at_least", "at_most", "not_before", "wait")
 
 
 class Skipped(Exception):
     """The client has no such feature."""
 
 
+def slower(value, factor):
+    """The same steps with all times so many times as long."""
+    if isinstance(value, dict):
+        return {
+            key: it * factor if key in TIMES and is_time(it) else slower(it, factor)
+            for key, it in value.items()
+        }
+    return [slower(it, factor) for it in value] if isinstance(value, list) else value
+
+
+def is_time(value):
+    return isinstance(value, (int, float)) and not isinstance(value, bool)
+
+
+def is_timed(value):
+    """Whether some steps have a limit that a right client may miss on a computer that is busy."""
+    if isinstance(value, dict):
+        limits = [value.get(it) for it in ("timeout", "within")]
+        is_short = any(is_time(it) and 0 < it < HASTE for it in limits)
+        return is_short or "at_most" in value or any(map(is_timed, value.values()))
+    return isinstance(value, list) and any(map(is_timed, value))
+
+
 class Run:
-    """One scenario with one runner."""
+    """One scenario with one runner, with times that are `factor` times as long."""
 
     def __init__(self, scenario, begins, runner, features, over, certificates):
-        self.scenario, self.begins, self.runner = scenario, begins, runner
+        self.scenario, self.runner = scenario, runner
+        self.all_steps = [
+            *(step for name in scenario.get("begin", ()) for step in begins[name]),
+            *scenario["steps"],
+        ]
         self.features, self.over, self.certificates = features, over, certificates
-        self.unrepresentable = 0
-        self.was_killed = False
 
-    def run(self):
+    @property
+    def is_timed(self):
+        return is_timed(self.all_steps)
+
+    def run(self, factor=1):
+        self.unrepresentable, self.was_killed = 0, False
         for feature in self.scenario.get("needs", ()):
             if feature not in self.features:
                 raise Skipped(feature)
@@ -46,14 +78,13 @@ class Run:
                 if kinds[name].get("listens") is False:
                     servers[name].unlisten()
             try:
-                self.steps()
+                self.steps(slower(self.all_steps, factor))
             finally:
                 self.connections.close()
         return self.unrepresentable
 
-    def steps(self):
-        steps = [step for name in self.scenario.get("begin", ()) for step in self.begins[name]]
-        for place, step in enumerate([*steps, *self.scenario["steps"]], 1):
+    def steps(self, steps):
+        for place, step in enumerate(steps, 1):
             try:
                 self.step(step)
                 self.connections.nothing_left()

@@ -8,6 +8,9 @@
 Prints a line for each scenario that fails, what was passed over, and 'N passed, M failed, K passed
 over'. Status 0 where none failed, 1 where one did, 2 where the runner does not start or the words
 are wrong.
+
+A scenario whose client has to keep a short limit is tried again with times that are longer, where
+it fails: on a busy computer a right client may miss it, and a wrong one misses the longer one too.
 """
 import argparse
 import fnmatch
@@ -22,10 +25,11 @@ import time
 
 sys.dont_write_bytecode = True
 HERE = os.path.dirname(os.path.abspath(__file__))
+FACTORS = (1, 5, 25)  # how many times as long the times of a timed scenario are at each try
 sys.path.insert(0, HERE)
 
 import certificates  # noqa: E402
-from driver import Run, Skipped  # noqa: E402
+from driver import CALL, Run, Skipped  # noqa: E402
 from runner import Ended, Runner  # noqa: E402
 from server import Failed  # noqa: E402
 
@@ -50,7 +54,7 @@ class Kit:
     def __init__(self, given, begins, paths):
         self.given, self.begins, self.paths = given, begins, paths
         self.lock, self.work = threading.Lock(), queue.Queue()
-        self.passed = self.unrepresentable = 0
+        self.passed = self.unrepresentable = self.repeated = 0
         self.failed, self.skipped = [], {}
 
     def worker(self):
@@ -83,9 +87,9 @@ class Kit:
         features = set(hello["features"]) - ({"tls"} if not self.paths else set())
         over = self.given.over or ("unix" if "unix" in features else "tcp")
         run = Run(scenario, self.begins, runner, features, over, self.paths)
+        factors = FACTORS if run.is_timed else FACTORS[:1]
         try:
-            runner.call({"do": "reset"}, 15)
-            count = run.run()
+            count = self.tried(run, runner, factors)
         except Skipped as feature:
             with self.lock:
                 self.skipped.setdefault(str(feature), []).append(scenario["name"])
@@ -102,6 +106,20 @@ class Kit:
             if self.given.verbose:
                 print(f"ok: {scenario['name']}", flush=True)
         return True
+
+    def tried(self, run, runner, factors):
+        """Runs a scenario by one factor after another, until it passes. The last one's failure
+        counts."""
+        for factor in factors:
+            try:
+                runner.call({"do": "reset"}, CALL)
+                return run.run(factor)
+            except (Failed, Ended):
+                if factor == factors[-1]:
+                    raise
+                with self.lock:
+                    self.repeated += 1
+                runner.start()
 
     def fail(self, name, why, said=""):
         with self.lock:
@@ -192,6 +210,8 @@ def report(kit, said, chosen, seconds):
         )
     if kit.unrepresentable:
         print(f"{kit.unrepresentable} values are refused by the types of {said.get('language')}")
+    if kit.repeated:
+        print(f"tried again with longer times: {kit.repeated}")
     skipped = sum(map(len, kit.skipped.values()))
     if kit.passed + len(kit.failed) + skipped != chosen and not kit.given.first:
         print(f"FAILED: {chosen} scenarios were to run")

@@ -244,6 +244,11 @@ class Money:
             self.listening.kill()
 
 
+def server_name(command):
+    """The name of the program or script that a server's command ends in."""
+    return os.path.basename(shlex.split(command)[-1])
+
+
 def words():
     default = TBD if os.access(TBD, os.X_OK) else STAND_IN
     parser = argparse.ArgumentParser(
@@ -286,8 +291,7 @@ def main():
     killed = ", ".join(f"the {kind} {count} times" for kind, count in money.killed.items())
     print(f"killed: {killed}")
     print(
-        f"{money.made} transfers moved {money.total}, each once"
-        f" ({'tbd' if given.server != STAND_IN else 'the stand-in of tbd'})"
+        f"{money.made} transfers moved {money.total}, each once, over {server_name(given.server)}"
     )
     return 0
 

@@ -8,6 +8,9 @@ import subprocess
 import time
 
 
+START = 120.0  # seconds that a runner may take to start, and to end
+
+
 class Ended(Exception):
     """The runner ended, or gave no answer."""
 
@@ -33,7 +36,7 @@ class Runner:
                 start_new_session=True,
             )
         self.buffer = b""
-        return self.call({"do": "hello"}, 30)
+        return self.call({"do": "hello"}, START)
 
     def send(self, line):
         try:
@@ -82,7 +85,7 @@ class Runner:
         """Ends its input, and gives back its status."""
         self.process.stdin.close()
         try:
-            status = self.process.wait(20)
+            status = self.process.wait(START)
         except subprocess.TimeoutExpired:
             self.kill()
             return None

@@ -9,7 +9,7 @@ import time
 
 HEADER = 48
 FIN_WAIT1 = 4  # the state of a TCP connection whose end the other side has not taken yet
-PATIENCE = 5.0  # seconds that the client may take for what is waited for
+PATIENCE = 20.0  # seconds that the client may take for what is waited for
 
 
 class Failed(Exception):
@@ -80,7 +80,7 @@ class Connections:
     def __init__(self, servers, frames, kill):
         self.servers, self.frames, self.kill = servers, frames, kill
         self.open, self.last = {}, {}
-        self.at = time.monotonic()
+        self.sent_at = time.monotonic()  # when the last `send` began
         # servers whose further connections are no fault: who is refused calls again
         self.ignored = ()
 
@@ -88,7 +88,6 @@ class Connections:
         for action in actions:
             (verb,) = [key for key in action if hasattr(self, f"do_{key}")]
             getattr(self, f"do_{verb}")(action[verb], action)
-            self.at = time.monotonic()
 
     def bytes_of(self, text):
         """Bytes by the name of a frame, or as hex, or as text behind `text:`. A frame of many items
@@ -116,7 +115,7 @@ class Connections:
         it = server.accept(action.get("within", PATIENCE))
         if it is None:
             raise Failed(f"no connection came to server {server.name} within {PATIENCE:g} s")
-        early = action.get("not_before", 0) - (time.monotonic() - self.at)
+        early = action.get("not_before", 0) - (time.monotonic() - self.sent_at)
         if early > 0:
             it.close()
             raise Failed(f"a connection came {early:.3f} s too early")
@@ -223,7 +222,7 @@ class Connections:
             raise Failed(
                 f"the connection broke after {len(data)} of {count} bytes: {error}"
             ) from None
-        early = action.get("not_before", 0) - (time.monotonic() - self.at)
+        early = action.get("not_before", 0) - (time.monotonic() - self.sent_at)
         if early > 0:
             raise Failed(f"bytes came {early:.3f} s too early")
         return data
@@ -232,6 +231,7 @@ class Connections:
         """Sends bytes: in pieces where `cuts` has places, after the client of the last request
         where `client` says so."""
         data, it = self.bytes_of(text), self.connection(action)
+        self.sent_at = time.monotonic()
         if action.get("client"):
             data = self.last[action.get("on", "c")][:16] + data[16:]
         places = [0, *action.get("cuts", ()), len(data)]

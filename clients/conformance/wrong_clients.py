@@ -21,6 +21,8 @@ sys.dont_write_bytecode = True
 HERE = os.path.dirname(os.path.abspath(__file__))
 PYTHON = os.path.join(os.path.dirname(HERE), "python")
 
+SECONDS = 1800  # that the kit may take for one wrong client
+
 # Each: what is wrong, the file, the text that stands there once, and the text in its place.
 WRONG = {
     "a new number for each retry": (
@@ -117,6 +119,11 @@ WRONG = {
         "            except OSError as error:\n                self._lose()\n",
         "            except OSError as error:\n                if not isinstance(error, "
         "socket.timeout):\n                    self._lose()\n",
+    ),
+    "each byte of a reply puts the limit off": (
+        "sockets.py",
+        "            self._wait(it, deadline)\n",
+        "            self._wait(it, time.monotonic() + self.timeout)\n",
     ),
     "a connection that was closed is not looked at": (
         "sockets.py",
@@ -264,7 +271,7 @@ def caught(edits, jobs):
             "--",
             *runner,
         ]
-        ran = subprocess.run(words, capture_output=True, text=True, timeout=600)
+        ran = subprocess.run(words, capture_output=True, text=True, timeout=SECONDS)
     first = re.search(r"^FAILED: ([^:]+): (.*)", ran.stdout, re.M)
     return (
         ran.returncode,

@@ -20,6 +20,8 @@ import tempfile
 HERE = os.path.dirname(os.path.abspath(__file__))
 KIT = os.path.join(os.path.dirname(HERE), "conformance", "kit.py")
 
+SECONDS = 1800  # that one command may take for one wrong client
+
 # Each: what is wrong, the file, the text that is there once, and the text in its place.
 WRONG = {
     "a new number for each retry": (
@@ -200,7 +202,7 @@ def built(folder, edits):
             it.write(text.replace(old, new))
     runner = os.path.join(folder, "runner")
     words = ["go", "build", "-p", "1", "-o", runner, "./internal/conformance"]
-    ran = subprocess.run(words, cwd=copy, capture_output=True, text=True, timeout=600)
+    ran = subprocess.run(words, cwd=copy, capture_output=True, text=True, timeout=SECONDS)
     if ran.returncode:
         raise LookupError(f"it does not build: {ran.stderr.strip()}")
     return runner
@@ -211,7 +213,7 @@ def caught(edits, over):
     with tempfile.TemporaryDirectory() as folder:
         words = [sys.executable, "-B", KIT, "--first", "--jobs", "1", "--over", over]
         ran = subprocess.run(
-            [*words, "--", built(folder, edits)], capture_output=True, text=True, timeout=900
+            [*words, "--", built(folder, edits)], capture_output=True, text=True, timeout=SECONDS
         )
     first = re.search(r"^FAILED: ([^:]+): (.*)", ran.stdout, re.M)
     said = f"{first[1]}: {first[2][:100]}" if first else (ran.stdout + ran.stderr)[-300:]

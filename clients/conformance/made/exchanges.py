@@ -4,8 +4,10 @@ from .frames import (
     TABLE,
     ACCOUNTS,
     FIND_ACCOUNTS,
+    LONG,
     LOST,
     NAMES,
+    SHORT,
     TRANSFERS,
     accept,
     account,
@@ -237,10 +239,10 @@ def late():
         sale(
             [
                 read(ASKED),
-                *[it for at in range(8) for it in (send(DONE[at : at + 1]), {"wait": 0.1})],
+                *[it for at in range(20) for it in (send(DONE[at : at + 1]), {"wait": 0.1})],
             ],
             LOST,
-            at_most=2.0,
+            at_most=1.5,
         ),
         saved(0, ASKED),
         begin="hurried-once",
@@ -688,7 +690,7 @@ def addresses():
     def at(name, server):
         return accept(name, server=server)
 
-    def begun(server, timeout=1.0, **more):
+    def begun(server, timeout=LONG, **more):
         return [
             connect(servers=three, timeout=timeout),
             {"call": register, "server": server, "wants": answer, **more},
@@ -724,7 +726,7 @@ def addresses():
     yield scenario(
         "addresses-none",
         "None listens: CannotConnect after the timeout, and nothing was sent.",
-        connect(servers=three, timeout=0.3),
+        connect(servers=three, timeout=SHORT),
         {
             "call": register,
             "wants": error("CannotConnect", sent=False),
@@ -784,7 +786,7 @@ def addresses():
     yield scenario(
         "addresses-late",
         "No reply in time: the next address.",
-        begun(first, timeout=0.3),
+        begun(first, timeout=SHORT),
         sale([read(ASKED), {"ended": "c"}, at("d", "b"), *served(ASKED, DONE, "d")]),
         saved(1),
         begin=None,

@@ -195,7 +195,10 @@ NOTHING = {
 # Steps
 
 
-def connect(name="t", servers=("a",), timeout=1.0, tls=None):
+LONG, SHORT = 20.0, 0.3  # seconds for one sending: never reached, and reached by its scenario
+
+
+def connect(name="t", servers=("a",), timeout=LONG, tls=None):
     call = {
         "do": "connect",
         "transport": name,
@@ -205,7 +208,7 @@ def connect(name="t", servers=("a",), timeout=1.0, tls=None):
     return {"call": {**call, "tls": tls} if tls else call}
 
 
-def begins(attempts=2, pause=0.01, timeout=1.0, servers=("a",)):
+def begins(attempts=2, pause=0.01, timeout=LONG, servers=("a",)):
     """The steps after which client 7 has session 1, over connection c."""
     call = {
         "do": "register",
@@ -228,9 +231,9 @@ BEGINS = {
     "registered-once": begins(attempts=1),
     "registered-thrice": begins(attempts=3, pause=0.1),
     "registered-four": begins(attempts=4),
-    "patient": begins(pause=2.0),
-    "hurried": begins(timeout=0.3),
-    "hurried-once": begins(attempts=1, timeout=0.3),
+    "patient": begins(pause=30.0),
+    "hurried": begins(timeout=SHORT),
+    "hurried-once": begins(attempts=1, timeout=SHORT),
 }
 
 

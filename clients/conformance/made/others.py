@@ -1,6 +1,8 @@
 """Ids, TLS, and the caller's own limits."""
 from .frames import (
     FIND_ACCOUNTS,
+    LONG,
+    SHORT,
     TRANSFERS,
     accept,
     account,
@@ -164,7 +166,7 @@ def tls():
         row = one(
             name,
             says,
-            connect(tls=given, timeout=0.4),
+            connect(tls=given, timeout=SHORT),
             {
                 "call": call,
                 "server": [{"accept": "c", "handshake": handshake}],
@@ -266,7 +268,7 @@ def tls():
     yield scenario(
         "tls-plain-server",
         "The server speaks no TLS: no byte of a request goes to it in the clear.",
-        connect(tls=ca, timeout=0.4),
+        connect(tls=ca, timeout=SHORT),
         {
             "call": {
                 "do": "register",
@@ -301,7 +303,7 @@ def cancelled():
                 [read(ASKED), {"ended": "c"}],
                 error("Cancelled"),
                 at_least=0.15,
-                at_most=3.0,
+                at_most=10.0,
             ),
             0.2,
         ),
@@ -314,7 +316,7 @@ def cancelled():
         "cancelled-retry",
         "So it is with a retry.",
         prepare(TRANSFERS, SALE),
-        within(retry([read(ASKED), {"ended": "c"}], error("Cancelled"), at_most=3.0), 0.2),
+        within(retry([read(ASKED), {"ended": "c"}], error("Cancelled"), at_most=10.0), 0.2),
         saved(0, ASKED),
         retry([accept("d"), *served(ASKED, DONE, "d")], OK),
         saved(1),
@@ -330,7 +332,7 @@ def cancelled():
                 SALE,
                 [accept(), send(told("Busy")), {"half": "c"}, {"drain": "c", "of": ASKED.hex()}],
                 error(["Cancelled", "Busy"]),
-                at_most=0.9,
+                at_most=10.0,
             ),
             0.3,
         ),
@@ -342,13 +344,13 @@ def cancelled():
         "cancelled-unreachable",
         "And a connecting.",
         {"server": [{"close": "c"}, {"unlisten": "a"}]},
-        within(ask(TRANSFERS, SALE, (), error(["Cancelled", "CannotConnect"]), at_most=0.9), 0.2),
+        within(ask(TRANSFERS, SALE, (), error(["Cancelled", "CannotConnect"]), at_most=10.0), 0.2),
         needs=["cancel"],
     )
     yield scenario(
         "not-cancelled",
         "A call that ends in time is not touched.",
-        within(ask(TRANSFERS, SALE, served(ASKED, DONE)), 2.0),
+        within(ask(TRANSFERS, SALE, served(ASKED, DONE)), LONG),
         saved(1),
         ask(
             FIND_ACCOUNTS,
