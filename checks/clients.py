@@ -1,16 +1,17 @@
 #!/usr/bin/env python3
 """Runs the tests of each client, the conformance kit over each, money that moves amid kills, and
-what the clients' page shows.
+what the clients' pages show.
 
     (cd crates/tbs && rt run -- run 2) < examples/first.script > /dev/null
     checks/clients.py [--only PART ..] [--kills N]
 
 The parts are one for each language that has a clients/*/conformance.json (its build, its tests,
-the kit, and the money), kit (the scenarios as data, and the wrong clients), types, examples (on the
-built tbs) and pages (what the page and the README show). A language that is not installed is passed
-over by name. Prints a line for each case, and 'N passed, M failed'. PROGRAM names another tbs, TBD
-another tbd. Where no tbd is built, clients/python/stand_in_tbd.py is in its place. Where mypy is
-not there, no types are checked.
+the kit, and the money), wrong (the wrong clients of each language, which the kit has to catch),
+scenarios (those that are there are those that are made), types, examples (on the built tbs) and
+pages (what the page and the README show). A language that is not installed is passed over by name.
+Prints a line for each case, and 'N passed, M failed'. PROGRAM names another tbs, TBD another tbd.
+Where no tbd is built, clients/python/stand_in_tbd.py is in its place. Where mypy is not there, no
+types are checked.
 """
 import argparse
 import glob
@@ -33,6 +34,7 @@ CLIENT = f"{TOP}/clients/python"
 EMBED = f"{TOP}/embed/python"
 PROGRAM = os.path.abspath(os.environ.get("PROGRAM", f"{TOP}/crates/tbs/out/tbs"))
 TBD = os.path.abspath(os.environ.get("TBD", f"{TOP}/crates/tbd/out/tbd"))
+SECONDS = 3600  # that one command may take, also on a busy computer
 KEEPER = shlex.join(
     [TBD] if os.access(TBD, os.X_OK) else [sys.executable, "-SE", f"{CLIENT}/stand_in_tbd.py"]
 )
@@ -51,17 +53,21 @@ KILLS = """  the server is killed: the listener starts it again
 OVER_SOCKETS = f"on a Unix socket:\n{KILLS}on a port:\n{KILLS}"
 
 
+def ran(words, folder=TOP, **more):
+    """Runs a command. Answers its status, its output and its standard error; the status is None
+    where it did not end in time."""
+    there = {**os.environ, "PROGRAM": PROGRAM, "TBD": TBD, **more}
+    try:
+        it = subprocess.run(
+            words, cwd=folder, capture_output=True, text=True, timeout=SECONDS, env=there
+        )
+    except subprocess.TimeoutExpired:
+        return None, "", f"no end after {SECONDS} seconds"
+    return it.returncode, it.stdout, it.stderr
+
+
 def python(*words, folder=CLIENT):
-    there = {**os.environ, "PROGRAM": PROGRAM, "PYTHONPATH": CLIENT}
-    ran = subprocess.run(
-        [sys.executable, "-B", *words],
-        cwd=folder,
-        capture_output=True,
-        text=True,
-        timeout=300,
-        env=there,
-    )
-    return ran.returncode, ran.stdout, ran.stderr
+    return ran([sys.executable, "-B", *words], folder, PYTHONPATH=CLIENT)
 
 
 def tests(name, folder):
@@ -98,18 +104,11 @@ def types():
             "example_sockets.py",
             f"{EMBED}/tb_embed.py",
         ]
-        ran = subprocess.run(
-            words,
-            cwd=CLIENT,
-            capture_output=True,
-            text=True,
-            timeout=300,
-            env={**os.environ, "MYPYPATH": CLIENT},
-        )
-    case("types, by mypy --strict", ran.returncode == 0, ran.stdout.strip()[-2000:])
+        status, output, told = ran(words, CLIENT, MYPYPATH=CLIENT)
+    case("types, by mypy --strict", status == 0, (output + told).strip()[-2000:])
 
 
-# What the page shows
+# What the pages show
 
 
 def page():
@@ -117,10 +116,16 @@ def page():
         return it.read()
 
 
-def blocks():
-    """The page's Python runs: a sale, a crash before its reply came, and an eviction while it is in
-    doubt."""
-    sale, crash, eviction, over_a_socket = re.findall(r"```python\n(.*?)```", page(), re.S)
+def shown_python():
+    """The Python of the client's README, block by block."""
+    with open(f"{CLIENT}/README.md", encoding="utf-8") as it:
+        return re.findall(r"```python\n(.*?)```", it.read(), re.S)
+
+
+def survival():
+    """The README's way that survives a crash: a sale, a crash before its reply came, and an
+    eviction while it is in doubt."""
+    sale, crash, eviction = shown_python()[1:4]
     sale_again = "Transfer(id(), 1, 2, 10, ledger=700, code=10)"
     sent = f"session.prepare(Operation.create_transfers, [{sale_again}])\n"
     sent += "session.save('session.json')\n"
@@ -141,13 +146,13 @@ Session.register(transport)
 print(session.lookup_accounts([2])[0].credits_posted)
 transport.close()
 """
-    output = script("the page's Python", CLIENT, "-c", textwrap.dedent(whole))
+    output = script("the README's crash and eviction", CLIENT, "-c", textwrap.dedent(whole))
     case("what it moves", output == "120\n", output.strip())
-    sockets(over_a_socket)
 
 
-def sockets(shown):
+def sockets():
     """The page's listener and its client, over a Unix socket."""
+    (shown,) = re.findall(r"```python\n(.*?)```", page(), re.S)
     command = re.search(r"```sh\n(clients/python/tb_listen.py .*?)\n```", page())[1].replace(
         "crates/tbd/out/tbd", KEEPER
     )
@@ -174,16 +179,13 @@ def sockets(shown):
             case("what it finds", output == "[]\n", output.strip())
         finally:
             listener.terminate()
-            status, told = listener.wait(60), listener.stderr.read()
+            status, told = listener.wait(SECONDS), listener.stderr.read()
         case("the listener's end", (status, told) == (0, ""), f"{status} {told}")
 
 
 def readme():
-    """The Python of the client's README runs too."""
-    with open(f"{CLIENT}/README.md", encoding="utf-8") as it:
-        shown = re.findall(r"```python\n(.*?)```", it.read(), re.S)[0].replace(
-            "../../crates/tbs/out/tbs", PROGRAM
-        )
+    """The first program of the client's README."""
+    shown = shown_python()[0].replace("../../crates/tbs/out/tbs", PROGRAM)
     output = script(
         "the Python of the client's README",
         CLIENT,
@@ -299,25 +301,25 @@ def exits():
         " ".join(sorted(set(rows) ^ names())),
     )
     for words, name, data in faults():
-        ran = subprocess.run([PROGRAM, *words], input=data, capture_output=True, timeout=60)
+        served = subprocess.run([PROGRAM, *words], input=data, capture_output=True, timeout=SECONDS)
         status, of = rows.get(name, (None, []))
         case(
             f"exit status of {name}",
-            (ran.returncode, ran.stderr, words[0] in of)
+            (served.returncode, served.stderr, words[0] in of)
             == (status, f"tbs: {name}\n".encode(), True),
-            f"{ran.returncode} {ran.stderr!r}",
+            f"{served.returncode} {served.stderr!r}",
         )
     with open("/dev/full", "wb") as full:
-        ran = subprocess.run(
+        served = subprocess.run(
             [PROGRAM, "run", "2"],
             input=pair(10, 7, 0, 0, 2),
             stdout=full,
             stderr=subprocess.PIPE,
-            timeout=60,
+            timeout=SECONDS,
         )
     case(
         "exit status of Device",
-        (ran.returncode, ran.stderr) == (rows["Device"][0], b"tbs: Device\n"),
+        (served.returncode, served.stderr) == (rows["Device"][0], b"tbs: Device\n"),
     )
 
 
@@ -334,25 +336,28 @@ def described():
     return found
 
 
-def done(what, words, folder=TOP, seconds=3600):
+def done(what, words, folder=TOP):
     """Runs a command, tells a case by its last line, and answers whether it went well."""
-    there = {**os.environ, "PROGRAM": PROGRAM, "TBD": TBD}
-    ran = subprocess.run(
-        words, cwd=folder, capture_output=True, text=True, timeout=seconds, env=there
-    )
-    lines = (ran.stdout + ran.stderr).strip().splitlines() or [""]
-    said = lines[-1] if ran.returncode == 0 else "\n".join(lines[-20:])
-    return case(what, ran.returncode == 0, said)
+    status, output, told = ran(words, folder)
+    lines = (output + told).strip().splitlines() or [""]
+    said = lines[-1] if status == 0 else "\n".join(lines[-20:])
+    return case(what, status == 0, said)
+
+
+def built(about):
+    """Whether a client's language is installed, and the client is built."""
+    name, folder = about["language"], about["folder"]
+    missing = [program for program in about["needs"] if not shutil.which(program)]
+    if missing:
+        print(f"passed over: {name}, since {', '.join(missing)} is not there")
+        return False
+    return all(done(f"{name}: {' '.join(words)}", words, folder) for words in about["build"])
 
 
 def language(about, kills):
     """Builds a client, and runs its tests, the kit and the money over it."""
     name, folder = about["language"], about["folder"]
-    missing = [program for program in about["needs"] if not shutil.which(program)]
-    if missing:
-        print(f"passed over: {name}, since {', '.join(missing)} is not there")
-        return
-    if not all(done(f"{name}: {' '.join(words)}", words, folder) for words in about["build"]):
+    if not built(about):
         return
     for words in about["tests"]:
         done(f"{name}: {' '.join(words)}", words, folder)
@@ -363,10 +368,16 @@ def language(about, kills):
     done(f"{name}: money amid kills", words, folder)
 
 
-def kit():
-    """That the scenarios are those that are made, and that each wrong client is caught."""
-    for name in ("make_scenarios", "wrong_clients"):
-        done(f"{name}.py", [sys.executable, "-B", f"{TOP}/clients/conformance/{name}.py"])
+def wrong():
+    """That the kit catches each wrong client."""
+    for about in described().values():
+        if built(about):
+            done(f"{about['language']}: wrong clients", about["wrong"], about["folder"])
+
+
+def scenarios():
+    """That the scenarios are those that are made."""
+    done("scenarios", [sys.executable, "-B", f"{TOP}/clients/conformance/make_scenarios.py"])
 
 
 def examples():
@@ -380,15 +391,22 @@ def examples():
 
 def pages():
     tried.built(PROGRAM)
-    blocks()
     readme()
+    survival()
+    sockets()
     told()
     exits()
 
 
 def main():
     languages = described()
-    parts = {"kit": kit, "types": types, "examples": examples, "pages": pages}
+    parts = {
+        "scenarios": scenarios,
+        "types": types,
+        "examples": examples,
+        "pages": pages,
+        "wrong": wrong,
+    }
     names = [*languages, *parts]
     parser = argparse.ArgumentParser(
         description=__doc__, formatter_class=argparse.RawDescriptionHelpFormatter
