@@ -209,3 +209,13 @@ async def close_pipes(stdin: asyncio.StreamWriter, stdout: asyncio.StreamReader)
 
 async def first(*futures: asyncio.Future[Any]) -> None:
     await asyncio.wait(futures, return_when=asyncio.FIRST_COMPLETED)
+
+
+async def cancelled(tasks: Sequence[asyncio.Future[Any]]) -> None:
+    """Cancels tasks until they have ended. A `wait_for` whose event comes at the same time takes no
+    notice of the first time."""
+    left = set(tasks)
+    while left:
+        for it in left:
+            it.cancel()
+        _, left = await asyncio.wait(left, timeout=LAST_WORDS)

@@ -1,0 +1,345 @@
+#!/usr/bin/env python3
+"""A ledger on three machines, over etcd: nothing that was acknowledged is lost, nothing is executed
+twice, and all replicas answer the same, whatever is killed, stopped or cut.
+
+    checks/cluster.py [--only PART ..] [--faults N] [--seed N] [--replica KIND]
+    checks/cluster.py --show [--seconds N]
+
+Three nodes of etcd and three replicas (clients/python/tb_host) run on the loopback interface, with
+links between them that can be cut. Clients move money meanwhile, and send the same bytes again
+until they have the reply. PROGRAM names the server, tb_script where nothing is given.
+
+The parts: `faults` (24 clients, faults of all kinds), `evictions` (80 clients where 64 may have a
+session), `trim` (amid faults; a replica that comes too late, and a copy of a peer), `copies` (one
+that is torn, and a damaged one), `full` (etcd's quota), `starts` (a clock an hour ahead, other
+rules, no log), `wrong` (four wrong replicas, which the part `faults` has to find) and `postgresql`.
+Where etcd, PostgreSQL, one of their Python packages or the server is not there, parts are skipped
+by name. --replica runs another replica in the place of the right one: a KIND of
+checks/clusters/wrong_replica.py. --show tells what happens while money moves and machines are
+killed.
+
+Prints a line for each case; ends in 'N passed, M failed'.
+"""
+import argparse
+import contextlib
+import os
+import statistics
+import subprocess
+import sys
+import tempfile
+import time
+
+TOP = os.path.dirname(os.path.dirname(os.path.abspath(__file__)))
+PYTHON = "/usr/bin/python3"
+WRONG = ("executes_early", "replies_early", "skips_at_restart", "takes_twice_at_restart")
+HOW = f"{TOP}/checks/clusters/wrong_replica.py"
+
+if __name__ == "__main__" and os.path.realpath(sys.executable) != os.path.realpath(PYTHON):
+    os.execv(PYTHON, [PYTHON, "-B", *sys.argv])  # Debian's packages are seen by its Python alone
+
+sys.path[:0] = [f"{TOP}/checks/clusters", f"{TOP}/checks"]
+
+import agreement  # noqa: E402
+import tried  # noqa: E402
+from faults import Faults  # noqa: E402
+from processes import Cluster, Postgres, missing, until  # noqa: E402
+from traffic import Traffic  # noqa: E402
+from tried import case  # noqa: E402
+
+
+@contextlib.contextmanager
+def cluster_of(given, kind=Cluster, **options):
+    """A cluster that runs."""
+    words = ["-B", HOW, given.replica] if given.replica else None
+    with tempfile.TemporaryDirectory(prefix="cluster-") as folder:
+        it = kind(folder, replica=words, **options)
+        try:
+            it.start()
+            yield it
+        finally:
+            it.end()
+
+
+def restarted(cluster):
+    """Starts what has ended, as systemd does. Answers the faults that replicas ended with."""
+    named = []
+    for it in cluster.replicas:
+        if not it.runs():
+            status = it.process.poll()
+            if status is not None and status >= 20:
+                named.append(f"{it.name}: {it.said().strip().splitlines()[-1]}")
+            it.start()
+    return named
+
+
+def agree(name, cluster, traffic, trimmed=False):
+    """The cases of the end: totals, streams, and a fresh server over the agreed script."""
+    left = traffic.end()
+    case(f"{name}: each client has its last reply", left == 0, f"{left} have none" if left else "")
+    named = restarted(cluster)
+    case(f"{name}: no replica named a fault", not named, "; ".join(named))
+    case(f"{name}: no reply is wrong", not traffic.wrong, "; ".join(traffic.wrong[:3]))
+    try:
+        posted = traffic.posted()
+    except Exception as error:
+        posted = repr(error)
+    case(
+        f"{name}: nothing is lost or doubled",
+        posted == traffic.made,
+        f"{traffic.made} acknowledged, {posted} posted",
+    )
+    case(f"{name}: each replica answers all", agreement.settled(cluster))
+    streams = [agreement.replies_of(cluster, at) for at in range(cluster.count)]
+    case(
+        f"{name}: the streams of replies are equal",
+        len(set(streams)) == 1,
+        " ".join(map(agreement.digest, streams)),
+    )
+    scripts = [agreement.script_of_copy(cluster.copy(at)) for at in range(cluster.count)]
+    if not trimmed:
+        scripts.append(agreement.script_of(cluster))
+    case(
+        f"{name}: the copies have the agreed script",
+        all(it == scripts[-1] for it in scripts),
+        " ".join(str(len(it)) for it in scripts),
+    )
+    fresh = agreement.replies_to(scripts[-1], cluster.clients_max)
+    case(
+        f"{name}: a fresh server answers the same",
+        all(it == fresh for it in streams),
+        f"{len(fresh)} bytes, {agreement.digest(fresh)}",
+    )
+
+
+def waits(faults, traffic):
+    """Prints for each kind of fault how long clients waited that were not answered meanwhile."""
+    for kind in Faults.KINDS:
+        longest = [
+            max(traffic.waits_between(start - 0.5, end + 10.0) or [0.0])
+            for it, start, end in faults.done
+            if it == kind
+        ]
+        if longest:
+            print(
+                f"  {kind}: {len(longest)} times; the longest wait of a client "
+                f"p50 {statistics.median(longest):.1f} s, most {max(longest):.1f} s"
+            )
+
+
+def part_faults(given):
+    """Faults of all kinds under 24 clients."""
+    with cluster_of(given) as cluster:
+        traffic = Traffic(cluster.tcp, 24, pause=0.02, spread=True)
+        traffic.open_accounts()
+        traffic.start()
+        faults = Faults(cluster, given.seed)
+        for _ in range(0, given.faults, 13):
+            faults.some(min(13, given.faults - len(faults.done)))
+            named = restarted(cluster)
+            if named:
+                case("faults: a replica ended", False, "; ".join(named))
+                break
+        print(f"  {len(faults.done)} faults, {traffic.made} transfers")
+        waits(faults, traffic)
+        agree("faults", cluster, traffic)
+
+
+def part_evictions(given):
+    """80 clients where 64 may have a session."""
+    with cluster_of(given, clients_max=64) as cluster:
+        traffic = Traffic(cluster.tcp, 80, pause=0.3, spread=True)
+        traffic.open_accounts()
+        traffic.start()
+        faults = Faults(cluster, given.seed)
+        faults.some(max(given.faults // 5, 4))
+        until(lambda: traffic.evictions > 0, 60, "an eviction")
+        agree("evictions", cluster, traffic)
+        print(f"  {traffic.evictions} evictions, {len(faults.done)} faults")
+
+
+def part_trim(given):
+    """The log is trimmed amid faults."""
+    with cluster_of(given) as cluster:
+        traffic = Traffic(cluster.tcp, 12, pause=0.05, spread=True)
+        traffic.open_accounts()
+        traffic.start()
+        faults = Faults(cluster, given.seed)
+        trims = []
+        for kind in ("replica killed", "leader killed", "links of a replica cut"):
+            time.sleep(11)  # a replica reports every 10 seconds
+            faults.one(kind)
+            trims.append(cluster.part("trim", "--log", cluster.log(), seconds=120))
+        case("trim: it ends with status 0", all(it[0] == 0 for it in trims), trims[-1][1].strip())
+        case("trim: entries are removed", any("are removed" in it[1] for it in trims))
+        late_replica(cluster)
+        agree("trim", cluster, traffic, trimmed=True)
+
+
+def late_replica(cluster):
+    """A replica without a copy comes too late, and goes on with a peer's."""
+    late = cluster.replicas[2]
+    late.kill()
+    os.rename(cluster.copy(2), cluster.copy(2) + ".lost")
+    late.start()
+    case("trim: who comes too late is told Trimmed", late.process.wait(60) == 21, last(late))
+    os.rename(cluster.copy(2), cluster.copy(2) + ".empty")
+    status, said = cluster.part("copy-from", cluster.copy(0), "--copy", cluster.copy(2))
+    case("trim: a copy of a peer", status == 0, said.strip())
+    late.start()
+    cluster.until_listens(2)
+
+
+def last(process):
+    lines = process.said().strip().splitlines()
+    return lines[-1] if lines else ""
+
+
+def part_copies(given):
+    """A copy that a crash left torn, and one that is damaged."""
+    with cluster_of(given) as cluster:
+        traffic = Traffic(cluster.tcp, 4, pause=0.05)
+        traffic.open_accounts()
+        traffic.start()
+        time.sleep(5)
+        torn, damaged = cluster.replicas[2], cluster.replicas[1]
+        for it in (torn, damaged):
+            case("copies: a replica ends with status 0", it.end() == 0, last(it))
+        path = f"{cluster.copy(2)}/log"
+        with open(path, "ab") as file:
+            file.write(b"\x01" * 30)
+        torn.start()
+        cluster.until_listens(2)
+        case("copies: what is torn is cut off", "30 bytes that a crash left torn" in torn.said())
+        path, at = f"{cluster.copy(1)}/log", 200
+        with open(path, "r+b") as file:
+            file.seek(at)
+            byte = file.read(1)
+            file.seek(at)
+            file.write(bytes([byte[0] ^ 1]))
+        damaged.start()
+        case("copies: what is damaged is named", damaged.process.wait(60) == 24, last(damaged))
+        with open(path, "r+b") as file:
+            file.seek(at)
+            file.write(byte)
+        damaged.start()
+        cluster.until_listens(1)
+        agree("copies", cluster, traffic)
+
+
+def part_full(given):
+    """etcd's quota is used up, and the log is trimmed."""
+    with cluster_of(given, quota=24 << 20) as cluster:
+        traffic = Traffic(cluster.tcp, 4, batch=2000)
+        traffic.open_accounts()
+        traffic.start()
+        until(lambda: "LogFull" in "".join(it.said() for it in cluster.replicas), 240, "LogFull")
+        status, said = cluster.part("status", "--log", cluster.log())
+        case("full: status names it", status == 26, said.strip().splitlines()[-1])
+        time.sleep(3)
+        status, said = cluster.part("trim", "--log", cluster.log(), seconds=180)
+        case("full: it is trimmed", status == 0 and "still full" not in said, said.strip())
+        before = traffic.made
+        until(lambda: traffic.made > before, 60, "transfers go on")
+        case("full: transfers go on", True)
+        agree("full", cluster, traffic, trimmed=True)
+
+
+def part_starts(given):
+    """Replicas that must not start."""
+    with cluster_of(given) as cluster:
+        third = cluster.replicas[2]
+        third.kill()
+        right = third.words
+        third.words = cluster.replica_words(2, ["-B", HOW, "clock_ahead"])
+        third.start()
+        case("starts: a clock ahead", third.process.wait(60) == 27, last(third))
+        third.words = [*right[:-1], "8"]
+        third.start()
+        case("starts: other rules", third.process.wait(60) == 23, last(third))
+        third.words = right
+        for it in cluster.nodes:
+            it.kill()
+        third.start()
+        case("starts: no log", third.process.wait(90) == 20, last(third))
+        status, said = cluster.part("status", "--log", cluster.log())
+        case("starts: status without a log", status == 20, said.strip())
+
+
+def part_wrong(given):
+    """Each wrong replica is found by the part `faults`."""
+    for kind in WRONG:
+        words = [sys.executable, "-B", __file__, "--only", "faults", "--replica", kind]
+        words += ["--faults", "13", "--seed", str(given.seed)]
+        ran = subprocess.run(words, capture_output=True, text=True, timeout=1200)
+        found = [it for it in ran.stdout.splitlines() if it.startswith("FAILED")]
+        case(
+            f"wrong: {kind} is found",
+            ran.returncode == 1 and found,
+            found[0] if found else ran.stdout[-500:] + ran.stderr[-500:],
+        )
+
+
+def part_postgresql(given):
+    """The log is in PostgreSQL, with one standby."""
+    with cluster_of(given, kind=Postgres) as cluster:
+        traffic = Traffic(cluster.tcp, 12, pause=0.05, spread=True)
+        traffic.open_accounts()
+        traffic.start()
+        faults = Faults(cluster, given.seed)
+        primary, standby = cluster.nodes
+        for process in (cluster.replicas[0], standby, primary, cluster.replicas[1], standby):
+            time.sleep(2)
+            faults.kill(process)
+        before = traffic.made
+        faults.hold(standby, standby.signal_server)
+        until(lambda: traffic.made > before, 60, "transfers go on")
+        time.sleep(11)  # a replica reports every 10 seconds
+        words = ("--user", "postgres", "--log", cluster.log())
+        status, said = cluster.part("status", *words)
+        case("postgresql: status", status == 0 and said.count("replica r") == 3, said.strip())
+        agree("postgresql", cluster, traffic)
+        status, said = cluster.part("trim", *words)
+        case("postgresql: the log is trimmed", status == 0, said.strip())
+
+
+PARTS = {
+    "faults": part_faults,
+    "evictions": part_evictions,
+    "trim": part_trim,
+    "copies": part_copies,
+    "full": part_full,
+    "starts": part_starts,
+    "wrong": part_wrong,
+    "postgresql": part_postgresql,
+}
+
+
+def words():
+    parser = argparse.ArgumentParser(
+        description=__doc__, formatter_class=argparse.RawDescriptionHelpFormatter
+    )
+    parser.add_argument("--only", nargs="+", choices=PARTS, metavar="PART", help="these parts")
+    parser.add_argument("--faults", type=int, default=26, help="faults of the first part (26)")
+    parser.add_argument("--seed", type=int, default=1, help="of the order of faults (1)")
+    parser.add_argument("--replica", metavar="KIND", help="a wrong replica")
+    parser.add_argument("--show", action="store_true", help="tell what happens")
+    parser.add_argument("--seconds", type=int, default=60, help="how long --show takes (60)")
+    return parser.parse_args()
+
+
+def main():
+    given = words()
+    for name in given.only or PARTS:
+        lacks = missing("postgresql" if name == "postgresql" else "etcd")
+        if lacks:
+            print(f"skipped: {name} (not there: {', '.join(lacks)})")
+            continue
+        try:
+            PARTS[name](given)
+        except (TimeoutError, subprocess.TimeoutExpired) as error:
+            case(f"{name}: it goes on", False, str(error))
+    return tried.status()
+
+
+if __name__ == "__main__":
+    sys.exit(main())

@@ -1,0 +1,58 @@
+"""What has to hold in the end: the agreed script, the replies of each replica, and the totals."""
+import hashlib
+import os
+import subprocess
+import sys
+import time
+
+from processes import CLIENT, PROGRAM
+
+sys.path.insert(0, CLIENT)
+
+from tb_host.entries import Entry  # noqa: E402
+from tb_host.local_copy import MAGIC, Copy  # noqa: E402
+
+
+def script_of(cluster):
+    """The agreed script, as the engine has it."""
+    return [Entry.from_bytes(it).pairs for it in cluster.script()]
+
+
+def script_of_copy(folder):
+    """The agreed script, as a replica's copy has it."""
+    copy = Copy.__new__(Copy)
+    copy.file = os.open(f"{folder}/log", os.O_RDONLY)
+    try:
+        length = os.fstat(copy.file).st_size
+        return [Entry.from_bytes(it.entry).pairs for it in copy.records(len(MAGIC), length)]
+    finally:
+        os.close(copy.file)
+
+
+def replies_to(script, clients_max):
+    """What a fresh server answers to the script."""
+    ran = subprocess.run(
+        [PROGRAM, "run", str(clients_max)], input=b"".join(script), capture_output=True, check=True
+    )
+    return ran.stdout
+
+
+def replies_of(cluster, at):
+    with open(cluster.out(at), "rb") as file:
+        return file.read()
+
+
+def settled(cluster, seconds=90):
+    """Waits until each replica has written what it is to write."""
+    end, before = time.monotonic() + seconds, None
+    while time.monotonic() < end:
+        now = [os.path.getsize(cluster.out(at)) for at in range(cluster.count)]
+        if now == before and len(set(now)) == 1:
+            return True
+        before = now
+        time.sleep(2)
+    return False
+
+
+def digest(data):
+    return hashlib.sha256(data).hexdigest()[:16]

@@ -1,0 +1,341 @@
+"""The processes of a cluster on one machine: an engine's nodes, links, and replicas."""
+import contextlib
+import glob
+import os
+import shutil
+import signal
+import socket
+import subprocess
+import sys
+import time
+
+HERE = os.path.dirname(os.path.abspath(__file__))
+TOP = os.path.dirname(os.path.dirname(HERE))
+CLIENT = f"{TOP}/clients/python"
+PYTHON = "/usr/bin/python3"  # Debian's, which sees its packages
+PROGRAM = os.environ.get("PROGRAM", f"{TOP}/crates/tb_script/out/tb_script")
+# The server with its replies kept in a file: those of its last start. A status above 128 is that
+# of a signal.
+KEEPING = 'set -o pipefail; program=$1 out=$2; shift 2; "$program" "$@" | tee "$out"'
+
+
+def free_ports(count):
+    """Ports that nobody listens on."""
+    held = [socket.socket() for _ in range(count)]
+    try:
+        for it in held:
+            it.bind(("127.0.0.1", 0))
+        return [it.getsockname()[1] for it in held]
+    finally:
+        for it in held:
+            it.close()
+
+
+class Process:
+    """A process that is killed, stopped and started again."""
+
+    def __init__(self, name, words, folder):
+        self.name, self.words, self.log = name, words, f"{folder}/{name}.log"
+        self.process = None
+
+    def start(self):
+        with open(self.log, "ab") as log:
+            self.process = subprocess.Popen(
+                self.words, stdin=subprocess.DEVNULL, stdout=log, stderr=log, cwd=CLIENT
+            )
+
+    def runs(self):
+        return self.process is not None and self.process.poll() is None
+
+    def send(self, number):
+        with contextlib.suppress(ProcessLookupError):
+            self.process.send_signal(number)
+
+    def kill(self):
+        if self.process is not None:
+            self.send(signal.SIGKILL)
+            self.process.wait()
+
+    def end(self, seconds=30):
+        """Ends it as its user would. Answers its status."""
+        self.send(signal.SIGTERM)
+        try:
+            return self.process.wait(seconds)
+        except subprocess.TimeoutExpired:
+            self.kill()
+            return None
+
+    def said(self):
+        with open(self.log, encoding="utf-8", errors="replace") as file:
+            return file.read()
+
+    def children(self):
+        """The processes that it started: the server, and its shell."""
+        found, at = [], [self.process.pid]
+        while at:
+            with contextlib.suppress(OSError):
+                path = f"/proc/{at[0]}/task/{at[0]}/children"
+                with open(path, encoding="utf-8") as file:
+                    more = [int(it) for it in file.read().split()]
+                found += more
+                at += more
+            del at[0]
+        return found
+
+    def kill_server(self):
+        for it in self.children():
+            with contextlib.suppress(ProcessLookupError):
+                os.kill(it, signal.SIGKILL)
+
+    def signal_server(self, number):
+        for it in self.children():
+            with contextlib.suppress(ProcessLookupError):
+                os.kill(it, number)
+
+
+class Links:
+    """The process that passes on what goes between machines."""
+
+    def __init__(self, pairs):
+        words = [sys.executable, "-B", f"{HERE}/links.py", *(f"{a}:{b}" for a, b in pairs)]
+        pipe = subprocess.PIPE
+        self.process = subprocess.Popen(words, stdin=pipe, stdout=pipe, text=True)
+        if self.process.stdout.readline() != "ready\n":
+            raise RuntimeError("the links do not start")
+
+    def do(self, word, numbers):
+        for it in numbers:
+            self.process.stdin.write(f"{word} {it}\n")
+            self.process.stdin.flush()
+            self.process.stdout.readline()
+
+    def end(self):
+        self.process.kill()
+        self.process.communicate()
+
+
+class Machines:
+    """Replicas on the loopback interface, over the log of a subclass."""
+
+    nodes = ()  # the engine's processes
+
+    def __init__(self, folder, clients_max, replica, count):
+        self.folder, self.count, self.clients_max = folder, count, clients_max
+        self.tcp = free_ports(count)
+        words = replica or ["-m", "tb_host.machines"]
+        self.replicas = [
+            Process(f"replica{it}", self.replica_words(it, words), folder) for it in range(count)
+        ]
+
+    def copy(self, at):
+        return f"{self.folder}/copy{at}"
+
+    def out(self, at):
+        return f"{self.folder}/replies{at}"
+
+    def replica_words(self, at, words, more=()):
+        command = ["bash", "-c", KEEPING, "bash", PROGRAM, self.out(at)]
+        given = ["--log", self.log(at), "--copy", self.copy(at), "--name", f"r{at}", *more]
+        given += ["--tcp", f"127.0.0.1:{self.tcp[at]}", "--connections", "200", "--"]
+        return [PYTHON, "-B", *words, *given, *command, "run", str(self.clients_max)]
+
+    def start(self):
+        self.start_engine()
+        for it in self.replicas:
+            it.start()
+        for at in range(self.count):
+            self.until_listens(at)
+
+    def until_listens(self, at, seconds=90):
+        until(lambda: is_open(self.tcp[at]), seconds, f"{self.replicas[at].name} listens")
+
+    def part(self, *words, seconds=60):
+        """Runs a part of tb-replica, as status. Answers its status, and what it printed."""
+        ran = subprocess.run(
+            [PYTHON, "-B", "-m", "tb_host.machines", *words],
+            cwd=CLIENT,
+            capture_output=True,
+            text=True,
+            timeout=seconds,
+        )
+        return ran.returncode, ran.stdout + ran.stderr
+
+    def end(self):
+        for it in [*self.replicas, *self.nodes]:
+            if it.runs():
+                it.send(signal.SIGCONT)
+                it.signal_server(signal.SIGCONT)
+        for it in self.replicas:
+            if it.runs():
+                it.end()
+        for it in self.nodes:
+            it.kill()
+        self.end_engine()
+
+
+class Cluster(Machines):
+    """Three nodes of etcd and three replicas, with a link between each replica and each node, and
+    one to each node for the others."""
+
+    def __init__(self, folder, quota=0, clients_max=64, replica=None, count=3):
+        self.quota = quota
+        take = iter(free_ports(3 * count + count * count)).__next__
+        self.serves, self.peers = [[take() for _ in range(count)] for _ in range(2)]
+        self.peer_links = [take() for _ in range(count)]
+        self.ways = [[take() for _ in range(count)] for _ in range(count)]
+        super().__init__(folder, clients_max, replica, count)
+        pairs = list(zip(self.peer_links, self.peers))
+        pairs += [(it, self.serves[at]) for way in self.ways for at, it in enumerate(way)]
+        self.links = Links(pairs)
+        self.nodes = [Process(f"node{it}", self._node(it), folder) for it in range(count)]
+
+    def _node(self, at):
+        peers = ",".join(
+            f"n{it}=http://127.0.0.1:{port}" for it, port in enumerate(self.peer_links)
+        )
+        words = ["etcd", "--name", f"n{at}", "--data-dir", f"{self.folder}/etcd{at}"]
+        words += ["--logger", "zap", "--log-level", "error", "--initial-cluster", peers]
+        words += ["--listen-peer-urls", f"http://127.0.0.1:{self.peers[at]}"]
+        words += ["--initial-advertise-peer-urls", f"http://127.0.0.1:{self.peer_links[at]}"]
+        serves = f"http://127.0.0.1:{self.serves[at]}"
+        words += ["--listen-client-urls", serves, "--advertise-client-urls", serves]
+        return words + (["--quota-backend-bytes", str(self.quota)] if self.quota else [])
+
+    def log(self, at=None):
+        """The log's URL: over a replica's links, or without links."""
+        ports = self.serves if at is None else self.ways[at][at:] + self.ways[at][:at]
+        return f"etcd://{','.join(f'127.0.0.1:{it}' for it in ports)}/bank"
+
+    def links_of(self, at):
+        """The numbers of a replica's links."""
+        return range(self.count * (1 + at), self.count * (2 + at))
+
+    def start_engine(self):
+        for it in self.nodes:
+            it.start()
+        until(lambda: self.leader() is not None, 60, "etcd has a leader")
+
+    def end_engine(self):
+        self.links.end()
+
+    def leader(self):
+        """Which node is the leader. None where there is none."""
+        import etcd3.etcdrpc as rpc
+        import grpc
+
+        for at, port in enumerate(self.serves):
+            with grpc.insecure_channel(f"127.0.0.1:{port}") as channel:
+                with contextlib.suppress(grpc.RpcError):
+                    said = rpc.MaintenanceStub(channel).Status(rpc.StatusRequest(), timeout=1)
+                    if said.leader and said.leader == said.header.member_id:
+                        return at
+        return None
+
+    def script(self):
+        """The agreed script: the pairs of each entry, read without the replicas' code for that."""
+        import etcd3.etcdrpc as rpc
+        import grpc
+
+        options = [("grpc.max_receive_message_length", -1)]
+        with grpc.insecure_channel(f"127.0.0.1:{self.serves[0]}", options) as channel:
+            request = rpc.RangeRequest(key=b"bank/log/", range_end=b"bank/log0")
+            found = rpc.KVStub(channel).Range(request, timeout=60).kvs
+        return [it.value for it in sorted(found, key=lambda it: it.create_revision)]
+
+
+class Postgres(Machines):
+    """A primary, one standby that each commit waits for, and replicas over them."""
+
+    def __init__(self, folder, clients_max=64, replica=None, count=3):
+        self.ports = free_ports(2)
+        super().__init__(folder, clients_max, replica, count)
+        os.chmod(folder, 0o711)
+        self.data = f"{folder}/postgresql"
+        os.mkdir(self.data)
+        if os.getuid() == 0:
+            shutil.chown(self.data, "postgres", "postgres")
+        self.nodes = [
+            Process(name, self.words("postgres", "-D", f"{self.data}/{name}"), folder)
+            for name in ("primary", "standby")
+        ]
+
+    def words(self, program, *words):
+        """A program of PostgreSQL's, which root may not run."""
+        user = ["setpriv", "--reuid=postgres", "--regid=postgres", "--clear-groups"]
+        return [*(user if os.getuid() == 0 else []), f"{postgres_folder()}/{program}", *words]
+
+    def run(self, *words):
+        subprocess.run(self.words(*words), cwd="/", check=True, capture_output=True, timeout=120)
+
+    def log(self, _=None):
+        return f"postgresql://127.0.0.1:{self.ports[0]}/postgres/bank"
+
+    def replica_words(self, at, words, more=()):
+        return super().replica_words(at, words, ["--user", "postgres", *more])
+
+    def start_engine(self):
+        primary, standby = f"{self.data}/primary", f"{self.data}/standby"
+        self.run("initdb", "-D", primary, "-A", "trust", "-U", "postgres", "-N")
+        self.set(primary, self.ports[0], "synchronous_standby_names = 'FIRST 1 (standby)'")
+        self.nodes[0].start()
+        until(lambda: is_open(self.ports[0]), 60, "the primary listens")
+        place = f"host=127.0.0.1 port={self.ports[0]} user=postgres application_name=standby"
+        for _ in range(20):
+            with contextlib.suppress(subprocess.CalledProcessError):
+                self.run("pg_basebackup", "-D", standby, "-R", "-d", place, "-c", "fast", "-N")
+                break
+            time.sleep(1)
+        self.set(standby, self.ports[1], "")
+        self.nodes[1].start()
+        until(lambda: is_open(self.ports[1]), 60, "the standby listens")
+
+    @staticmethod
+    def set(folder, port, more):
+        with open(f"{folder}/postgresql.conf", "a", encoding="utf-8") as file:
+            file.write(f"port = {port}\nlisten_addresses = '127.0.0.1'\n{more}\n")
+            file.write("unix_socket_directories = ''\n")
+
+    def end_engine(self):
+        """Its nodes are killed."""
+
+    def script(self):
+        import psycopg
+
+        place = f"host=127.0.0.1 port={self.ports[0]} user=postgres dbname=postgres"
+        with psycopg.connect(place) as it:
+            return [
+                bytes(row[0]) for row in it.execute("SELECT entry FROM bank_log ORDER BY position")
+            ]
+
+
+def postgres_folder():
+    """Where the newest PostgreSQL's programs are. None where there is none."""
+    found = sorted(glob.glob("/usr/lib/postgresql/*/bin"), key=lambda it: float(it.split("/")[4]))
+    return found[-1] if found else None
+
+
+def is_open(port):
+    with contextlib.suppress(OSError), socket.create_connection(("127.0.0.1", port), 1):
+        return True
+    return False
+
+
+def until(holds, seconds, said):
+    """Waits until something holds. Raises `TimeoutError` where that is not in time."""
+    end = time.monotonic() + seconds
+    while not holds():
+        if time.monotonic() > end:
+            raise TimeoutError(f"{said}: not within {seconds} s")
+        time.sleep(0.1)
+
+
+def missing(engine="etcd"):
+    """What an engine's parts need and is not installed, by name."""
+    programs = {"etcd": ["etcd", "bash"], "postgresql": ["bash"]}[engine]
+    names = [it for it in programs if not shutil.which(it)]
+    if engine == "postgresql" and postgres_folder() is None:
+        names.append("postgresql")
+    package = {"etcd": "etcd3", "postgresql": "psycopg"}[engine]
+    ran = subprocess.run([PYTHON, "-c", f"import {package}"], capture_output=True, check=False)
+    names += [f"python3-{package}"] if ran.returncode else []
+    return names + ([] if os.access(PROGRAM, os.X_OK) else [PROGRAM])

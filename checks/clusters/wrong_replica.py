@@ -1,0 +1,95 @@
+#!/usr/bin/env python3
+"""A replica that does one thing wrong, to see that checks/cluster.py finds it.
+
+    wrong_replica.py KIND WORD ..
+
+executes_early: a request is executed before the log has it. replies_early: a transfer is answered
+before the log has it. skips_at_restart: the first entry that is read after a restart is left out.
+takes_twice_at_restart: it is taken twice. clock_ahead: its clock is an hour ahead (it is a right
+replica: it has to end itself).
+"""
+import os
+import struct
+import sys
+import time
+
+sys.path.insert(0, os.getcwd())
+
+from tb_client import Operation  # noqa: E402
+from tb_host import machines, replica  # noqa: E402
+from tb_host.entries import Entry  # noqa: E402
+from tb_host.log import Written  # noqa: E402
+
+take, append, ask = replica.Replica.take, replica.Replica._append, replica.Replica.ask
+
+
+def executes_early():
+    async def early(self, number, data):
+        take(self, Written(self.copy.place, data))
+        self.sent[number] = []
+        await append(self, number, data)
+
+    replica.Replica._append = early
+    tests_nothing()
+
+
+def replies_early():
+    async def early(self, frame):
+        if frame[28] != Operation.create_transfers:
+            return await ask(self, frame)
+        pair = replica.Pair(frame)
+        self.queue.append(pair)
+        self.queued.set()
+        session = struct.unpack_from("<Q", frame, 16)[0]
+        return frame[:29] + struct.pack("<BHIQI", 0, 0, 0, session + 1 + self.copy.position, 0)
+
+    replica.Replica.ask = early
+
+
+def tests_nothing():
+    replica.Replica._compare = lambda *_: None
+
+
+def skips_at_restart():
+    def skipping(self, written):
+        if self.copy.position and not hasattr(self, "is_going"):
+            entry = Entry.from_bytes(written.data)
+            self.copy.numbers[entry.writer] = entry.number
+            self.copy.place = written.place
+        else:
+            take(self, written)
+        self.is_going = True
+
+    replica.Replica.take = skipping
+    tests_nothing()
+
+
+def takes_twice_at_restart():
+    def twice(self, written):
+        if self.copy.position and not hasattr(self, "is_going"):
+            self.copy.append(written.place, Entry.from_bytes(written.data), written.data)
+            self.copy.numbers[Entry.from_bytes(written.data).writer] -= 1
+        self.is_going = True
+        take(self, written)
+
+    replica.Replica.take = twice
+    tests_nothing()
+
+
+def clock_ahead():
+    now = time.time_ns
+    time.time_ns = lambda: now() + 3600 * 10**9
+
+
+if __name__ == "__main__":
+    {
+        it.__name__: it
+        for it in (
+            executes_early,
+            replies_early,
+            skips_at_restart,
+            takes_twice_at_restart,
+            clock_ahead,
+        )
+    }[sys.argv.pop(1)]()
+    sys.exit(machines.main())

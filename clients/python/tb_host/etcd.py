@@ -1,0 +1,310 @@
+"""The agreed log in etcd, by python3-etcd3's messages over gRPC.
+
+Keys under the log's name: `head`, `log/WRITER/NUMBER` with an entry each, `at/REPLICA` with what a
+replica says of itself, `trimmed`. An entry's place is the revision that made its key.
+"""
+from __future__ import annotations
+
+import asyncio
+import contextlib
+import json
+from typing import Any, AsyncIterator, Dict, List, Optional, Sequence, Tuple, Union
+
+import etcd3.etcdrpc as rpc
+import grpc
+import grpc.aio
+
+from .lines import Ended
+from .log import Access, LogFull, LogGone, NoLog, Report, Written
+
+TRY = 2.0  # seconds for which one address is waited for
+ALL = 10.0  # seconds after which no address is tried any more
+AGAIN = 0.1  # seconds before all addresses are tried again
+PAGE = 64  # keys that are listed at a time
+OPTIONS = (
+    ("grpc.max_receive_message_length", -1),
+    ("grpc.max_send_message_length", -1),
+    ("grpc.initial_reconnect_backoff_ms", 100),
+    ("grpc.min_reconnect_backoff_ms", 200),
+    ("grpc.max_reconnect_backoff_ms", 1000),
+)
+# python3-etcd3 knows no `fragment` of a watch, field 8: a response is then cut at the size that a
+# request may have, so that a long log is not held in memory whole
+FRAGMENT = b"\x40\x01"
+FULL = "database space exceeded"
+NO_TOKEN = ("invalid auth token", "auth token is not provided", "user name is empty")
+
+
+def _end_of(prefix: bytes) -> bytes:
+    """The end of the range of all keys that begin so."""
+    return prefix[:-1] + bytes([prefix[-1] + 1])
+
+
+class Address:
+    """An address of etcd, with its connection."""
+
+    def __init__(self, host: str, port: int, access: Access) -> None:
+        place = f"[{host}]:{port}" if ":" in host else f"{host}:{port}"
+        self.place, self.access = place, access
+        self.channel = self._channel()
+        self.keys, self.watches = rpc.KVStub(self.channel), rpc.WatchStub(self.channel)
+        self.care, self.auth = rpc.MaintenanceStub(self.channel), rpc.AuthStub(self.channel)
+        self.token: Optional[str] = None
+
+    def _channel(self) -> Any:
+        access = self.access
+        if access.authority is None:
+            return grpc.aio.insecure_channel(self.place, options=OPTIONS)
+        try:
+            files = [_read(it) for it in (access.authority, access.key, access.certificate)]
+        except OSError as error:
+            raise Ended(f"{error.filename}: {error.strerror}", 1) from None
+        return grpc.aio.secure_channel(
+            self.place, grpc.ssl_channel_credentials(*files), options=OPTIONS
+        )
+
+    async def metadata(self) -> Sequence[Tuple[str, str]]:
+        """What goes with each call: a token, where there is a user; and that a member without a
+        leader is to refuse."""
+        given: List[Tuple[str, str]] = [("hasleader", "true")]
+        if self.access.user is not None:
+            if self.token is None:
+                asked = rpc.AuthenticateRequest(
+                    name=self.access.user, password=self.access.password() or ""
+                )
+                self.token = (await self.auth.Authenticate(asked, timeout=TRY)).token
+            given.append(("token", self.token))
+        return given
+
+
+def _read(path: Optional[str]) -> Optional[bytes]:
+    if path is None:
+        return None
+    with open(path, "rb") as file:
+        return file.read()
+
+
+class EtcdLog:
+    """The log under a name, over several addresses of one etcd."""
+
+    def __init__(self, addresses: List[Tuple[str, int]], name: str, access: Access) -> None:
+        self.addresses = [Address(host, port, access) for host, port in addresses]
+        self.prefix = name.rstrip("/").encode() + b"/"
+        self.writing = self.reading = 0  # which address
+        self.watch: Any = None
+        self.is_moving = False
+
+    # calls
+
+    async def _call(self, kind: str, method: str, request: Any, seconds: float = ALL) -> Any:
+        """The answer of the first address that has one, from the last good one on."""
+        loop = asyncio.get_running_loop()
+        end, tried = loop.time() + seconds, 0
+        while True:
+            it = self.addresses[self.writing]
+            try:
+                given = await it.metadata()
+                call = getattr(getattr(it, kind), method)
+                return await call(request, timeout=TRY, metadata=given)
+            except grpc.aio.AioRpcError as error:
+                _test(it, error)
+                said = f"{it.place}: {error.details()}"
+            self.writing = (self.writing + 1) % len(self.addresses)
+            tried += 1
+            if loop.time() >= end:
+                raise NoLog(said)
+            if tried % len(self.addresses) == 0:
+                await asyncio.sleep(AGAIN)
+
+    async def _put_once(self, key: bytes, value: bytes, seconds: float = ALL) -> Any:
+        """Puts a key that is not there. Answers the key as it is then."""
+        is_new = rpc.Compare(
+            result=rpc.Compare.EQUAL, target=rpc.Compare.CREATE, key=key, create_revision=0
+        )
+        put = rpc.RequestOp(request_put=rpc.PutRequest(key=key, value=value))
+        get = rpc.RequestOp(request_range=rpc.RangeRequest(key=key))
+        request = rpc.TxnRequest(compare=[is_new], success=[put], failure=[get])
+        return await self._call("keys", "Txn", request, seconds)
+
+    async def _get(self, key: bytes) -> Optional[bytes]:
+        found = await self._call("keys", "Range", rpc.RangeRequest(key=key))
+        return found.kvs[0].value if found.kvs else None
+
+    # the log
+
+    async def head(self, wanted: bytes) -> bytes:
+        made = await self._put_once(self.prefix + b"head", wanted)
+        return wanted if made.succeeded else bytes(made.responses[0].response_range.kvs[0].value)
+
+    async def append(self, writer: bytes, number: int, data: bytes) -> int:
+        key = self.prefix + b"log/%s/%020d" % (writer.hex().encode(), number)
+        made = await self._put_once(key, data, TRY)
+        if made.succeeded:
+            return int(made.header.revision)
+        return int(made.responses[0].response_range.kvs[0].create_revision)
+
+    async def read(self, place: int) -> AsyncIterator[Union[Written, Report]]:
+        while True:
+            try:
+                async for it in self._watched(place):
+                    place = max(place, it.place if isinstance(it, Written) else 0)
+                    yield it
+            except grpc.aio.AioRpcError as error:
+                _test(self.addresses[self.reading], error)
+            except asyncio.CancelledError:
+                if not self.is_moving:
+                    raise
+            self.is_moving = False
+            self.reading = (self.reading + 1) % len(self.addresses)
+            await asyncio.sleep(AGAIN)
+
+    async def _watched(self, place: int) -> AsyncIterator[Union[Written, Report]]:
+        it = self.addresses[self.reading]
+        self.watch = it.watches.Watch(metadata=await it.metadata())
+        asked = rpc.WatchCreateRequest(
+            key=self.prefix,
+            range_end=_end_of(self.prefix),
+            start_revision=place + 1,
+            filters=[rpc.WatchCreateRequest.NODELETE],
+        )
+        asked.MergeFromString(FRAGMENT)
+        try:
+            await self.watch.write(rpc.WatchRequest(create_request=asked))
+            while (said := await self.watch.read()) is not grpc.aio.EOF:
+                if said.compact_revision:
+                    raise LogGone(f"it was trimmed up to revision {said.compact_revision}")
+                if said.canceled:
+                    return
+                for event in said.events:
+                    found = self._item(event.kv)
+                    if found is not None:
+                        yield found
+        finally:
+            self.watch.cancel()
+
+    def _item(self, pair: Any) -> Union[Written, Report, None]:
+        rest = pair.key[len(self.prefix) :]
+        if rest.startswith(b"log/"):
+            return Written(pair.mod_revision, pair.value)
+        if rest.startswith(b"at/"):
+            return Report(rest[3:].decode(), pair.value)
+        return None
+
+    def look_elsewhere(self) -> None:
+        if self.watch is not None and len(self.addresses) > 1:
+            self.is_moving = True
+            self.watch.cancel()
+
+    # reports
+
+    async def report(self, name: str, data: bytes) -> None:
+        request = rpc.PutRequest(key=self.prefix + b"at/" + name.encode(), value=data)
+        await self._call("keys", "Put", request, TRY)
+
+    async def reports(self) -> Dict[str, bytes]:
+        prefix = self.prefix + b"at/"
+        request = rpc.RangeRequest(key=prefix, range_end=_end_of(prefix))
+        found = await self._call("keys", "Range", request)
+        return {it.key[len(prefix) :].decode(): it.value for it in found.kvs}
+
+    async def forget(self, name: str) -> None:
+        request = rpc.DeleteRangeRequest(key=self.prefix + b"at/" + name.encode())
+        await self._call("keys", "DeleteRange", request)
+
+    # trimming
+
+    async def trimmed(self) -> Tuple[int, int]:
+        kept = await self._get(self.prefix + b"trimmed")
+        if kept is None:
+            return 0, 0
+        said = json.loads(kept)
+        return int(said["position"]), int(said["place"])
+
+    async def trim(self, position: int, place: int) -> List[str]:
+        said = []
+        is_put = await self._put_trimmed(position, place)
+        for first, last in await self._numbers_up_to(place):
+            request = rpc.DeleteRangeRequest(key=first, range_end=last + b"\0")
+            await self._call("keys", "DeleteRange", request)
+        said.append(f"entries up to position {position} are removed")
+        with contextlib.suppress(NoLog, LogGone):  # it may be compacted already
+            request = rpc.CompactionRequest(revision=place, physical=True)
+            await self._call("keys", "Compact", request)
+        for it in self.addresses:
+            said.append(await _defragmented(it))
+        await self._disarm()
+        if not is_put and not await self._put_trimmed(position, place):
+            said.append("etcd is still full: raise --quota-backend-bytes")
+        return said
+
+    async def _put_trimmed(self, position: int, place: int) -> bool:
+        value = json.dumps({"position": position, "place": place}).encode()
+        try:
+            await self._call(
+                "keys", "Put", rpc.PutRequest(key=self.prefix + b"trimmed", value=value)
+            )
+        except LogFull:  # a put is possible when the trimmed entries are gone
+            return False
+        return True
+
+    async def _numbers_up_to(self, place: int) -> List[Tuple[bytes, bytes]]:
+        """The first and the last key of each writer's entries up to a place."""
+        prefix = self.prefix + b"log/"
+        at = prefix
+        found: Dict[bytes, Tuple[bytes, bytes]] = {}
+        while True:
+            request = rpc.RangeRequest(
+                key=at, range_end=_end_of(prefix), limit=PAGE, keys_only=True, serializable=True
+            )
+            page = await self._call("keys", "Range", request)
+            for it in page.kvs:
+                if it.create_revision <= place:
+                    writer = it.key.rpartition(b"/")[0]
+                    found[writer] = (found.get(writer, (it.key,))[0], it.key)
+            if not page.more:
+                return list(found.values())
+            at = page.kvs[-1].key + b"\0"
+
+    async def _alarms(self) -> List[Any]:
+        """The alarms for want of space, of each member that raised one."""
+        request = rpc.AlarmRequest(action=rpc.AlarmRequest.GET)
+        said = await self._call("care", "Alarm", request)
+        return [it for it in said.alarms if it.alarm == rpc.NOSPACE]
+
+    async def _disarm(self) -> None:
+        for it in await self._alarms():
+            request = rpc.AlarmRequest(
+                action=rpc.AlarmRequest.DEACTIVATE, memberID=it.memberID, alarm=it.alarm
+            )
+            await self._call("care", "Alarm", request)
+
+    async def full(self) -> str:
+        return "etcd has the alarm NOSPACE" if await self._alarms() else ""
+
+    async def close(self) -> None:
+        for it in self.addresses:
+            with contextlib.suppress(Exception):
+                await it.channel.close()
+
+
+def _test(it: Address, error: Any) -> None:
+    """Raises what is not to be tried again elsewhere, of an error of a call."""
+    said = str(error.details())
+    if error.code() == grpc.StatusCode.RESOURCE_EXHAUSTED and FULL in said:
+        raise LogFull(said) from None
+    if any(text in said for text in NO_TOKEN):
+        it.token = None  # it has run out: the next call asks for another
+    elif error.code() in (grpc.StatusCode.PERMISSION_DENIED, grpc.StatusCode.INVALID_ARGUMENT):
+        raise Ended(f"{it.place}: {said}", 1) from None
+    elif "required revision has been compacted" in said:
+        raise LogGone(said) from None
+
+
+async def _defragmented(it: Address) -> str:
+    """Gives an address's free space back to its disk. It answers nobody meanwhile."""
+    try:
+        given = await it.metadata()
+        await it.care.Defragment(rpc.DefragmentRequest(), timeout=120, metadata=given)
+    except grpc.aio.AioRpcError as error:
+        return f"{it.place} is not defragmented: {error.details()}"
+    return f"{it.place} is defragmented"

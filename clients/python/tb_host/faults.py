@@ -1,0 +1,25 @@
+"""The faults of a replica, each with its exit status. None is a status of a server's."""
+from __future__ import annotations
+
+from typing import Dict
+
+from .lines import Ended
+
+STATUS: Dict[str, int] = {
+    "NoLog": 20,
+    "Trimmed": 21,
+    "Diverged": 22,
+    "OtherRules": 23,
+    "Damaged": 24,
+    "BadEntry": 25,
+    "LogFull": 26,
+    "Ahead": 27,
+}
+
+
+class Fault(Ended):
+    """A fault that ends a replica, by its name."""
+
+    def __init__(self, name: str, said: str) -> None:
+        super().__init__(f"{name}: {said}", STATUS[name])
+        self.name = name

@@ -1,0 +1,240 @@
+"""A replica's copy of the log: a file of records, each an entry with its position.
+
+A record is its position u64, its place in the log u64, the entry's length u32, the CRC-32 of these
+three and of the entry u32, then the entry. The file `synced` has the length up to which the records
+were synced. What lies beyond that may be torn by a crash, and is cut off at the next start: the log
+still has it. A bad record before it is `Damaged`.
+"""
+from __future__ import annotations
+
+import asyncio
+import contextlib
+import dataclasses
+import errno
+import fcntl
+import os
+import struct
+import zlib
+from typing import AsyncIterator, Dict, Iterator, Optional, Tuple
+
+from .entries import MOMENT, NOTHING, Entry, chained
+from .faults import Fault
+from .lines import Ended
+
+MAGIC = b"TBCOPY1\n"
+RECORD = struct.Struct("<QQI")
+SUM = struct.Struct("<I")
+HEAD = RECORD.size + SUM.size
+SYNCED = struct.Struct("<Q")
+CHUNK = 1 << 22  # bytes that are read at a time
+KEPT = 100_000  # positions of which the hashes are kept, to be compared with a writer's
+
+
+@dataclasses.dataclass(frozen=True)
+class Record:
+    """An entry as the copy has it, and where its record ends."""
+
+    position: int
+    place: int
+    entry: bytes
+    end: int
+
+
+def record_of(position: int, place: int, entry: bytes) -> bytes:
+    head = RECORD.pack(position, place, len(entry))
+    return head + SUM.pack(zlib.crc32(entry, zlib.crc32(head))) + entry
+
+
+def _whole(data: bytes, at: int, start: int) -> Optional[Record]:
+    """The record that begins here. None where it is not whole in these bytes."""
+    if len(data) - at < HEAD:
+        return None
+    position, place, length = RECORD.unpack_from(data, at)
+    end = at + HEAD + length
+    if end > len(data):
+        return None
+    return Record(position, place, data[at + HEAD : end], start + end)
+
+
+def _is_right(data: bytes, at: int, record: Record) -> bool:
+    wanted = SUM.unpack_from(data, at + RECORD.size)[0]
+    head = data[at : at + RECORD.size]
+    return bool(zlib.crc32(record.entry, zlib.crc32(head)) == wanted)
+
+
+class Copy:
+    """A copy in a folder. It is one replica's alone."""
+
+    def __init__(self, folder: str) -> None:
+        self.folder = folder
+        self.path = os.path.join(folder, "log")
+        self.position = self.place = 0
+        self.end = self.synced_end = len(MAGIC)
+        self.synced = (0, 0)  # the position and the place up to which the records are synced
+        self.hashes: Dict[int, bytes] = {0: NOTHING}
+        self.numbers: Dict[bytes, int] = {}  # the last number of each writer
+        self.last_moment = 0
+        self.grown = asyncio.Event()
+        self.cut_off = 0  # bytes that a crash left torn
+        self.file = self._opened()
+
+    def _opened(self) -> int:
+        try:
+            os.makedirs(self.folder, mode=0o700, exist_ok=True)
+            file = os.open(self.path, os.O_RDWR | os.O_CREAT | os.O_CLOEXEC, 0o600)
+            fcntl.flock(file, fcntl.LOCK_EX | fcntl.LOCK_NB)
+        except OSError as error:
+            said = "is in use" if error.errno == errno.EWOULDBLOCK else error.strerror
+            raise Ended(f"{self.path}: {said}", 1) from None
+        return file
+
+    # what is there
+
+    def scan(self) -> None:
+        """Reads what is there, cuts off what a crash left torn, and goes on behind it."""
+        length = os.fstat(self.file).st_size
+        if length < len(MAGIC):
+            os.ftruncate(self.file, 0)
+            os.pwrite(self.file, MAGIC, 0)
+        elif os.pread(self.file, len(MAGIC), 0) != MAGIC:
+            raise Fault("Damaged", f"{self.path} is no copy of a log")
+        for record in self.records(len(MAGIC), length):
+            self._take(record)
+        if self.end < length:
+            self._cut(length)
+        self.sync(*self.mark())
+
+    def _cut(self, length: int) -> None:
+        if self.end < self._synced_before():
+            said = f"the record behind position {self.position}, at byte {self.end} of {self.path}"
+            raise Fault("Damaged", said)
+        self.cut_off = length - self.end
+        os.ftruncate(self.file, self.end)
+
+    def _synced_before(self) -> int:
+        with contextlib.suppress(OSError, struct.error):
+            with open(os.path.join(self.folder, "synced"), "rb") as file:
+                return int(SYNCED.unpack(file.read())[0])
+        return 0
+
+    def records(self, start: int, end: int) -> Iterator[Record]:
+        """The records from a place of the file on, up to the first that is not right."""
+        position = None
+        while start < end:
+            data = os.pread(self.file, min(CHUNK, end - start), start)
+            at = 0
+            while (record := _whole(data, at, start)) is not None:
+                if not _is_right(data, at, record):
+                    return
+                if position is not None and record.position != position + 1:
+                    return
+                position = record.position
+                yield record
+                at = record.end - start
+            if not at:
+                return  # what is there is no record, or none that is whole
+            start += at
+
+    def _take(self, record: Record) -> None:
+        if record.position != self.position + 1:
+            raise Fault("Damaged", f"position {record.position} behind {self.position}")
+        try:
+            entry = Entry.from_bytes(record.entry)
+        except ValueError as error:
+            raise Fault("Damaged", f"the entry at {record.position}: {error}") from None
+        self._count(record.position, record.place, record.end, entry)
+
+    def _count(self, position: int, place: int, end: int, entry: Entry) -> None:
+        self.hashes[position] = chained(self.hashes[position - 1], entry.pairs)
+        self.hashes.pop(position - KEPT, None)
+        self.numbers[entry.writer] = entry.number
+        if entry.pairs:  # a writer's moments never fall, and those of an entry are near each other
+            self.last_moment = max(self.last_moment, MOMENT.unpack_from(entry.pairs)[0])
+        self.position, self.place, self.end = position, place, end
+
+    # what comes
+
+    @property
+    def digest(self) -> bytes:
+        """The hash of the log up to the last position."""
+        return self.hashes[self.position]
+
+    def append(self, place: int, entry: Entry, data: bytes) -> None:
+        """Appends an entry. It is synced later."""
+        record = record_of(self.position + 1, place, data)
+        at = self.end
+        while record:
+            done = os.pwrite(self.file, record, at)
+            at, record = at + done, record[done:]
+        self._count(self.position + 1, place, at, entry)
+        self.grown.set()
+
+    def mark(self) -> Tuple[int, Tuple[int, int]]:
+        """What is to be synced: the end of the records, and the last position with its place."""
+        return self.end, (self.position, self.place)
+
+    def sync(self, end: int, synced: Tuple[int, int]) -> None:
+        """Syncs the records up to a mark. It may run in another thread."""
+        os.fsync(self.file)
+        path = os.path.join(self.folder, "synced")
+        with open(path, "r+b" if os.path.exists(path) else "wb") as file:
+            file.write(SYNCED.pack(end))
+        self.synced_end, self.synced = end, synced
+
+    async def follow(self) -> AsyncIterator[Record]:
+        """All records from the first on, without an end."""
+        at = len(MAGIC)
+        while True:
+            while at == self.end:
+                self.grown.clear()
+                await self.grown.wait()
+            before = at
+            for record in self.records(at, self.end):
+                at = record.end
+                yield record
+            if at == before:
+                raise Fault("Damaged", f"the record at byte {at} of {self.path}")
+
+    def close(self) -> None:
+        os.close(self.file)
+
+
+def copied(source: str, folder: str) -> Tuple[int, int]:
+    """Makes a copy in an empty folder from another replica's, which may be in use. Answers the
+    last position and its place."""
+    if os.path.exists(os.path.join(folder, "log")):
+        raise Ended(f"{folder} has a copy already", 1)
+    path = os.path.join(source, "log")
+    reading = Copy.__new__(Copy)
+    try:
+        reading.file = os.open(path, os.O_RDONLY | os.O_CLOEXEC)
+    except OSError as error:
+        raise Ended(f"{path}: {error.strerror}", 1) from None
+    target = Copy(folder)
+    try:
+        target.scan()
+        if os.pread(reading.file, len(MAGIC), 0) != MAGIC:
+            raise Fault("Damaged", f"{path} is no copy of a log")
+        for record in reading.records(len(MAGIC), os.fstat(reading.file).st_size):
+            target.append(record.place, Entry.from_bytes(record.entry), record.entry)
+        target.sync(*target.mark())
+        with open(os.path.join(source, "head"), "rb") as file:
+            kept(folder, "head", file.read())
+        return target.synced
+    finally:
+        os.close(reading.file)
+        target.close()
+
+
+def kept(folder: str, name: str, made: bytes) -> bytes:
+    """What a file of the folder has; made where it is not there."""
+    path = os.path.join(folder, name)
+    with contextlib.suppress(FileNotFoundError):
+        with open(path, "rb") as file:
+            return file.read()
+    with open(path + ".new", "wb") as file:
+        file.write(made)
+        file.flush()
+        os.fsync(file.fileno())
+    os.replace(path + ".new", path)
+    return made

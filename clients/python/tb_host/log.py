@@ -1,0 +1,129 @@
+"""The agreed log: an ordered, durable list of entries that an engine keeps on several machines."""
+from __future__ import annotations
+
+import dataclasses
+import re
+from typing import AsyncIterator, Dict, List, Optional, Protocol, Tuple, Union
+
+from .lines import Ended
+
+
+@dataclasses.dataclass(frozen=True)
+class Access:
+    """How an engine is spoken to: the files of TLS, and a user with the file of its password."""
+
+    authority: Optional[str] = None
+    certificate: Optional[str] = None
+    key: Optional[str] = None
+    user: Optional[str] = None
+    password_file: Optional[str] = None
+
+    def password(self) -> Optional[str]:
+        """The password: the first line of its file, which others may not read."""
+        if self.password_file is None:
+            return None
+        try:
+            with open(self.password_file, encoding="utf-8") as file:
+                return file.readline().rstrip("\n")
+        except (OSError, UnicodeError) as error:
+            raise Ended(f"{self.password_file}: {error}", 1) from None
+
+
+@dataclasses.dataclass(frozen=True)
+class Written:
+    """An entry as the log has it, and its place there: a number of the engine's, which grows."""
+
+    place: int
+    data: bytes
+
+
+@dataclasses.dataclass(frozen=True)
+class Report:
+    """What a replica last said of itself."""
+
+    name: str
+    data: bytes
+
+
+class LogGone(Exception):
+    """What is to be read is in the log no more: it was trimmed beyond this place."""
+
+
+class LogFull(Exception):
+    """The engine takes no more: its quota or its disk is full."""
+
+
+class NoLog(Exception):
+    """The engine cannot be reached, or has no majority."""
+
+
+class Log(Protocol):
+    """An agreed log. Each call tries every address of the engine; where none answers in time it
+    raises `NoLog`."""
+
+    async def head(self, wanted: bytes) -> bytes:
+        """The log's head. It is this one where none was there before."""
+
+    async def append(self, writer: bytes, number: int, data: bytes) -> int:
+        """Appends an entry once, however often it is called with this writer and number. Answers
+        its place. Raises `LogFull`, or `NoLog` where the outcome is not known."""
+
+    def read(self, place: int) -> AsyncIterator[Union[Written, Report]]:
+        """What is written behind a place, in order, without an end. Raises `LogGone`."""
+
+    def look_elsewhere(self) -> None:
+        """Reads go on at another address."""
+
+    async def report(self, name: str, data: bytes) -> None:
+        """Keeps what a replica says of itself."""
+
+    async def reports(self) -> Dict[str, bytes]:
+        """What each listed replica last said."""
+
+    async def forget(self, name: str) -> None:
+        """Takes a replica off the list."""
+
+    async def trimmed(self) -> Tuple[int, int]:
+        """The position and the place up to which the log was trimmed; 0 and 0 where it was not."""
+
+    async def trim(self, position: int, place: int) -> List[str]:
+        """Removes the entries up to this place. Answers what was done, line by line."""
+
+    async def full(self) -> str:
+        """Why the engine takes no more. Empty where it does."""
+
+    async def close(self) -> None:
+        """Closes the connections."""
+
+
+def parts(url: str) -> Tuple[str, List[Tuple[str, int]], str]:
+    """The kind of a log, its addresses, and its name: KIND://HOST[:PORT],../NAME. Raises
+    `ValueError` where that is none."""
+    found = re.fullmatch(r"(etcd|postgresql)://([^/]+)/([A-Za-z0-9_./-]+)", url)
+    if not found:
+        raise ValueError(f"{url!r} is no etcd://HOST,../NAME or postgresql://HOST,../DATABASE/NAME")
+    kind, hosts, name = found.groups()
+    return kind, [_address(it, 2379 if kind == "etcd" else 5432) for it in hosts.split(",")], name
+
+
+def _address(text: str, port: int) -> Tuple[str, int]:
+    found = re.fullmatch(r"(\[[0-9A-Fa-f:.]+\]|[^\[\]:]+)(?::([0-9]{1,5}))?", text)
+    if not found or int(found[2] or 0) > 65535:
+        raise ValueError(f"{text!r} is no HOST or HOST:PORT")
+    return found[1].strip("[]"), int(found[2] or port)
+
+
+def opened(url: str, access: Access, replicas: int = 1) -> Log:
+    """The log of a URL. Its engine's package is looked for only now."""
+    kind, addresses, name = parts(url)
+    try:
+        if kind == "etcd":
+            from .etcd import EtcdLog
+
+            return EtcdLog(addresses, name, access)
+        from .postgresql import PostgresLog
+
+        return PostgresLog(addresses, name, access, replicas)
+    except ImportError as error:
+        package = {"etcd": "python3-etcd3", "postgresql": "python3-psycopg"}[kind]
+        raise Ended(f"{error.name} is not there: install {package}", 1) from None

@@ -1,0 +1,192 @@
+"""A ledger on several machines: each replica serves clients, over one agreed log.
+
+    tb-replica [OPTIONS] --log LOG --copy FOLDER -- COMMAND [WORD ..]
+    tb-replica status --log LOG
+    tb-replica trim --log LOG [--forget NAME ..]
+    tb-replica copy-from FOLDER --copy FOLDER
+
+LOG is etcd://HOST[:PORT],../NAME or postgresql://HOST[:PORT],../DATABASE/NAME. COMMAND is a server
+that keeps its ledger in memory, as `tb_script run 64`, with the same number of clients and profile
+on each machine. FOLDER is this replica's copy of the log. docs/use/CLUSTER.md says how to set three
+machines up.
+
+Status 0: ended by SIGTERM or SIGINT, with all that was taken answered. Status 1: it cannot listen,
+or the command failed. Status 2: wrong arguments. A fault has its name and a status of its own:
+20 NoLog, 21 Trimmed, 22 Diverged, 23 OtherRules, 24 Damaged, 25 BadEntry, 26 LogFull, 27 Ahead. A
+fault that the command named is passed on, with its own line and status.
+"""
+from __future__ import annotations
+
+import argparse
+import asyncio
+import os
+import socket
+import sys
+from typing import Any, List, Sequence
+
+from .arguments import add_command, add_places, add_times, ahead, path, seconds
+from .lines import Ended, say, speak_as
+from .local_copy import Copy, copied, kept
+from .log import Access, Log, opened, parts
+from .replica import Replica, head_of
+from .serving import listen_on, stop_signals, until
+from .sockets import bound, make_room, shown
+from .status import status, trim
+
+PARTS = ("run", "status", "trim", "copy-from")
+
+
+async def serve(given: argparse.Namespace, log: Log) -> None:
+    """Serves until a signal comes, or until the replica ends."""
+    stopping = stop_signals()
+    copy = Copy(given.copy)
+    try:
+        copy.scan()
+        if copy.cut_off:
+            say(f"{copy.cut_off} bytes that a crash left torn are cut off the copy")
+        name = given.name or f"{socket.gethostname()}-{os.urandom(4).hex()}"
+        replica = Replica(given, log, copy, kept(given.copy, "name", name.encode()).decode())
+        beginning = asyncio.ensure_future(replica.begin())
+        if not await until(beginning, stopping):
+            return
+        beginning.result()
+        with bound(given) as place:
+            given.shown = given.unix or shown(*place.getsockname())
+            await listen_on(place, replica, given, stopping)
+    finally:
+        stopping.cancel()
+        copy.close()
+
+
+async def _with_log(given: argparse.Namespace, work: Any) -> Any:
+    access = Access(given.ca, given.cert, given.key, given.user, given.password_file)
+    log = opened(given.log, access, given.standbys)
+    try:
+        return await work(given, log)
+    finally:
+        await log.close()
+
+
+def _log(text: str) -> str:
+    try:
+        parts(text)
+    except ValueError as error:
+        raise argparse.ArgumentTypeError(str(error)) from None
+    return text
+
+
+def add_log(parser: argparse.ArgumentParser) -> None:
+    parser.add_argument("--log", metavar="LOG", type=_log, required=True, help="the agreed log")
+    files = (
+        ("--ca", "the certificates that the engine's is tested by: speaks TLS"),
+        ("--cert", "this replica's certificate"),
+        ("--key", "the key of its certificate"),
+        ("--password-file", "its first line is the password of --user"),
+    )
+    for word, said in files:
+        parser.add_argument(word, metavar="FILE", type=path, help=said)
+    parser.add_argument("--user", metavar="NAME", help="the engine's user")
+    parser.add_argument(
+        "--standbys",
+        metavar="N",
+        type=int,
+        default=1,
+        help="PostgreSQL: standbys that have to have flushed what is read (1; 0 is one machine)",
+    )
+
+
+def _parser(usage: str) -> argparse.ArgumentParser:
+    return argparse.ArgumentParser(
+        prog="tb-replica",
+        usage=usage,
+        description=__doc__,
+        formatter_class=argparse.RawDescriptionHelpFormatter,
+        allow_abbrev=False,
+    )
+
+
+def _run_words(given: Sequence[str]) -> argparse.Namespace:
+    parser = _parser("%(prog)s [OPTIONS] --log LOG --copy FOLDER -- COMMAND [WORD ..]")
+    add_log(parser)
+    parser.add_argument("--copy", metavar="FOLDER", type=path, required=True, help="the copy")
+    parser.add_argument("--name", help="this replica's name in the log (made where none is given)")
+    add_places(parser)
+    add_times(parser)
+    patience = "how long a request may wait for the log until its client is told NoLog (10)"
+    parser.add_argument("--patience", metavar="SECONDS", type=seconds, default=10.0, help=patience)
+    far = "how far this clock may be ahead of the others', and the log ahead of this clock (60)"
+    parser.add_argument("--ahead", metavar="SECONDS", type=ahead, default=60.0, help=far)
+    parser.add_argument(
+        "--distrust",
+        metavar="WRITER",
+        action="append",
+        default=[],
+        help="do not compare what this writer had (after Diverged: docs/use/CLUSTER.md)",
+    )
+    add_command(parser)
+    found = parser.parse_args(given)
+    try:
+        head_of(found.command)
+    except ValueError as error:
+        parser.error(str(error))
+    return found
+
+
+def _status_words(given: Sequence[str]) -> argparse.Namespace:
+    parser = _parser("%(prog)s status --log LOG [OPTIONS]")
+    add_log(parser)
+    return parser.parse_args(given)
+
+
+def _trim_words(given: Sequence[str]) -> argparse.Namespace:
+    parser = _parser("%(prog)s trim --log LOG [--forget NAME ..]")
+    add_log(parser)
+    parser.add_argument(
+        "--forget",
+        metavar="NAME",
+        action="append",
+        default=[],
+        help="take a replica off the list that is there no more",
+    )
+    return parser.parse_args(given)
+
+
+def _copy_words(given: Sequence[str]) -> argparse.Namespace:
+    parser = _parser("%(prog)s copy-from FOLDER --copy FOLDER")
+    parser.add_argument("source", metavar="FOLDER", type=path, help="a peer's copy")
+    parser.add_argument("--copy", metavar="FOLDER", type=path, required=True, help="the new copy")
+    return parser.parse_args(given)
+
+
+def _copy_from(given: argparse.Namespace) -> int:
+    position, place = copied(given.source, given.copy)
+    print(f"position {position} place {place}")
+    return 0
+
+
+def run(part: str, rest: List[str]) -> int:
+    if part == "copy-from":
+        return _copy_from(_copy_words(rest))
+    if part == "status":
+        return int(asyncio.run(_with_log(_status_words(rest), status)))
+    if part == "trim":
+        return int(asyncio.run(_with_log(_trim_words(rest), trim)))
+    given = _run_words(rest)
+    make_room(given.connections)
+    asyncio.run(_with_log(given, serve))
+    return 0
+
+
+def main() -> int:
+    speak_as("tb_replica")
+    words = sys.argv[1:]
+    part = words[0] if words and words[0] in PARTS else ""
+    try:
+        return run(part, words[1:] if part else words)
+    except Ended as ended:
+        say(str(ended))
+        return ended.status
+
+
+if __name__ == "__main__":
+    sys.exit(main())

@@ -1,0 +1,268 @@
+"""The agreed log in PostgreSQL, by psycopg 3: a table whose primary key is the position.
+
+The tables NAME_log, NAME_keys and NAME_at are made where they are not there. What a primary shows
+may be lost with it: a row is visible whose standby has not written it yet, after a wait that was
+cancelled and after a restart. So what is read is taken only when so many standbys have flushed all
+that the primary had flushed by then. Which server is the primary is for a failover manager to say.
+"""
+from __future__ import annotations
+
+import asyncio
+import contextlib
+import re
+from typing import (
+    Any,
+    AsyncIterator,
+    Awaitable,
+    Callable,
+    Dict,
+    List,
+    Optional,
+    Tuple,
+    TypeVar,
+    Union,
+)
+
+import psycopg
+from psycopg import errors, sql
+
+from .lines import Ended
+from .log import Access, LogFull, LogGone, NoLog, Report, Written
+
+T = TypeVar("T")
+
+TRY = 3.0  # seconds for which one answer is waited for
+ALL = 10.0  # seconds after which a call is not tried again
+AGAIN = 0.1  # seconds before it is
+LATEST = 0.05  # seconds after which it is looked for entries of others
+PAGE = 16  # entries that are read at a time
+REPORTS = 0.2  # seconds after which it is looked for reports
+
+TABLES = """
+CREATE TABLE IF NOT EXISTS {log} (position bigint PRIMARY KEY, writer bytea NOT NULL,
+    number bigint NOT NULL, entry bytea NOT NULL, UNIQUE (writer, number));
+CREATE TABLE IF NOT EXISTS {keys} (key text PRIMARY KEY, value bytea NOT NULL);
+CREATE TABLE IF NOT EXISTS {at} (name text PRIMARY KEY, value bytea NOT NULL);
+"""
+APPEND = """
+INSERT INTO {log} SELECT coalesce(max(position), 0) + 1, %s, %s, %s FROM {log}
+ON CONFLICT DO NOTHING RETURNING position
+"""
+# The snapshot is taken before the flush position is looked at, so all that is read lies below it.
+READ = """
+SELECT position, entry, pg_current_wal_flush_lsn()::text FROM {log} WHERE position > %s
+ORDER BY position LIMIT {page}
+"""
+FLUSHED = "SELECT count(*) FROM pg_stat_replication WHERE flush_lsn >= %s::pg_lsn"
+KEEP = """
+INSERT INTO {keys} VALUES (%s, %s) ON CONFLICT (key) DO UPDATE SET value = excluded.value
+"""
+SAY = """
+INSERT INTO {at} VALUES (%s, %s) ON CONFLICT (name) DO UPDATE SET value = excluded.value
+"""
+
+
+class Unknown(Exception):
+    """It is not known what became of a statement."""
+
+
+class PostgresLog:
+    """The log under a name, in a database."""
+
+    def __init__(
+        self, addresses: List[Tuple[str, int]], name: str, access: Access, standbys: int
+    ) -> None:
+        database, _, table = name.partition("/")
+        if not re.fullmatch(r"[a-z][a-z0-9_]{0,40}", table):
+            raise Ended(f"{name!r} is no DATABASE/NAME: small letters, digits and _", 1)
+        self.addresses, self.database, self.access = addresses, database, access
+        self.standbys = standbys
+        self.names = {it: sql.Identifier(f"{table}_{it}") for it in ("log", "keys", "at")}
+        self.writing: Optional[Any] = None
+        self.reading: Optional[Any] = None
+        self.said: Dict[int, List[str]] = {}  # what the server noticed, by connection
+        self.wanted = asyncio.Event()
+
+    # connections
+
+    def _words(self) -> Dict[str, Any]:
+        access = self.access
+        words = {
+            "host": ",".join(host for host, _ in self.addresses),
+            "port": ",".join(str(port) for _, port in self.addresses),
+            "dbname": self.database,
+            "user": access.user,
+            "password": access.password(),
+            "target_session_attrs": "read-write",
+            "connect_timeout": 2,
+            "options": "-c synchronous_commit=on",
+            "sslrootcert": access.authority,
+            "sslmode": "verify-full" if access.authority else None,
+            "sslcert": access.certificate,
+            "sslkey": access.key,
+        }
+        return {name: it for name, it in words.items() if it is not None}
+
+    async def _connected(self) -> Any:
+        it = await psycopg.AsyncConnection.connect(autocommit=True, **self._words())
+        said: List[str] = []
+        it.add_notice_handler(
+            lambda notice: said.append(f"{notice.severity_nonlocalized}: {notice.message_primary}")
+        )
+        self.said[id(it)] = said
+        return it
+
+    def _query(self, text: str) -> Any:
+        return sql.SQL(text).format(**self.names, page=sql.Literal(PAGE))
+
+    async def _call(self, work: Callable[[Any], Awaitable[T]], seconds: float = ALL) -> T:
+        """What a piece of work answers, tried over new connections until it does."""
+        loop = asyncio.get_running_loop()
+        end = loop.time() + seconds
+        while True:
+            try:
+                if self.writing is None or self.writing.closed:
+                    self.writing = await asyncio.wait_for(self._connected(), TRY)
+                return await asyncio.wait_for(work(self.writing), TRY)
+            except (psycopg.Error, OSError, asyncio.TimeoutError, Unknown) as error:
+                await self._lose(self.writing)
+                self.writing = None
+                said = _tested(error)
+            if loop.time() >= end:
+                raise NoLog(said)
+            await asyncio.sleep(AGAIN)
+
+    async def _lose(self, it: Any) -> None:
+        if it is not None:
+            self.said.pop(id(it), None)
+            with contextlib.suppress(psycopg.Error, OSError, asyncio.TimeoutError):
+                await asyncio.wait_for(it.close(), 1)
+
+    async def _rows(self, it: Any, text: str, *given: Any) -> List[Any]:
+        """The rows of a query. Raises `Unknown` where the server warns: a wait for a standby was
+        cancelled, and what was written may be lost with the primary."""
+        said = self.said[id(it)]
+        said.clear()
+        cursor = await it.execute(self._query(text), given)
+        rows = await cursor.fetchall() if cursor.description else []
+        for text in said:
+            if text.startswith("WARNING"):
+                raise Unknown(text)
+        return list(rows)
+
+    # the log
+
+    async def head(self, wanted: bytes) -> bytes:
+        async def work(it: Any) -> bytes:
+            await it.execute(self._query(TABLES))
+            put = "INSERT INTO {keys} VALUES ('head', %s) ON CONFLICT DO NOTHING"
+            await self._rows(it, put, wanted)
+            return await self._key(it, "head") or b""
+
+        return await self._call(work)
+
+    async def _key(self, it: Any, key: str) -> Optional[bytes]:
+        rows = await self._rows(it, "SELECT value FROM {keys} WHERE key = %s", key)
+        return bytes(rows[0][0]) if rows else None
+
+    async def append(self, writer: bytes, number: int, data: bytes) -> int:
+        async def work(it: Any) -> int:
+            there = "SELECT position FROM {log} WHERE writer = %s AND number = %s"
+            while True:
+                rows = await self._rows(it, APPEND, writer, number, data)
+                rows = rows or await self._rows(it, there, writer, number)
+                if rows:  # else another writer took the position
+                    return int(rows[0][0])
+
+        place = await self._call(work, TRY)
+        self.wanted.set()
+        return place
+
+    async def read(self, place: int) -> AsyncIterator[Union[Written, Report]]:
+        said: Dict[str, bytes] = {}
+        loop = asyncio.get_running_loop()
+        looked = 0.0
+        while True:
+            try:
+                for row in await asyncio.wait_for(self._page(place), ALL):
+                    if row[0] != place + 1:
+                        raise LogGone(f"position {row[0]} comes behind {place}")
+                    place = int(row[0])
+                    yield Written(place, bytes(row[1]))
+                if loop.time() > looked + REPORTS:
+                    looked = loop.time()
+                    for name, data in await asyncio.wait_for(self._said(), TRY):
+                        if said.get(name) != data:
+                            said[name] = data
+                            yield Report(name, data)
+            except (psycopg.Error, OSError, asyncio.TimeoutError, Unknown) as error:
+                _tested(error)
+                await self._lose(self.reading)
+                self.reading = None
+                await asyncio.sleep(AGAIN)
+            with contextlib.suppress(asyncio.TimeoutError):
+                await asyncio.wait_for(self.wanted.wait(), LATEST)
+            self.wanted.clear()
+
+    async def _page(self, place: int) -> List[Any]:
+        """The next entries, when the standbys have them."""
+        if self.reading is None:
+            self.reading = await self._connected()
+        rows = await self._rows(self.reading, READ, place)
+        while rows and self.standbys:
+            count = (await self._rows(self.reading, FLUSHED, rows[0][2]))[0][0]
+            if count >= self.standbys:
+                break
+            await asyncio.sleep(0.002)
+        return rows
+
+    async def _said(self) -> List[Tuple[str, bytes]]:
+        rows = await self._rows(self.reading, "SELECT name, value FROM {at}")
+        return [(str(name), bytes(data)) for name, data in rows]
+
+    def look_elsewhere(self) -> None:
+        self.wanted.set()
+
+    # reports
+
+    async def report(self, name: str, data: bytes) -> None:
+        await self._call(lambda it: self._rows(it, SAY, name, data), TRY)
+
+    async def reports(self) -> Dict[str, bytes]:
+        rows = await self._call(lambda it: self._rows(it, "SELECT name, value FROM {at}"))
+        return {str(name): bytes(data) for name, data in rows}
+
+    async def forget(self, name: str) -> None:
+        await self._call(lambda it: self._rows(it, "DELETE FROM {at} WHERE name = %s", name))
+
+    # trimming
+
+    async def trimmed(self) -> Tuple[int, int]:
+        value = await self._call(lambda it: self._key(it, "trimmed"))
+        return (0, 0) if value is None else (int(value), int(value))
+
+    async def trim(self, position: int, place: int) -> List[str]:
+        async def work(it: Any) -> None:
+            async with it.transaction():
+                await self._rows(it, KEEP, "trimmed", str(place).encode())
+                least = "position < (SELECT max(position) FROM {log})"  # the next one counts on it
+                await self._rows(it, "DELETE FROM {log} WHERE position <= %s AND " + least, place)
+
+        await self._call(work)
+        return [f"entries up to position {position} are removed; vacuum the table"]
+
+    async def full(self) -> str:
+        return ""
+
+    async def close(self) -> None:
+        for it in (self.writing, self.reading):
+            await self._lose(it)
+
+
+def _tested(error: BaseException) -> str:
+    """What an error says. Raises what is not to be tried again."""
+    if isinstance(error, errors.DiskFull):
+        raise LogFull(str(error)) from None
+    if isinstance(error, (errors.UndefinedTable, errors.InsufficientPrivilege)):
+        raise Ended(str(error).splitlines()[0], 1) from None
+    return str(error).strip().splitlines()[0] if str(error).strip() else type(error).__name__

@@ -1,0 +1,399 @@
+"""A replica: it appends its clients' requests to the agreed log, reads the log in order, and gives
+it to its own server process. A reply goes to a client only when the log has its request."""
+from __future__ import annotations
+
+import argparse
+import asyncio
+import collections
+import contextlib
+import json
+import os
+import time
+from typing import Any, Deque, Dict, List, Optional, Set, Tuple
+
+from .entries import MOMENT, PAIRS_MAX, Claim, Entry, test_pairs
+from .faults import Fault
+from .follower import Follower
+from .lines import Told, say
+from .local_copy import KEPT, Copy, kept
+from .log import Log, LogFull, LogGone, NoLog, Report, Written
+from .moments import SECOND, Moments
+from .process import cancelled, first
+
+LOOK = 0.25  # seconds after which it is looked for requests that wait too long
+ELSEWHERE = 2.0  # seconds for which what was written may be read late
+REPORT = 10.0  # seconds after which a replica reports, where its position has changed
+SYNC = 1.0  # seconds after which the copy is synced
+PAUSE = 0.1  # seconds before an append is tried again
+ANSWERS = 2.0  # seconds for which the reports of others are waited for at the start
+FORMAT = 1
+RULES = 1  # grows where a server answers a script otherwise than before
+
+
+def head_of(words: List[str]) -> Dict[str, int]:
+    """What replicas of one log have in common, of a server's command, which ends in run CLIENTS_MAX
+    [PROFILE]. Raises `ValueError`."""
+    for at in (len(words) - 2, len(words) - 3):
+        numbers = words[at + 1 :]
+        if at > 0 and words[at] == "run" and all(it.isascii() and it.isdigit() for it in numbers):
+            clients_max, profile = int(numbers[0]), int(numbers[1]) if numbers[1:] else 1
+            head = {"format": FORMAT, "rules": RULES, "clients_max": clients_max}
+            return {**head, "profile": profile}
+    raise ValueError("COMMAND does not end in run CLIENTS_MAX [PROFILE]")
+
+
+class Pair:
+    """A request that waits: for its place in the log, then for its reply."""
+
+    __slots__ = ("frame", "since", "reply")
+
+    def __init__(self, frame: bytes) -> None:
+        self.frame, self.since = frame, time.monotonic()
+        self.reply: asyncio.Future[bytes] = asyncio.get_running_loop().create_future()
+
+    def fail(self, name: str) -> None:
+        if not self.reply.done():
+            self.reply.set_exception(Told(name))
+            self.reply.exception()  # whoever waited may be gone
+
+
+class Replica:
+    """One replica. It serves as a listener's command does."""
+
+    def __init__(self, given: argparse.Namespace, log: Log, copy: Copy, name: str) -> None:
+        self.given, self.log, self.copy, self.name = given, log, copy, name
+        self.writer = os.urandom(16)  # another one at each start
+        self.follower = Follower(given.command, given.slow, copy, self.tell)
+        self.moments = Moments()
+        self.stopping = self.follower.stopping
+        self.queue: Deque[Pair] = collections.deque()
+        self.queued = asyncio.Event()
+        self.number = 0
+        self.sent: Dict[int, List[Pair]] = {}  # own entries that were not read yet, by their number
+        self.own: Dict[int, List[Pair]] = {}  # those that were read, by their position
+        self.seen = asyncio.Event()
+        self.claims: Dict[int, Set[Tuple[bytes, bytes]]] = {}  # of replies that are not there yet
+        self.is_full = False
+        self.hello = 0  # what this clock had when the others were asked for theirs
+        self.heard: Dict[str, int] = {}  # the same of others, which are to be answered
+        self.ahead: Dict[str, int] = {}  # by how much this clock is ahead of another's, at least
+        self.is_met = False  # whether the others were asked
+        self.is_away = False  # whether it was said that there is no log
+        self.reporting = asyncio.Event()
+        self.reported: Tuple[int, int] = (-1, -1)
+        self.closed = asyncio.Event()
+
+    # requests
+
+    async def ask(self, frame: bytes) -> bytes:
+        """The reply to a request. Raises `Told` where there is no log for it, or where the replica
+        ended before it came."""
+        if self.follower.is_over:
+            raise Told("ProgramEnded")
+        pair = Pair(frame)
+        self.queue.append(pair)
+        self.queued.set()
+        return await pair.reply
+
+    def tell(self, position: int, index: int, reply: bytes) -> None:
+        """Brings the reply to the pair of this position and index to who asked, if it is one of
+        ours."""
+        pairs = self.own.get(position)
+        if pairs is None:
+            return
+        if not pairs[index].reply.done():
+            pairs[index].reply.set_result(reply)
+        if index + 1 == len(pairs):
+            del self.own[position]
+
+    async def _watch_the_wait(self) -> None:
+        """Tells those who wait too long for the log that it is not there. The request may be
+        executed nevertheless."""
+        while True:
+            await asyncio.sleep(LOOK)
+            name = "LogFull" if self.is_full else "NoLog"
+            late = time.monotonic() - self.given.patience
+            for pair in [*self.queue, *(it for entry in self.sent.values() for it in entry)]:
+                if pair.since < late or self.is_full:
+                    pair.fail(name)
+
+    # the log
+
+    def _next_entry(self) -> Optional[bytes]:
+        """The next entry, of the pairs that wait. None where no one waits any more."""
+        taken: List[Pair] = []
+        pairs, length = [], 0
+        while self.queue and length + len(self.queue[0].frame) + MOMENT.size <= PAIRS_MAX:
+            pair = self.queue.popleft()
+            if not pair.reply.done():
+                taken.append(pair)
+                pairs += [MOMENT.pack(self.moments.next()), pair.frame]
+                length += len(pair.frame) + MOMENT.size
+        if not taken:
+            return None
+        self.number += 1
+        self.sent[self.number] = taken
+        log = Claim(self.copy.position, self.copy.digest)
+        replies = Claim(*self.follower.state())
+        return Entry(self.writer, self.number, log, replies, b"".join(pairs)).to_bytes()
+
+    async def _write(self) -> None:
+        """Appends what waits, one entry after another."""
+        while True:
+            await self.queued.wait()
+            self.queued.clear()
+            while self.queue:
+                data = self._next_entry()
+                if data is not None:
+                    await self._append(self.number, data)
+
+    async def _append(self, number: int, data: bytes) -> None:
+        """Appends an entry once: by the same name until it is in the log."""
+        while number in self.sent:
+            try:
+                await self.log.append(self.writer, number, data)
+                self.is_full = self.is_away = False
+                break
+            except LogFull as full:
+                if not self.is_full:
+                    say(f"LogFull: {full}")
+                self.is_full = True
+            except NoLog as none:
+                if not self.is_away:
+                    say(f"NoLog: {none}")
+                self.is_away = True
+            await asyncio.sleep(PAUSE)
+        if number in self.sent:
+            asyncio.get_running_loop().call_later(ELSEWHERE, self._look_elsewhere, number)
+
+    def _look_elsewhere(self, number: int) -> None:
+        """Reads at another address where what was written is not read there."""
+        if number in self.sent:
+            self.log.look_elsewhere()
+            asyncio.get_running_loop().call_later(ELSEWHERE, self._look_elsewhere, number)
+
+    async def _read(self) -> None:
+        """Takes what the log has, in order."""
+        try:
+            async for it in self.log.read(self.copy.place):
+                if isinstance(it, Written):
+                    self.take(it)
+                else:
+                    self._hear(it)
+        except LogGone as gone:
+            raise Fault("Trimmed", f"{gone}; take a copy of a peer, by copy-from") from None
+
+    def take(self, written: Written) -> None:
+        """Takes an entry of the log: it is tested, copied, and passed to the server."""
+        position = self.copy.position + 1
+        try:
+            entry = Entry.from_bytes(written.data)
+        except ValueError as error:
+            raise Fault("BadEntry", f"the entry at {position}: {error}") from None
+        before = self.copy.numbers.get(entry.writer, 0)
+        if entry.number <= before:
+            say(f"entry {entry.number} of a writer is in the log twice, and is taken once")
+            return
+        if entry.number != before + 1:
+            said = f"the entry at {position} is number {entry.number} behind {before}"
+            raise Fault("BadEntry", said)
+        test_pairs(position, entry.pairs)
+        self._compare(position, entry)
+        if entry.writer == self.writer:
+            self.own[position] = self.sent.pop(entry.number)
+        self.copy.append(written.place, entry, written.data)
+
+    # hashes
+
+    def _compare(self, position: int, entry: Entry) -> None:
+        """Compares what the writer of an entry had with what is here."""
+        if entry.writer.hex() in self.given.distrust:
+            return
+        log, replies = entry.log, entry.replies
+        mine = self.copy.hashes.get(log.position)
+        if log.position >= position or replies.position >= position:
+            self._diverged(position, entry.writer, "has more of the log than there is")
+        if log.position > position - KEPT and mine != log.digest:
+            self._diverged(log.position, entry.writer, "has another log")
+        self._compare_replies(replies, entry.writer)
+
+    def _compare_replies(self, replies: Claim, writer: bytes) -> None:
+        mine = self.follower.hashes.get(replies.position)
+        if mine is None and replies.position > self.follower.answered:
+            self.claims.setdefault(replies.position, set()).add((replies.digest, writer))
+        elif mine is not None and mine != replies.digest:
+            self._diverged(replies.position, writer, "has other replies")
+
+    def _diverged(self, position: int, writer: bytes, said: str) -> None:
+        text = f"at position {position}: writer {writer.hex()} {said}; keep all files"
+        raise Fault("Diverged", text)
+
+    async def _compare_later(self) -> None:
+        """Compares what writers had of replies with those that came since."""
+        while True:
+            await self.follower.moved.wait()
+            self.follower.moved.clear()
+            while self.claims and min(self.claims) <= self.follower.answered:
+                position = min(self.claims)
+                for digest, writer in self.claims.pop(position):
+                    self._compare_replies(Claim(position, digest), writer)
+
+    # reports
+
+    def _hear(self, report: Report) -> None:
+        """Takes what another replica says: the clock that it has, where it was asked for that; that
+        it asks for this one's; or that it diverged from this one."""
+        if report.name == self.name:
+            return
+        with contextlib.suppress(ValueError, TypeError, KeyError):
+            said = json.loads(report.data)
+            if said.get("heard", {}).get(self.name) == self.hello:
+                self.ahead[report.name] = self.hello - int(said["clock"])
+            if said.get("hello"):
+                self.heard[report.name] = int(said["hello"])
+                self.reporting.set()
+            if self.writer.hex() in said.get("fault", ""):
+                raise Fault("Diverged", f"{report.name} says: {said['fault']}")
+
+    def _test_clock(self) -> None:
+        """Raises `Ahead` where this clock is ahead of that of each replica that answered."""
+        least = min(self.ahead.values(), default=0) / SECOND
+        if least > self.given.ahead:
+            said = f"this computer's clock is {least:.0f} s ahead of the others': set it right"
+            raise Fault("Ahead", said)
+
+    def _said(self, fault: str) -> bytes:
+        position, place = self.copy.synced
+        answered, digest = self.follower.state()
+        said: Dict[str, Any] = {
+            "position": position,
+            "place": place,
+            "answered": answered,
+            "replies": digest.hex(),
+            "clock": time.time_ns(),
+            "writer": self.writer.hex(),
+            "address": self.given.shown,
+            "heard": self.heard,
+            **({"hello": self.hello} if not self.is_met else {}),
+            **({"fault": fault} if fault else {}),
+        }
+        return json.dumps(said, sort_keys=True).encode()
+
+    async def report(self, fault: str = "") -> None:
+        reported = self.copy.synced
+        with contextlib.suppress(NoLog, LogFull):
+            await self.log.report(self.name, self._said(fault))
+            self.reported = reported
+
+    async def _report(self) -> None:
+        while True:
+            with contextlib.suppress(asyncio.TimeoutError):
+                await asyncio.wait_for(self.reporting.wait(), REPORT)
+            if self.reporting.is_set() or self.reported != self.copy.synced:
+                self.reporting.clear()
+                await self.report()
+
+    async def _sync(self) -> None:
+        while True:
+            await asyncio.sleep(SYNC)
+            if self.copy.synced_end != self.copy.end:
+                await asyncio.to_thread(self.copy.sync, *self.copy.mark())
+
+    # its run
+
+    async def begin(self) -> None:
+        """Compares the log's head, and tests the clock. Raises why the replica cannot serve."""
+        try:
+            await self._settle_head()
+            position, _ = await self.log.trimmed()
+            if position > self.copy.position:
+                said = f"the log begins behind position {position}, and the copy has "
+                raise Fault("Trimmed", f"{said}{self.copy.position}: take a peer's, by copy-from")
+        except LogFull as full:
+            raise Fault("LogFull", str(full)) from None
+        except NoLog as none:
+            raise Fault("NoLog", str(none)) from None
+        self._test_last_moment()
+
+    async def _settle_head(self) -> None:
+        """Makes the log's head, or raises `OtherRules` where another one is there. The copy keeps
+        it, since the head has an id: so a copy goes on with its own log alone."""
+        wanted: Dict[str, Any] = dict(head_of(self.given.command))
+        named = {**wanted, "id": os.urandom(16).hex()}
+        found = await self.log.head(json.dumps(named, sort_keys=True).encode())
+        said = f"the log has {found.decode(errors='replace')}, and"
+        try:
+            is_same = {**json.loads(found), "id": ""} == {**wanted, "id": ""}
+        except (ValueError, TypeError):
+            is_same = False
+        if not is_same:
+            raise Fault("OtherRules", f"{said} this replica {json.dumps(wanted, sort_keys=True)}")
+        if kept(self.copy.folder, "head", found) != found:
+            raise Fault("OtherRules", f"{said} {self.copy.folder} is a copy of another log")
+
+    def _test_last_moment(self) -> None:
+        """Raises `Ahead` where the log's last moment lies far ahead of the clock."""
+        last = self.copy.last_moment
+        ahead = (last - time.time_ns()) / SECOND
+        if ahead > self.given.ahead:
+            said = f"the log's last moment is {ahead:.3f} s ahead of this computer's clock"
+            raise Fault("Ahead", f"{said}: set the clock right, or allow it by --ahead SECONDS")
+        self.moments = Moments(last)
+
+    async def _meet(self) -> None:
+        """Asks the listed replicas for their clocks, before a request is taken."""
+        try:
+            others = set(await self.log.reports()) - {self.name}
+        except NoLog as none:
+            raise Fault("NoLog", str(none)) from None
+        self.hello = time.time_ns()
+        await self.report()
+        end = time.monotonic() + ANSWERS
+        while others - set(self.ahead) and time.monotonic() < end:
+            await asyncio.sleep(0.02)
+        self._test_clock()
+        self.is_met = True
+        self.reporting.set()
+
+    async def run(self) -> None:
+        """Runs until it is closed, or raises why it ends."""
+        tasks: List[asyncio.Future[Any]] = [asyncio.ensure_future(self._read())]
+        try:
+            meeting = asyncio.ensure_future(self._meet())
+            await first(meeting, tasks[0])
+            if tasks[0].done():
+                meeting.cancel()
+            else:
+                meeting.result()
+            parts = (self._write, self._watch_the_wait, self._compare_later, self._report)
+            tasks += [asyncio.ensure_future(it()) for it in (*parts, self._sync, self.follower.run)]
+            tasks.append(asyncio.ensure_future(self.closed.wait()))
+            await first(*tasks)
+            await self._end(tasks)
+        finally:
+            self.follower.is_over = True
+            await cancelled(tasks)
+            for pair in [*self.queue, *sum(self.sent.values(), []), *sum(self.own.values(), [])]:
+                pair.fail("ProgramEnded")
+
+    async def _end(self, tasks: List[asyncio.Future[Any]]) -> None:
+        """Ends with what the first task that ended tells."""
+        for it in tasks:
+            fault = it.exception() if it.done() else None
+            if fault is not None:
+                self.follower.kill()
+                if isinstance(fault, Fault):
+                    await self.report(fault=str(fault))
+                raise fault
+        self.copy.sync(*self.copy.mark())
+        await self.report()
+        self.follower.close()
+        following = tasks[-2]
+        await asyncio.wait([following], timeout=self.given.slow)
+        self.follower.kill()
+
+    def close(self) -> None:
+        self.closed.set()
+
+    def kill(self) -> None:
+        self.follower.kill()

@@ -1,0 +1,76 @@
+"""What the log and its replicas are at, and the trimming of the log."""
+from __future__ import annotations
+
+import argparse
+import json
+import time
+from typing import Any, Dict
+
+from .faults import Fault
+from .lines import Ended
+from .log import Log, LogFull, NoLog
+from .moments import SECOND
+
+
+async def _reports(log: Log) -> Dict[str, Dict[str, Any]]:
+    found = {}
+    for name, data in sorted((await log.reports()).items()):
+        try:
+            found[name] = dict(json.loads(data))
+        except ValueError:
+            raise Ended(f"the report of {name} is none: forget it", 1) from None
+    return found
+
+
+async def status(given: argparse.Namespace, log: Log) -> int:
+    """Prints a line for the log and one for each replica. Answers the status of a fault that they
+    have, or 0."""
+    try:
+        position, place = await log.trimmed()
+        reports, full = await _reports(log), await log.full()
+    except NoLog as none:
+        raise Fault("NoLog", str(none)) from None
+    print(f"log {given.log} trimmed to position {position} place {place}")
+    for name, it in reports.items():
+        age = (time.time_ns() - it["clock"]) / SECOND
+        words = [f"replica {name} at {it['address']}", f"position {it['position']}"]
+        words += [f"answered {it['answered']} hash {it['replies'][:16]}", f"{age:.0f} s ago"]
+        print(" ".join(words + ([it["fault"]] if "fault" in it else [])))
+    _compare(reports)
+    if full:
+        raise Fault("LogFull", full)
+    return 0
+
+
+def _compare(reports: Dict[str, Dict[str, Any]]) -> None:
+    """Raises `Diverged` where two replicas have other replies at one position."""
+    seen: Dict[int, Any] = {}
+    for name, it in reports.items():
+        other, digest = seen.setdefault(it["answered"], (name, it["replies"]))
+        if digest != it["replies"]:
+            said = f"{other} and {name} have other replies up to position {it['answered']}"
+            raise Fault("Diverged", said)
+        if it.get("fault", "").startswith("Diverged"):
+            raise Fault("Diverged", f"{name} says: {it['fault']}")
+
+
+async def trim(given: argparse.Namespace, log: Log) -> int:
+    """Removes the entries that all listed replicas have on their disks."""
+    try:
+        for name in given.forget:
+            await log.forget(name)
+        reports = await _reports(log)
+        if not reports:
+            raise Ended("no replica is listed, and nothing is trimmed", 1)
+        least = min(reports.values(), key=lambda it: int(it["position"]))
+        before, _ = await log.trimmed()
+        if least["position"] <= before:
+            print(f"nothing to trim: the log is trimmed to position {before}")
+            return 0
+        for line in await log.trim(int(least["position"]), int(least["place"])):
+            print(line)
+    except NoLog as none:
+        raise Fault("NoLog", str(none)) from None
+    except LogFull as full:
+        raise Fault("LogFull", str(full)) from None
+    return 0

@@ -1,0 +1,485 @@
+#!/usr/bin/env python3
+"""tb_host: entries of the agreed log, a replica's copy, and a replica over a log in memory."""
+import argparse
+import asyncio
+import contextlib
+import io
+import json
+import os
+import struct
+import subprocess
+import sys
+import tempfile
+import time
+import unittest
+
+from tb_client.frames import request_frame
+from tb_client.names import Operation
+from tb_host import faults, log, machines
+from tb_host.entries import MOMENT_MAX, NOTHING, Claim, Entry, chained, test_pairs
+from tb_host.faults import Fault
+from tb_host.lines import Ended, Told
+from tb_host.local_copy import Copy, copied, kept
+from tb_host.log import LogFull, LogGone, NoLog, Report, Written
+from tb_host.replica import Replica, head_of
+
+HERE = os.path.dirname(os.path.abspath(__file__))
+
+# A server with a reply to each pair: the commit is its number. FILE tells how many it read.
+SERVER = """
+import os, struct, sys
+commit, stdin, stdout = 0, sys.stdin.buffer, sys.stdout.buffer
+while head := stdin.read(56):
+    stdin.read(struct.unpack_from("<I", head, 40)[0])
+    commit += 1
+    session = commit if head[36] == 2 else 1
+    stdout.write(head[8:24] + struct.pack("<Q", session) + head[32:37] + bytes(7))
+    stdout.write(struct.pack("<QI", commit, 0))
+    stdout.flush()
+"""
+COMMAND = [sys.executable, "-SEc", SERVER, "run", "64"]
+
+
+def register(client):
+    return request_frame(client, 0, 0, Operation.register)
+
+
+def pair(moment, frame):
+    return struct.pack("<Q", moment) + frame
+
+
+def entry(writer, number, *pairs, position=0, digest=NOTHING, answered=0, replies=NOTHING):
+    return Entry(writer, number, Claim(position, digest), Claim(answered, replies), b"".join(pairs))
+
+
+A, B = b"a" * 16, b"b" * 16
+
+
+class MemoryLog:
+    """An agreed log in memory."""
+
+    def __init__(self):
+        self.items, self.made, self.heads = [], set(), []
+        self.failing = None
+        self.grown = asyncio.Event()
+        self.kept = {}
+        self.start = 0  # up to where it was trimmed
+
+    async def head(self, wanted):
+        self._test()
+        self.heads = self.heads or [wanted]
+        return self.heads[0]
+
+    def _test(self):
+        if self.failing is not None:
+            raise self.failing
+
+    async def append(self, writer, number, data):
+        self._test()
+        if (writer, number) not in self.made:
+            self.made.add((writer, number))
+            self.put(data)
+        return len(self.items)
+
+    def put(self, data):
+        self.items.append(Written(len(self.items) + 1, data))
+        self.grown.set()
+
+    async def read(self, place):
+        if place < self.start:
+            raise LogGone("it is gone")
+        at = place
+        while True:
+            while at == len(self.items):
+                self.grown.clear()
+                await self.grown.wait()
+            at += 1
+            yield self.items[at - 1]
+
+    def look_elsewhere(self):
+        pass
+
+    async def report(self, name, data):
+        self._test()
+        self.kept[name] = data
+        self.items.append(Report(name, data))
+        self.grown.set()
+
+    async def reports(self):
+        return self.kept
+
+    async def trimmed(self):
+        return self.start, self.start
+
+
+class Entries(unittest.TestCase):
+    def test_bytes(self):
+        it = entry(A, 7, pair(5, register(9)), position=3, digest=b"d" * 32, answered=2)
+        self.assertEqual(Entry.from_bytes(it.to_bytes()), it)
+        for data in (b"", it.to_bytes()[:100], b"X" + it.to_bytes()[1:]):
+            with self.assertRaises(ValueError):
+                Entry.from_bytes(data)
+
+    def test_pairs_that_would_end_a_server(self):
+        right = pair(5, register(9))
+        self.assertEqual(test_pairs(1, right + pair(MOMENT_MAX, register(8))), MOMENT_MAX)
+        for wrong, said in (
+            (pair(MOMENT_MAX + 1, register(9)), f"its moment is {MOMENT_MAX + 1}"),
+            (pair(5, bytes(48)), "ClientZero"),
+            (right[:-1], "not whole"),
+            (right + right[:3], "not whole"),
+            (pair(5, register(9)[:32] + b"\1" + register(9)[33:]), "not whole"),
+        ):
+            with self.assertRaises(Fault) as found:
+                test_pairs(4, right + wrong)
+            self.assertEqual(found.exception.name, "BadEntry")
+            self.assertIn(said, str(found.exception))
+            self.assertIn("the entry at 4", str(found.exception))
+
+
+class Copies(unittest.TestCase):
+    def setUp(self):
+        holder = tempfile.TemporaryDirectory()
+        self.addCleanup(holder.cleanup)
+        self.folder = os.path.join(holder.name, "copy")
+        with self.opened() as copy:
+            for number in range(1, 6):
+                it = entry(A, number, pair(number, register(number)))
+                copy.append(10 * number, it, it.to_bytes())
+            copy.sync(*copy.mark())
+            self.digest, self.end = copy.digest, copy.end
+
+    @contextlib.contextmanager
+    def opened(self):
+        copy = Copy(self.folder)
+        try:
+            copy.scan()
+            yield copy
+        finally:
+            copy.close()
+
+    def test_what_was_there_is_there(self):
+        with self.opened() as copy:
+            found = (copy.position, copy.place, copy.digest, copy.end, copy.numbers, copy.synced)
+            self.assertEqual(found, (5, 50, self.digest, self.end, {A: 5}, (5, 50)))
+            self.assertEqual((copy.cut_off, copy.last_moment), (0, 5))
+        digest = NOTHING
+        for number in range(1, 6):
+            digest = chained(digest, pair(number, register(number)))
+        self.assertEqual(self.digest, digest)
+
+    def test_a_torn_tail_is_cut_off(self):
+        path = os.path.join(self.folder, "log")
+        with self.opened() as copy:
+            it = entry(A, 6, pair(6, register(6)))
+            copy.append(60, it, it.to_bytes())
+            whole = copy.end
+        for length in range(self.end, whole):
+            with open(path, "rb") as file:
+                data = file.read()
+            with open(path, "r+b") as file:
+                file.truncate(length)
+            with open(os.path.join(self.folder, "synced"), "wb") as file:
+                file.write(struct.pack("<Q", self.end))
+            with self.opened() as copy:
+                self.assertEqual((copy.position, copy.cut_off), (5, length - self.end))
+            with open(path, "wb") as file:
+                file.write(data)
+
+    def test_each_damaged_byte_is_named(self):
+        path = os.path.join(self.folder, "log")
+        with open(path, "rb") as file:
+            data = file.read()
+        for at in range(0, len(data), 7):
+            with open(path, "wb") as file:
+                file.write(data[:at] + bytes([data[at] ^ 4]) + data[at + 1 :])
+            with self.assertRaises(Fault) as found, self.opened():
+                pass
+            self.assertEqual(found.exception.name, "Damaged", at)
+        with open(path, "wb") as file:
+            file.write(data[:-1])
+        with self.assertRaises(Fault), self.opened():
+            pass
+
+    def test_it_is_one_replica_s(self):
+        with self.opened(), self.assertRaises(Ended) as found:
+            Copy(self.folder)
+        self.assertIn("is in use", str(found.exception))
+
+    def test_a_copy_of_a_peer(self):
+        kept(self.folder, "head", b"the log")
+        other = self.folder + "2"
+        with self.opened():
+            self.assertEqual(copied(self.folder, other), (5, 50))
+        with open(os.path.join(self.folder, "log"), "rb") as mine:
+            with open(os.path.join(other, "log"), "rb") as theirs:
+                self.assertEqual(mine.read(), theirs.read())
+        self.assertEqual(kept(other, "head", b"another"), b"the log")
+        with self.assertRaises(Ended):
+            copied(self.folder, other)
+
+
+class Replicas(unittest.IsolatedAsyncioTestCase):
+    """A replica over a log in memory, before a server that answers each pair."""
+
+    async def asyncSetUp(self):
+        holder = tempfile.TemporaryDirectory()
+        self.addCleanup(holder.cleanup)
+        self.folder, self.log = os.path.join(holder.name, "copy"), MemoryLog()
+        self.told = io.StringIO()
+        self.enterContext(contextlib.redirect_stderr(self.told))
+        self.copy = self.running = None
+
+    def made(self, name="r0", **more):
+        given = dict(command=COMMAND, slow=5.0, patience=0.5, ahead=60.0, distrust=[], shown="x")
+        self.copy = Copy(self.folder)
+        self.addCleanup(self.copy.close)
+        self.copy.scan()
+        return Replica(argparse.Namespace(**{**given, **more}), self.log, self.copy, name)
+
+    async def began(self, **more):
+        it = self.made(**more)
+        await it.begin()
+        self.running = asyncio.ensure_future(it.run())
+        return it
+
+    async def ended(self):
+        """The fault that the replica ends with."""
+        with self.assertRaises(Ended) as found:
+            await asyncio.wait_for(self.running, 20)
+        return str(found.exception).partition(":")[0]
+
+    async def closed(self, it):
+        it.close()
+        await asyncio.wait_for(self.running, 20)
+        self.copy.close()
+        os.dup2(os.open(os.devnull, os.O_RDONLY), self.copy.file)  # closed again at the end
+
+    async def asked(self, it, client):
+        return await asyncio.wait_for(it.ask(register(client)), 20)
+
+    async def test_requests_and_their_replies(self):
+        it = await self.began()
+        replies = await asyncio.gather(*(self.asked(it, client) for client in range(1, 50)))
+        self.assertEqual([reply[0] for reply in replies], list(range(1, 50)))
+        self.assertEqual(len(self.log.made), self.copy.position)
+        await self.closed(it)
+        it = await self.began()
+        reply = await self.asked(it, 77)
+        self.assertEqual(struct.unpack_from("<Q", reply, 36)[0], 50, "its server has had all")
+        await self.closed(it)
+
+    async def test_a_server_that_is_killed_answers_again(self):
+        it = await self.began()
+        first = await self.asked(it, 1)
+        it.follower.kill()
+        replies = await asyncio.gather(*(self.asked(it, client) for client in (2, 3)))
+        self.assertEqual(first[0], 1)
+        self.assertEqual([reply[0] for reply in replies], [2, 3])
+        self.assertIn("is started again", self.told.getvalue())
+        await self.closed(it)
+
+    async def test_what_is_in_the_log_twice_is_taken_once(self):
+        data = entry(A, 1, pair(1, register(5))).to_bytes()
+        self.log.put(data)
+        self.log.put(data)
+        it = await self.began()
+        reply = await self.asked(it, 6)
+        self.assertEqual(struct.unpack_from("<Q", reply, 36)[0], 2)
+        self.assertEqual(self.copy.position, 2)
+        await self.closed(it)
+
+    async def test_an_entry_without_pairs(self):
+        self.log.put(entry(A, 1).to_bytes())
+        self.log.put(entry(A, 2, pair(1, register(5))).to_bytes())
+        self.log.put(entry(A, 3).to_bytes())
+        it = await self.began()
+        await self.asked(it, 6)
+        self.assertEqual(it.follower.answered, 4)
+        await self.closed(it)
+
+    async def test_bad_entries(self):
+        for data in (
+            b"no entry",
+            entry(A, 2, pair(1, register(5))).to_bytes(),
+            entry(A, 1, pair(1 << 63, register(5))).to_bytes(),
+            entry(A, 1, pair(1, bytes(48))).to_bytes(),
+        ):
+            self.log.items = []
+            self.log.put(data)
+            await self.began()
+            self.assertEqual(await self.ended(), "BadEntry")
+            self.assertEqual(self.copy.position, 0, "nothing of it is taken")
+            self.copy.close()
+            self.copy.file = os.open(os.devnull, os.O_RDONLY)
+
+    async def test_another_log(self):
+        self.log.put(entry(A, 1, pair(1, register(5))).to_bytes())
+        self.log.put(entry(B, 1, position=1, digest=b"x" * 32).to_bytes())
+        await self.began()
+        self.assertEqual(await self.ended(), "Diverged")
+
+    async def test_more_of_the_log_than_there_is(self):
+        self.log.put(entry(A, 1, position=1, digest=b"x" * 32).to_bytes())
+        await self.began()
+        self.assertEqual(await self.ended(), "Diverged")
+
+    async def test_other_replies(self):
+        pairs = pair(1, register(5))
+        self.log.put(entry(A, 1, pairs).to_bytes())
+        more = {"position": 1, "digest": chained(NOTHING, pairs)}
+        self.log.put(entry(B, 1, **more, answered=1, replies=b"x" * 32).to_bytes())
+        await self.began()
+        self.assertEqual(await self.ended(), "Diverged")
+        said = json.loads(self.log.kept["r0"])
+        self.assertIn(B.hex(), said["fault"])
+
+    async def test_a_writer_that_is_distrusted(self):
+        self.log.put(entry(A, 1, pair(1, register(5))).to_bytes())
+        self.log.put(entry(B, 1, position=1, digest=b"x" * 32).to_bytes())
+        it = await self.began(distrust=[B.hex()])
+        await self.asked(it, 6)
+        await self.closed(it)
+
+    async def test_who_is_named_by_another_ends_too(self):
+        it = await self.began()
+        await self.asked(it, 6)
+        said = {"clock": time.time_ns(), "fault": f"Diverged: writer {it.writer.hex()} .."}
+        await self.log.report("r1", json.dumps(said).encode())
+        self.assertEqual(await self.ended(), "Diverged")
+
+    async def test_no_log(self):
+        it = await self.began()
+        await self.asked(it, 6)
+        for fault, name in ((NoLog("away"), "NoLog"), (LogFull("full"), "LogFull")):
+            self.log.failing = fault
+            with self.assertRaises(Told) as found:
+                await self.asked(it, 7)
+            self.assertEqual(str(found.exception), name)
+        self.log.failing = None
+        reply = await self.asked(it, 8)
+        self.assertEqual(reply[0], 8)
+        await self.closed(it)
+
+    async def begins(self, it):
+        with self.assertRaises(Fault) as found:
+            await it.begin()
+        return found.exception.name
+
+    async def test_what_must_not_start(self):
+        it = self.made()
+        self.log.failing = NoLog("away")
+        self.assertEqual(await self.begins(it), "NoLog")
+        self.log.failing = LogFull("full")
+        self.assertEqual(await self.begins(it), "LogFull")
+        self.log.failing = None
+        self.log.heads = [b'{"clients_max": 8}']
+        self.assertEqual(await self.begins(it), "OtherRules")
+        self.log.heads = [b"no head"]
+        self.assertEqual(await self.begins(it), "OtherRules")
+        self.log.heads = []
+        await it.begin()
+        self.log.heads = []
+        self.assertEqual(await self.begins(it), "OtherRules", "the same rules, and another log")
+
+    async def test_a_log_that_was_trimmed(self):
+        self.log.start = 3
+        self.assertEqual(await self.begins(self.made()), "Trimmed")
+
+    async def test_a_log_that_is_gone_where_it_is_read(self):
+        it = self.made()
+        await it.begin()
+        self.log.start = 3
+        self.running = asyncio.ensure_future(it.run())
+        self.assertEqual(await self.ended(), "Trimmed")
+
+    async def test_a_log_ahead_of_the_clock(self):
+        it = self.made()
+        late = entry(A, 1, pair(time.time_ns() + 100 * 10**9, register(5)))
+        self.copy.append(1, late, late.to_bytes())
+        self.assertEqual(await self.begins(it), "Ahead")
+        it.given.ahead = 200.0
+        await it.begin()
+        self.assertGreater(it.moments.next(), time.time_ns())
+
+    async def test_a_clock_ahead_of_the_others(self):
+        it = self.made()
+        await it.begin()
+        self.log.kept["r1"] = b"{}"
+        self.running = asyncio.ensure_future(it.run())
+        while "r0" not in self.log.kept:
+            await asyncio.sleep(0.01)
+        heard = {"r0": json.loads(self.log.kept["r0"])["hello"]}
+        said = {"clock": time.time_ns() - 100 * 10**9, "heard": heard}
+        await self.log.report("r1", json.dumps(said).encode())
+        self.assertEqual(await self.ended(), "Ahead")
+
+    async def test_reports_from_before_say_nothing_of_the_clock(self):
+        said = {"clock": 0, "heard": {"r0": 5}, "hello": 3}
+        await self.log.report("r1", json.dumps(said).encode())
+        it = await self.began()
+        await self.asked(it, 6)
+        await self.closed(it)
+
+
+class Words(unittest.TestCase):
+    def ended(self, *given):
+        ran = subprocess.run(
+            [sys.executable, "-B", "-m", "tb_host.machines", *given],
+            capture_output=True,
+            text=True,
+            timeout=60,
+            cwd=HERE,
+        )
+        return ran.returncode, ran.stderr.splitlines()[-1]
+
+    def test_wrong_words(self):
+        run = ("--log", "etcd://a/b", "--copy", "c", "--")
+        for given, said in (
+            ((), "the following arguments are required: --log, --copy, COMMAND"),
+            (("--log", "x", "--copy", "c", "--", "true"), "argument --log: 'x' is no etcd://"),
+            ((*run, "true"), "COMMAND does not end in run CLIENTS_MAX [PROFILE]"),
+            ((*run, "run", "64"), "COMMAND does not end in run CLIENTS_MAX [PROFILE]"),
+            (("status",), "the following arguments are required: --log"),
+            (("copy-from", "a"), "the following arguments are required: --copy"),
+            (("trim", "--log", "etcd://a:x/b"), "argument --log: 'a:x' is no HOST or HOST:PORT"),
+        ):
+            status, line = self.ended(*given)
+            self.assertEqual(status, 2)
+            self.assertIn(said, line)
+
+    def test_a_copy_of_nothing(self):
+        with tempfile.TemporaryDirectory() as folder:
+            status, line = self.ended("copy-from", f"{folder}/a", "--copy", f"{folder}/b")
+            self.assertEqual(
+                (status, line), (1, f"tb_replica: {folder}/a/log: No such file or directory")
+            )
+
+    def test_the_parts_of_a_log(self):
+        self.assertEqual(
+            log.parts("etcd://a,b:1,[::1]:2/x/y"),
+            ("etcd", [("a", 2379), ("b", 1), ("::1", 2)], "x/y"),
+        )
+        self.assertEqual(log.parts("postgresql://a/d/t"), ("postgresql", [("a", 5432)], "d/t"))
+        for wrong in ("", "etcd://", "etcd:///x", "etcd://a", "http://a/b", "etcd://a:70000/b"):
+            with self.assertRaises(ValueError):
+                log.parts(wrong)
+
+    def test_what_replicas_have_in_common(self):
+        head = {"format": 1, "rules": 1, "clients_max": 64, "profile": 1}
+        self.assertEqual(head_of(["tb_script", "run", "64"]), head)
+        self.assertEqual(
+            head_of(["tb_script", "run", "8", "2"]), {**head, "clients_max": 8, "profile": 2}
+        )
+
+    def test_statuses(self):
+        """Each fault has a status of its own, which no server has."""
+        found = list(faults.STATUS.values())
+        self.assertEqual(len(set(found)), len(found))
+        self.assertFalse(set(found) & set(range(10)))
+        for name, status in faults.STATUS.items():
+            self.assertIn(f"{status} {name}", machines.__doc__.replace("\n", " "))
+
+
+if __name__ == "__main__":
+    unittest.main()
