@@ -279,6 +279,10 @@ def reply_tests(text):
 
 # Layouts
 
+# What the listener serves connections with.
+LISTENER = [
+    f"clients/python/tb_host/{it}.py" for it in ("command", "connections", "lines", "serving")
+]
 RECORDS = {"account": "Account", "transfer": "Transfer", "result": "EventResult"}
 SPELLINGS = {
     "account": "account_bytes",
@@ -429,7 +433,7 @@ def clients(table, sources):
     yield (
         "told: the names in the listener",
         sorted(row["name"] for row in table["told"]),
-        lambda: told(sources.read("clients/python/tb_listen.py"), sources.read(frames)),
+        lambda: told("".join(map(sources.read, LISTENER)), sources.read(frames)),
     )
     refusals = [row["name"] for row in table["statuses"] if row["number"]]
     yield (
