@@ -40,6 +40,8 @@ if __name__ == "__main__" and os.path.realpath(sys.executable) != os.path.realpa
 sys.path[:0] = [f"{TOP}/checks/clusters", f"{TOP}/checks"]
 
 import agreement  # noqa: E402
+import rates  # noqa: E402
+import show  # noqa: E402
 import tried  # noqa: E402
 from faults import Faults  # noqa: E402
 from processes import Cluster, Postgres, missing, until  # noqa: E402
@@ -302,6 +304,38 @@ def part_postgresql(given):
         case("postgresql: the log is trimmed", status == 0, said.strip())
 
 
+def part_rates(given):
+    """Rates next to the listener over tbd, and how long a restart takes. A machine that does
+    something else meanwhile has other rates: compare the ratios."""
+    with cluster_of(given) as cluster:
+        rates.compared(cluster, 10, 3)
+    for clients, batch, wanted in ((4, 8190, 1_000_000), (24, 1, given.singles)):
+        with cluster_of(given) as cluster:
+            done = 0
+            while done < wanted:
+                done += int(10 * rates.rate(cluster.tcp[0], clients, batch, 10))
+            case("rates: each replica answers all", agreement.settled(cluster))
+            took = rates.restart(cluster, 1)
+            print(f"  restart with {done} transfers in requests of {batch}: {took:.1f} s")
+
+
+def shown(given):
+    """Tells what happens to three machines, and the totals at the end."""
+    lacks = missing("etcd")
+    if lacks:
+        sys.exit(f"not there: {', '.join(lacks)}")
+    print("three nodes of etcd and three replicas begin")
+    with cluster_of(given) as cluster:
+        made, posted = show.told(cluster, given.seconds)
+    for at, total in enumerate(posted):
+        print(f"replica {at} has posted {total}")
+    case(
+        f"{made} transfers were acknowledged, and each replica has posted as many",
+        all(it == made for it in posted),
+    )
+    return tried.status()
+
+
 PARTS = {
     "faults": part_faults,
     "evictions": part_evictions,
@@ -311,7 +345,9 @@ PARTS = {
     "starts": part_starts,
     "wrong": part_wrong,
     "postgresql": part_postgresql,
+    "rates": part_rates,
 }
+APART = ("rates",)  # run where they are named
 
 
 def words():
@@ -320,6 +356,9 @@ def words():
     )
     parser.add_argument("--only", nargs="+", choices=PARTS, metavar="PART", help="these parts")
     parser.add_argument("--faults", type=int, default=26, help="faults of the first part (26)")
+    parser.add_argument(
+        "--singles", type=int, default=100_000, help="single transfers before a restart (100000)"
+    )
     parser.add_argument("--seed", type=int, default=1, help="of the order of faults (1)")
     parser.add_argument("--replica", metavar="KIND", help="a wrong replica")
     parser.add_argument("--show", action="store_true", help="tell what happens")
@@ -329,7 +368,9 @@ def words():
 
 def main():
     given = words()
-    for name in given.only or PARTS:
+    if given.show:
+        return shown(given)
+    for name in given.only or [it for it in PARTS if it not in APART]:
         lacks = missing("postgresql" if name == "postgresql" else "etcd")
         if lacks:
             print(f"skipped: {name} (not there: {', '.join(lacks)})")

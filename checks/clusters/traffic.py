@@ -119,9 +119,12 @@ class Traffic:
     def waits_between(self, start, end):
         return [wait for it in self.clients for at, wait in it.waits if start <= at - wait <= end]
 
-    def posted(self, seconds=60):
-        """What the ledger has posted."""
-        session = Session.register(Socket(self.addresses, timeout=seconds))
-        found = session.lookup_accounts([PAYEE])[0].credits_posted
-        session.close()
-        return found
+    def posted(self):
+        return posted_at(*(port for _, port in self.addresses))
+
+
+def posted_at(*ports, seconds=60):
+    """What the ledger has posted, as the first of these ports that answers tells."""
+    transport = Socket([("127.0.0.1", it) for it in ports], timeout=seconds)
+    with Session.register(transport) as session:
+        return session.lookup_accounts([PAYEE])[0].credits_posted
