@@ -19,7 +19,7 @@ import tried
 ROOT = pathlib.Path(__file__).resolve().parent.parent
 WORDS_MAX, LINES_MAX, SENTENCE_MAX = 40_000, 90, 40
 # Pages of what came after the bound was set.
-APART = {"docs/use/TERMINAL.md"}
+APART = {"docs/use/CLUSTER.md", "docs/use/TERMINAL.md"}
 PLAIN = {
     r"processor (?:time|minutes|seconds)": "CPU time",
     r"foretold": "mispredicted",

@@ -199,30 +199,40 @@ class Copy:
         os.close(self.file)
 
 
-def copied(source: str, folder: str) -> Tuple[int, int]:
-    """Makes a copy in an empty folder from another replica's, which may be in use. Answers the
-    last position and its place."""
-    if os.path.exists(os.path.join(folder, "log")):
-        raise Ended(f"{folder} has a copy already", 1)
-    path = os.path.join(source, "log")
+def records_of(folder: str) -> Iterator[Record]:
+    """The records of a copy, which may be in use, up to the first that is not whole."""
+    path = os.path.join(folder, "log")
     reading = Copy.__new__(Copy)
     try:
         reading.file = os.open(path, os.O_RDONLY | os.O_CLOEXEC)
     except OSError as error:
         raise Ended(f"{path}: {error.strerror}", 1) from None
+    try:
+        if os.pread(reading.file, len(MAGIC), 0) != MAGIC:
+            raise Fault("Damaged", f"{path} is no copy of a log")
+        yield from reading.records(len(MAGIC), os.fstat(reading.file).st_size)
+    finally:
+        os.close(reading.file)
+
+
+def copied(source: str, folder: str) -> Tuple[int, int]:
+    """Makes a copy in an empty folder from another replica's, which may be in use. Answers the
+    last position and its place."""
+    if os.path.exists(os.path.join(folder, "log")):
+        raise Ended(f"{folder} has a copy already", 1)
+    records = records_of(source)
+    record = next(records, None)
     target = Copy(folder)
     try:
         target.scan()
-        if os.pread(reading.file, len(MAGIC), 0) != MAGIC:
-            raise Fault("Damaged", f"{path} is no copy of a log")
-        for record in reading.records(len(MAGIC), os.fstat(reading.file).st_size):
+        while record is not None:
             target.append(record.place, Entry.from_bytes(record.entry), record.entry)
+            record = next(records, None)
         target.sync(*target.mark())
         with open(os.path.join(source, "head"), "rb") as file:
             kept(folder, "head", file.read())
         return target.synced
     finally:
-        os.close(reading.file)
         target.close()
 
 

@@ -4,6 +4,8 @@
     tb-replica status --log LOG
     tb-replica trim --log LOG [--forget NAME ..]
     tb-replica copy-from FOLDER --copy FOLDER
+    tb-replica script --copy FOLDER
+    tb-replica hashes --copy FOLDER [--at POSITION] -- COMMAND [WORD ..]
 
 LOG is etcd://HOST[:PORT],../NAME or postgresql://HOST[:PORT],../DATABASE/NAME. COMMAND is a server
 that keeps its ledger in memory, as `tb_script run 64`, with the same number of clients and profile
@@ -31,9 +33,9 @@ from .log import Access, Log, opened, parts
 from .replica import Replica, head_of
 from .serving import listen_on, stop_signals, until
 from .sockets import bound, make_room, shown
-from .status import status, trim
+from .status import hashes, script, status, trim
 
-PARTS = ("run", "status", "trim", "copy-from")
+PARTS = ("run", "status", "trim", "copy-from", "script", "hashes")
 
 
 async def serve(given: argparse.Namespace, log: Log) -> None:
@@ -158,6 +160,22 @@ def _copy_words(given: Sequence[str]) -> argparse.Namespace:
     return parser.parse_args(given)
 
 
+def _script_words(given: Sequence[str]) -> argparse.Namespace:
+    parser = _parser("%(prog)s script --copy FOLDER")
+    parser.add_argument("--copy", metavar="FOLDER", type=path, required=True, help="the copy")
+    return parser.parse_args(given)
+
+
+def _hashes_words(given: Sequence[str]) -> argparse.Namespace:
+    parser = _parser("%(prog)s hashes --copy FOLDER [--at POSITION] -- COMMAND [WORD ..]")
+    parser.add_argument("--copy", metavar="FOLDER", type=path, required=True, help="the copy")
+    parser.add_argument(
+        "--at", metavar="POSITION", type=int, default=0, help="up to this position (the last)"
+    )
+    add_command(parser)
+    return parser.parse_args(given)
+
+
 def _copy_from(given: argparse.Namespace) -> int:
     position, place = copied(given.source, given.copy)
     print(f"position {position} place {place}")
@@ -167,6 +185,10 @@ def _copy_from(given: argparse.Namespace) -> int:
 def run(part: str, rest: List[str]) -> int:
     if part == "copy-from":
         return _copy_from(_copy_words(rest))
+    if part == "script":
+        return script(_script_words(rest))
+    if part == "hashes":
+        return asyncio.run(hashes(_hashes_words(rest)))
     if part == "status":
         return int(asyncio.run(_with_log(_status_words(rest), status)))
     if part == "trim":

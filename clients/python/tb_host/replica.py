@@ -222,7 +222,8 @@ class Replica:
         if mine is None and replies.position > self.follower.answered:
             self.claims.setdefault(replies.position, set()).add((replies.digest, writer))
         elif mine is not None and mine != replies.digest:
-            self._diverged(replies.position, writer, "has other replies")
+            said = f"has replies with the hash {replies.digest.hex()}, here it is {mine.hex()}"
+            self._diverged(replies.position, writer, said)
 
     def _diverged(self, position: int, writer: bytes, said: str) -> None:
         text = f"at position {position}: writer {writer.hex()} {said}; keep all files"

@@ -1,15 +1,24 @@
-"""What the log and its replicas are at, and the trimming of the log."""
+"""What the log, its replicas and a copy are at, and the trimming of the log."""
 from __future__ import annotations
 
 import argparse
+import asyncio
+import contextlib
 import json
+import sys
 import time
 from typing import Any, Dict
 
+from tb_client.frames import reply_length
+from tb_client.layout import HEADER
+
+from .entries import NOTHING, Entry, chained, cut
 from .faults import Fault
 from .lines import Ended
+from .local_copy import records_of
 from .log import Log, LogFull, NoLog
 from .moments import SECOND
+from .process import end_of, last_line, started, tail
 
 
 async def _reports(log: Log) -> Dict[str, Dict[str, Any]]:
@@ -34,7 +43,8 @@ async def status(given: argparse.Namespace, log: Log) -> int:
     for name, it in reports.items():
         age = (time.time_ns() - it["clock"]) / SECOND
         words = [f"replica {name} at {it['address']}", f"position {it['position']}"]
-        words += [f"answered {it['answered']} hash {it['replies'][:16]}", f"{age:.0f} s ago"]
+        words += [f"answered {it['answered']} hash {it['replies'][:16]}"]
+        words += [f"writer {it['writer']}", f"{age:.0f} s ago"]
         print(" ".join(words + ([it["fault"]] if "fault" in it else [])))
     _compare(reports)
     if full:
@@ -74,3 +84,43 @@ async def trim(given: argparse.Namespace, log: Log) -> int:
     except LogFull as full:
         raise Fault("LogFull", str(full)) from None
     return 0
+
+
+def script(given: argparse.Namespace) -> int:
+    """Writes the script that a copy has: the pairs of all its entries."""
+    with contextlib.suppress(BrokenPipeError):
+        for record in records_of(given.copy):
+            sys.stdout.buffer.write(Entry.from_bytes(record.entry).pairs)
+        sys.stdout.buffer.flush()
+    return 0
+
+
+async def hashes(given: argparse.Namespace) -> int:
+    """Prints the hashes of the log and of the replies of a fresh server, up to a position."""
+    process = await started(given.command, asyncio.subprocess.PIPE)
+    assert process.stdin and process.stdout and process.stderr
+    telling = asyncio.ensure_future(tail(process.stderr))
+    log = replies = NOTHING
+    position = 0
+    for record in records_of(given.copy):
+        pairs = Entry.from_bytes(record.entry).pairs
+        process.stdin.write(pairs)
+        said = [await _reply(process.stdout) for _ in cut(pairs)]
+        log, replies = chained(log, pairs), chained(replies, b"".join(said))
+        position = record.position
+        if position == given.at:
+            break
+    process.stdin.close()
+    status = await process.wait()
+    if status:
+        raise Ended(last_line(await telling) or f"{given.command[0]} ended {end_of(status)}", 1)
+    print(f"position {position} log {log.hex()} replies {replies.hex()}")
+    return 0
+
+
+async def _reply(stdout: asyncio.StreamReader) -> bytes:
+    try:
+        header = await stdout.readexactly(HEADER)
+        return header + await stdout.readexactly(reply_length(header) - HEADER)
+    except asyncio.IncompleteReadError:
+        raise Ended("the command ended before it had answered all", 1) from None
