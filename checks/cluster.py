@@ -12,9 +12,10 @@ until they have the reply. PROGRAM names the server, tb_script where nothing is 
 The parts: `faults` (24 clients, faults of all kinds), `evictions` (80 clients where 64 may have a
 session), `trim` (amid faults; a replica that comes too late, and a copy of a peer), `copies` (one
 that is torn, and a damaged one), `full` (etcd's quota), `starts` (a clock an hour ahead, other
-rules, no log), `wrong` (four wrong replicas, which the part `faults` has to find) and `postgresql`.
-Where etcd, PostgreSQL, one of their Python packages or the server is not there, parts are skipped
-by name. --replica runs another replica in the place of the right one: a KIND of
+rules, no log), `wrong` (four wrong replicas, which the part `faults` has to find), `postgresql`,
+`access` (TLS and passwords), and where it is named `rates` (next to the listener over tbd). Where
+etcd, PostgreSQL, one of their Python packages or the server is not there, parts are skipped by
+name. --replica runs another replica in the place of the right one: a KIND of
 checks/clusters/wrong_replica.py. --show tells what happens while money moves and machines are
 killed.
 
@@ -43,6 +44,7 @@ import agreement  # noqa: E402
 import rates  # noqa: E402
 import show  # noqa: E402
 import tried  # noqa: E402
+from access import Closed  # noqa: E402
 from faults import Faults  # noqa: E402
 from processes import Cluster, Postgres, missing, until  # noqa: E402
 from traffic import Traffic  # noqa: E402
@@ -304,6 +306,33 @@ def part_postgresql(given):
         case("postgresql: the log is trimmed", status == 0, said.strip())
 
 
+def part_access(given):
+    """etcd speaks TLS, and wants a certificate and a password."""
+    with cluster_of(given, kind=Closed) as cluster:
+        traffic = Traffic(cluster.tcp, 4, pause=0.05, spread=True)
+        traffic.open_accounts()
+        traffic.start()
+        faults = Faults(cluster, given.seed)
+        for kind in ("leader killed", "links of a replica cut", "follower killed"):
+            faults.one(kind)
+            time.sleep(3)
+        time.sleep(9)  # a replica reports every 10 seconds
+        log = ("--log", cluster.log())
+        root = (*cluster.files(), *cluster.user("root"), *log)
+        status, said = cluster.part("status", *root)
+        case("access: status", status == 0 and said.count("replica r") == 3, said.strip())
+        for name, words in (
+            ("without a certificate", (*cluster.user(), *log)),
+            ("without a user", (*cluster.files(), *log)),
+            ("with a wrong password", (*cluster.files(), *cluster.user(password="names"), *log)),
+        ):
+            status, said = cluster.part("status", *words)
+            case(f"access: {name}", status in (1, 20), said.strip())
+        agree("access", cluster, traffic)
+        status, said = cluster.part("trim", *root, seconds=120)
+        case("access: root trims", status == 0, said.strip())
+
+
 def part_rates(given):
     """Rates next to the listener over tbd, and how long a restart takes. A machine that does
     something else meanwhile has other rates: compare the ratios."""
@@ -345,6 +374,7 @@ PARTS = {
     "starts": part_starts,
     "wrong": part_wrong,
     "postgresql": part_postgresql,
+    "access": part_access,
     "rates": part_rates,
 }
 APART = ("rates",)  # run where they are named

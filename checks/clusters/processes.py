@@ -224,22 +224,30 @@ class Cluster(Machines):
         import grpc
 
         for at, port in enumerate(self.serves):
-            with grpc.insecure_channel(f"127.0.0.1:{port}") as channel:
+            with self.channel(port) as channel:
                 with contextlib.suppress(grpc.RpcError):
                     said = rpc.MaintenanceStub(channel).Status(rpc.StatusRequest(), timeout=1)
                     if said.leader and said.leader == said.header.member_id:
                         return at
         return None
 
-    def script(self):
-        """The agreed script: the pairs of each entry, read without the replicas' code for that."""
-        import etcd3.etcdrpc as rpc
+    def channel(self, port):
         import grpc
 
         options = [("grpc.max_receive_message_length", -1)]
-        with grpc.insecure_channel(f"127.0.0.1:{self.serves[0]}", options) as channel:
+        return grpc.insecure_channel(f"127.0.0.1:{port}", options)
+
+    def metadata(self, _):
+        return []
+
+    def script(self):
+        """The agreed script: the pairs of each entry, read without the replicas' code for that."""
+        import etcd3.etcdrpc as rpc
+
+        with self.channel(self.serves[0]) as channel:
             request = rpc.RangeRequest(key=b"bank/log/", range_end=b"bank/log0")
-            found = rpc.KVStub(channel).Range(request, timeout=60).kvs
+            more = self.metadata(channel)
+            found = rpc.KVStub(channel).Range(request, timeout=60, metadata=more).kvs
         return [it.value for it in sorted(found, key=lambda it: it.create_revision)]
 
 
@@ -331,7 +339,7 @@ def until(holds, seconds, said):
 
 def missing(engine="etcd"):
     """What an engine's parts need and is not installed, by name."""
-    programs = {"etcd": ["etcd", "bash"], "postgresql": ["bash"]}[engine]
+    programs = {"etcd": ["etcd", "bash", "openssl"], "postgresql": ["bash"]}[engine]
     names = [it for it in programs if not shutil.which(it)]
     if engine == "postgresql" and postgres_folder() is None:
         names.append("postgresql")

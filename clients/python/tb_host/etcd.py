@@ -32,7 +32,13 @@ OPTIONS = (
 # request may have, so that a long log is not held in memory whole
 FRAGMENT = b"\x40\x01"
 FULL = "database space exceeded"
-NO_TOKEN = ("invalid auth token", "auth token is not provided", "user name is empty")
+NO_TOKEN = (
+    "invalid auth token",
+    "auth token is not provided",
+    "user name is empty",
+    "revision in header is old",
+    "revision of auth store is old",
+)
 
 
 def _end_of(prefix: bytes) -> bytes:
@@ -174,6 +180,7 @@ class EtcdLog:
                 if said.compact_revision:
                     raise LogGone(f"it was trimmed up to revision {said.compact_revision}")
                 if said.canceled:
+                    it.token = None  # it may have run out
                     return
                 for event in said.events:
                     found = self._item(event.kv)

@@ -1,0 +1,92 @@
+"""An etcd that speaks TLS alone, and knows its users by passwords."""
+import subprocess
+
+from processes import Cluster
+
+CA, SERVER, CLIENT = "ca", "server", "client"
+PASSWORD = "a long password"
+
+
+def certificates(folder):
+    """An authority, and what it signed for the loopback interface and for a replica."""
+
+    def openssl(*words):
+        subprocess.run(["openssl", *words], check=True, capture_output=True, cwd=folder)
+
+    key = ("-newkey", "ec", "-pkeyopt", "ec_paramgen_curve:prime256v1", "-nodes")
+    openssl(
+        *("req", "-x509", *key, "-keyout", "ca.key", "-out", "ca.crt", "-subj", "/CN=authority")
+    )
+    with open(f"{folder}/names", "w", encoding="utf-8") as file:
+        file.write("subjectAltName=IP:127.0.0.1\n")
+    for name in (SERVER, CLIENT):
+        openssl(
+            *("req", *key, "-keyout", f"{name}.key", "-out", f"{name}.csr", "-subj", f"/CN={name}")
+        )
+        openssl(
+            *("x509", "-req", "-in", f"{name}.csr", "-CA", "ca.crt", "-CAkey", "ca.key"),
+            *("-CAcreateserial", "-out", f"{name}.crt", "-extfile", "names"),
+        )
+
+
+class Closed(Cluster):
+    """A cluster whose etcd wants certificates and passwords."""
+
+    def __init__(self, folder, replica=None, count=3):
+        certificates(folder)
+        with open(f"{folder}/password", "w", encoding="utf-8") as file:
+            file.write(f"{PASSWORD}\n")
+        super().__init__(folder, replica=replica, count=count)
+
+    def _node(self, at):
+        at = super()._node(at)
+        serves = {"--listen-client-urls", "--advertise-client-urls"}
+        words = [
+            it.replace("http:", "https:") if before in serves else it
+            for before, it in zip(["", *at], at)
+        ]
+        words += ["--cert-file", f"{self.folder}/server.crt"]
+        words += ["--key-file", f"{self.folder}/server.key"]
+        words += ["--client-cert-auth", "--trusted-ca-file", f"{self.folder}/ca.crt"]
+        return words
+
+    def files(self):
+        given = ["--ca", f"{self.folder}/ca.crt", "--cert", f"{self.folder}/client.crt"]
+        return [*given, "--key", f"{self.folder}/client.key"]
+
+    def user(self, name="bank", password="password"):
+        return ["--user", name, "--password-file", f"{self.folder}/{password}"]
+
+    def replica_words(self, at, words, more=()):
+        return super().replica_words(at, words, [*self.files(), *self.user(), *more])
+
+    def channel(self, port):
+        import grpc
+
+        read = []
+        for name in ("ca.crt", "client.key", "client.crt"):
+            with open(f"{self.folder}/{name}", "rb") as file:
+                read.append(file.read())
+        return grpc.secure_channel(f"127.0.0.1:{port}", grpc.ssl_channel_credentials(*read))
+
+    def start_engine(self):
+        super().start_engine()
+        import etcd3.etcdrpc as rpc
+        from etcd3.etcdrpc.auth_pb2 import Permission
+
+        with self.channel(self.serves[0]) as channel:
+            auth = rpc.AuthStub(channel)
+            for name in ("root", "bank"):
+                auth.UserAdd(rpc.AuthUserAddRequest(name=name, password=PASSWORD))
+                auth.RoleAdd(rpc.AuthRoleAddRequest(name=name))
+                auth.UserGrantRole(rpc.AuthUserGrantRoleRequest(user=name, role=name))
+            allowed = Permission(permType=Permission.READWRITE, key=b"bank/")
+            allowed.range_end = b"bank0"
+            auth.RoleGrantPermission(rpc.AuthRoleGrantPermissionRequest(name="bank", perm=allowed))
+            auth.AuthEnable(rpc.AuthEnableRequest())
+
+    def metadata(self, channel):
+        import etcd3.etcdrpc as rpc
+
+        asked = rpc.AuthenticateRequest(name="root", password=PASSWORD)
+        return [("token", rpc.AuthStub(channel).Authenticate(asked).token)]
