@@ -2,7 +2,7 @@
 """A ledger on three machines, over etcd: nothing that was acknowledged is lost, nothing is executed
 twice, and all replicas answer the same, whatever is killed, stopped or cut.
 
-    checks/cluster.py [--only PART ..] [--faults N] [--seed N] [--replica KIND]
+    checks/cluster.py [--only PART ..] [--faults N] [--kinds KIND ..] [--seed N] [--replica KIND]
     checks/cluster.py --show [--seconds N]
 
 Three nodes of etcd and three replicas (clients/python/tb_host) run on the loopback interface, with
@@ -33,6 +33,8 @@ import time
 TOP = os.path.dirname(os.path.dirname(os.path.abspath(__file__)))
 PYTHON = "/usr/bin/python3"
 WRONG = ("executes_early", "replies_early", "skips_at_restart", "takes_twice_at_restart")
+# the faults that show a wrong replica soonest
+SHARP = ("replica killed", "links of a replica cut", "all nodes killed")
 HOW = f"{TOP}/checks/clusters/wrong_replica.py"
 
 if __name__ == "__main__" and os.path.realpath(sys.executable) != os.path.realpath(PYTHON):
@@ -136,7 +138,7 @@ def part_faults(given):
         traffic = Traffic(cluster.tcp, 24, pause=0.02, spread=True)
         traffic.open_accounts()
         traffic.start()
-        faults = Faults(cluster, given.seed)
+        faults = Faults(cluster, given.seed, given.kinds)
         for _ in range(0, given.faults, 13):
             faults.some(min(13, given.faults - len(faults.done)))
             named = restarted(cluster)
@@ -245,6 +247,12 @@ def part_full(given):
         before = traffic.made
         until(lambda: traffic.made > before, 60, "transfers go on")
         case("full: transfers go on", True)
+        traffic.stop.set()
+        for _ in range(6):  # it may be full again
+            time.sleep(11)  # a replica reports every 10 seconds
+            cluster.part("trim", "--log", cluster.log(), seconds=180)
+            if cluster.part("status", "--log", cluster.log())[0] == 0:
+                break
         agree("full", cluster, traffic, trimmed=True)
 
 
@@ -273,7 +281,7 @@ def part_wrong(given):
     """Each wrong replica is found by the part `faults`."""
     for kind in WRONG:
         words = [sys.executable, "-B", __file__, "--only", "faults", "--replica", kind]
-        words += ["--faults", "13", "--seed", str(given.seed)]
+        words += ["--faults", "6", "--seed", str(given.seed), "--kinds", *SHARP]
         ran = subprocess.run(words, capture_output=True, text=True, timeout=1200)
         found = [it for it in ran.stdout.splitlines() if it.startswith("FAILED")]
         case(
@@ -385,9 +393,12 @@ def words():
         description=__doc__, formatter_class=argparse.RawDescriptionHelpFormatter
     )
     parser.add_argument("--only", nargs="+", choices=PARTS, metavar="PART", help="these parts")
-    parser.add_argument("--faults", type=int, default=26, help="faults of the first part (26)")
+    parser.add_argument("--faults", type=int, default=13, help="faults of the first part (13)")
     parser.add_argument(
         "--singles", type=int, default=100_000, help="single transfers before a restart (100000)"
+    )
+    parser.add_argument(
+        "--kinds", nargs="+", choices=Faults.KINDS, metavar="KIND", help="faults of these kinds"
     )
     parser.add_argument("--seed", type=int, default=1, help="of the order of faults (1)")
     parser.add_argument("--replica", metavar="KIND", help="a wrong replica")

@@ -7,8 +7,9 @@ import time
 class Faults:
     """Faults of all kinds, one after another. Each is over when what it stopped runs again."""
 
-    def __init__(self, cluster, seed):
+    def __init__(self, cluster, seed, kinds=None):
         self.cluster, self.random = cluster, random.Random(seed)
+        self.kinds = kinds or self.KINDS
         self.done = []  # the kind of each, when it began, and when it was over
 
     KINDS = (
@@ -34,7 +35,7 @@ class Faults:
 
     def some(self, count, between=0.5):
         """So many faults: of each kind equally many, in any order."""
-        kinds = [self.KINDS[it % len(self.KINDS)] for it in range(count)]
+        kinds = [self.kinds[it % len(self.kinds)] for it in range(count)]
         self.random.shuffle(kinds)
         for kind in kinds:
             self.one(kind)
