@@ -24,3 +24,4 @@ pub mod IdsRising
 pub mod CodesFit
 pub mod BooksFit
 pub mod RepliesFit
+pub mod Replicas

@@ -15,6 +15,7 @@ pub mod MarkedLaws
 pub mod Settling
 pub mod ScriptLaws
 pub mod ReplyLaws
+pub mod ReplicaLaws
 pub mod WorkedRows
 -- what private contracts alone cite
 pub mod Serving

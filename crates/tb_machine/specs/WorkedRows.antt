@@ -17,7 +17,8 @@ use Rattle.tb_machine.specs.Histories.{start, after, answer_to}
 use Rattle.tb_machine.specs.Dumps.{after_with}
 use Rattle.tb_machine.specs.MarkedLaws.{next_in}
 use Rattle.tb_machine.specs.Restoring.{cause_of}
-use Rattle.tb_machine.specs.Scripts.{Pair, has_time, accepted, replies_to}
+use Rattle.tb_machine.specs.Scripts.{Pair, has_time, accepted, replies_from, replies_to}
+use Rattle.tb_machine.specs.ReplicaLaws.{all_ticks}
 
 -- an account and a transfer as the rows write them
 abbrev account : ℕ → Account
@@ -162,3 +163,39 @@ MarkedHistory =
     (profile_of (next_in One 2 (Some 1) []).books ≡ One)
     × (profile_of (next_in One 2 (Some 1) (entry 1 10 (register 7) ∷ [])).books ≡ Two)
     × (summary (answer_to (after_with One 2 (Some 1) (entry 1 10 (register 7) ∷ entry 2 11 (register 8) ∷ [])) (register 7)) ≡ (0, 1, 1))
+
+-- client 7's last two requests are answered behind the two before them, and refused without them
+abbrev first_part : List Message
+first_part = register 7 ∷ accounts ∷ []
+
+abbrev second_part : List Message
+second_part = lookup ∷ transfers 100 ∷ []
+
+abbrev pub ScriptInParts : Type 0
+ScriptInParts =
+    let made = accepted One 2 [] (script first_part) in
+    (map summary (replies_from One 2 made (script second_part)) ≡ (0, 1, 3) ∷ (0, 1, 4) ∷ [])
+    × (length (accepted One 2 made (script second_part)) ≡ 4)
+    × (summaries 2 second_part ≡ (1, 1, 0) ∷ (1, 1, 0) ∷ [])
+    × (entered 2 second_part ≡ 0)
+
+-- client 7's transfer comes again behind its next request: the copy is refused (4), and the last request is commit 6 with it
+-- and without it. In one place client 7's register comes again when client 8 has driven it out: it is new, and drives 8 out
+abbrev pub CopiesInAScript : Type 0
+CopiesInAScript =
+    let before = first_requests ++ empty_lookup 7 1 4 ∷ [] in
+    (summaries 2 (before ++ transfers 100 ∷ empty_lookup 7 1 5 ∷ []) ≡ summaries 2 before ++ (4, 1, 0) ∷ (0, 1, 6) ∷ [])
+    × (summaries 2 (before ++ empty_lookup 7 1 5 ∷ []) ≡ summaries 2 before ++ (0, 1, 6) ∷ [])
+    × (summaries 1 (register 7 ∷ register 8 ∷ empty_lookup 8 2 1 ∷ []) ≡ (0, 1, 1) ∷ (0, 2, 2) ∷ (0, 2, 3) ∷ [])
+    × (summaries 1 (register 7 ∷ register 8 ∷ register 7 ∷ empty_lookup 8 2 1 ∷ []) ≡ (0, 1, 1) ∷ (0, 2, 2) ∷ (0, 3, 3) ∷ (1, 2, 0) ∷ [])
+
+-- a register and two accounts, three ticks, at a moment three before the last: both have a time; at the last moment but one the
+-- accounts have none
+abbrev at_moment : ℕ → List Pair
+at_moment moment = (moment, register 7) ∷ (moment, accounts) ∷ []
+
+abbrev pub BoundedMoments : Type 0
+BoundedMoments =
+    (all_ticks (at_moment 9223372036854775804) ≡ 3)
+    × (map summary (replies_to One 2 (at_moment 9223372036854775804)) ≡ (0, 1, 1) ∷ (0, 1, 2) ∷ [])
+    × (has_time (after One 2 (accepted One 2 [] ((9223372036854775806, register 7) ∷ []))) (9223372036854775806, accounts) ≡ false)

@@ -1,6 +1,7 @@
 //! The laws of legal histories, over the definitions alone. A call does nothing; its promise is the law.
 ghost use Rattle.tb_machine.specs.Dumps.{OneDump};
 ghost use Rattle.tb_machine.specs.ScriptLaws.{AcceptedIsLegal, RepliesAreOfHistory, ServedAreLawful};
+ghost use Rattle.tb_machine.specs.ReplicaLaws.{FromHere, Prefix, SameAgain, CopyChangesNothing, Timely};
 ghost use Rattle.tb_machine.specs.ReplyLaws.{RepliesFit, RepliesReadBack, AnswersFit, GivenFit, AcceptedAreRequests};
 ghost use Rattle.tb_machine.specs.MarkedLaws.{OneKeyWith, FirstReplyWith, NotNewAgainWith, StaysOutWith, LimitsHoldWith, LedgersBalanceWith};
 ghost use Rattle.tb_machine.specs.MarkedLaws.{NextIsLegalWith, MovedIsLegalWith, AcceptedIsLegalWith, DumpedIsLegal};
@@ -114,4 +115,28 @@ pub fn one_record()
 pub fn posts_and_voids_settle()
     ensures ids_rise { IdsRiseAfter }
     ensures settle { PostsAndVoidsSettle }
+{}
+
+/// What is accepted of two parts of a script is what is accepted of the second behind what is accepted of the first.
+pub fn from_here()
+    ensures { FromHere }
+{}
+
+/// The replies to two parts of a script are those to the first, and then those to the second behind what the first made: so
+/// replicas at different places of one script never contradict each other.
+pub fn prefix()
+    ensures { Prefix }
+{}
+
+/// A pair whose request the history holds, and that is no register or whose client still has a row, changes nothing: so a
+/// second copy anywhere later in a script changes no other reply.
+pub fn same_again()
+    ensures same { SameAgain }
+    ensures copies { CopyChangesNothing }
+{}
+
+/// Where all moments are at most a bound that leaves a nanosecond for each event, register and lookup of the script, each new
+/// pair has a time: so none that keeps the bound ends a replica.
+pub fn timely()
+    ensures { Timely }
 {}

@@ -1,5 +1,5 @@
 //! Worked rows: scripts, and what the definitions answer to them, computed. A call does nothing; its promise is the row.
-ghost use Rattle.tb_machine.specs.WorkedRows.{FirstRequests, Refusals, GreatestSum, Eviction, EndOfTime, EvictionStorm, UnfitEntries, MarkedHistory};
+ghost use Rattle.tb_machine.specs.WorkedRows.{FirstRequests, Refusals, GreatestSum, Eviction, EndOfTime, EvictionStorm, UnfitEntries, MarkedHistory, ScriptInParts, CopiesInAScript, BoundedMoments};
 
 /// A register, the same again, two accounts, their lookup, a transfer.
 pub fn first_requests()
@@ -39,4 +39,19 @@ pub fn unfit_entries()
 /// A mark between two registers.
 pub fn marked_history()
     ensures { MarkedHistory }
+{}
+
+/// A script in two parts.
+pub fn script_in_parts()
+    ensures { ScriptInParts }
+{}
+
+/// A second copy of a request, and one of a register whose client lost its row.
+pub fn copies_in_a_script()
+    ensures { CopiesInAScript }
+{}
+
+/// Moments that leave time for all events of a script, and one that does not.
+pub fn bounded_moments()
+    ensures { BoundedMoments }
 {}
