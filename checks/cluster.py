@@ -306,7 +306,7 @@ def part_postgresql(given):
         faults.hold(standby, standby.signal_server)
         until(lambda: traffic.made > before, 60, "transfers go on")
         time.sleep(11)  # a replica reports every 10 seconds
-        words = ("--user", "postgres", "--log", cluster.log())
+        words = ("--log-user", "postgres", "--log", cluster.log())
         status, said = cluster.part("status", *words)
         case("postgresql: status", status == 0 and said.count("replica r") == 3, said.strip())
         agree("postgresql", cluster, traffic)

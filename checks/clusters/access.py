@@ -51,11 +51,16 @@ class Closed(Cluster):
         return words
 
     def files(self):
-        given = ["--ca", f"{self.folder}/ca.crt", "--cert", f"{self.folder}/client.crt"]
-        return [*given, "--key", f"{self.folder}/client.key"]
+        given = [
+            "--log-ca",
+            f"{self.folder}/ca.crt",
+            "--log-certificate",
+            f"{self.folder}/client.crt",
+        ]
+        return [*given, "--log-key", f"{self.folder}/client.key"]
 
     def user(self, name="bank", password="password"):
-        return ["--user", name, "--password-file", f"{self.folder}/{password}"]
+        return ["--log-user", name, "--log-password-file", f"{self.folder}/{password}"]
 
     def replica_words(self, at, words, more=()):
         return super().replica_words(at, words, [*self.files(), *self.user(), *more])

@@ -279,7 +279,7 @@ class Postgres(Machines):
         return f"postgresql://127.0.0.1:{self.ports[0]}/postgres/bank"
 
     def replica_words(self, at, words, more=()):
-        return super().replica_words(at, words, ["--user", "postgres", *more])
+        return super().replica_words(at, words, ["--log-user", "postgres", *more])
 
     def start_engine(self):
         primary, standby = f"{self.data}/primary", f"{self.data}/standby"

@@ -7,8 +7,8 @@
 
 It has tbd's command line, lines and exit statuses. Its ledger knows few rules, and its file has a
 dump's bytes and no checksums: nothing of money is to be kept in it. FAIL makes `run` end at its Nth
-pair: FAIL=NAME:STATUS:N with that fault, and FAIL=SIGNAL:PLACE:N by that signal (as SIGKILL:read:3)
-at one of these places:
+pair (pairs of clients without a session are not counted): FAIL=NAME:STATUS:N with that fault, and
+FAIL=SIGNAL:PLACE:N by that signal (as SIGKILL:read:3) at one of these places:
 
     read   the pair was read, and nothing was done with it
     half   one byte of its entry is missing in the file
@@ -27,6 +27,7 @@ ENTRY = struct.Struct("<QQ")
 REGISTER, ACCOUNTS, TRANSFERS, LOOKUP_ACCOUNTS = 2, 129, 130, 131
 EXISTS = {ACCOUNTS: 21, TRANSFERS: 46}
 DEBIT_ACCOUNT_NOT_FOUND, CREDIT_ACCOUNT_NOT_FOUND = 21, 22
+NO_SESSION = 1
 LAST_TIME = 2**63 - 1
 
 
@@ -211,7 +212,9 @@ def pairs():
 def serve(file, ledger, ending):
     """Entries go to the file first, then their replies out."""
     entries = replies = b""
-    for count, (moment, frame, is_more) in enumerate(pairs(), 1):
+    count = 0
+    for moment, frame, is_more in pairs():
+        count += ledger.status(frame) != NO_SESSION
         if ending.is_at(count, "read"):
             ending.take()
         if not any(frame[:16]):

@@ -677,6 +677,30 @@ class Ends(unittest.TestCase):
             it.sendall(register(1))
             self.assertEqual(told(it), b"tb_listen: ProgramEnded\n")
 
+    def test_a_request_that_comes_while_the_ledger_is_read(self):
+        """Nothing was done with it, and the client's side comes again until it is served."""
+        slow = ["sh", "-c", 'sleep 3; exec "$@"', "sh", *KEEPER]
+        with tempfile.TemporaryDirectory() as folder:
+            path, file = os.path.join(folder, "it.sock"), os.path.join(folder, "ledger.journal")
+            words = [os.path.join(HERE, "tb_listen.py"), "--unix", path, "--", *slow]
+            listener = subprocess.Popen(
+                [sys.executable, "-B", *words, "run", file, "64"], stderr=subprocess.PIPE, text=True
+            )
+            while not os.path.exists(path):
+                time.sleep(0.01)
+            with socket.socket(socket.AF_UNIX, socket.SOCK_STREAM) as it:
+                it.connect(path)
+                it.sendall(register(1))
+                self.assertEqual(told(it), b"tb_listen: Starting\n")
+            with self.assertRaises(tb.CannotConnect):
+                Session.register(Socket(path, timeout=0.5), attempts=1)
+            with Session.register(Socket(path, timeout=20), attempts=1) as session:
+                self.assertEqual(session.lookup_accounts([1]), [])
+            listener.terminate()
+            self.assertEqual(listener.wait(20), 0)
+            with listener.stderr as said:
+                self.assertEqual(said.read().splitlines()[-1], f"tb_listen: listens on {path}")
+
     def test_what_it_said_before_a_signal_is_shown(self):
         ended = (
             "tb_listen: sh ended by SIGABRT (memory allocation of 64 bytes failed), "
@@ -685,7 +709,7 @@ class Ends(unittest.TestCase):
         with Running(
             command=["sh", "-c", "echo memory allocation of 64 bytes failed >&2; kill -ABRT $$"]
         ) as listener:
-            self.assertEqual(listener.tells(), ended)
+            self.assertEqual(listener.said[0], ended)
 
     def test_a_signal_that_a_shell_tells(self):
         """A program that starts tbd, and waits for it, ends with 128 and the signal's number."""
@@ -707,11 +731,10 @@ class Ends(unittest.TestCase):
 
     def test_a_start_that_is_ended_with_the_listener(self):
         with Running(command=["sh", "-c", "kill -KILL $$"]) as listener:
-            for pause in ("0.1", "0.5", "2"):
-                self.assertEqual(
-                    listener.tells(),
-                    f"tb_listen: sh ended by SIGKILL, and is started again in {pause} s\n",
-                )
+            ended = "tb_listen: sh ended by SIGKILL, and is started again in"
+            self.assertEqual(listener.said, [f"{ended} 0.1 s\n"])
+            for pause in ("0.5", "2"):
+                self.assertEqual(listener.tells(), f"{ended} {pause} s\n")
             began = time.monotonic()
             self.assertEqual(listener.end(), 1)
             self.assertLess(time.monotonic() - began, 1.5)
@@ -737,13 +760,12 @@ class Ends(unittest.TestCase):
                     it.sendall(register(1))
                     self.assertEqual(len(it.recv(48, socket.MSG_WAITALL)), 48)
                     it.sendall(tb.request_frame(1, 1, 1, tb.Operation.lookup_accounts))
-                    self.assertEqual(told(it), b"tb_listen: ProgramEnded\n")
-                    self.assertEqual(
-                        told(other), b"tb_listen: ProgramEnded\n", "so is who waits for nothing"
-                    )
+                    name = f"tb_listen: {line}\n".encode()
+                    self.assertEqual(told(it), name)
+                    self.assertEqual(told(other), name, "so is who waits for nothing")
                 self.assertEqual(listener.ended(), status)
                 self.assertEqual(
-                    listener.said[1:], [f"tb_listen: tbd: {line}\n"], "and it is not started again"
+                    listener.said[-1], f"tb_listen: tbd: {line}\n", "and it is not started again"
                 )
                 self.assertFalse(os.path.exists(listener.path))
 
@@ -806,7 +828,7 @@ class Ends(unittest.TestCase):
             ) as listener:
                 with listener.call() as it:
                     it.sendall(header())
-                    self.assertEqual(told(it), b"tb_listen: ProgramEnded\n")
+                    self.assertEqual(told(it), f"tb_listen: {line[5:]}\n".encode())
                 self.assertEqual(listener.ended(), status)
                 self.assertEqual(listener.said[-1], f"tb_listen: {line}\n")
 
@@ -839,12 +861,10 @@ class Ends(unittest.TestCase):
                 with listener.call() as it:
                     it.sendall(request)
                     self.assertEqual(
-                        told(it),
-                        b"tb_listen: ProgramEnded\n",
-                        "nothing of a cut reply is handed on",
+                        told(it), b"tb_listen: Device\n", "nothing of a cut reply is handed on"
                     )
                 self.assertEqual(listener.ended(), 1)
-                self.assertEqual(listener.said[1:], ["tb_listen: tbs: Device\n"])
+                self.assertEqual(listener.said[-1], "tb_listen: tbs: Device\n")
 
     def test_what_is_no_reply(self):
         good = tb.Reply(1, 1, 0, 2, 0, 1, b"")
@@ -1030,7 +1050,8 @@ class Example(unittest.TestCase):
             env={**os.environ, "FAIL": "Full:8:20"},
         )
         self.assertEqual((ran.returncode, ran.stdout), (1, "on a Unix socket:\n"))
-        self.assertIn("the listener ended, with status 8: tb_listen: tbd: Full\n", ran.stderr)
+        self.assertIn("the listener ended, with status 8: ", ran.stderr)
+        self.assertIn("tb_listen: tbd: Full\n", ran.stderr)
 
 
 class Ahead(unittest.TestCase):
@@ -1256,10 +1277,6 @@ class Words(unittest.TestCase):
             (("--",), "the following arguments are required: COMMAND"),
             (("--", ""), "an empty word is no COMMAND"),
             (("--unix", "", "--", "true"), "argument --unix: an empty word is no path"),
-            (
-                ("--unix", "a", "--tcp", "b:1", "--", "true"),
-                "argument --tcp: not allowed with argument --unix",
-            ),
             (("--again", "--", "true"), "unrecognized arguments: --again"),
             (("--idl=5", "--", "true"), "unrecognized arguments: --idl=5"),
         ):

@@ -64,22 +64,35 @@ class Socket(Closing):
             if self._closed:
                 raise Closed("this Socket was closed")
             deadline = time.monotonic() + seconds("timeout", self.timeout, 0)
-            it = self._connected(deadline)
-            try:
-                self._wait(it, deadline)
-                self._send(it, frame)
-                return self._reply(it, frame, deadline)
-            except OSError as error:
-                self._lose()
-                late = isinstance(error, socket.timeout)
-                raise ReplyLost(
-                    f"no reply within {self.timeout:g} seconds"
-                    if late
-                    else f"the connection broke: {error}"
-                ) from None
-            except BaseException:
-                self._lose()
-                raise
+            pause = FIRST_PAUSE
+            while True:
+                try:
+                    return self._asked(frame, deadline)
+                except Starting as why:
+                    # a server that still reads its ledger takes no request
+                    if deadline - time.monotonic() <= pause:
+                        raise CannotConnect(f"{_shown(self.address)}: {why}") from None
+                    time.sleep(pause)
+                    pause = min(2 * pause, LAST_PAUSE)
+
+    def _asked(self, frame: bytes, deadline: float) -> bytes:
+        """The reply to one sending of a request."""
+        it = self._connected(deadline)
+        try:
+            self._wait(it, deadline)
+            self._send(it, frame)
+            return self._reply(it, frame, deadline)
+        except OSError as error:
+            self._lose()
+            late = isinstance(error, socket.timeout)
+            raise ReplyLost(
+                f"no reply within {self.timeout:g} seconds"
+                if late
+                else f"the connection broke: {error}"
+            ) from None
+        except BaseException:
+            self._lose()
+            raise
 
     def _connected(self, deadline: float) -> socket.socket:
         """The connection, made anew where there is none, or where the server closed it since."""
@@ -199,13 +212,17 @@ def _is_left(it: socket.socket) -> bool:
     return True
 
 
+class Starting(ReplyLost):
+    """The server reads its ledger, and did not take the request."""
+
+
 def _closed(said: bytes) -> ReplyLost:
     """What to raise where the server closed the connection after these bytes: with the name that
     it told, where it told one."""
     why = (
         bytes(said[len(TOLD) :]).decode("ascii", "replace").strip() if said.startswith(TOLD) else ""
     )
-    kind = Busy if why == "Busy" else ReplyLost
+    kind = {"Busy": Busy, "Starting": Starting}.get(why, ReplyLost)
     return kind(f"the server closed the connection{why and ': ' + why}", why)
 
 

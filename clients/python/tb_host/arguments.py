@@ -54,20 +54,17 @@ def ahead(text: str) -> float:
 
 def add_places(parser: argparse.ArgumentParser) -> None:
     """Adds the options of where connections are taken, and how many."""
-    place = parser.add_mutually_exclusive_group()
-    place.add_argument(
+    parser.add_argument(
         "--unix",
         metavar="PATH",
         type=path,
         help="listen on a Unix socket, which its owner alone may use",
     )
     tcp = (
-        "listen on TCP (127.0.0.1:3001 where nothing is given; port 0 is any that is free; "
-        "[::1]:3001 for IPv6)"
+        "listen on TCP, also beside --unix (127.0.0.1:3001 where nothing is given; port 0 is any "
+        "that is free; [::1]:3001 for IPv6)"
     )
-    place.add_argument(
-        "--tcp", metavar="HOST:PORT", type=address, default=("127.0.0.1", 3001), help=tcp
-    )
+    parser.add_argument("--tcp", metavar="HOST:PORT", type=address, help=tcp)
     parser.add_argument(
         "--connections",
         metavar="N",
@@ -90,6 +87,12 @@ def add_times(parser: argparse.ArgumentParser) -> None:
         "how long a request may take to come, a client to read a reply, and the command to end (30)"
     )
     parser.add_argument("--slow", metavar="SECONDS", type=seconds, default=30.0, help=slow)
+
+
+def settle_places(given: argparse.Namespace) -> None:
+    """Takes the usual place where none is given."""
+    if not given.unix and not given.tcp:
+        given.tcp = ("127.0.0.1", 3001)
 
 
 def add_command(parser: argparse.ArgumentParser) -> None:

@@ -6,11 +6,13 @@ import collections
 import contextlib
 import os
 import re
+import secrets
 import struct
 from typing import Deque, Optional, Sequence, Tuple
 
-from tb_client.frames import asker, reply_fault, reply_length
+from tb_client.frames import asker, reply_fault, reply_length, request_frame
 from tb_client.layout import HEADER
+from tb_client.names import Operation
 
 from .arguments import is_number
 from .lines import Ended, Told
@@ -71,7 +73,20 @@ class Command(ServerProcess):
 
     def lost(self) -> None:
         while self.waiting:
-            _drop(self.waiting.popleft()[1])
+            _drop(self.waiting.popleft()[1], self.ended_as)
+
+    def lag(self) -> float:
+        return self.moments.lag()
+
+    async def begun(self) -> None:
+        """Comes when a ledger's file was read: the command answers a request then. The request is
+        one of a client that nobody has, so it is refused, and the ledger stays as it was."""
+        if self.keeps:
+            client = secrets.randbits(127) + 1
+            with contextlib.suppress(Told):
+                await self.ask(request_frame(client, 1, 1, Operation.lookup_accounts, b""))
+                return
+            await asyncio.Event().wait()  # its end is seen where it runs
 
     async def read_replies(
         self, process: asyncio.subprocess.Process, stdout: asyncio.StreamReader
@@ -94,7 +109,7 @@ class Command(ServerProcess):
         async with self.sending:
             while self.process is None:
                 if self.is_over:
-                    raise Told("ProgramEnded")
+                    raise Told(self.ended_as)
                 await self.ready.wait()
             stdin = self.process.stdin
             assert stdin is not None
@@ -106,6 +121,6 @@ class Command(ServerProcess):
         return await reply
 
 
-def _drop(reply: asyncio.Future[bytes]) -> None:
+def _drop(reply: asyncio.Future[bytes], why: str) -> None:
     if not reply.done():
-        reply.set_exception(Told("ProgramEnded"))
+        reply.set_exception(Told(why))

@@ -4,12 +4,18 @@ from __future__ import annotations
 import argparse
 import asyncio
 import contextlib
+import time
 from typing import Protocol, Set
 
 from tb_client.frames import reply_length, request_fault
-from tb_client.layout import HEADER
+from tb_client.layout import HEADER, REPLY
+from tb_client.names import Operation
+from tb_client.records import u128_at
 
-from .lines import TOLD, Told, in_time, say
+from .access import Access, Peer
+from .counts import Counts
+from .evictions import Evictions
+from .lines import TOLD, Told, in_time, say_of
 from .process import drain
 
 # seconds for which a client that is told why may still send, so that it reads why and is not cut
@@ -27,8 +33,16 @@ class Asked(Protocol):
 class Listener:
     """Takes connections, and serves each: a request, its reply, the next request."""
 
-    def __init__(self, command: Asked, given: argparse.Namespace) -> None:
-        self.command, self.given = command, given
+    def __init__(
+        self,
+        command: Asked,
+        given: argparse.Namespace,
+        access: Access,
+        counts: Counts,
+        evictions: Evictions,
+    ) -> None:
+        self.command, self.given, self.access = command, given, access
+        self.counts, self.evictions = counts, evictions
         self.open: Set[asyncio.Task[None]] = set()
         self.served: Set[asyncio.Task[None]] = set()  # those that are not told why they are closed
         self.at_rest: Set[asyncio.Task[None]] = set()  # those that wait for a request
@@ -40,6 +54,8 @@ class Listener:
         task = asyncio.current_task()
         assert task is not None
         self.open.add(task)
+        self.counts.taken += 1
+        self.counts.connections += 1
         try:
             writer.transport.set_write_buffer_limits(
                 0
@@ -51,6 +67,7 @@ class Listener:
             )
             await self._close(reader, writer, why)
         finally:
+            self.counts.connections -= 1
             self.open.discard(task)
 
     async def _serve(
@@ -59,8 +76,9 @@ class Listener:
         """Answers requests until the connection is to be closed, and then why that is."""
         self.served.add(task)
         try:
+            peer = self.access.peer(writer)
             while not self.why:
-                writer.write(await self.command.ask(await self._request(task, reader)))
+                writer.write(await self._answer(await self._request(task, reader, peer)))
                 if writer.transport.get_write_buffer_size():
                     await in_time(writer.drain(), self.given.slow, "Slow")
             return self.why
@@ -75,14 +93,37 @@ class Listener:
         finally:
             self.served.discard(task)
 
-    async def _request(self, task: asyncio.Task[None], reader: asyncio.StreamReader) -> bytes:
+    async def _answer(self, frame: bytes) -> bytes:
+        """The reply to a request, which is counted."""
+        began = time.monotonic()
+        reply = await self.command.ask(frame)
+        _, _, operation, status, _, commit = REPLY.unpack_from(reply, 16)
+        self.counts.answered(operation, status, time.monotonic() - began)
+        if status == 0:
+            client = u128_at(reply, 0)
+            evicted = self.evictions.learn(client, operation == Operation.register, commit)
+            if evicted is not None:
+                self.counts.evictions += 1
+                say_of(
+                    f"client {client}",
+                    f"client {evicted} was evicted by client {client}: more clients come than "
+                    f"there are places ({self.evictions.clients_max})",
+                )
+        return reply
+
+    async def _request(
+        self, task: asyncio.Task[None], reader: asyncio.StreamReader, peer: Peer
+    ) -> bytes:
         """The next request, whose frame was tested before it is waited for whole."""
         self.at_rest.add(task)
         try:
             header = await in_time(reader.readexactly(HEADER), self.given.idle, "Idle")
             fault = request_fault(header)
             if fault:
-                raise Told(fault)
+                raise Told(fault, peer.shown)
+            if not self.counts.is_ready:
+                raise Told("Starting", peer.shown)
+            self.access.test(peer, u128_at(header, 0))
             length = reply_length(header) - HEADER
             return (
                 header + await in_time(reader.readexactly(length), self.given.slow, "Slow")
@@ -106,7 +147,8 @@ class Listener:
             "Stopping",
             "ProgramEnded",
         ):  # who is gone amid a frame is no fault to be told here
-            say(f"a connection is closed: {why}")
+            self.counts.closed[why] += 1
+            say_of("", f"a connection is closed: {why}")
         with contextlib.suppress(
             OSError, asyncio.TimeoutError, asyncio.CancelledError
         ):  # nothing is left to be done
@@ -115,7 +157,8 @@ class Listener:
                     why and not writer.transport.get_write_buffer_size()
                 ):  # behind a part of a reply nothing can be told
                     writer.write(f"{TOLD}{why}\n".encode("ascii"))
-                    writer.write_eof()
+                    if writer.can_write_eof():  # TLS has no such half of an end
+                        writer.write_eof()
                     await self._read_on(reader)
                     writer.close()
                     await asyncio.wait_for(writer.wait_closed(), LAST_READ)

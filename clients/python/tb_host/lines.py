@@ -3,15 +3,21 @@ from __future__ import annotations
 
 import asyncio
 import contextlib
+import datetime
+import json
 import select
 import sys
-from typing import Awaitable, TypeVar
+import time
+from typing import Awaitable, Dict, Tuple, TypeVar
 
 T = TypeVar("T")
 
 LINES = 4096  # bytes of what a command said last that are kept
 TOLD = "tb_listen: "  # what a line to a client begins with, of a listener and of a replica
 program = "tb_listen"  # what a line on standard error begins with
+as_json = False  # whether a line is an object of JSON
+REPEATS, MINUTE = 10, 60.0  # how often a line is said in so many seconds; more are counted
+said: Dict[Tuple[str, str], Tuple[float, int]] = {}  # since when a line is said, and how often
 
 
 def speak_as(name: str) -> None:
@@ -20,12 +26,40 @@ def speak_as(name: str) -> None:
     program = name
 
 
-def say(text: str) -> None:
+def speak_json() -> None:
+    """Makes each line on standard error an object with time, level, peer and text."""
+    global as_json
+    as_json = True
+
+
+def say(text: str, level: str = "info", peer: str = "") -> None:
     """Says a line on standard error, where that takes it at once. Who reads nothing there holds
     up no client."""
     with contextlib.suppress(OSError, ValueError):
         if sys.stderr is not None and _takes_a_line():
-            print(f"{program}: {text}"[: LINES // 4], file=sys.stderr, flush=True)
+            line = _as_object(text, level, peer) if as_json else f"{program}: {text}"
+            print(line[: LINES // 4], file=sys.stderr, flush=True)
+
+
+def say_of(peer: str, text: str, level: str = "warning") -> None:
+    """Says a line about a peer, ten times in a minute at most. The first one after that tells how
+    many were left out."""
+    now = time.monotonic()
+    began, count = said.get((level, text), (now, 0))
+    left_out = 0
+    if now - began >= MINUTE:
+        began, count, left_out = now, 0, max(0, count - REPEATS)
+    if len(said) > LINES:
+        said.clear()
+    said[level, text] = began, count + 1
+    if count < REPEATS:
+        say(f"{text} ({left_out} more were left out)" if left_out else text, level, peer)
+
+
+def _as_object(text: str, level: str, peer: str) -> str:
+    now = datetime.datetime.now(datetime.timezone.utc).isoformat(timespec="milliseconds")
+    found = {"time": now, "level": level, "program": program, "peer": peer, "text": text}
+    return json.dumps({name: it for name, it in found.items() if it})
 
 
 def _takes_a_line() -> bool:
@@ -41,7 +75,12 @@ def _takes_a_line() -> bool:
 
 
 class Told(Exception):
-    """Why a connection is closed: the name that its client is told."""
+    """Why a connection is closed: the name that its client is told, and who that is, where it is
+    known."""
+
+    def __init__(self, name: str, peer: str = "") -> None:
+        super().__init__(name)
+        self.peer = peer
 
 
 class Ended(Exception):

@@ -28,12 +28,16 @@ import sys
 import time
 from typing import Sequence
 
-from .arguments import add_command, add_places, add_times, ahead
+from .access import add_access
+from .arguments import add_command, add_places, add_times, ahead, settle_places
 from .command import Command, journal_at, last_time
-from .lines import Ended, say
+from .evictions import clients_max_of
+from .lines import Ended, say, speak_json
 from .moments import SECOND, Moments
+from .reports import add_reports
 from .serving import listen_on, stop_signals, until
 from .sockets import bound, make_room
+from .tls import add_tls, test_tls
 
 
 async def begin(given: argparse.Namespace) -> Moments:
@@ -57,9 +61,12 @@ async def listen(given: argparse.Namespace) -> None:
     try:
         if not await until(beginning, stopping):
             return
-        moments = beginning.result()
-        with bound(given) as place:
-            await listen_on(place, Command(given.command, moments, given.slow), given, stopping)
+        command = Command(given.command, beginning.result(), given.slow)
+        at = journal_at(given.command)
+        file = None if at is None else given.command[at]
+        with bound(given) as places:
+            clients_max = clients_max_of(given.command)
+            await listen_on(places, command, given, stopping, file, clients_max)
     finally:
         stopping.cancel()
 
@@ -74,7 +81,11 @@ def words(given: Sequence[str]) -> argparse.Namespace:
         allow_abbrev=False,
     )
     add_places(parser)
+    add_tls(parser)
+    add_access(parser)
+    add_reports(parser)
     add_times(parser)
+    parser.add_argument("--log-json", action="store_true", help="lines as JSON, with time and peer")
     may_lie = (
         "how far the ledger's last time may lie ahead of the clock "
         "when the command is started first (0)"
@@ -84,11 +95,15 @@ def words(given: Sequence[str]) -> argparse.Namespace:
     found = parser.parse_args(given)
     if not found.command[0]:
         parser.error("an empty word is no COMMAND")
+    settle_places(found)
+    test_tls(parser, found)
     return found
 
 
 def main() -> int:
     given = words(sys.argv[1:])
+    if given.log_json:
+        speak_json()
     try:
         make_room(given.connections)
         asyncio.run(listen(given))

@@ -26,14 +26,17 @@ import socket
 import sys
 from typing import Any, List, Sequence
 
-from .arguments import add_command, add_places, add_times, ahead, path, seconds
+from .access import add_access
+from .arguments import add_command, add_places, add_times, ahead, path, seconds, settle_places
 from .lines import Ended, say, speak_as
 from .local_copy import Copy, copied, kept
 from .log import Access, Log, opened, parts
 from .replica import Replica, head_of
+from .reports import add_reports
 from .serving import listen_on, stop_signals, until
-from .sockets import bound, make_room, shown
+from .sockets import bound, make_room
 from .status import hashes, script, status, trim
+from .tls import add_tls, test_tls
 
 PARTS = ("run", "status", "trim", "copy-from", "script", "hashes")
 
@@ -52,16 +55,22 @@ async def serve(given: argparse.Namespace, log: Log) -> None:
         if not await until(beginning, stopping):
             return
         beginning.result()
-        with bound(given) as place:
-            given.shown = given.unix or shown(*place.getsockname())
-            await listen_on(place, replica, given, stopping)
+        with bound(given) as places:
+            given.shown = places[0].shown
+            await listen_on(places, replica, given, stopping)
     finally:
         stopping.cancel()
         copy.close()
 
 
 async def _with_log(given: argparse.Namespace, work: Any) -> Any:
-    access = Access(given.ca, given.cert, given.key, given.user, given.password_file)
+    access = Access(
+        given.log_ca,
+        given.log_certificate,
+        given.log_key,
+        given.log_user,
+        given.log_password_file,
+    )
     log = opened(given.log, access, given.standbys)
     try:
         return await work(given, log)
@@ -80,14 +89,14 @@ def _log(text: str) -> str:
 def add_log(parser: argparse.ArgumentParser) -> None:
     parser.add_argument("--log", metavar="LOG", type=_log, required=True, help="the agreed log")
     files = (
-        ("--ca", "the certificates that the engine's is tested by: speaks TLS"),
-        ("--cert", "this replica's certificate"),
-        ("--key", "the key of its certificate"),
-        ("--password-file", "its first line is the password of --user"),
+        ("--log-ca", "the certificates that the engine's is tested by: speaks TLS"),
+        ("--log-certificate", "this replica's certificate"),
+        ("--log-key", "the key of its certificate"),
+        ("--log-password-file", "its first line is the password of --log-user"),
     )
     for word, said in files:
         parser.add_argument(word, metavar="FILE", type=path, help=said)
-    parser.add_argument("--user", metavar="NAME", help="the engine's user")
+    parser.add_argument("--log-user", metavar="NAME", help="the engine's user")
     parser.add_argument(
         "--standbys",
         metavar="N",
@@ -113,6 +122,9 @@ def _run_words(given: Sequence[str]) -> argparse.Namespace:
     parser.add_argument("--copy", metavar="FOLDER", type=path, required=True, help="the copy")
     parser.add_argument("--name", help="this replica's name in the log (made where none is given)")
     add_places(parser)
+    add_tls(parser)
+    add_access(parser)
+    add_reports(parser)
     add_times(parser)
     patience = "how long a request may wait for the log until its client is told NoLog (10)"
     parser.add_argument("--patience", metavar="SECONDS", type=seconds, default=10.0, help=patience)
@@ -131,6 +143,8 @@ def _run_words(given: Sequence[str]) -> argparse.Namespace:
         head_of(found.command)
     except ValueError as error:
         parser.error(str(error))
+    settle_places(found)
+    test_tls(parser, found)
     return found
 
 

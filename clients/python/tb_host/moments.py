@@ -33,6 +33,10 @@ class Moments:
         self.last, self.at = max(last, clock()), running()
         self.is_said = False
 
+    def lag(self) -> float:
+        """How many seconds the last moment lies behind the clock, where that was ahead."""
+        return max(0.0, (self.clock() - self.last - (self.running() - self.at)) / SECOND)
+
     def next(self) -> int:
         clock, running = self.clock(), self.running()
         if clock > self.last:

@@ -5,6 +5,7 @@ import asyncio
 import contextlib
 import errno
 import os
+import re
 import signal
 import time
 from typing import Any, List, Optional, Sequence, Tuple
@@ -56,6 +57,12 @@ def end_of(status: int) -> str:
     return f"by signal {number}"
 
 
+def fault_name(line: str) -> str:
+    """The name in a program's last line, as Full in `tbd: Full`; else that it ended."""
+    found = re.match(r"[\w./-]+: ([A-Z][A-Za-z]+)(?::|$)", line)
+    return found[1] if found else "ProgramEnded"
+
+
 async def exited(process: asyncio.subprocess.Process) -> int:
     """The status of a process, once it has ended. What it started may hold its pipes open beyond
     that, and `wait` would wait for these."""
@@ -74,6 +81,7 @@ class ServerProcess:
         self.process: Optional[asyncio.subprocess.Process] = None
         self.ready, self.stopping = asyncio.Event(), asyncio.Event()
         self.is_closed = self.is_over = False
+        self.ended_as = "ProgramEnded"  # what who waits for a reply is told at its end
 
     async def read_replies(
         self, process: asyncio.subprocess.Process, stdout: asyncio.StreamReader
@@ -146,8 +154,11 @@ class ServerProcess:
         finally:
             self.process = None
             self.ready.clear()
-            self.lost()
             process.stdin.close()
+            await asyncio.wait([telling], timeout=LAST_WORDS)
+            if telling.done() and not telling.cancelled():
+                self.ended_as = fault_name(last_line(telling.result()))
+            self.lost()
             await self._wait_for_end(process, watching, [reading, telling])
             await close_pipes(process.stdin, process.stdout)
         reading.result()

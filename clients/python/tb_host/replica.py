@@ -95,6 +95,12 @@ class Replica:
         self.queued.set()
         return await pair.reply
 
+    async def begun(self) -> None:
+        """It serves from its start on: requests wait for their place in the log."""
+
+    def lag(self) -> float:
+        return self.moments.lag()
+
     def tell(self, position: int, index: int, reply: bytes) -> None:
         """Brings the reply to the pair of this position and index to who asked, if it is one of
         ours."""

@@ -5,13 +5,17 @@ import argparse
 import asyncio
 import contextlib
 import signal
-import socket
-from typing import Any, Protocol
+from typing import Any, List, Optional, Protocol
 
+from .access import access_of
 from .connections import Asked, Listener
+from .counts import Counts
+from .evictions import Evictions
 from .lines import Ended, say
-from .process import first
-from .sockets import shown, take_connections
+from .process import fault_name, first
+from .reports import reported
+from .sockets import Place, take_connections
+from .systemd import notify
 
 
 class Server(Asked, Protocol):
@@ -21,6 +25,12 @@ class Server(Asked, Protocol):
 
     async def run(self) -> None:
         """Runs until it is closed, or raises why it ends."""
+
+    async def begun(self) -> None:
+        """Comes when it serves: when a ledger's file was read."""
+
+    def lag(self) -> float:
+        """How many seconds its moments lie behind the clock."""
 
     def close(self) -> None:
         """Ends it, with all that was taken answered."""
@@ -52,18 +62,38 @@ async def until(awaited: asyncio.Future[Any], stopping: asyncio.Future[Any]) -> 
 
 
 async def listen_on(
-    place: socket.socket, command: Server, given: argparse.Namespace, stopping: asyncio.Future[Any]
+    places: List[Place],
+    command: Server,
+    given: argparse.Namespace,
+    stopping: asyncio.Future[Any],
+    file: Optional[str] = None,
+    clients_max: Optional[int] = None,
 ) -> None:
-    listener = Listener(command, given)
+    """Takes connections at these places and answers their requests, until a signal comes or the
+    command ends. `file` is the ledger's, where it has one, and `clients_max` how many sessions it
+    has at most, where all requests come through this host."""
+    counts = Counts(file)
+    listener = Listener(command, given, access_of(given), counts, Evictions(clients_max))
+    async with reported(given, counts, command.lag):
+        await _serve_until(places, command, listener, stopping)
+
+
+async def _serve_until(
+    places: List[Place], command: Server, listener: Listener, stopping: asyncio.Future[Any]
+) -> None:
+    given = listener.given
     running = asyncio.ensure_future(command.run())
-    taking = asyncio.ensure_future(take_connections(place, listener))
-    say(f"listens on {given.unix or shown(*place.getsockname())}")
-    await first(running, stopping, taking)
-    taking.cancel()
-    await asyncio.wait([taking])
-    place.close()
+    taking = [asyncio.ensure_future(take_connections(it, listener)) for it in places]
+    beginning = asyncio.ensure_future(_begin(places, command, listener))
+    await first(running, stopping, *taking)
+    notify("STOPPING=1")
+    for it in [beginning, *taking]:
+        it.cancel()
+    await asyncio.wait([beginning, *taking])
+    for place in places:
+        place.socket.close()
     command.stopping.set()
-    await listener.stop("ProgramEnded" if running.done() else "Stopping")
+    await listener.stop(_name_of(running) if running.done() else "Stopping")
     command.close()
     await asyncio.wait([running], timeout=given.slow)
     is_killed = not running.done()
@@ -71,8 +101,23 @@ async def listen_on(
         command.kill()
         await asyncio.wait([running])
     await listener.leave()
-    fault = running.exception() or (None if taking.cancelled() else taking.exception())
+    faults = [it.exception() for it in taking if not it.cancelled()]
+    fault = running.exception() or next((it for it in faults if it), None)
     if is_killed:
         raise Ended(f"{given.command[0]} did not end, and was killed", 1)
     if fault:
         raise fault
+
+
+async def _begin(places: List[Place], command: Server, listener: Listener) -> None:
+    """Says where it listens once it serves. Until then each request is told `Starting`."""
+    await command.begun()
+    listener.counts.is_ready = True
+    for place in places:
+        say(f"listens on {place.shown}")
+    notify("READY=1")
+
+
+def _name_of(running: asyncio.Future[Any]) -> str:
+    """The name of the fault that the server ended with, where it told one."""
+    return fault_name(str(running.exception() or ""))

@@ -9,15 +9,19 @@ import fcntl
 import os
 import resource
 import socket
+import ssl
 import stat
-from typing import Any, Iterator
+from typing import Any, Iterator, List, NamedTuple, Optional, Set
 
 from .connections import Listener
-from .lines import Ended, say
+from .lines import Ended, say, say_of
+from .systemd import passed_sockets
+from .tls import context_of, is_loopback
 
 READ_AHEAD = 1 << 16  # bytes that are read of a connection beyond the request that is waited for
 BACKLOG = 1024  # connections that wait to be taken
 ACCEPT_AGAIN = 0.5  # seconds before a connection is taken again for which there was no file
+AGREEMENT = 10.0  # seconds that a connection may take to agree on TLS
 
 
 @contextlib.contextmanager
@@ -33,11 +37,19 @@ def folder_of(path: str) -> Iterator[None]:
         os.close(folder)
 
 
-def unix_socket(path: str) -> socket.socket:
-    """A socket at this path, which its owner alone may use. One that nobody listens on any more
-    gives way."""
+class Place(NamedTuple):
+    """A socket that is listened on, how it is shown, and the TLS of its connections."""
+
+    socket: socket.socket
+    shown: str
+    tls: Optional[ssl.SSLContext]
+
+
+def unix_socket(path: str, is_shared: bool = False) -> socket.socket:
+    """A socket at this path, which its owner alone may use, or everyone where it is shared. One
+    that nobody listens on any more gives way."""
     it = socket.socket(socket.AF_UNIX, socket.SOCK_STREAM)
-    before = os.umask(0o177)
+    before = os.umask(0o111 if is_shared else 0o177)
     try:
         with folder_of(path):
             if _is_left(path):
@@ -90,25 +102,59 @@ def tcp_socket(host: str, port: int) -> socket.socket:
 
 
 @contextlib.contextmanager
-def bound(given: argparse.Namespace) -> Iterator[socket.socket]:
-    """The socket that is listened on, and removed at the end."""
+def bound(given: argparse.Namespace) -> Iterator[List[Place]]:
+    """The sockets that are listened on, and removed at the end: those that were passed, where some
+    were, else those of the options."""
+    tls = context_of(given)
+    passed = passed_sockets()
+    with contextlib.ExitStack() as places:
+        if passed:
+            yield [_passed(places.enter_context(it), given, tls) for it in passed]
+            return
+        found = []
+        if given.unix:
+            found.append(Place(places.enter_context(_bound_path(given)), given.unix, None))
+        if given.tcp:
+            with _faults_of(shown(*given.tcp)):
+                it = places.enter_context(tcp_socket(*given.tcp))
+            found.append(Place(it, shown(*it.getsockname()), tls))
+        yield found
+
+
+def _passed(it: socket.socket, given: argparse.Namespace, tls: Optional[ssl.SSLContext]) -> Place:
+    """A socket that was passed by who started this process, as systemd does. An address that is
+    not loopback is held to the same rule as one of the options."""
+    if it.family == socket.AF_UNIX:
+        return Place(it, str(it.getsockname()), None)
+    host, port = it.getsockname()[:2]
+    if not (given.client_ca or given.insecure or is_loopback(host)):
+        raise Ended(f"{shown(host, port)} is no loopback address: give --client-ca FILE", 2)
+    return Place(it, shown(host, port), tls)
+
+
+@contextlib.contextmanager
+def _faults_of(place: str) -> Iterator[None]:
+    """Tells the place of a fault."""
     try:
-        place = unix_socket(given.unix) if given.unix else tcp_socket(*given.tcp)
+        yield
     except UnicodeError:
-        raise Ended(f"{given.unix or shown(*given.tcp)}: is no name of a place", 1) from None
+        raise Ended(f"{place}: is no name of a place", 1) from None
     except OSError as error:
-        raise Ended(f"{given.unix or shown(*given.tcp)}: {error.strerror or error}", 1) from None
-    mine = os.stat(given.unix) if given.unix else None
+        raise Ended(f"{place}: {error.strerror or error}", 1) from None
+
+
+@contextlib.contextmanager
+def _bound_path(given: argparse.Namespace) -> Iterator[socket.socket]:
+    """The socket at a path, which is removed at the end."""
+    with _faults_of(given.unix):
+        place = unix_socket(given.unix, bool(given.allow_uid))
+        mine = os.stat(given.unix)
     try:
         yield place
     finally:
-        with contextlib.suppress(OSError):
-            if mine is not None:
-                with folder_of(given.unix):
-                    if os.path.samestat(
-                        mine, os.lstat(given.unix)
-                    ):  # else another one is there by now
-                        os.unlink(given.unix)
+        with contextlib.suppress(OSError), folder_of(given.unix):
+            if os.path.samestat(mine, os.lstat(given.unix)):  # else another one is there by now
+                os.unlink(given.unix)
         place.close()
 
 
@@ -132,10 +178,10 @@ def make_room(connections: int) -> None:
     resource.setrlimit(resource.RLIMIT_NOFILE, (wanted, hard))
 
 
-async def take_connections(place: socket.socket, listener: Listener) -> None:
+async def take_connections(at: Place, listener: Listener) -> None:
     """Takes connections one after another. Where there is no file for one more, those that call
     wait until there is."""
-    is_said = False
+    is_said, place = False, at.socket
     place.setblocking(False)
     while True:
         try:
@@ -152,7 +198,12 @@ async def take_connections(place: socket.socket, listener: Listener) -> None:
         else:
             is_said = False
             it.setblocking(False)
-            await _begin(it, listener)
+            if at.tls is None:
+                await _begin(it, listener)
+            elif len(agreeing) >= listener.given.connections:
+                it.close()
+            else:  # who is slow at it holds up nobody
+                _keep(asyncio.ensure_future(_begin(it, listener, at.tls)))
 
 
 async def _called(place: socket.socket) -> None:
@@ -166,13 +217,30 @@ async def _called(place: socket.socket) -> None:
         loop.remove_reader(place)
 
 
-async def _begin(it: socket.socket, listener: Listener) -> None:
-    """Lets a connection be served."""
+agreeing: Set[asyncio.Task[None]] = set()  # connections that agree on TLS
+
+
+def _keep(task: asyncio.Task[None]) -> None:
+    """Holds a task until it is done, so that it is not collected before."""
+    agreeing.add(task)
+    task.add_done_callback(agreeing.discard)
+
+
+async def _begin(
+    it: socket.socket, listener: Listener, tls: Optional[ssl.SSLContext] = None
+) -> None:
+    """Lets a connection be served, once it has agreed on TLS where that is wanted."""
     reader = asyncio.StreamReader(limit=READ_AHEAD)
     loop: Any = asyncio.get_running_loop()  # mypy 1.0 knows no connect_accepted_socket
+    more = {"ssl": tls, "ssl_handshake_timeout": AGREEMENT} if tls else {}
     try:
         await loop.connect_accepted_socket(
-            lambda: asyncio.StreamReaderProtocol(reader, listener.take), it
+            lambda: asyncio.StreamReaderProtocol(reader, listener.take), it, **more
         )
+    except ssl.SSLError as error:
+        listener.counts.closed["TLS"] += 1
+        why = (error.reason or "no agreement").lower().replace("_", " ")
+        say_of("", f"a connection is closed: TLS: {why}")
+        it.close()
     except OSError:
         it.close()

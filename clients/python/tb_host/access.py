@@ -1,0 +1,129 @@
+"""Who may connect, and which client ids are whose."""
+from __future__ import annotations
+
+import argparse
+import asyncio
+import os
+import pwd
+import socket
+import struct
+from typing import Any, Dict, FrozenSet, NamedTuple, Optional, Tuple
+
+from .arguments import is_number, path
+from .lines import Ended, Told
+
+RANGE = 64  # bits of a client's id below its range
+CREDENTIALS = struct.Struct("3i")  # process, user and group of who is at the other end
+
+
+def user(text: str) -> int:
+    """A user by name or number."""
+    if is_number(text):
+        return int(text)
+    try:
+        return pwd.getpwnam(text).pw_uid
+    except KeyError:
+        raise argparse.ArgumentTypeError(f"{text!r} is no user of this computer") from None
+
+
+def add_access(parser: argparse.ArgumentParser) -> None:
+    """Adds the options of who may connect."""
+    parser.add_argument(
+        "--allow-uid",
+        metavar="USER",
+        type=user,
+        action="append",
+        help="a user who may use the Unix socket too, by name or number; may be repeated",
+    )
+    parser.add_argument(
+        "--clients",
+        metavar="FILE",
+        type=path,
+        help="which client ids are whose: lines `certificate NAME NUMBER` or `user NAME NUMBER`, "
+        "where NUMBER is the upper 64 bits of the ids",
+    )
+
+
+class Peer(NamedTuple):
+    """Who is at the other end: in words, and as the file of client ids has it."""
+
+    shown: str
+    key: Tuple[str, object]
+
+
+class Access:
+    """Who may connect, and as which clients. Without a file of client ids, who may connect may use
+    any."""
+
+    def __init__(self, users: FrozenSet[int], ranges: Optional[Dict[Tuple[str, object], int]]):
+        self.users, self.ranges = users, ranges
+
+    def peer(self, writer: asyncio.StreamWriter) -> Peer:
+        """Who connected. Raises `Told` where they may not."""
+        it: Any = writer.get_extra_info("socket")
+        if it.family == socket.AF_UNIX:
+            raw = it.getsockopt(socket.SOL_SOCKET, socket.SO_PEERCRED, CREDENTIALS.size)
+            uid = CREDENTIALS.unpack(raw)[1]
+            if uid not in self.users:
+                raise Told("NotAllowed", f"user {uid}")
+            found = Peer(f"user {uid}", ("user", uid))
+        else:
+            host, port = writer.get_extra_info("peername")[:2]
+            name = _common_name(writer.get_extra_info("peercert"))
+            found = Peer(f"{host}:{port}{name and f' ({name})'}", ("certificate", name))
+        if self.ranges is not None and found.key not in self.ranges:
+            raise Told("NotAllowed", found.shown)
+        return found
+
+    def test(self, peer: Peer, client: int) -> None:
+        """Raises `Told` where a client id is not this peer's."""
+        if self.ranges is not None and client >> RANGE != self.ranges[peer.key]:
+            raise Told("ClientNotAllowed", peer.shown)
+
+
+def _common_name(certificate: Any) -> str:
+    for part in (certificate or {}).get("subject", ()):
+        for field, value in part:
+            if field == "commonName":
+                return str(value)
+    return ""
+
+
+def access_of(given: argparse.Namespace) -> Access:
+    """What the options say. Raises `Ended` where the file of client ids is wrong."""
+    users = frozenset([os.geteuid(), *(given.allow_uid or ())])
+    return Access(users, _ranges_of(given.clients) if given.clients else None)
+
+
+def _ranges_of(file: str) -> Dict[Tuple[str, object], int]:
+    try:
+        with open(file, encoding="utf-8") as lines:
+            text = lines.read()
+    except OSError as error:
+        raise Ended(f"{file}: {error.strerror}", 1) from None
+    except UnicodeDecodeError:
+        raise Ended(f"{file}: is no text", 1) from None
+    ranges: Dict[Tuple[str, object], int] = {}
+    for number, line in enumerate(text.splitlines(), 1):
+        words = line.partition("#")[0].split()
+        if not words:
+            continue
+        try:
+            key, upper = _range_in(words)
+        except (ValueError, argparse.ArgumentTypeError) as why:
+            raise Ended(f"{file}, line {number}: {why}", 1) from None
+        if key in ranges or upper in ranges.values():
+            raise Ended(f"{file}, line {number}: {words[1]} or {words[2]} stands there twice", 1)
+        ranges[key] = upper
+    return ranges
+
+
+def _range_in(words: list[str]) -> Tuple[Tuple[str, object], int]:
+    """What a line says. Raises `ValueError` where it says nothing that is known."""
+    if len(words) != 3 or words[0] not in ("certificate", "user"):
+        raise ValueError("a line is `certificate NAME NUMBER` or `user NAME NUMBER`")
+    kind, name, number = words
+    upper = int(number, 0)
+    if not 0 <= upper < 1 << RANGE:
+        raise ValueError(f"{number} is no number of 64 bits")
+    return (kind, user(name) if kind == "user" else name), upper

@@ -1,0 +1,81 @@
+"""TLS of a host's sockets: its certificate, and who signs those of clients."""
+from __future__ import annotations
+
+import argparse
+import ipaddress
+import socket
+import ssl
+from typing import Optional
+
+from .arguments import path
+from .lines import Ended
+
+
+def add_tls(parser: argparse.ArgumentParser) -> None:
+    """Adds the options of TLS, which is for TCP alone."""
+    parser.add_argument(
+        "--certificate", metavar="FILE", type=path, help="the host's certificate: TCP is over TLS"
+    )
+    parser.add_argument("--key", metavar="FILE", type=path, help="the certificate's key")
+    parser.add_argument(
+        "--client-ca",
+        metavar="FILE",
+        type=path,
+        help="who signs clients' certificates: nobody else gets in over TCP",
+    )
+    parser.add_argument(
+        "--insecure",
+        action="store_true",
+        help="listen on an address that is not loopback without --client-ca",
+    )
+
+
+def test_tls(parser: argparse.ArgumentParser, given: argparse.Namespace) -> None:
+    """Ends the program where the options of TLS do not go together."""
+    if bool(given.certificate) != bool(given.key):
+        parser.error("--certificate and --key come together")
+    if given.client_ca and not given.certificate:
+        parser.error("--client-ca comes with --certificate and --key")
+    if given.certificate and not given.tcp:
+        parser.error("--certificate is for TCP: --tcp HOST:PORT")
+    if given.tcp and not (given.client_ca or given.insecure or is_loopback(given.tcp[0])):
+        parser.error(
+            f"{given.tcp[0]} is no loopback address: give --client-ca FILE, so that only clients "
+            "with a certificate get in, or --insecure"
+        )
+
+
+def is_loopback(host: str) -> bool:
+    """Whether all addresses of a host are this computer's own. A name that has none is left to the
+    socket, which tells it."""
+    try:
+        found = socket.getaddrinfo(host, None, type=socket.SOCK_STREAM)
+    except (OSError, UnicodeError):
+        return True
+    return all(ipaddress.ip_address(str(it[4][0]).split("%")[0]).is_loopback for it in found)
+
+
+def context_of(given: argparse.Namespace) -> Optional[ssl.SSLContext]:
+    """The context of the options. Raises `Ended` where a file is not there or not what it is to
+    be."""
+    if not given.certificate:
+        return None
+    context = ssl.SSLContext(ssl.PROTOCOL_TLS_SERVER)
+    context.minimum_version = ssl.TLSVersion.TLSv1_2
+    try:
+        context.load_cert_chain(given.certificate, given.key)
+    except (OSError, ssl.SSLError) as error:
+        raise Ended(f"{given.certificate} and {given.key}: {_why(error)}", 1) from None
+    if given.client_ca:
+        context.verify_mode = ssl.CERT_REQUIRED
+        try:
+            context.load_verify_locations(given.client_ca)
+        except (OSError, ssl.SSLError) as error:
+            raise Ended(f"{given.client_ca}: {_why(error)}", 1) from None
+    return context
+
+
+def _why(error: OSError) -> str:
+    if isinstance(error, ssl.SSLError):
+        return (error.reason or "no certificate").lower().replace("_", " ")
+    return error.strerror or str(error)

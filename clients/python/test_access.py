@@ -1,0 +1,395 @@
+"""Who gets in over sockets, and what a host tells of itself: TLS, users, client ids, sockets that
+systemd passes, counts and evictions. Certificates are made by openssl for one run.
+
+    python3 -m unittest test_access
+"""
+import contextlib
+import json
+import os
+import pwd
+import shutil
+import socket
+import ssl
+import subprocess
+import sys
+import tempfile
+import time
+import unittest
+import urllib.request
+
+import tb_client as tb
+from tb_client import Session, Socket
+from test_listen import HERE, KEEPER, Running, register, told
+
+sys.path.append(os.path.join(HERE, "..", "conformance"))
+import certificates  # noqa: E402
+
+HAS_OPENSSL = shutil.which("openssl") is not None
+NOBODY = pwd.getpwnam("nobody").pw_uid
+UPPER = 1 << 64
+
+
+def client_context(paths, name=None):
+    """How a client speaks TLS: with this certificate, or none."""
+    context = ssl.create_default_context(cafile=paths["ca"])
+    if name:
+        context.load_cert_chain(paths[name], paths[f"{name}_key"])
+    return context
+
+
+@unittest.skipUnless(HAS_OPENSSL, "openssl is not installed")
+class OverTLS(unittest.TestCase):
+    @classmethod
+    def setUpClass(cls):
+        cls.folder = tempfile.TemporaryDirectory()
+        cls.paths = certificates.made(cls.folder.name)
+        for name, days, by in (
+            ("payments", "2", "ca"),
+            ("billing", "2", "ca"),
+            ("gone", None, "ca"),
+            ("forged", "2", "other_ca"),
+        ):
+            certificates.sign(
+                cls.folder.name, cls.paths, name, "extendedKeyUsage=clientAuth", days, by
+            )
+        cls.clients = os.path.join(cls.folder.name, "clients")
+        with open(cls.clients, "w", encoding="utf-8") as file:
+            file.write("certificate payments 1  # the first\n\ncertificate billing 0x2\n")
+
+    @classmethod
+    def tearDownClass(cls):
+        cls.folder.cleanup()
+
+    @contextlib.contextmanager
+    def listening(self, *options):
+        """A listener over TLS that lets clients with a certificate in, and its address."""
+        words = ["--certificate", self.paths["server"], "--key", self.paths["server_key"]]
+        with Running("--tcp", "127.0.0.1:0", *words, *options) as listener:
+            yield listener, ("localhost", listener.address[1])
+
+    def fault(self, place, name, client=None):
+        """What a client meets that registers."""
+        it = Socket(place, timeout=5, tls=client_context(self.paths, name))
+        with self.assertRaises(tb.ClientError) as met:
+            Session.register(it, client, attempts=1)
+        it.close()
+        return str(met.exception)
+
+    def test_money_moves_over_tls(self):
+        with self.listening("--client-ca", self.paths["ca"]) as (listener, place):
+            it = Socket(place, tls=client_context(self.paths, "payments"))
+            with Session.register(it) as session:
+                self.assertEqual(session.lookup_accounts([1]), [])
+            self.assertEqual(listener.end(), 0)
+
+    def test_who_has_no_certificate_or_a_wrong_one(self):
+        with self.listening("--client-ca", self.paths["ca"]) as (listener, place):
+            for name in (None, "gone", "forged"):
+                with self.subTest(name):
+                    self.fault(place, name)
+            plain = Socket(place, timeout=2)
+            with self.assertRaises(tb.ClientError):
+                Session.register(plain, attempts=1)
+            plain.close()
+            self.assertEqual(listener.end(), 0)
+        self.assertTrue(any("TLS: " in line for line in listener.said), listener.said)
+
+    def test_another_clients_id(self):
+        options = ("--client-ca", self.paths["ca"], "--clients", self.clients)
+        with self.listening(*options) as (listener, place):
+            for name, client in (("payments", UPPER + 7), ("billing", 2 * UPPER + 7)):
+                it = Socket(place, tls=client_context(self.paths, name))
+                with Session.register(it, client) as session:
+                    session.lookup_accounts([1])
+            for name, client in (
+                ("payments", 2 * UPPER + 7),
+                ("payments", 7),
+                ("billing", UPPER + 7),
+                ("billing", 3 * UPPER),
+            ):
+                with self.subTest(name=name, client=client):
+                    self.assertIn("ClientNotAllowed", self.fault(place, name, client))
+            self.assertIn("NotAllowed", self.fault(place, "client", UPPER + 7))
+            self.assertEqual(listener.end(), 0)
+
+    def test_a_stolen_session(self):
+        """A saved session is of no use to whom its client id does not belong."""
+        options = ("--client-ca", self.paths["ca"], "--clients", self.clients)
+        with self.listening(*options) as (listener, place):
+            kept = os.path.join(listener.folder, "session.json")
+            it = Socket(place, tls=client_context(self.paths, "payments"))
+            with Session.register(it, UPPER + 9) as session:
+                session.save(kept)
+            thief = Session.load(Socket(place, tls=client_context(self.paths, "billing")), kept)
+            with thief, self.assertRaises(tb.ReplyLost) as met:
+                thief.lookup_accounts([1])
+            self.assertIn("ClientNotAllowed", str(met.exception))
+
+    def test_nobody_agrees_on_tls(self):
+        """Connections that say nothing hold up nobody."""
+        with self.listening("--client-ca", self.paths["ca"], "--connections", "4") as (it, place):
+            silent = [socket.create_connection(("127.0.0.1", place[1])) for _ in range(12)]
+            time.sleep(0.2)
+            for one in silent:
+                one.close()
+            self.test_client(place)
+            self.assertEqual(it.end(), 0)
+
+    def test_client(self, place=None):
+        if place:
+            it = Socket(place, tls=client_context(self.paths, "payments"))
+            with Session.register(it) as session:
+                session.lookup_accounts([1])
+
+
+def ended(*options):
+    """The status and the last line of a listener that does not begin."""
+    words = [sys.executable, "-B", os.path.join(HERE, "tb_listen.py"), *options, "--", "true"]
+    ran = subprocess.run(words, capture_output=True, text=True, timeout=30)
+    return ran.returncode, ran.stderr.splitlines()[-1]
+
+
+class Words(unittest.TestCase):
+    def test_an_address_that_is_not_loopback(self):
+        status, line = ended("--tcp", "0.0.0.0:0")
+        self.assertEqual(status, 2)
+        self.assertIn("0.0.0.0 is no loopback address: give --client-ca FILE", line)
+        with Running("--tcp", "0.0.0.0:0", "--insecure") as listener:
+            self.assertEqual(listener.end(), 0)
+
+    def test_what_does_not_go_together(self):
+        for options, said in (
+            (("--certificate", "a"), "--certificate and --key come together"),
+            (("--client-ca", "a"), "--client-ca comes with --certificate"),
+            (("--unix", "a", "--certificate", "a", "--key", "b"), "--certificate is for TCP"),
+            (("--allow-uid", "no such user"), "is no user of this computer"),
+        ):
+            with self.subTest(options):
+                status, line = ended(*options)
+                self.assertEqual(status, 2)
+                self.assertIn(said, line)
+
+    def test_files_that_are_wrong(self):
+        with tempfile.TemporaryDirectory() as folder:
+            file = os.path.join(folder, "it")
+            for text, said in (
+                ("certificate a", "a line is `certificate NAME NUMBER`"),
+                ("person a 1", "a line is `certificate NAME NUMBER`"),
+                ("certificate a x", "line 1: invalid literal"),
+                (f"certificate a {1 << 64}", "is no number of 64 bits"),
+                ("certificate a -1", "is no number of 64 bits"),
+                ("user nobody-there 1", "is no user of this computer"),
+                ("certificate a 1\ncertificate a 2", "line 2: a or 2 stands there twice"),
+                ("certificate a 1\ncertificate b 1", "line 2: b or 1 stands there twice"),
+                ("\udcff", "is no text"),
+            ):
+                with self.subTest(text):
+                    with open(file, "w", encoding="utf-8", errors="surrogateescape") as it:
+                        it.write(text)
+                    status, line = ended("--clients", file)
+                    self.assertEqual(status, 1)
+                    self.assertIn(said, line)
+            for options in (
+                ("--clients", os.path.join(folder, "none")),
+                ("--certificate", file, "--key", file, "--tcp", "127.0.0.1:0"),
+                ("--status", os.path.join(folder, "none", "status")),
+            ):
+                status, line = ended(*options)
+                self.assertEqual((status, line.startswith("tb_listen: ")), (1, True), line)
+
+
+def as_user(uid, words):
+    """Runs a program as another user."""
+    return subprocess.run(
+        [sys.executable, "-B", "-c", words],
+        capture_output=True,
+        text=True,
+        timeout=60,
+        user=uid,
+        cwd=HERE,
+        env={**os.environ, "PYTHONPATH": HERE, "PYTHONDONTWRITEBYTECODE": "1"},
+    )
+
+
+ASKS = """
+import socket, sys
+it = socket.socket(socket.AF_UNIX)
+try:
+    it.connect({path!r})
+    it.sendall(bytes.fromhex({frame!r}))
+    print(it.recv(64))
+except OSError as error:
+    print(error.strerror)
+"""
+
+
+@unittest.skipUnless(os.geteuid() == 0, "only root can be another user")
+class Users(unittest.TestCase):
+    def asks(self, listener, client=1):
+        os.chmod(listener.folder, 0o755)
+        frame = tb.request_frame(client, 0, 0, tb.Operation.register).hex()
+        return as_user(NOBODY, ASKS.format(path=listener.path, frame=frame)).stdout.strip()
+
+    def test_another_user(self):
+        with Running() as listener:
+            self.assertEqual(self.asks(listener), "Permission denied")
+
+    def test_one_who_is_allowed(self):
+        with Running("--allow-uid", "nobody") as listener:
+            self.assertTrue(self.asks(listener).startswith("b'\\x01"), self.asks(listener))
+
+    def test_one_who_is_not(self):
+        with Running("--allow-uid", "1") as listener:
+            self.assertEqual(self.asks(listener), "b'tb_listen: NotAllowed\\n'")
+
+    def test_ids_of_users(self):
+        with tempfile.TemporaryDirectory() as folder:
+            file = os.path.join(folder, "clients")
+            with open(file, "w", encoding="utf-8") as it:
+                it.write("user nobody 5\n")
+            with Running("--allow-uid", "nobody", "--clients", file) as listener:
+                self.assertTrue(self.asks(listener, 5 * UPPER + 1).startswith("b'\\x01"))
+                self.assertEqual(
+                    self.asks(listener, 6 * UPPER), "b'tb_listen: ClientNotAllowed\\n'"
+                )
+                with listener.call() as it:
+                    it.sendall(register(5 * UPPER))
+                    self.assertEqual(told(it), b"tb_listen: NotAllowed\n", "root is not in it")
+
+
+class Reports(unittest.TestCase):
+    def counts(self, path):
+        with socket.socket(socket.AF_UNIX) as it:
+            it.connect(path)
+            with it.makefile() as lines:
+                return json.loads(lines.read())
+
+    def test_status(self):
+        with tempfile.TemporaryDirectory() as folder:
+            path = os.path.join(folder, "status")
+            with Running("--status", path) as listener:
+                self.assertEqual(os.stat(path).st_mode & 0o777, 0o600)
+                with Session.register(Socket(listener.path)) as session:
+                    session.lookup_accounts([1])
+                    it = self.counts(path)
+                self.assertEqual((it["state"], it["connections"]), ("ready", 1))
+                self.assertEqual(
+                    it["requests"],
+                    {"register": {"Reply": 1}, "lookup_accounts": {"Reply": 1}},
+                )
+                self.assertEqual(it["file_bytes"], os.stat(listener.file).st_size)
+                with listener.call() as bad:
+                    bad.sendall(tb.request_frame(1, 0, 0, tb.Operation.register)[:28] + bytes(20))
+                    told(bad)
+                self.assertEqual(sum(self.counts(path)["connections_closed_by_fault"].values()), 1)
+                listener.end()
+            self.assertFalse(os.path.exists(path))
+
+    def test_metrics(self):
+        try:
+            import prometheus_client  # noqa: F401
+        except ImportError:
+            status, line = ended("--metrics", "127.0.0.1:0")
+            self.assertEqual(status, 1)
+            self.assertIn("python3-prometheus-client", line)
+            self.skipTest("prometheus_client is not installed")
+        with socket.socket() as free:
+            free.bind(("127.0.0.1", 0))
+            port = free.getsockname()[1]
+        with Running("--metrics", f"127.0.0.1:{port}") as listener:
+            with Session.register(Socket(listener.path)) as session:
+                session.lookup_accounts([1])
+            with urllib.request.urlopen(f"http://127.0.0.1:{port}/metrics", timeout=10) as page:
+                text = page.read().decode()
+        for line in (
+            'tb_requests_total{operation="register",status="Reply"} 1.0',
+            'tb_request_seconds_bucket{le="+Inf"} 2.0',
+            "tb_ready 1.0",
+            "tb_evictions_total 0.0",
+        ):
+            self.assertIn(line, text)
+
+    def test_evictions_are_told(self):
+        command = [*KEEPER, "run"]
+        with tempfile.TemporaryDirectory() as folder:
+            path, file = os.path.join(folder, "status"), os.path.join(folder, "it")
+            with Running("--status", path, command=[*command, file, "2"]) as listener:
+                for client in (11, 12, 13):
+                    with Session.register(Socket(listener.path), client):
+                        pass
+                self.assertEqual(self.counts(path)["evictions"], 1)
+                listener.end()
+            self.assertIn("client 11 was evicted by client 13", "".join(listener.said))
+
+    def test_lines_as_json(self):
+        with Running("--log-json", "--unix", "{folder}/it") as _:
+            pass
+        with tempfile.TemporaryDirectory() as folder:
+            words = ["--log-json", "--unix", os.path.join(folder, "it")]
+            listener = subprocess.Popen(
+                [sys.executable, "-B", os.path.join(HERE, "tb_listen.py"), *words, "--", *KEEPER]
+                + ["run", os.path.join(folder, "ledger"), "64"],
+                stderr=subprocess.PIPE,
+                text=True,
+            )
+            with listener.stderr as lines:
+                it = json.loads(lines.readline())
+                listener.terminate()
+                listener.wait(20)
+            self.assertEqual((it["level"], it["program"]), ("info", "tb_listen"))
+            self.assertIn("listens on", it["text"])
+            self.assertRegex(it["time"], r"^\d{4}-\d\d-\d\dT\d\d:\d\d:\d\d\.\d{3}\+00:00$")
+
+
+class Systemd(unittest.TestCase):
+    def test_ready_when_it_serves(self):
+        with tempfile.TemporaryDirectory() as folder:
+            place = os.path.join(folder, "notify")
+            with socket.socket(socket.AF_UNIX, socket.SOCK_DGRAM) as manager:
+                manager.bind(place)
+                manager.settimeout(20)
+                os.environ["NOTIFY_SOCKET"] = place
+                try:
+                    with Running() as listener:
+                        self.assertEqual(manager.recv(100), b"READY=1")
+                        listener.end()
+                        self.assertEqual(manager.recv(100), b"STOPPING=1")
+                finally:
+                    del os.environ["NOTIFY_SOCKET"]
+
+    def test_a_socket_that_was_passed(self):
+        with tempfile.TemporaryDirectory() as folder, socket.socket(socket.AF_UNIX) as place:
+            path = os.path.join(folder, "it")
+            place.bind(path)
+            place.listen()
+            words = f'exec 3<&{place.fileno()}; LISTEN_FDS=1 LISTEN_PID=$$ exec "$@"'
+            command = [sys.executable, "-B", os.path.join(HERE, "tb_listen.py"), "--", *KEEPER]
+            listener = subprocess.Popen(
+                ["sh", "-c", words, "sh", *command, "run", os.path.join(folder, "ledger"), "64"],
+                pass_fds=[place.fileno()],
+                stderr=subprocess.PIPE,
+                text=True,
+            )
+            with Session.register(Socket(path, timeout=20)) as session:
+                self.assertEqual(session.lookup_accounts([1]), [])
+            listener.terminate()
+            self.assertEqual(listener.wait(20), 0)
+            with listener.stderr as said:
+                self.assertIn(f"listens on {path}", said.read())
+            self.assertTrue(os.path.exists(path), "it is not this program's to remove")
+
+
+class Places(unittest.TestCase):
+    def test_unix_and_tcp_at_once(self):
+        with tempfile.TemporaryDirectory() as folder:
+            path = os.path.join(folder, "it")
+            with Running("--unix", path, "--tcp", "127.0.0.1:0") as listener:
+                port = int(listener.tells().rpartition(":")[2])
+                with Session.register(Socket(path), 1) as one:
+                    with Session.register(Socket(("127.0.0.1", port)), 2) as two:
+                        self.assertEqual(one.lookup_accounts([1]), two.lookup_accounts([1]))
+                self.assertEqual(listener.end(), 0)
+
+
+if __name__ == "__main__":
+    unittest.main()
