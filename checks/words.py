@@ -2,8 +2,8 @@
 """Checks the language of the pages: README.md, CONTRIBUTING.md, CHANGELOG.md, docs/ and the
 crates' pages CALLING.md.
 
-- All pages but CALLING.md and those of APART together have at most 40,000 words, README.md at most
-  90 lines.
+- All pages but CALLING.md and what came after the bound (APART) together have at most 40,000
+  words, README.md at most 90 lines.
 - No sentence has more than 40 words. A code span counts as one word; a list item and a cell of a
   table are looked at alone.
 - None has a word of the list below, for which the field has a common term.
@@ -13,13 +13,15 @@ page.
 """
 import pathlib
 import re
+from typing import Optional
 
 import tried
 
 ROOT = pathlib.Path(__file__).resolve().parent.parent
 WORDS_MAX, LINES_MAX, SENTENCE_MAX = 40_000, 90, 40
 # Pages of what came after the bound was set.
-APART = {"docs/use/CLUSTER.md", "docs/use/TERMINAL.md"}
+APART = {"docs/use/LISTENER.md", "docs/use/CLUSTER.md", "docs/use/TERMINAL.md"}
+APART_SECTIONS = {"docs/use/CLIENTS.md": "Clients by feature"}
 PLAIN = {
     r"processor (?:time|minutes|seconds)": "CPU time",
     r"foretold": "mispredicted",
@@ -49,6 +51,13 @@ ALLOWED = {
 def pages():
     tops = [ROOT / it for it in ("README.md", "CONTRIBUTING.md", "CHANGELOG.md")]
     return [it for it in tops if it.exists()] + sorted(ROOT.glob("docs/**/*.md"))
+
+
+def without_section(text: str, heading: Optional[str]) -> str:
+    """A page without one of its sections."""
+    if heading is None:
+        return text
+    return re.sub(rf"^## {re.escape(heading)}$.*?(?=^## |\Z)", "", text, flags=re.S | re.M)
 
 
 def units(text: str):
@@ -102,7 +111,7 @@ def main() -> int:
     counted = pages()
     for page in [*counted, *sorted(ROOT.glob("crates/*/CALLING.md"))]:
         text, name = page.read_text(), page.relative_to(ROOT)
-        words = len(text.split())
+        words = len(without_section(text, APART_SECTIONS.get(str(name))).split())
         total += words if page in counted and str(name) not in APART else 0
         if given.count:
             print(f"{words:>7} {name}")

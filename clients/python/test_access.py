@@ -378,6 +378,19 @@ class Systemd(unittest.TestCase):
                 self.assertIn(f"listens on {path}", said.read())
             self.assertTrue(os.path.exists(path), "it is not this program's to remove")
 
+    @unittest.skipUnless(shutil.which("systemd-analyze"), "systemd-analyze is not installed")
+    def test_units(self):
+        folder = os.path.join(HERE, "systemd")
+        for name in sorted(os.listdir(folder)):
+            ran = subprocess.run(
+                ["systemd-analyze", "verify", os.path.join(folder, name)],
+                capture_output=True,
+                text=True,
+                timeout=60,
+            )
+            told = [it for it in ran.stderr.splitlines() if f"{name}:" in it]
+            self.assertEqual(told, [], ran.stderr)
+
 
 class Places(unittest.TestCase):
     def test_unix_and_tcp_at_once(self):
