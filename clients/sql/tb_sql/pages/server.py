@@ -140,7 +140,8 @@ def asked_range() -> Range:
     try:
         start = request.args.get("from", "").strip()
         end = request.args.get("to", "").strip()
-        return Range(time_of(start) if start else 0, time_of(end, is_end=True) if end else LAST)
+        first, last = time_of(start) if start else 0, time_of(end, is_end=True) if end else LAST
+        return Range(max(0, min(first, LAST)), max(0, min(last, LAST)))
     except (ValueError, OverflowError) as error:
         return abort(400, str(error))
 
@@ -205,6 +206,10 @@ def account(site: Site, id: str) -> str:
     range = asked_range()
     points, is_whole = tables.balances(found, range)
     summary = tables.summary(found, range)
+    is_credit = summary is not None and summary.closing < 0
+    side, sign = ("credit", -1) if is_credit else ("debit", 1)
+    drawn = [(at, sign * balance) for at, balance in points]
+    title = f"{side.capitalize()} balance over time"
     return render_template(
         "account.html",
         account=row,
@@ -214,8 +219,10 @@ def account(site: Site, id: str) -> str:
         summary=summary,
         standing=summary.closing if summary else tables.balance_before(found, range.end),
         page=tables.statement(found, range, *asked_page()),
-        chart=charts.steps("balance", "Balance over time", points, is_whole) if points else None,
+        chart=charts.steps("balance", title, drawn, is_whole) if drawn else None,
         is_whole=is_whole,
+        moments=len(drawn),
+        side=side,
         pending=tables.pending_of(found),
     )
 

@@ -1,0 +1,276 @@
+"""The pages in Chromium: text, links, labels, contrast in light and dark, narrow windows, keyboard.
+
+With TB_SQL_PICTURES=FOLDER it writes the pictures of docs/use/READING.md there.
+"""
+
+import os
+import pathlib
+import signal
+import struct
+import subprocess
+import tempfile
+import unittest
+import urllib.error
+import urllib.parse
+import urllib.request
+
+from selenium import webdriver
+from selenium.webdriver.chrome.options import Options
+from selenium.webdriver.chrome.service import Service
+from selenium.webdriver.common.by import By
+from selenium.webdriver.common.keys import Keys
+
+from support import COMMAND  # noqa: I001
+from sample import BANK, GREAT, HOLDS, SALES, sample
+from audits import MAX
+
+WINDOW = ("--headless=new", "--no-sandbox", "--disable-gpu", "--disable-dev-shm-usage")
+CONTRAST = """
+const parts = (text) => text.match(/[\\d.]+/g).map(Number);
+const light = ([r, g, b]) => [r, g, b].map((c) => c / 255)
+  .map((c) => c <= 0.03928 ? c / 12.92 : ((c + 0.055) / 1.055) ** 2.4)
+  .reduce((sum, c, at) => sum + c * [0.2126, 0.7152, 0.0722][at], 0);
+const ground = (it) => {
+  for (let at = it; at; at = at.parentElement) {
+    const found = parts(getComputedStyle(at).backgroundColor);
+    if (found.length < 4 || found[3] === 1) return found;
+  }
+  return [255, 255, 255];
+};
+const ratio = (ink, it) => {
+  const [a, b] = [light(ink), light(ground(it))].sort((x, y) => y - x);
+  return (a + 0.05) / (b + 0.05);
+};
+const found = [];
+for (const it of document.querySelectorAll("body *")) {
+  const own = [...it.childNodes].some((n) => n.nodeType === 3 && n.data.trim());
+  if (own && it.getClientRects().length) {
+    const style = getComputedStyle(it);
+    const ink = it.closest("svg") ? style.fill : style.color;
+    found.push([ratio(parts(ink), it), it.tagName, it.textContent.trim().slice(0, 40)]);
+  }
+  if (it.placeholder) {
+    const ink = getComputedStyle(it, "::placeholder").color;
+    found.push([ratio(parts(ink), it), "placeholder", it.placeholder]);
+  }
+  if (it.matches("rect, path.balance")) {
+    const style = getComputedStyle(it);
+    const ink = style.fill === "none" ? style.stroke : style.fill;
+    found.push([ratio(parts(ink), it) * 1.5, it.tagName, "a drawing, at least 3 to 1"]);
+  }
+}
+return [found.length, found.filter((it) => it[0] < 4.5)];
+"""
+OVERFLOW = "return document.documentElement.scrollWidth - document.documentElement.clientWidth"
+
+
+def png_size(data):
+    """The width and height of a picture."""
+    return struct.unpack(">II", data[16:24])
+
+
+class Browser(unittest.TestCase):
+    @classmethod
+    def setUpClass(cls):
+        cls.room = tempfile.TemporaryDirectory()
+        cls.addClassCleanup(cls.room.cleanup)
+        path = str(pathlib.Path(cls.room.name) / "ledger.sqlite")
+        subprocess.run([*COMMAND, "load", path, "--quiet"], input=sample().bytes, check=True)
+        cls.server = subprocess.Popen(
+            [*COMMAND, "serve", path, "--port", "0"], stdout=subprocess.PIPE, text=True
+        )
+        cls.addClassCleanup(cls.end_server)
+        cls.base = cls.server.stdout.readline().split()[0].rstrip("/")
+        options = Options()
+        for word in (*WINDOW, "--window-size=1200,900", "--hide-scrollbars", "--lang=en-GB"):
+            options.add_argument(word)
+        cls.driver = webdriver.Chrome(service=Service("/usr/bin/chromedriver"), options=options)
+        cls.addClassCleanup(cls.driver.quit)
+        cls.driver.set_page_load_timeout(120)
+
+    @classmethod
+    def end_server(cls):
+        cls.server.send_signal(signal.SIGINT)
+        cls.server.stdout.close()
+        cls.server.wait(60)
+
+    def setUp(self):
+        self.show("light")
+        self.size(1200)
+
+    def show(self, scheme):
+        features = [{"name": "prefers-color-scheme", "value": scheme}]
+        self.driver.execute_cdp_cmd("Emulation.setEmulatedMedia", {"features": features})
+
+    def size(self, width, height=900):
+        """The size of the page itself, whatever the window's least width is."""
+        self.driver.execute_cdp_cmd(
+            "Emulation.setDeviceMetricsOverride",
+            {"width": width, "height": height, "deviceScaleFactor": 1, "mobile": False},
+        )
+
+    def open(self, address):
+        self.driver.get(self.base + address)
+
+    def text(self):
+        return " ".join(self.driver.find_element(By.TAG_NAME, "body").text.split())
+
+    def all(self, chosen):
+        return self.driver.find_elements(By.CSS_SELECTOR, chosen)
+
+    def one(self, chosen):
+        return self.driver.find_element(By.CSS_SELECTOR, chosen)
+
+    PAGES = (
+        ("/", "Trial balance"),
+        ("/accounts", "the newest first"),
+        (f"/account/{SALES}", "Balance before"),
+        (f"/account/{BANK}", "credits_must_not_exceed_debits"),
+        (f"/account/{GREAT}", f"{MAX - 10**30:,}"),
+        (f"/account/{GREAT - 1}", "There are no postings."),
+        (f"/account/{HOLDS}", "by expiry"),
+        ("/transfers", "direct"),
+        (f"/transfer/{GREAT}", f"{MAX - 10**30:,}"),
+        ("/pending", "by expiry"),
+        ("/refusals", "exceeds_credits"),
+        ("/refusals/create_transfers/exceeds_credits", "as it was sent"),
+        ("/sessions", "Sessions and evictions"),
+        ("/search?id=7777", "Nothing has this id."),
+        ("/search?id=x", "is no id"),
+        ("/account/5", "There is no account 5."),
+    )
+
+    def test_text_size_and_contrast(self):
+        for address, words in self.PAGES:
+            for scheme in ("light", "dark"):
+                with self.subTest(address, scheme=scheme):
+                    self.show(scheme)
+                    self.open(address)
+                    self.assertIn(words, self.text())
+                    count, low = self.driver.execute_script(CONTRAST)
+                    self.assertGreater(count, 10)
+                    self.assertEqual(low, [])
+                    picture = self.driver.get_screenshot_as_png()
+                    self.assertEqual(png_size(picture), (1200, 900))
+                    self.assertGreater(len(picture), 10_000)
+
+    def test_light_and_dark_are_not_the_same(self):
+        grounds = []
+        for scheme in ("light", "dark"):
+            self.show(scheme)
+            self.open("/")
+            grounds.append(self.one("body").value_of_css_property("background-color"))
+        self.assertNotEqual(*grounds)
+
+    def test_narrow_windows(self):
+        """Nothing but the tables is wider than the window, which is as narrow as a phone."""
+        self.size(360, 740)
+        for address, _ in self.PAGES:
+            with self.subTest(address):
+                self.open(address)
+                self.assertLessEqual(self.driver.execute_script(OVERFLOW), 0)
+
+    def test_controls_are_labelled(self):
+        for address, _ in self.PAGES:
+            with self.subTest(address):
+                self.open(address)
+                self.assertEqual(self.one("html").get_attribute("lang"), "en")
+                self.assertEqual(len(self.all("h1")), 1)
+                self.assertEqual(len(self.all("main")), 1)
+                for it in self.all("a, button, input, select, summary, [tabindex='0'], nav, svg"):
+                    if it.is_displayed() and not it.accessible_name.strip():
+                        self.fail(f"no name: {it.get_attribute('outerHTML')[:300]}")
+                for table in self.all("table"):
+                    self.assertTrue(table.find_elements(By.TAG_NAME, "caption"))
+                    self.assertTrue(table.find_elements(By.CSS_SELECTOR, "thead th[scope=col]"))
+
+    def test_links_lead_to_pages(self):
+        """From the overview on, each address once: there are more than a hundred."""
+        met, waiting, opened = set(), ["/"], 0
+        while waiting and opened < 60:
+            address = waiting.pop(0)
+            if address in met:
+                continue
+            met.add(address)
+            if address.startswith("/csv/"):
+                with urllib.request.urlopen(self.base + address) as reply:
+                    self.assertEqual(reply.headers.get_content_type(), "text/csv")
+                continue
+            self.open(address)
+            opened += 1
+            self.assertFalse(self.all("[role=alert]"), address)
+            for link in self.driver.execute_script(
+                "return [...document.querySelectorAll('a[href]')].map((it) => it.href)"
+            ):
+                parts = urllib.parse.urlsplit(link)
+                self.assertEqual(f"{parts.scheme}://{parts.netloc}", self.base)
+                waiting.append(parts.path + (f"?{parts.query}" if parts.query else ""))
+        rest = [it for it in dict.fromkeys(waiting) if it not in met]
+        for address in rest[:60]:
+            with urllib.request.urlopen(self.base + address) as reply:
+                self.assertEqual(reply.status, 200)
+        self.assertGreater(len(met) + len(rest), 100)
+
+    def test_a_person_looks(self):
+        """From the overview to an account, its older postings, and a transfer; then a search."""
+        self.open("/")
+        self.one("nav[aria-label=Pages] a[href='/accounts']").click()
+        self.one(f"a[href='/account/{SALES}']").click()
+        self.assertIn("Account 2", self.text())
+        newest = self.all("tbody tr time")[0].text
+        self.one("a[rel=next]").click()
+        self.assertNotEqual(self.all("tbody tr time")[0].text, newest)
+        transfer = self.one("tbody th[scope=row] a.id")
+        id = transfer.text.replace("\n", "")
+        transfer.click()
+        self.assertIn(f"Transfer {id}", self.text())
+        field = self.one("#search-id")
+        field.send_keys(str(HOLDS), Keys.ENTER)
+        self.assertIn("Account 4", self.text())
+
+    def test_dates(self):
+        self.open(f"/account/{SALES}?from=2026-10-01&to=2026-10-02")
+        self.assertEqual(self.one("#from").get_property("value"), "2026-10-01")
+        times = {it.get_attribute("datetime")[:10] for it in self.all("section tbody time")}
+        self.assertLessEqual(times, {"2026-10-01", "2026-10-02"})
+        self.one(".dates button").click()
+        self.assertIn("from=2026-10-01&to=2026-10-02", self.driver.current_url)
+
+    def test_keyboard(self):
+        self.open("/")
+        self.one("body").send_keys(Keys.TAB)
+        first = self.driver.switch_to.active_element
+        self.assertEqual(first.text, "Skip to the content")
+        self.assertGreaterEqual(first.rect["x"], 0)
+        first.send_keys(Keys.ENTER)
+        self.assertTrue(self.driver.current_url.endswith("#main"))
+        self.driver.switch_to.active_element.send_keys(Keys.TAB)
+        inside = self.driver.switch_to.active_element
+        self.assertTrue(
+            self.driver.execute_script("return arguments[0].closest('main') !== null", inside)
+        )
+        outline = inside.value_of_css_property("outline-style")
+        self.assertEqual(outline, "solid")
+
+    def test_great_values_are_whole(self):
+        self.open(f"/account/{GREAT}")
+        for part in (str(GREAT), f"{MAX - 10**30:,}", str(MAX), str((1 << 64) - 1)):
+            self.assertIn(part, self.text().replace(" ", ""))
+
+    def test_pictures(self):
+        folder = os.environ.get("TB_SQL_PICTURES")
+        if not folder:
+            self.skipTest("TB_SQL_PICTURES names no folder")
+        for name, address, scheme, height in (
+            ("books-overview", "/", "light", 1130),
+            ("books-account", f"/account/{SALES}", "light", 900),
+            ("books-dark", f"/transfer/{GREAT}", "dark", 560),
+        ):
+            self.show(scheme)
+            self.size(1000, height)
+            self.open(address)
+            self.driver.save_screenshot(str(pathlib.Path(folder) / f"{name}.png"))
+
+
+if __name__ == "__main__":
+    unittest.main()

@@ -1,0 +1,260 @@
+"""The pages without a browser: statuses, values, paging, CSV, and what they refuse."""
+
+import contextlib
+import csv
+import html
+import io
+import re
+import sqlite3
+import unittest
+
+from support import Tables  # noqa: I001
+from audits import MAX, START, Audit, account, transfer
+from test_load import history
+from tb_sql.pages.server import make_app
+
+HERE = "http://127.0.0.1:8642"
+
+
+class Pages(Tables):
+    def setUp(self):
+        super().setUp()
+        self.site = make_app(self.path).test_client()
+
+    def get(self, address, status=200, **more):
+        reply = self.site.get(address, base_url=more.pop("base_url", HERE), **more)
+        self.assertEqual(reply.status_code, status, address)
+        return reply.get_data(as_text=True)
+
+    def words(self, address, status=200):
+        """What a page says, without its marks."""
+        text = re.sub(r"<(svg|style|head).*?</\1>", " ", self.get(address, status), flags=re.S)
+        text = re.sub(r"</?(?:a|span|wbr|time)\b[^>]*>", "", text)
+        return " ".join(html.unescape(re.sub(r"<[^>]*>", " ", text)).split())
+
+    def csv(self, address):
+        return list(csv.reader(io.StringIO(self.get(address))))
+
+
+class Shown(Pages):
+    def test_all_pages(self):
+        self.load(history())
+        for address in (
+            "/",
+            "/?span=hour",
+            "/accounts",
+            "/accounts?ledger=700",
+            "/account/1",
+            "/transfers",
+            "/transfer/2000",
+            "/transfer/4000",
+            "/pending",
+            "/refusals",
+            "/refusals/create_transfers/exceeds_credits",
+            "/sessions",
+            "/search",
+            "/search?id=29",
+        ):
+            with self.subTest(address):
+                said = self.words(address)
+                self.assertNotIn("None", said)
+                self.assertIn("Read-only", said)
+
+    def test_empty_ledger(self):
+        self.load(Audit())
+        for address in ("/", "/accounts", "/transfers", "/pending", "/refusals", "/sessions"):
+            self.words(address)
+        self.load(Audit().register().accounts(account(1)))
+        self.assertIn("There are no postings.", self.words("/account/1"))
+
+    def test_statement(self):
+        audit = Audit().register().accounts(account(1), account(2))
+        audit.transfers(transfer(11, 1, 2, 1500), transfer(12, 2, 1, 2000))
+        audit.later(86400 * 10**9 * 3).transfers(transfer(13, 1, 2, 70))
+        self.load(audit)
+        said = self.words("/account/1")
+        for part in ("Balance 430 credit", "Balance before 0", "Debits 1,570", "Credits 2,000"):
+            self.assertIn(part, said)
+        self.assertIn("Postings 1 to 3 of 3", said)
+        said = self.words("/account/1?from=2026-09-24")
+        self.assertIn("Balance before 500 credit", said)
+        self.assertIn("Postings 3 to 3 of 3", said)
+        said = self.words("/account/1?to=2026-09-21")
+        self.assertIn("Balance after 500 credit", said)
+        said = self.words("/account/1?from=2026-09-22&to=2026-09-23")
+        self.assertIn("between these dates: the balance was 500 credit", said)
+
+    def test_paging_meets_each_posting_once(self):
+        audit = Audit().register().accounts(account(1), account(2))
+        audit.transfers(*(transfer(100 + it, 1, 2, 1) for it in range(230)))
+        self.load(audit)
+        for first, words in (("/account/1", "Older"), ("/account/1?after=0", "Newer")):
+            met, address, pages = [], first, 0
+            while address:
+                page = self.get(address)
+                met += re.findall(r'<th scope="row"><a class="id" href="/transfer/(\d+)"', page)
+                found = re.search(rf'<a rel="\w+" href="([^"]*)">{words}</a>', page)
+                address, pages = html.unescape(found[1]) if found else None, pages + 1
+            self.assertEqual(sorted(map(int, met)), list(range(100, 330)))
+            self.assertEqual(pages, 5)
+
+    def test_paging_keeps_the_dates(self):
+        audit = Audit().register().accounts(account(1), account(2))
+        audit.transfers(*(transfer(100 + it, 1, 2, 1) for it in range(120)))
+        self.load(audit)
+        page = self.get("/account/1?from=2026-09-01&to=2026-10-01")
+        self.assertRegex(
+            page, r'href="/account/1\?from=2026-09-01&amp;to=2026-10-01&amp;before=\d+"'
+        )
+
+    def test_great_values(self):
+        big = MAX - 1
+        audit = Audit().register()
+        audit.accounts(account(big, user_data_128=MAX, user_data_64=2**64 - 1), account(1))
+        self.load(audit.transfers(transfer(big, big, 1, MAX)))
+        grouped = f"{MAX:,}"
+        self.assertIn(f"Balance {grouped} debit", self.words(f"/account/{big}"))
+        self.assertIn(f"Amount {grouped}", self.words(f"/transfer/{big}"))
+        self.assertIn(grouped, self.words("/"))
+        self.assertIn(f"{MAX}, {2**64 - 1}, 0", self.words(f"/account/{big}"))
+        reply = self.site.get(f"/search?id={hex(1)}", base_url=HERE)
+        self.assertEqual((reply.status_code, reply.location), (302, "/account/1"))
+        self.assertIn("account of ledger", self.words(f"/search?id={hex(big)}"))
+
+    def test_hostile_text(self):
+        """A name that only a wrong program could print is still shown as text."""
+        self.load(Audit().register().accounts(account(1, result="<script>alert(1)</script>")))
+        page = self.get("/refusals")
+        self.assertNotIn("<script", page)
+        self.assertIn("&lt;script&gt;", page)
+
+    def test_a_million_postings(self):
+        """Of one account, made in the database: pages and the chart take a bounded time."""
+        self.load(Audit().register().accounts(account(1), account(2)))
+        with contextlib.closing(sqlite3.connect(self.path)) as connection:
+            connection.execute(
+                "WITH RECURSIVE at(n) AS"
+                " (SELECT 1 UNION ALL SELECT n + 1 FROM at WHERE n < 1000000) INSERT INTO postings"
+                " SELECT 1, ? + n * 1000000000, n, n, 2, 1, 0, n, 0, n FROM at",
+                (START,),
+            )
+            connection.execute("UPDATE accounts SET postings = 1000000, debits_posted = 1000000")
+            connection.commit()
+        said = self.words("/account/1")
+        self.assertIn("Postings 999,951 to 1,000,000 of 1,000,000", said)
+        self.assertIn("at 241 moments", said)
+        self.assertIn("Postings 1 to 50 of", self.words("/account/1?after=0"))
+
+    def test_bars_count_each_transfer_once(self):
+        self.load(history())
+        transfers = self.rows("SELECT count(*) FROM transfers")[0][0]
+        refused = self.rows("SELECT count(*) FROM refused")[0][0]
+        page = self.get("/")
+        self.assertIn(f"{transfers:,} in all, from", page)
+        self.assertIn(f"{refused:,} in all, from", page)
+
+    def test_ledger_changed_since(self):
+        ledger = self.room / "ledger.tbk"
+        self.load(history())
+        site = make_app(self.path, str(ledger)).test_client()
+        self.assertIn("There is no file", site.get("/", base_url=HERE).get_data(as_text=True))
+        ledger.write_bytes(b"x")
+        import os
+        import time
+
+        os.utime(ledger, (time.time() + 500, time.time() + 500))
+        page = site.get("/", base_url=HERE).get_data(as_text=True)
+        self.assertIn("8 minutes after that: load it again", page)
+        os.utime(ledger, (5, 5))
+        page = site.get("/", base_url=HERE).get_data(as_text=True)
+        self.assertIn("has not changed since", page)
+
+
+class Tabled(Pages):
+    def test_statement(self):
+        audit = Audit().register().accounts(account(1), account(2))
+        audit.transfers(transfer(11, 1, 2, MAX)).later(10**9 * 86400)
+        self.load(audit.transfers(transfer(12, 2, 1, 5)))
+        rows = self.csv("/csv/statement.csv?account=1")
+        self.assertEqual(
+            rows[0][:7], "account_id number time counterparty_id debit credit balance".split()
+        )
+        self.assertEqual(
+            [it[4:7] for it in rows[1:]], [[str(MAX), "0", str(MAX)], ["0", "5", str(MAX - 5)]]
+        )
+        self.assertEqual(len(self.csv("/csv/statement.csv?account=1&to=2026-09-21")), 2)
+        self.assertEqual(len(self.csv("/csv/statement.csv")), 5)
+
+    def test_each_table(self):
+        self.load(history())
+        from tb_sql.schema import TABLES, VIEWS
+
+        for name in (*TABLES, *VIEWS):
+            rows = self.csv(f"/csv/{name}.csv")
+            count = self.rows(f"SELECT count(*) FROM {name}")[0][0]
+            self.assertEqual(len(rows), count + 1, name)
+        self.get("/csv/sqlite_master.csv", 404)
+        self.get("/csv/accounts;.csv", 404)
+
+
+class Refused(Pages):
+    def setUp(self):
+        super().setUp()
+        self.load(history())
+
+    def test_wrong_addresses(self):
+        for address, status in (
+            ("/account/99", 404),
+            ("/account/x", 400),
+            (f"/account/{MAX + 1}", 400),
+            ("/transfer/99", 404),
+            ("/transfer/-1", 400),
+            ("/refusals/create_transfers/none", 404),
+            ("/search?id=1 OR 1=1", 400),
+            ("/search?id=987654321", 404),
+            ("/account/1?from=yesterday", 400),
+            ("/account/1?from=9999-12-31", 200),
+            ("/account/1?before=x", 400),
+            (f"/account/1?before={1 << 70}", 400),
+            ("/accounts?ledger=%27", 400),
+            ("/?span=year", 400),
+            ("/nothing", 404),
+            ("/static/../server.py", 404),
+        ):
+            with self.subTest(address):
+                self.assertNotIn("Traceback", self.get(address, status))
+
+    def test_other_methods(self):
+        for method in ("post", "put", "delete"):
+            reply = getattr(self.site, method)("/", base_url=HERE)
+            self.assertEqual(reply.status_code, 405)
+
+    def test_other_hosts(self):
+        for host in ("ledger.example", "127.0.0.1.example:80", "localhost.example", "10.0.0.1"):
+            self.get("/", 403, base_url=f"http://{host}")
+        for host in ("localhost", "localhost:1", "127.0.0.1:2", "[::1]", "[::1]:3"):
+            self.get("/", base_url=f"http://{host}")
+
+    def test_headers(self):
+        headers = self.site.get("/", base_url=HERE).headers
+        self.assertIn("default-src 'none'", headers["Content-Security-Policy"])
+        self.assertNotIn("unsafe", headers["Content-Security-Policy"])
+        self.assertEqual(headers["X-Content-Type-Options"], "nosniff")
+
+    def test_no_script(self):
+        for address in ("/", "/account/1", "/search?id=29"):
+            page = self.get(address)
+            self.assertNotRegex(page, r"<script|javascript:|\son\w+=|style=")
+
+    def test_nothing_is_written(self):
+        before = self.contents()
+        self.get("/")
+        with self.assertRaises(sqlite3.OperationalError):
+            from tb_sql.pages.queries import Tables
+
+            Tables(self.path).all("DELETE FROM accounts")
+        self.assertEqual(self.contents(), before)
+
+
+if __name__ == "__main__":
+    unittest.main()

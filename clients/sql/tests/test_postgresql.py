@@ -1,0 +1,135 @@
+"""The same tables in PostgreSQL: each value is that of the file of SQLite. Makes a server of its
+own in a folder, as postgres where this user is root."""
+
+import contextlib
+import os
+import pathlib
+import pwd
+import shutil
+import subprocess
+import tempfile
+import unittest
+
+import psycopg
+
+from support import Tables  # noqa: I001
+from audits import MAX, Audit, account, transfer
+from sample import sample
+from test_load import history
+from tb_sql.audits import Loading
+from tb_sql.errors import Refused
+from tb_sql.postgres_store import PostgresStore
+from tb_sql.schema import TABLES, VIEWS, columns
+
+PROGRAMS = sorted(pathlib.Path("/usr/lib/postgresql").glob("*/bin"))
+
+
+def as_owner(words):
+    """The words that run a program of PostgreSQL, which refuses root."""
+    return ["runuser", "-u", "postgres", "--", *words] if os.getuid() == 0 else words
+
+
+def run(*words):
+    subprocess.run(as_owner([str(it) for it in words]), check=True, stdout=subprocess.DEVNULL)
+
+
+def plain(row):
+    """A row with digits in place of numbers, and 0 and 1 in place of truths."""
+    return tuple(
+        it if it is None else str(int(it)) if not isinstance(it, str) else it for it in row
+    )
+
+
+@unittest.skipUnless(PROGRAMS, "PostgreSQL is not installed")
+class PostgreSQL(Tables):
+    @classmethod
+    def setUpClass(cls):
+        cls.folder = pathlib.Path(tempfile.mkdtemp())
+        cls.addClassCleanup(shutil.rmtree, cls.folder, True)
+        if os.getuid() == 0:
+            owner = pwd.getpwnam("postgres")
+            os.chown(cls.folder, owner.pw_uid, owner.pw_gid)
+        bin, data = PROGRAMS[-1], cls.folder / "data"
+        run(bin / "initdb", "-D", data, "-A", "trust", "-U", "postgres", "--no-sync", "-E", "UTF8")
+        options = f"-k {cls.folder} -c listen_addresses='' -c fsync=off"
+        run(bin / "pg_ctl", "-D", data, "-w", "-o", options, "-l", data / "log", "start")
+        cls.addClassCleanup(run, bin / "pg_ctl", "-D", data, "-m", "immediate", "-w", "stop")
+
+    def setUp(self):
+        super().setUp()
+        self.name = f"test_{self.id().rpartition('.')[2]}"[:60]
+        with contextlib.closing(psycopg.connect(self.address("postgres"), autocommit=True)) as it:
+            it.execute(f"CREATE DATABASE {self.name}")
+        self.url = self.address(self.name)
+
+    def address(self, name):
+        return f"postgresql://postgres@/{name}?host={self.folder}"
+
+    def load_both(self, audit):
+        self.load(audit)
+        return self.load_there(audit.bytes)
+
+    def load_there(self, data):
+        store = PostgresStore(self.url)
+        try:
+            loading = Loading(store)
+            loading.read(iter(data.splitlines(keepends=True)))
+            loading.ended()
+        finally:
+            store.close()
+        return loading
+
+    def there(self, text):
+        with contextlib.closing(psycopg.connect(self.url)) as connection:
+            return [plain(row) for row in connection.execute(text).fetchall()]
+
+    def assertSame(self):
+        for table in TABLES:
+            asked = f"SELECT {', '.join(columns(table))} FROM {table}"
+            here = sorted(map(plain, self.rows(asked)), key=str)
+            self.assertEqual(sorted(self.there(asked), key=str), here, table)
+        for view in VIEWS:
+            asked = f"SELECT * FROM {view}"
+            here = sorted(map(plain, self.rows(asked)), key=str)
+            self.assertEqual(sorted(self.there(asked), key=str), here, view)
+
+    def test_history(self):
+        self.load_both(history())
+        self.assertSame()
+
+    def test_sample(self):
+        self.load_both(sample(days=6))
+        self.assertSame()
+
+    def test_in_parts(self):
+        audit = history()
+        for count in (10, 30, 31, len(audit.lines)):
+            self.load_there("".join(f"{it}\n" for it in audit.lines[:count]).encode())
+        self.load(audit)
+        self.assertSame()
+        self.assertEqual(self.load_there(audit.bytes).entries, 0)
+
+    def test_great_sums(self):
+        """Of a ledger above 128 bits: the view's sum is exact."""
+        audit = Audit().register().accounts(*(account(it) for it in range(1, 5)))
+        audit.transfers(transfer(11, 1, 2, MAX), transfer(12, 3, 4, MAX))
+        self.load_both(audit)
+        self.assertSame()
+        self.assertEqual(self.there("SELECT debits_posted FROM trial_balance"), [(str(2 * MAX),)])
+
+    def test_another_history(self):
+        self.load_there(Audit().register().accounts(account(1)).bytes)
+        with self.assertRaises(Refused) as raised:
+            self.load_there(Audit().register().accounts(account(2)).bytes)
+        self.assertIn("entry 2 is another one", str(raised.exception))
+
+    def test_command(self):
+        status, said, fault = self.said("load", self.address("none"), "--quiet")
+        self.assertEqual((status, said, fault.count("\n")), (1, "", 1), fault)
+        ended = self.command("load", self.url, input=Audit().register().bytes)
+        self.assertEqual(ended[0], 0, ended)
+        self.assertNotIn("Traceback", ended[2])
+
+
+if __name__ == "__main__":
+    unittest.main()
