@@ -266,7 +266,7 @@ def faults(tbd, folder, shim):
     """Calls on the file that fail once, or take a part."""
     for number in range(1, 51):
         # The first two are those of the opening, of the file and of its folder.
-        faulty(tbd, folder, shim, f"sync {number} {EIO}", 1 if number <= 2 else 9, f"sync {number} fails")
+        faulty(tbd, folder, shim, f"sync {number} {EIO}", 9, f"sync {number} fails")
     for number in range(1, 9):
         faulty(tbd, folder, shim, f"write {number} {EIO}", 1, f"write {number} fails")
         # The first call is the cut of the opening.

@@ -1,5 +1,5 @@
 -- Calls on a system's file, one behind the other.
-use Rattle.std.proofs.Common.{◌≡◌, ◌⊎◌, inl, inr, ⊎_elim, ℕ, ◌+◌, ◌≤◌, min, List, length, take, drop, refl, sym, ◌∙◌, ap, subst, arith, Result, Ok, Err, length-take}
+use Rattle.std.proofs.Common.{◌≡◌, ◌⊎◌, inl, inr, ⊎_elim, ℕ, ◌+◌, ◌≤◌, List, length, take, drop, refl, sym, ◌∙◌, ap, subst, arith, Result, Ok, Err, length-take}
 use Rattle.std.proofs.lemmas.List.{take-take}
 use Rattle.std.proofs.Math.Seq.{take-length}
 use Rattle.tb_journal.specs.declared.faults.Fault.{Fault}

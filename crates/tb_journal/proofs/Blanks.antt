@@ -11,13 +11,16 @@ use Rattle.tb_journal.proofs.FirstWrite.{blank_short}
 too_long : (file : List ℕ) (b : Bool) → is_blank file ≡ b → 9 < length file → false ≡ b
 too_long file b is long = grind (arith, common_steps, blank_short)
 
+pub longer_not : (file : List ℕ) → 9 < length file → false ≡ is_blank file
+longer_not file long = too_long file (is_blank file) refl long
+
 module _ (before mid : Disk) (now : (c : List ℕ) → before.left_since before.moment c → before.may_leave c) (result : Result ℕ Fault) (looks : Looks result before mid) where
   looked : LeavesOnly before mid (IsAsBefore before)
   looked = goes_on before before mid (IsAsBefore before) (started before (IsAsBefore before) (λ c left. inl (now c left))) looks.looks.time (λ c left. inl (looks.looks.crash c left))
 
   pub blank_long : (len : ℕ) → result ≡ Ok len → len ≡ length before.seen → 9 < len → FindsBlank (Ok false) before mid
   blank_long len answers is long = record {
-    ok = too_long before.seen (is_blank before.seen) refl (omega (arith, is, long));
+    ok = longer_not before.seen (omega (arith, is, long));
     settled = λ sound found. absurd (cc);
     seen = looks.looks.seen;
     sound = looks.looks.sound;

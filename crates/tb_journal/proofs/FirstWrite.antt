@@ -9,7 +9,7 @@ use Rattle.tb_journal.specs.declared.opening.OpenFault.{OpenFault}
 use Rattle.tb_journal.specs.declared.opening.OpenFault.TheVariants as open_faults
 use Rattle.tb_journal.specs.Device.{Disk, IsSettled, HasFailed, Torn, LeavesOnly, overwritten}
 use Rattle.tb_journal.specs.Contents.{magic, NotAJournal, Records, walk, contents, recorded, journal_of}
-use Rattle.tb_journal.specs.Steps.{IsAtRest, Overwrites}
+use Rattle.tb_journal.specs.Steps.{IsWhole, Overwrites}
 use Rattle.tb_journal.specs.Creating.{is_torn_from, is_blank, IsUnborn, IsCreateCause, HasCreateCause, IsLeft, WritesFirst}
 use Rattle.tb_journal.specs.Opening.{device_left, fault_left}
 use Rattle.tb_journal.specs.Ready.{Kept}
@@ -17,7 +17,7 @@ use Rattle.tb_journal.specs.declared.opening.NotOpened.{NotOpened}
 use Rattle.tb_journal.proofs.Walks.{walk-ends}
 use Rattle.tb_journal.proofs.Moments.{started, weaker}
 use Rattle.tb_journal.proofs.Steps.{short_front}
-use Rattle.tb_journal.proofs.Publishing.{rests}
+use Rattle.tb_journal.proofs.Publishing.{wholly}
 
 both_right : (a b : Bool) → (a && b) ≡ true → b ≡ true
 both_right a b is = grind (arith, common_steps)
@@ -45,17 +45,18 @@ whole file short = ap (λ (l : List ℕ). journal_of [] ++ l) (drop_all 9 file (
 
 pub begun : (before after : Disk) (result : Result (Unit {0}) Fault) → is_blank before.seen ≡ true → Overwrites 0 (journal_of []) result before after → WritesFirst result before after
 begun before after result blank write = record {
-  ok = λ settled. done result write.ok (write.settled settled);
+  ok = done result write.ok;
+  settled = write.settled;
   any_moment = λ settled. weaker before after (Torn 0 9 before.seen) IsUnborn (λ c torn. unborn c (torn_short before.seen c (blank_short before.seen blank) torn)) (write.any_moment settled);
   cause = write.cause;
 }
   where
-    done : (r : Result (Unit {0}) Fault) → OnOk r (after.seen ≡ overwritten before.seen 0 (journal_of [])) → OnOk r (IsSettled after)
-        → OnOk r (IsAtRest after × (recorded after.seen ≡ []))
-    done (Err f) shown kept = tt
-    done (Ok x) shown kept =
+    done : (r : Result (Unit {0}) Fault) → OnOk r (after.seen ≡ overwritten before.seen 0 (journal_of []))
+        → OnOk r (IsWhole after × (recorded after.seen ≡ []))
+    done (Err f) shown = tt
+    done (Ok x) shown =
         let first : after.seen ≡ journal_of [] = shown ∙ whole before.seen (blank_short before.seen blank) in
-        rests after [] (ap contents first) (subst (λ (f : List ℕ). f ≡ take 8 f ++ 0 ∷ []) (sym first) refl) kept
+        wholly after [] (ap contents first) (subst (λ (f : List ℕ). f ≡ take 8 f ++ 0 ∷ []) (sym first) refl)
 
 -- a blank file is not one where something stands
 pub left_alone : (before mid after : Disk) (fault : OpenFault) → is_blank mid.seen ≡ true → IsCreateCause mid after fault → IsLeft before after fault

@@ -3,6 +3,7 @@ pub mod Moments
 pub mod Blocks
 pub mod Steps
 pub mod Causes
+pub mod Named
 pub mod Kept
 pub mod Remainders
 pub mod Past

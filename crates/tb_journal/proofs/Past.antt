@@ -1,14 +1,11 @@
 -- One more call joins those that a file in memory has had.
 use Rattle.std.proofs.lemmas.Grind.{common_steps}
-use Rattle.std.proofs.Common.{◌≡◌, ◌⊎◌, inl, inr, ⊎_elim, ℕ, ◌+◌, ◌≤◌, ◌&&◌, nat_le, Bool, true, false, List, [], ◌∷◌, ◌++◌, length, take, refl, sym, ◌∙◌, ap, subst, arith, reverse, length-append, Result, Ok, Err, OnOk, if◌then◌else◌}
+use Rattle.std.proofs.Common.{◌≡◌, ◌⊎◌, inl, inr, ⊎_elim, ℕ, ◌+◌, ◌≤◌, Bool, List, [], ◌∷◌, ◌++◌, length, take, refl, sym, ◌∙◌, subst, arith, reverse, length-append, Result, Ok, Err, OnOk}
 use Rattle.std.proofs.lemmas.List.{take_all, take-append-le, reverse-append}
 use Rattle.std.proofs.lemmas.Bool.{cases_lt}
-use Rattle.std.proofs.lemmas.Bool.Decides.{nat_tests}
-use Rattle.tb_journal.specs.Device.{Elapses, Torn, Rises, IsOfCall, IsOfSync, IsLookedAt, HasCause, HasFailed, Looks, Writes, Cuts, Syncs, overwritten}
+use Rattle.tb_journal.specs.Device.{Elapses, Torn, Rises, IsOfCall, IsOfSync, HasCause, HasFailed, Writes, Cuts, Syncs, overwritten}
 use Rattle.tb_journal.specs.Memory.{LeftBy, disk_after}
-use Rattle.tb_journal.specs.Shown.{torn_same, cut_same}
 use Rattle.tb_journal.specs.Failures.{counted}
-use Rattle.tb_journal.specs.Torn.{shown_by, shown_after}
 use Rattle.std.specs.Prelude.{Vec}
 use Rattle.std.specs.declared.alloc.Global.{Global}
 use Rattle.tb_journal.specs.declared.faults.Fault.{Fault}

@@ -5,29 +5,27 @@ use Rattle.std.specs.List.{AllByRecursion}
 use Rattle.tb_journal.specs.declared.faults.Fault.{Fault}
 use Rattle.tb_journal.specs.Device.{Disk, IsSettled, Torn, FailsNone, HasCause, overwritten}
 use Rattle.tb_journal.specs.Contents.{Fits, at_rest, Records, contents, records_of, recorded, records_end}
-use Rattle.tb_journal.specs.Steps.{IsAtRest, IsBeforeOrAfter, Overwrites, Publishes}
+use Rattle.tb_journal.specs.Steps.{IsWhole, IsBeforeOrAfter, Overwrites, Publishes}
 use Rattle.tb_journal.proofs.Moments.{then, weaker}
 use Rattle.tb_journal.proofs.Causes.{has_cause_since}
 use Rattle.tb_journal.proofs.Steps.{length_file, behind_torn, written_behind, reads_new, gate_torn, opened, closed_new}
 
--- a file that reads as these records, with its closed gate, is at rest
-pub rests : (disk : Disk) (records : List (List ℕ)) → contents disk.seen ≡ Records records
-    → disk.seen ≡ take (records_end records) disk.seen ++ 0 ∷ [] → IsSettled disk
-    → IsAtRest disk × (recorded disk.seen ≡ records)
-rests disk records reads closed settled =
+-- a file that reads as these records, with its closed gate, is whole
+pub wholly : (disk : Disk) (records : List (List ℕ)) → contents disk.seen ≡ Records records
+    → disk.seen ≡ take (records_end records) disk.seen ++ 0 ∷ []
+    → IsWhole disk × (recorded disk.seen ≡ records)
+wholly disk records reads closed =
     let same : recorded disk.seen ≡ records = ap records_of reads in (
       record {
         reads = reads ∙ ap Records (sym same);
         closed = subst (λ (rs : List (List ℕ)). disk.seen ≡ take (records_end rs) disk.seen ++ 0 ∷ []) (sym same) closed;
-        kept = settled.kept;
-        sound = settled.sound;
       },
       same,
     )
 
 -- there is room for each write
 
-pub room : (before : Disk) → IsAtRest before → (end : ℕ) → end ≡ records_end (recorded before.seen)
+pub room : (before : Disk) → IsWhole before → (end : ℕ) → end ≡ records_end (recorded before.seen)
     → end + 1 ≤ length before.seen
 room before rest end ends = omega (arith, ends, length_file before.seen (recorded before.seen) rest.reads rest.closed)
 
@@ -40,12 +38,9 @@ opening : (batch : List ℕ) (records : List (List ℕ)) → batch ≡ at_rest r
 opening batch [] is some = absurd (omega arith)
 opening batch (r ∷ records) is some = ap (λ (l : List ℕ). 255 ∷ drop 1 l) is
 
-module _ (before : Disk) (rest : IsAtRest before) (batch tail : List ℕ) (records : List (List ℕ)) (fits : AllByRecursion Fits records) (spells : batch ≡ at_rest records) (some : 1 ≤ length records) (cut : tail ≡ drop 1 batch) (end : ℕ) (ends : end ≡ records_end (recorded before.seen)) where
+module _ (before : Disk) (rest : IsWhole before) (batch tail : List ℕ) (records : List (List ℕ)) (fits : AllByRecursion Fits records) (spells : batch ≡ at_rest records) (some : 1 ≤ length records) (cut : tail ≡ drop 1 batch) (end : ℕ) (ends : end ≡ records_end (recorded before.seen)) where
   abbrev olds : List (List ℕ)
   olds = recorded before.seen
-
-  settled : IsSettled before
-  settled = record { kept = rest.kept; sound = rest.sound }
 
   opens : 255 ∷ tail ≡ at_rest records
   opens = ap (λ (l : List ℕ). 255 ∷ l) cut ∙ opening batch records spells some
@@ -57,7 +52,8 @@ module _ (before : Disk) (rest : IsAtRest before) (batch tail : List ℕ) (recor
       → Overwrites (end + 1) tail result before mid → Publishes records (Err f) before mid
   stage_failed mid result f is stage = record {
     ok = tt;
-    any_moment = weaker before mid (Torn (end + 1) (length tail) before.seen) (IsBeforeOrAfter olds records) behind (stage.any_moment settled);
+    settled = λ settled. tt;
+    any_moment = λ settled. weaker before mid (Torn (end + 1) (length tail) before.seen) (IsBeforeOrAfter olds records) behind (stage.any_moment settled);
     cause = subst (λ (r : Result (Unit {0}) Fault). HasCause r before mid) is stage.cause;
   }
 
@@ -65,8 +61,8 @@ module _ (before : Disk) (rest : IsAtRest before) (batch tail : List ℕ) (recor
     done : mid.seen ≡ overwritten before.seen (end + 1) tail
     done = on_ok result (mid.seen ≡ overwritten before.seen (end + 1) tail) is stage.ok
 
-    mid_settled : IsSettled mid
-    mid_settled = on_ok result (IsSettled mid) is (stage.settled settled)
+    mid_settled : IsSettled before → IsSettled mid
+    mid_settled settled = on_ok result (IsSettled mid) is (stage.settled settled)
 
     staged : mid.seen ≡ take (records_end olds) before.seen ++ (0 ∷ tail)
     staged = written_behind before.seen olds rest.reads rest.closed tail mid.seen (done ∙ ap (λ (e : ℕ). overwritten before.seen (e + 1) tail) ends)
@@ -77,19 +73,20 @@ module _ (before : Disk) (rest : IsAtRest before) (batch tail : List ℕ) (recor
     pub gate_done : (after : Disk) (second : Result (Unit {0}) Fault)
         → Overwrites end (255 ∷ []) second mid after → Publishes records second before after
     gate_done after second opened_gate = record {
-      ok = finished second opened_gate.ok (opened_gate.settled mid_settled);
-      any_moment = then before mid after (IsBeforeOrAfter olds records)
+      ok = finished second opened_gate.ok;
+      settled = λ settled. opened_gate.settled (mid_settled settled);
+      any_moment = λ settled. then before mid after (IsBeforeOrAfter olds records)
           (weaker before mid (Torn (end + 1) (length tail) before.seen) (IsBeforeOrAfter olds records) behind (stage.any_moment settled))
-          (weaker mid after (Torn end 1 mid.seen) (IsBeforeOrAfter olds records) gate (opened_gate.any_moment mid_settled));
+          (weaker mid after (Torn end 1 mid.seen) (IsBeforeOrAfter olds records) gate (opened_gate.any_moment (mid_settled settled)));
       cause = has_cause_since before mid after second (on_ok result (FailsNone before mid) is stage.cause.ok) opened_gate.cause;
     }
       where
         finished : (r : Result (Unit {0}) Fault)
-            → OnOk r (after.seen ≡ overwritten mid.seen end (255 ∷ [])) → OnOk r (IsSettled after)
-            → OnOk r (IsAtRest after × (recorded after.seen ≡ olds ++ records))
-        finished (Err fault) shown kept = tt
-        finished (Ok x) shown kept =
+            → OnOk r (after.seen ≡ overwritten mid.seen end (255 ∷ []))
+            → OnOk r (IsWhole after × (recorded after.seen ≡ olds ++ records))
+        finished (Err fault) shown = tt
+        finished (Ok x) shown =
             let is_open : after.seen ≡ take (records_end olds) before.seen ++ (255 ∷ tail) =
             opened before.seen olds rest.reads rest.closed tail records opens fits after.seen (shown ∙ ap (λ (f : List ℕ). overwritten f end (255 ∷ [])) staged ∙ ap (λ (e : ℕ). overwritten (take (records_end olds) before.seen ++ (0 ∷ tail)) e (255 ∷ [])) ends) in
-            rests after (olds ++ records) (ap contents is_open ∙ reads_new before.seen olds rest.reads rest.closed tail records opens fits)
-            (subst (λ (f : List ℕ). f ≡ take (records_end (olds ++ records)) f ++ 0 ∷ []) (sym is_open) (closed_new before.seen olds rest.reads rest.closed tail records opens fits)) kept
+            wholly after (olds ++ records) (ap contents is_open ∙ reads_new before.seen olds rest.reads rest.closed tail records opens fits)
+            (subst (λ (f : List ℕ). f ≡ take (records_end (olds ++ records)) f ++ 0 ∷ []) (sym is_open) (closed_new before.seen olds rest.reads rest.closed tail records opens fits))

@@ -1,5 +1,5 @@
 -- The tables give what the bits give.
-use Rattle.std.proofs.Common.{rules, ◌≡◌, ℕ, zero, suc, ◌+◌, ◌*◌, ◌/◌, ◌%◌, ◌^◌, ◌<◌, ◌≤◌, ◌==◌, ◌&&◌, subst, Bool, true, false, List, [], ◌∷◌, ◌++◌, get_or, length, take, drop, take_all, length-drop, ◌-◌, refl, sym, ◌∙◌, ap, arith, lit<, if◌then◌else◌}
+use Rattle.std.proofs.Common.{◌≡◌, ℕ, zero, suc, ◌+◌, ◌*◌, ◌/◌, ◌%◌, ◌^◌, ◌<◌, ◌≤◌, ◌==◌, subst, List, [], ◌∷◌, ◌++◌, get_or, length, take, drop, take_all, length-drop, ◌-◌, refl, sym, ◌∙◌, ap, arith, lit<, if◌then◌else◌}
 use Rattle.std.proofs.lemmas.Grind.{common_steps}
 use Rattle.std.proofs.Math.Nat.{mul_assoc, pow-suc}
 use Rattle.std.proofs.lemmas.Nat.{xor_comm, xor_block, xor_lt, xor_shr, xor_mod, and_mask, pow_pos, shr_split, mod_below}
@@ -8,7 +8,6 @@ use Rattle.std.proofs.lemmas.List.FromFn.{get_or-range_with_len}
 use Rattle.std.proofs.Math.ListN.{get_or-map}
 use Rattle.std.specs.List.{range_with_len}
 use Rattle.std.specs.Prelude.{map, bit_and}
-use Rattle.std.proofs.lemmas.Bool.Decides.{Decides-eqb}
 use Rattle.tb_journal.specs.declared.tables.TheConstants.{REMAINDERS}
 use Rattle.std.specs.Int.Bits.{bit_xor, xor_assoc, xor_zero_l, xor_zero_r}
 use Rattle.tb_journal.specs.Checksum.{bit_on, byte_on, remainder, zeros_on}

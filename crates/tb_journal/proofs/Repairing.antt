@@ -4,12 +4,12 @@ use Rattle.std.proofs.lemmas.List.{length-take-le}
 use Rattle.tb_journal.specs.declared.faults.Fault.{Fault}
 use Rattle.tb_journal.specs.Device.{Disk, IsSettled, Torn, Cut, FailsNone, HasCause, overwritten}
 use Rattle.tb_journal.specs.Contents.{Records, contents, recorded, records_end}
-use Rattle.tb_journal.specs.Steps.{IsAtRest, Overwrites, Shortens}
+use Rattle.tb_journal.specs.Steps.{IsWhole, Overwrites, Shortens}
 use Rattle.tb_journal.specs.Opening.{Repairs}
 use Rattle.tb_journal.proofs.Moments.{then, weaker}
 use Rattle.tb_journal.proofs.Causes.{has_cause_since}
 use Rattle.tb_journal.proofs.Steps.{within, cut_torn, close_torn, closes, reads_closed, front_closed}
-use Rattle.tb_journal.proofs.Publishing.{on_ok, rests}
+use Rattle.tb_journal.proofs.Publishing.{on_ok, wholly}
 
 module _ (before : Disk) (reads : contents before.seen ≡ Records (recorded before.seen)) (end : ℕ) (ends : end ≡ records_end (recorded before.seen)) where
   abbrev olds : List (List ℕ)
@@ -26,7 +26,8 @@ module _ (before : Disk) (reads : contents before.seen ≡ Records (recorded bef
 
   pub repair_failed : (mid : Disk) (result : Result (Unit {0}) Fault) (f : Fault) → result ≡ Err f → Shortens end result before mid → Repairs (Err f) before mid
   repair_failed mid result f is cut = record {
-    ok = λ settled. tt;
+    ok = tt;
+    settled = λ settled. tt;
     any_moment = λ settled. weaker before mid (Cut end before.seen) Same shorter_same (cut.any_moment settled);
     cause = subst (λ (r : Result (Unit {0}) Fault). HasCause r before mid) is cut.cause;
   }
@@ -46,7 +47,8 @@ module _ (before : Disk) (reads : contents before.seen ≡ Records (recorded bef
 
     pub repair_done : (after : Disk) (second : Result (Unit {0}) Fault) → Overwrites end (0 ∷ []) second mid after → Repairs second before after
     repair_done after second gate = record {
-      ok = λ settled. finished second gate.ok (gate.settled (mid_settled settled));
+      ok = finished second gate.ok;
+      settled = λ settled. gate.settled (mid_settled settled);
       any_moment = λ settled. then before mid after Same
           (weaker before mid (Cut end before.seen) Same shorter_same (cut.any_moment settled))
           (weaker mid after (Torn end 1 mid.seen) Same closing (gate.any_moment (mid_settled settled)));
@@ -54,12 +56,12 @@ module _ (before : Disk) (reads : contents before.seen ≡ Records (recorded bef
     }
       where
         finished : (r : Result (Unit {0}) Fault) → OnOk r (after.seen ≡ overwritten mid.seen end (0 ∷ []))
-            → OnOk r (IsSettled after) → OnOk r (IsAtRest after × (recorded after.seen ≡ olds))
-        finished (Err fault) shown kept = tt
-        finished (Ok x) shown kept =
+            → OnOk r (IsWhole after × (recorded after.seen ≡ olds))
+        finished (Err fault) shown = tt
+        finished (Ok x) shown =
             let at = records_end olds in
             let front = take at before.seen in
             let is_closed : after.seen ≡ front ++ 0 ∷ [] =
             closes before.seen olds reads after.seen (shown ∙ ap (λ (f : List ℕ). overwritten f end (0 ∷ [])) is_cut ∙ ap (λ (e : ℕ). overwritten front e (0 ∷ [])) ends) in
-            rests after olds (ap contents is_closed ∙ reads_closed before.seen olds reads)
-            (subst (λ (f : List ℕ). f ≡ take at f ++ 0 ∷ []) (sym is_closed) (ap (λ (f : List ℕ). f ++ 0 ∷ []) (sym (front_closed before.seen olds reads (0 ∷ []))))) kept
+            wholly after olds (ap contents is_closed ∙ reads_closed before.seen olds reads)
+            (subst (λ (f : List ℕ). f ≡ take at f ++ 0 ∷ []) (sym is_closed) (ap (λ (f : List ℕ). f ++ 0 ∷ []) (sym (front_closed before.seen olds reads (0 ∷ [])))))

@@ -1,5 +1,5 @@
 -- A call that is made again as long as a signal interrupts it.
-use Rattle.std.proofs.Common.{◌≡◌, ◌≢◌, ◌⊎◌, inl, inr, ⊎_elim, ℕ, ◌+◌, ◌-◌, ◌^◌, ◌<◌, ◌≤◌, List, length, take, drop, refl, sym, ◌∙◌, ap, subst, arith, Result, Ok, Err, true, false}
+use Rattle.std.proofs.Common.{◌≡◌, ◌≢◌, ◌⊎◌, inl, inr, ⊎_elim, ℕ, ◌+◌, ◌-◌, ◌^◌, ◌<◌, ◌≤◌, List, length, take, drop, refl, sym, ◌∙◌, ap, subst, arith, Result, Ok, Err}
 use Rattle.std.specs.Prelude.{IsErrOf}
 use Rattle.std.specs.declared.io.ErrorKind.{ErrorKind}
 use Rattle.std.specs.declared.io.ErrorKind.TheVariants as kinds
@@ -7,7 +7,7 @@ use Rattle.tb_journal.specs.declared.faults.Fault.{Fault}
 use Rattle.tb_journal.specs.Device.{Disk, Only, Torn, Cut, Elapses, FailsNone, HasFailed, HasCause, IsLookedAt, Cuts, Syncs, overwritten}
 use Rattle.tb_journal.specs.System.{Counts, Changes, Preads, Pwrites, Ftruncates, Fdatasyncs, fault_of, sync_fault_of}
 use Rattle.tb_journal.specs.Posix.{ReadsSome, WritesSome}
-use Rattle.tb_journal.proofs.Between.{CountsNow, none_same, none_then, failed_then, cause_then, elapses_same, elapses_then, looked_same, looked_then, changes_same, changes_then, torn_none, torn_then, cut_none, cut_then}
+use Rattle.tb_journal.proofs.Between.{CountsNow, none_same, none_then, failed_then, elapses_same, elapses_then, looked_then, changes_then, torn_then, cut_then}
 
 pub interrupted_is : {T : Type 0} (kind : ErrorKind) → kind ≡ kinds.Interrupted → IsErrOf {T = T} (Err kind) kinds.Interrupted
 interrupted_is kind is = ap (λ (k : ErrorKind). Err k) is

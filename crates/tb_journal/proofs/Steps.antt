@@ -1,11 +1,10 @@
 -- What a crash leaves in each step of a commit, a recovery and a creation.
-use Rattle.std.proofs.Common.{rules, ◌≡◌, ◌⊎◌, inl, inr, ℕ, zero, suc, ◌+◌, ◌-◌, ◌≤◌, ◌==◌, Bool, true, false, List, [], ◌∷◌, ◌++◌, length, take, drop, get_or, flat_map, refl, sym, ◌∙◌, ap, arith, length-append, length-drop, append_assoc, take-append-drop, if◌then◌else◌}
+use Rattle.std.proofs.Common.{rules, ◌≡◌, ◌⊎◌, inl, ℕ, suc, ◌+◌, ◌-◌, ◌≤◌, ◌==◌, Bool, true, false, List, [], ◌∷◌, ◌++◌, length, take, drop, get_or, flat_map, refl, sym, ◌∙◌, ap, arith, length-append, length-drop, append_assoc, take-append-drop, if◌then◌else◌}
 use Rattle.std.proofs.lemmas.Grind.{common_steps}
 use Rattle.std.proofs.lemmas.List.{append-nil, take_at, drop_at, take_all, drop_all, drop_more, take-take, length-take-le}
-use Rattle.std.specs.Int.{w32, from_le_bytes}
 use Rattle.std.specs.List.{AllByRecursion}
 use Rattle.tb_journal.specs.Device.{Torn, Cut, overwritten}
-use Rattle.tb_journal.specs.Contents.{Fits, block, at_rest, Front, Ends, Spoiled, Whole, behind_gate, front, Records, with_records, joined, skipped, walk, contents, blocks_length, records_end}
+use Rattle.tb_journal.specs.Contents.{Fits, block, at_rest, Front, Ends, behind_gate, front, Records, joined, skipped, walk, contents, blocks_length, records_end}
 use Rattle.tb_journal.proofs.Walks.{take_parts, IsFile, is_file, with_records-Records, ended}
 use Rattle.tb_journal.proofs.Blocks.{walk-at_rest, length-blocks}
 

@@ -1,9 +1,9 @@
 -- Whole reads and writes, of calls that take a part.
-use Rattle.std.proofs.Common.{◌≡◌, ◌⊎◌, ⊎_elim, ℕ, ◌+◌, ◌-◌, ◌*◌, ◌^◌, ◌<◌, ◌≤◌, min, List, [], ◌++◌, length, take, drop, refl, sym, ◌∙◌, ap, subst, arith, append_assoc, length-append, length-take, length-drop, Result, Ok, Err}
+use Rattle.std.proofs.Common.{◌≡◌, ◌⊎◌, ℕ, ◌+◌, ◌-◌, ◌^◌, ◌<◌, ◌≤◌, List, [], ◌++◌, length, take, drop, refl, sym, ◌∙◌, ap, subst, arith, append_assoc, length-append, length-take, length-drop, Result, Ok, Err}
 use Rattle.std.proofs.lemmas.List.{take-append-le, take-append-drop, take_all, length-take-le, drop-drop}
 use Rattle.std.proofs.Math.Seq.{take-add, take-append-add, take-append_seam, drop-append-add}
 use Rattle.tb_journal.specs.declared.faults.Fault.{Fault}
-use Rattle.tb_journal.specs.Device.{Disk, Torn, FailsNone, HasCause, IsLookedAt, Looks, ReadsAt, Writes, overwritten}
+use Rattle.tb_journal.specs.Device.{Disk, Torn, FailsNone, IsLookedAt, Looks, ReadsAt, Writes, overwritten}
 use Rattle.tb_journal.specs.System.{Changes}
 use Rattle.tb_journal.specs.Posix.{ReadsSome, WritesSome}
 use Rattle.tb_journal.proofs.Between.{CountsNow, none_same, none_then, cause_then, looked_same, looked_then, changes_same, changes_then, changes_as, torn_none, torn_then, torn_wider}

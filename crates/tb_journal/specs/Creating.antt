@@ -1,13 +1,14 @@
 -- How a journal is created, and what a crash may leave of it.
 -- Cited by public contracts of: creating; tb_keep: opening.
-use Rattle.std.specs.Prelude.{◌≡◌, ◌⊎◌, ◌==◌, ◌&&◌, ◌||◌, ℕ, ◌≤◌, Bool, true, false, List, [], ◌∷◌, ◌++◌, length, codes, refl, Result, IfOk, OnOk, IfErr}
+use Rattle.std.specs.Prelude.{◌≡◌, ◌⊎◌, ◌==◌, ◌&&◌, ◌||◌, ℕ, ◌≤◌, Bool, true, false, List, [], ◌∷◌, ◌++◌, length, codes, refl, Result, Ok, Err, IfOk, OnOk, IfErr}
 use Rattle.tb_journal.specs.declared.faults.Fault.{Fault}
 use Rattle.tb_journal.specs.declared.faults.Fault.TheVariants.{Memory, NotEmpty}
 use Rattle.tb_journal.specs.declared.opening.OpenFault.{OpenFault}
 use Rattle.tb_journal.specs.declared.opening.OpenFault.TheVariants as open_faults
+use Rattle.tb_journal.specs.declared.opening.NotOpened.{NotOpened}
 use Rattle.tb_journal.specs.Device.{Disk, IsSettled, LeavesOnly, FailsNone, HasFailed, HasCause}
 use Rattle.tb_journal.specs.Contents.{NotAJournal, Records, contents, journal_of, recorded}
-use Rattle.tb_journal.specs.Steps.{IsAtRest}
+use Rattle.tb_journal.specs.Steps.{IsWhole}
 use Rattle.tb_journal.specs.Ready.{Kept, IsReady}
 use Rattle.tb_journal.specs.Opening.{IsAsBefore}
 
@@ -44,6 +45,12 @@ abbrev pub IsLeft : Disk → Disk → OpenFault → Type 0
 IsLeft before after (open_faults.Device NotEmpty) = (after.seen ≡ before.seen) × LeavesOnly before after (IsAsBefore before) × (after.sound ≡ before.sound)
 IsLeft before after other = Unit {0}
 
+-- by the file that the reads are of: it is blank, or something else stands in it, and the reads of the device that is given back
+-- are of it still
+abbrev pub CreatesIn : {D : Type 0} → (D → List ℕ → Type 0) → Result (Kept D) (NotOpened D) → List ℕ → Type 0
+CreatesIn holds (Ok journal) file = is_blank file ≡ true
+CreatesIn holds (Err failed) file = failed.fault ≡ open_faults.Device NotEmpty → (is_blank file ≡ false) × holds failed.device file
+
 -- an error has a cause
 pub record HasCreateCause {T : Type 0} (result : Result T OpenFault) (before after : Disk) : Type 0 where
   pub ok : OnOk result (FailsNone before after)
@@ -66,7 +73,8 @@ pub record FindsBlank (result : Result Bool Fault) (before after : Disk) : Type 
 
 -- the first bytes are written over a blank file
 pub record WritesFirst (result : Result (Unit {0}) Fault) (before after : Disk) : Type 0 where
-  pub ok : IsSettled before → OnOk result (IsAtRest after × (recorded after.seen ≡ []))
+  pub ok : OnOk result (IsWhole after × (recorded after.seen ≡ []))
+  pub settled : IsSettled before → OnOk result (IsSettled after)
   pub any_moment : IsSettled before → LeavesOnly before after IsUnborn
   pub cause : HasCause result before after
 

@@ -11,7 +11,7 @@ use Rattle.tb_journal.specs.declared.opening.OpenFault.TheVariants as open_fault
 use Rattle.tb_journal.specs.declared.opening.NotOpened.{NotOpened}
 use Rattle.tb_journal.specs.Device.{Disk, IsSettled, LeavesOnly, FailsNone, HasCause, IsCause}
 use Rattle.tb_journal.specs.Contents.{Contents, NotAJournal, Damaged, Records, contents, recorded, records_end}
-use Rattle.tb_journal.specs.Steps.{IsAtRest}
+use Rattle.tb_journal.specs.Steps.{IsWhole}
 use Rattle.tb_journal.specs.Ready.{Kept, IsReady}
 
 -- what a file stands for that is refused
@@ -82,6 +82,7 @@ Recovers (Err failed) file = RefusesFile failed.fault file
 
 -- what stands behind the records is cut off, and a closed gate written
 pub record Repairs (result : Result (Unit {0}) Fault) (before after : Disk) : Type 0 where
-  pub ok : IsSettled before → OnOk result (IsAtRest after × (recorded after.seen ≡ recorded before.seen))
+  pub ok : OnOk result (IsWhole after × (recorded after.seen ≡ recorded before.seen))
+  pub settled : IsSettled before → OnOk result (IsSettled after)
   pub any_moment : IsSettled before → LeavesOnly before after (λ file. contents file ≡ Records (recorded before.seen))
   pub cause : HasCause result before after

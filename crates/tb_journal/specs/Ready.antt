@@ -1,9 +1,9 @@
 -- A journal that may be written to.
--- Cited by public contracts of: journals.
+-- Cited by public contracts of: creating, journals, opening.
 use Rattle.std.specs.Prelude.{◌≡◌, ℕ, Bool, List, length}
 use Rattle.tb_journal.specs.Device.{Disk}
 use Rattle.tb_journal.specs.Contents.{recorded, records_end}
-use Rattle.tb_journal.specs.Steps.{IsAtRest}
+use Rattle.tb_journal.specs.Steps.{IsWhole, IsAtRest}
 
 -- a device with a journal's file, where the records in it end and how many they are, the records that wait, and whether no commit
 -- has failed
@@ -13,6 +13,17 @@ pub record Kept (D : Type 0) : Type 0 where
   pub count : ℕ
   pub waiting : List (List ℕ)
   pub usable : Bool
+
+-- the file is whole, and the journal's numbers are those of its records
+pub record IsWritable {D : Type 0} (disk : D → Disk) (journal : Kept D) : Type 0 where
+  pub whole : IsWhole (disk journal.device)
+  pub ends : journal.end ≡ records_end (recorded (disk journal.device).seen)
+  pub counts : journal.count ≡ length (recorded (disk journal.device).seen)
+
+-- it may be written to, and its file has these records
+pub record IsOver {D : Type 0} (disk : D → Disk) (records : List (List ℕ)) (journal : Kept D) : Type 0 where
+  pub writable : IsWritable disk journal
+  pub are : recorded (disk journal.device).seen ≡ records
 
 -- the file is at rest, and the journal's numbers are those of its records
 pub record IsReady {D : Type 0} (disk : D → Disk) (journal : Kept D) : Type 0 where

@@ -5,7 +5,12 @@ use Rattle.tb_journal.specs.declared.faults.Fault.{Fault}
 use Rattle.tb_journal.specs.Device.{Disk, IsOnDisk, IsSettled, Torn, Cut, overwritten, LeavesOnly, HasCause}
 use Rattle.tb_journal.specs.Contents.{Records, contents, recorded, records_end}
 
--- the file is whole blocks with a closed gate behind them and nothing more, all of it on the disk, and no sync has failed
+-- the file is whole blocks with a closed gate behind them and nothing more
+pub record IsWhole (disk : Disk) : Type 0 where
+  pub reads : contents disk.seen ≡ Records (recorded disk.seen)
+  pub closed : disk.seen ≡ take (records_end (recorded disk.seen)) disk.seen ++ 0 ∷ []
+
+-- the same, with all of it on the disk, and no sync has failed
 pub record IsAtRest (disk : Disk) : Type 0 where
   pub reads : contents disk.seen ≡ Records (recorded disk.seen)
   pub closed : disk.seen ≡ take (records_end (recorded disk.seen)) disk.seen ++ 0 ∷ []
@@ -32,6 +37,7 @@ pub record Shortens (len : ℕ) (result : Result (Unit {0}) Fault) (before after
 
 -- a batch that is written behind what is there
 pub record Publishes (batch : List (List ℕ)) (result : Result (Unit {0}) Fault) (before after : Disk) : Type 0 where
-  pub ok : OnOk result (IsAtRest after × (recorded after.seen ≡ recorded before.seen ++ batch))
-  pub any_moment : LeavesOnly before after (IsBeforeOrAfter (recorded before.seen) batch)
+  pub ok : OnOk result (IsWhole after × (recorded after.seen ≡ recorded before.seen ++ batch))
+  pub settled : IsSettled before → OnOk result (IsSettled after)
+  pub any_moment : IsSettled before → LeavesOnly before after (IsBeforeOrAfter (recorded before.seen) batch)
   pub cause : HasCause result before after

@@ -1,8 +1,8 @@
 //! Calls on a device that are on the disk before the next.
-ghost use Rattle.std.specs.Prelude.{◌≡◌, ◌≤◌, ◌<◌, ◌+◌, ◌^◌, List, ℕ, [], length};
+ghost use Rattle.std.specs.Prelude.{◌≡◌, ◌≤◌, ◌<◌, ◌+◌, ◌^◌, List, ℕ, [], length, IfErr};
 ghost use Rattle.std.specs.List.{AllByRecursion};
 ghost use Rattle.tb_journal.specs.Contents.{Fits, at_rest, recorded, records_end};
-ghost use Rattle.tb_journal.specs.Steps.{IsAtRest, Overwrites, Publishes};
+ghost use Rattle.tb_journal.specs.Steps.{IsWhole, Overwrites, Publishes};
 
 use crate::batches::OPEN;
 use crate::devices::Device;
@@ -11,7 +11,8 @@ use crate::faults::Fault;
 // Writes, and syncs.
 pub fn write_kept<D: Device>(device: &mut D, at: usize, bytes: &[u8]) -> Result<(), Fault>
     requires within { D.tells → at ≤ length (D.disk device.old).seen }
-    ensures { D.tells → Overwrites at bytes.now result (D.disk device.old) (D.disk device.new) }
+    ensures other { IfErr result (λ fault. fault ≡ Fault.NotEmpty → ⊥) }
+    ensures writes { D.tells → Overwrites at bytes.now result (D.disk device.old) (D.disk device.new) }
 {
     match device.write_at(at, bytes) {
         Ok(()) => device.sync(),
@@ -23,9 +24,10 @@ pub fn write_kept<D: Device>(device: &mut D, at: usize, bytes: &[u8]) -> Result<
 pub fn publish<D: Device>(device: &mut D, end: usize, batch: &[u8]) -> Result<(), Fault>
     requires some { 1 ≤ length batch.now }
     requires short { end < 2 ^ 63 }
-    requires at_rest { D.tells → IsAtRest (D.disk device.old) }
+    requires whole { D.tells → IsWhole (D.disk device.old) }
     requires ends { D.tells → end ≡ records_end (recorded (D.disk device.old).seen) }
-    ensures { D.tells
+    ensures other { IfErr result (λ fault. fault ≡ Fault.NotEmpty → ⊥) }
+    ensures publishes { D.tells
         → (records : List (List ℕ)) → AllByRecursion Fits records
         → batch.now ≡ at_rest records
         → 1 ≤ length records

@@ -1,8 +1,9 @@
 //! A journal is created.
-ghost use Rattle.std.specs.Prelude.{◌≡◌, ◌≤◌, true, [], length, OnOk, IfOk, IfErr};
+ghost use Rattle.std.specs.Prelude.{◌≡◌, ◌≤◌, true, ℕ, List, [], length, OnOk, IfOk, IfErr};
 ghost use Rattle.tb_journal.specs.Device.{IsSettled, LeavesOnly, HasCause, ReadsAt};
 ghost use Rattle.tb_journal.specs.Opening.{IsOfDevice, device_left, fault_left};
-ghost use Rattle.tb_journal.specs.Creating.{is_torn_from, is_blank, MayBeCreated, IsLeft, HasCreateCause, IsNew, IsUnborn, FindsBlank, WritesFirst};
+ghost use Rattle.tb_journal.specs.Ready.{IsOver};
+ghost use Rattle.tb_journal.specs.Creating.{is_torn_from, is_blank, MayBeCreated, IsLeft, HasCreateCause, CreatesIn, IsNew, IsUnborn, FindsBlank, WritesFirst};
 ghost use Rattle.tb_journal.specs.Reading.{LooksKept};
 
 use crate::batches::Batch;
@@ -10,7 +11,7 @@ use crate::calls::write_kept;
 use crate::devices::Device;
 use crate::faults::Fault;
 use crate::journals::Journal;
-use crate::opening::NotOpened;
+use crate::opening::{NotOpened, OpenFault};
 use crate::reading::MAGIC;
 use std::alloc::Global;
 
@@ -23,7 +24,8 @@ const FIRST: [u8; 9] = [84, 66, 74, 82, 78, 76, 48, 49, 0];
 pub fn create<D: Device>(alloc: Global, device: D) -> Result<Journal<D>, NotOpened<D>>
     // Where no sync has failed before.
     ensures created { D.tells → (D.disk device).sound ≡ true → IfOk result (IsNew D.disk) }
-    ensures blank { D.tells → IfOk result (λ _. is_blank (D.disk device).seen ≡ true) }
+    ensures blank { D.tells
+        → IfOk result (λ journal. (is_blank (D.disk device).seen ≡ true) × IsOver D.disk [] journal) }
     // A crash at any moment of the call leaves the file as it was, or no record in it.
     ensures any_moment { D.tells → (D.disk device).sound ≡ true
         → LeavesOnly (D.disk device) (D.disk (device_left result)) (MayBeCreated (D.disk device)) }
@@ -33,6 +35,8 @@ pub fn create<D: Device>(alloc: Global, device: D) -> Result<Journal<D>, NotOpen
     // Of any device.
     ensures usable { IfOk result (λ journal. (journal.usable ≡ true) × (journal.waiting ≡ [])) }
     ensures of_device { IfErr result (λ failed. IsOfDevice failed.fault) }
+    // By the file that its reads are of.
+    ensures handed { (file : List ℕ) → D.holds device file → CreatesIn D.holds result file }
     ensures cause { D.tells → HasCreateCause (fault_left result) (D.disk device) (D.disk (device_left result)) }
 {
     let mut device = device;
@@ -45,7 +49,10 @@ pub fn create<D: Device>(alloc: Global, device: D) -> Result<Journal<D>, NotOpen
 
 // Says whether a file is blank. One that is longer than the first bytes is not, and is not read.
 fn finds_blank<D: Device>(device: &mut D) -> Result<bool, Fault>
-    ensures { D.tells → FindsBlank result (D.disk device.old) (D.disk device.new) }
+    ensures found { (file : List ℕ) → D.holds device.old file → IfOk result (λ found. found ≡ is_blank file) }
+    ensures same { (file : List ℕ) → D.holds device.old file → D.holds device.new file }
+    ensures other { IfErr result (λ fault. fault ≡ Fault.NotEmpty → ⊥) }
+    ensures finds { D.tells → FindsBlank result (D.disk device.old) (D.disk device.new) }
 {
     match device.len() {
         Ok(len) => {
@@ -65,7 +72,10 @@ fn finds_blank<D: Device>(device: &mut D) -> Result<bool, Fault>
 // The first bytes of a file. What is read is on the disk before it is read.
 fn read_kept<D: Device>(device: &mut D, into: &mut [u8]) -> Result<usize, Fault>
     ensures within { IfOk result (λ count. count ≤ length into.new) }
-    ensures bytes { D.tells → IfOk result (λ count. ReadsAt count 0 (D.disk device.old).seen into.new) }
+    ensures bytes { (file : List ℕ) → D.holds device.old file
+        → IfOk result (λ count. ReadsAt count 0 file into.new) }
+    ensures same { (file : List ℕ) → D.holds device.old file → D.holds device.new file }
+    ensures other { IfErr result (λ fault. fault ≡ Fault.NotEmpty → ⊥) }
     ensures reads { D.tells → LooksKept result (D.disk device.old) (D.disk device.new) }
     ensures sound { D.tells → OnOk result ((D.disk device.new).sound ≡ (D.disk device.old).sound) }
     ensures cause { D.tells → HasCause result (D.disk device.old) (D.disk device.new) }
@@ -78,10 +88,12 @@ fn read_kept<D: Device>(device: &mut D, into: &mut [u8]) -> Result<usize, Fault>
 fn begin<D: Device>(alloc: Global, device: D) -> Result<Journal<D>, NotOpened<D>>
     requires blank { D.tells → is_blank (D.disk device).seen ≡ true }
     ensures created { D.tells → IsSettled (D.disk device) → IfOk result (IsNew D.disk) }
+    ensures empty { D.tells → IfOk result (IsOver D.disk []) }
     ensures any_moment { D.tells → IsSettled (D.disk device)
         → LeavesOnly (D.disk device) (D.disk (device_left result)) IsUnborn }
     ensures usable { IfOk result (λ journal. (journal.usable ≡ true) × (journal.waiting ≡ [])) }
     ensures of_device { IfErr result (λ failed. IsOfDevice failed.fault) }
+    ensures other { IfErr result (λ failed. failed.fault ≡ OpenFault.Device Fault.NotEmpty → ⊥) }
     ensures cause { D.tells → HasCreateCause (fault_left result) (D.disk device) (D.disk (device_left result)) }
 {
     let Ok(batch) = Batch::new(alloc) else {
@@ -103,7 +115,8 @@ fn begin<D: Device>(alloc: Global, device: D) -> Result<Journal<D>, NotOpened<D>
 // Writes the first bytes, all in one write: whatever a crash leaves of them holds no record.
 fn write_first<D: Device>(device: &mut D) -> Result<(), Fault>
     requires blank { D.tells → is_blank (D.disk device.old).seen ≡ true }
-    ensures { D.tells → WritesFirst result (D.disk device.old) (D.disk device.new) }
+    ensures other { IfErr result (λ fault. fault ≡ Fault.NotEmpty → ⊥) }
+    ensures writes { D.tells → WritesFirst result (D.disk device.old) (D.disk device.new) }
 {
     write_kept(device, 0, &FIRST)
 }

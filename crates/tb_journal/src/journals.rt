@@ -1,9 +1,9 @@
 //! A journal: records in a file, each on the disk before it counts.
-ghost use Rattle.std.specs.Prelude.{◌≡◌, ◌↔◌, ◌≤◌, ◌<◌, ◌+◌, ◌^◌, ◌++◌, true, false, List, [], ◌∷◌, length, Ok, OnOk, OnErr, IsErrOf};
+ghost use Rattle.std.specs.Prelude.{◌≡◌, ◌↔◌, ◌≤◌, ◌<◌, ◌+◌, ◌^◌, ◌++◌, true, false, List, [], ◌∷◌, length, Ok, IfErr, OnOk, OnErr, IsErrOf};
 ghost use Rattle.tb_journal.specs.Device.{LeavesOnly, HasCause};
 ghost use Rattle.tb_journal.specs.Contents.{at_rest, recorded};
 ghost use Rattle.tb_journal.specs.Steps.{IsBeforeOrAfter};
-ghost use Rattle.tb_journal.specs.Ready.{Kept, IsReady};
+ghost use Rattle.tb_journal.specs.Ready.{Kept, IsWritable, IsReady};
 
 use crate::batches::Batch;
 use crate::calls::publish;
@@ -67,9 +67,11 @@ impl<D: Device> Journal<D> {
     /// not used again: the file has to be recovered.
     pub fn commit(&mut self) -> Result<(), Fault>
         requires usable { self.old.usable ≡ true }
-        requires ready { D.tells → IsReady D.disk self.old }
+        requires writable { D.tells → IsWritable D.disk self.old }
 
-        ensures ready { D.tells → OnOk result (IsReady D.disk self.new) }
+        ensures writable { D.tells → OnOk result (IsWritable D.disk self.new) }
+        // From a journal that is ready: all that is read is on the disk, and no sync has failed.
+        ensures ready { D.tells → IsReady D.disk self.old → OnOk result (IsReady D.disk self.new) }
         ensures acknowledged { D.tells
             → OnOk result
             (recorded (D.disk self.new.device).seen
@@ -81,8 +83,11 @@ impl<D: Device> Journal<D> {
         ensures err { OnErr result (self.new ≡ record self.old { device = self.new.device; usable = false }) }
 
         // A crash at any moment of the call leaves the records from before it, with the whole batch or with none of it.
-        ensures any_moment { D.tells → LeavesOnly (D.disk self.old.device) (D.disk self.new.device)
+        ensures any_moment { D.tells → IsReady D.disk self.old
+            → LeavesOnly (D.disk self.old.device) (D.disk self.new.device)
             (IsBeforeOrAfter (recorded (D.disk self.old.device).seen) self.old.waiting) }
+
+        ensures not_empty { IfErr result (λ fault. fault ≡ Fault.NotEmpty → ⊥) }
 
         // It does not give up by itself.
         ensures cause { D.tells → HasCause result (D.disk self.old.device) (D.disk self.new.device) }

@@ -4,6 +4,7 @@ ghost use Rattle.tb_journal.specs.Device.{IsOnDisk, LeavesOnly};
 ghost use Rattle.tb_journal.specs.Contents.{Records, contents, recorded, records_end};
 ghost use Rattle.tb_journal.specs.Steps.{Shortens};
 ghost use Rattle.tb_journal.specs.Reading.{extent_of};
+ghost use Rattle.tb_journal.specs.Ready.{IsOver};
 ghost use Rattle.tb_journal.specs.Opening.{IsOfExtent, Recovers, StandsForTheSame, IsOfDevice, HasOpenCause, IsUntouched, IsOpened, Repairs, device_left, fault_left};
 
 use crate::batches::{Batch, CLOSED};
@@ -78,6 +79,7 @@ impl<D: Device> Journal<D> {
         // Where no sync has failed before.
         ensures opened { D.tells → (D.disk device).sound ≡ true
             → IfOk result (IsOpened D.disk (D.disk device).seen) }
+        ensures same { D.tells → IfOk result (IsOver D.disk (recorded (D.disk device).seen)) }
         ensures any_moment { D.tells → (D.disk device).sound ≡ true
             → LeavesOnly (D.disk device) (D.disk (device_left result))
             (λ c. contents c ≡ Records (recorded (D.disk device).seen)) }
@@ -115,6 +117,7 @@ pub fn recover<D: Device>(alloc: Global, device: D) -> Result<Journal<D>, NotOpe
     // Where no sync has failed before.
     ensures opened { D.tells → (D.disk device).sound ≡ true
         → IfOk result (IsOpened D.disk (D.disk device).seen) }
+    ensures same { D.tells → IfOk result (IsOver D.disk (recorded (D.disk device).seen)) }
     ensures any_moment { D.tells → (D.disk device).sound ≡ true
         → LeavesOnly (D.disk device) (D.disk (device_left result))
         (StandsForTheSame (D.disk device)) }

@@ -1,5 +1,5 @@
 //! A file of a system as a device: whole reads and writes, of calls that take a part, are interrupted or fail.
-ghost use Rattle.std.specs.Prelude.{◌≡◌, ◌+◌, ◌^◌, ◌<◌, ◌≤◌, length, IfOk, IfErr, refl};
+ghost use Rattle.std.specs.Prelude.{◌≡◌, ◌+◌, ◌^◌, ◌<◌, ◌≤◌, length, Ok, IfOk, IfErr, refl};
 ghost use Rattle.tb_journal.specs.Device.{Cuts, Syncs, IsOfCall, IsOfSync};
 ghost use Rattle.tb_journal.specs.System.{fault_of, sync_fault_of};
 ghost use Rattle.tb_journal.specs.Posix.{ReadsSome, WritesSome};
@@ -15,12 +15,24 @@ pub struct Posix<S> {
     system: S,
 }
 
-impl<S: System> Posix<S> {
+impl<S: System + Drop> Posix<S> {
     /// The device of an open file.
     pub fn new(system: S) -> Posix<S>
         ensures { result ≡ record { system = system } }
     {
         Posix { system }
+    }
+
+    /// The device of an open file, which is synced, so that what is read is on the disk.
+    pub fn synced(system: S) -> Result<Posix<S>, Fault>
+        ensures names { IfErr result IsOfSync }
+        ensures syncs { S.tells → IfOk result (λ file. Syncs (Ok tt) (S.disk system) (S.disk file.system)) }
+    {
+        let mut system = system;
+        match sync_once(&mut system) {
+            Ok(()) => Ok(Posix { system }),
+            Err(fault) => Err(fault),
+        }
     }
 
     /// The open file.
@@ -183,7 +195,7 @@ fn fault_of(kind: ErrorKind) -> Fault
 
 // The fault of a sync that answered so.
 #[tactic(auto, unfolding(crate::specs::System::sync_fault_of))]
-fn sync_fault_of(kind: ErrorKind) -> Fault
+pub(crate) fn sync_fault_of(kind: ErrorKind) -> Fault
     ensures is { result ≡ sync_fault_of kind }
     ensures names { IsOfSync result }
 {

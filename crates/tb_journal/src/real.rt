@@ -1,7 +1,8 @@
 //! A file of the system.
 ghost use Rattle.tb_journal.specs.Real.{untold};
 
-use crate::posix::Posix;
+use crate::faults::Fault;
+use crate::posix::{Posix, sync_fault_of};
 use crate::systems::System;
 use std::fs::{File, Files, OpenFile, TryLockError};
 use std::io::ErrorKind;
@@ -13,7 +14,9 @@ use std::{fs, io};
 pub enum FileFault {
     /// Another process has it open.
     Locked,
-    /// The system's answer.
+    /// A sync of the file or of its folder failed so.
+    Sync(Fault),
+    /// The system's answer to any other call.
     System(io::Error),
 }
 
@@ -93,13 +96,10 @@ impl Posix<HostFile> {
     }
 }
 
-// Locks a file, and syncs it, so that what is read is on the disk.
+// Locks a file, and syncs it.
 fn locked(file: File) -> Result<Real, FileFault> {
     match file.try_lock() {
-        Ok(()) => {
-            file.sync_all()?;
-            Ok(Posix::new(HostFile { file }))
-        }
+        Ok(()) => Posix::synced(HostFile { file }).map_err(|fault| FileFault::Sync(fault)),
         Err(TryLockError::WouldBlock) => Err(FileFault::Locked),
         Err(TryLockError::Error(error)) => Err(FileFault::System(error)),
     }
@@ -107,12 +107,17 @@ fn locked(file: File) -> Result<Real, FileFault> {
 
 /// Syncs the folder that a file lies in, so that the file's name is on the disk: of a symbolic link the folder of what it
 /// stands for.
-pub fn sync_folder<R: Files + Alloc>(rt: &R, path: &str) -> io::Result<()> {
+pub fn sync_folder<R: Files + Alloc>(rt: &R, path: &str) -> Result<(), FileFault> {
     if fs::symlink_metadata(rt, path)?.is_symlink() {
         let target = fs::canonicalize(rt, path)?;
-        return File::open(rt, folder_of(target.as_str()))?.sync_all();
+        return synced(File::open(rt, folder_of(target.as_str()))?.sync_all());
     }
-    File::open(rt, folder_of(path))?.sync_all()
+    synced(File::open(rt, folder_of(path))?.sync_all())
+}
+
+// What a sync answered.
+fn synced(answer: io::Result<()>) -> Result<(), FileFault> {
+    answer.map_err(|error| FileFault::Sync(sync_fault_of(error.kind())))
 }
 
 // The folder that a path names a file in.

@@ -19,7 +19,7 @@ use Rattle.tb_keep.specs.declared.faults.StartFault.TheVariants as start
 use Rattle.tb_keep.specs.declared.opening.NotKept.{NotKept}
 use Rattle.tb_keep.specs.Keeping.{Keeping}
 use Rattle.tb_keep.specs.Restoration.{IsRestored, IsRestoredFrom, IsNotOfFile, IsTornTooLong, StopsOpening, torn_bytes}
-use Rattle.tb_keep.specs.Opening.{OpensFile, IsUntouched, MayBeOpened, MayBeStarted, IsRefused, IsStartRefused}
+use Rattle.tb_keep.specs.Opening.{OpensFile, StartsFile, IsOpened, IsStarted, IsUntouched, MayBeOpened, MayBeStarted, IsRefused, IsStartRefused}
 use Rattle.tb_keep.specs.Headed.{IsOfDevice, OpensOnly}
 
 abbrev pub Counts : Disk → Type 0
@@ -43,6 +43,17 @@ pub refused_at_last : {D : Type 0} (disk : D → Disk) (profile : Profile) (clie
     → IfErr result (λ failed. IsRefused profile clients_max failed.fault mid (disk failed.device))
     → IfErr result (λ failed. IsStartRefused profile clients_max failed.fault before (disk failed.device))
 refused_at_last disk profile clients_max before mid result counts first is = grind (arith, common_steps, refused_then)
+
+still_refused : (profile : Profile) (clients_max : ℕ) (before mid after : Disk) (fault : StartFault) → Counts mid → IsUntouched before mid
+    → IsRefused profile clients_max fault mid after → IsRefused profile clients_max fault before after
+still_refused profile clients_max before mid after fault counts first is = grind (arith, common_steps, untouched_then)
+
+pub refused_still : {D : Type 0} (disk : D → Disk) (profile : Profile) (clients_max : ℕ) (before mid : Disk) (result : Result (Keeping D) (NotKept D)) → Counts mid
+    → IsUntouched before mid
+    → IfErr result (λ failed. IsRefused profile clients_max failed.fault mid (disk failed.device))
+    → IfErr result (λ failed. IsRefused profile clients_max failed.fault before (disk failed.device))
+refused_still disk profile clients_max before mid (Ok keeper) counts first is = tt
+refused_still disk profile clients_max before mid (Err failed) counts first is = still_refused profile clients_max before mid (disk failed.device) failed.fault counts first is
 
 may_be : (profile : Profile) (clients_max : ℕ) (before mid : Disk) → Counts mid → IsUntouched before mid → (c : List ℕ) → MayBeOpened profile clients_max mid c → MayBeStarted profile clients_max before c
 may_be profile clients_max before mid counts first c (inl was) = inl (inl (still_before before mid counts first c was))
@@ -78,3 +89,15 @@ module _ (profile : Profile) (clients_max : ℕ) (file : List ℕ) where
   too_long machine extent at bytes found place torn many =
       let told = is_told (contents file) extent found.extent_is in
       record { reads = told.reads; place = place ∙ told.end; torn = torn; many = many }
+
+-- a start
+
+pub opened_as_started : {D : Type 0} (disk : D → Disk) (profile : Profile) (clients_max : ℕ) (before mid : List ℕ) (result : Result (Keeping D) (NotKept D)) → mid ≡ before
+    → IfOk result (IsOpened disk profile clients_max mid) → IfOk result (IsStarted disk profile clients_max before)
+opened_as_started disk profile clients_max before mid (Ok keeper) same opened = inl (subst (λ (file : List ℕ). IsOpened disk profile clients_max file keeper) same opened)
+opened_as_started disk profile clients_max before mid (Err failed) same opened = tt
+
+pub starts_file : {D : Type 0} (profile : Profile) (clients_max : ℕ) (file : List ℕ) (result : Result (Keeping D) (NotKept D)) → OpensFile result profile clients_max file
+    → StartsFile result profile clients_max file
+starts_file profile clients_max file (Ok keeper) opens = inl opens
+starts_file profile clients_max file (Err failed) opens = inr opens

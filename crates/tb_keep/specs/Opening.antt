@@ -1,6 +1,6 @@
 -- How a kept file is created and opened, and what a crash may leave of it meanwhile.
 -- Cited by public contracts of: dumps, opening, restoring, worked_rows.
-use Rattle.std.specs.Prelude.{ℕ, true, ◌≡◌, ◌⊎◌, ◌≤◌, ◌^◌, List, [], ◌∷◌, Result, Ok, Err, OnOk, IfErr}
+use Rattle.std.specs.Prelude.{ℕ, true, false, ◌≡◌, ◌⊎◌, ◌≤◌, ◌^◌, List, [], ◌∷◌, Result, Ok, Err, OnOk, IfErr}
 use Rattle.tb_records.specs.declared.limits.Profile.{Profile}
 use Rattle.tb_journal.specs.declared.faults.Fault.TheVariants.{NotEmpty}
 use Rattle.tb_journal.specs.declared.opening.OpenFault.TheVariants as open_faults
@@ -54,6 +54,20 @@ OpensFile (Ok keeper) profile clients_max file =
     (contents file ≡ Records (recorded file)) × IsRestored profile clients_max (recorded file) keeper.state
     × (keeper.cut ≡ torn_bytes file) × (torn_bytes file ≤ 2 ^ 22)
 OpensFile (Err failed) profile clients_max file = StopsOpening failed.fault profile clients_max file
+
+-- by the same: a ledger is created in a blank file. Where something else stands in it, the reads of the device that is given back are of
+-- it still
+abbrev pub CreatesIn : {T D : Type 0} → (D → List ℕ → Type 0) → Result T (NotKept D) → List ℕ → Type 0
+CreatesIn holds (Ok value) file = is_blank file ≡ true
+CreatesIn holds (Err failed) file =
+    failed.fault ≡ start.Journal (open_faults.Device NotEmpty) → (is_blank file ≡ false) × holds failed.device file
+
+-- by the same: a blank file has a ledger without entries, and any other is opened; or it is told why not
+abbrev pub StartsFile : {D : Type 0} → Result (Keeping D) (NotKept D) → Profile → ℕ → List ℕ → Type 0
+StartsFile (Ok keeper) profile clients_max file =
+    OpensFile (Ok keeper) profile clients_max file
+    ⊎ ((is_blank file ≡ true) × (keeper.state ≡ start_state profile clients_max) × (keeper.cut ≡ 0))
+StartsFile (Err failed) profile clients_max file = IsNotOfFile failed.fault ⊎ StopsOpening failed.fault profile clients_max file
 
 -- the file is as it was, and was at each moment
 pub record IsUntouched (before after : Disk) : Type 0 where

@@ -3,12 +3,12 @@ ghost use Rattle.std.specs.Prelude.{◌≡◌, ◌≤◌, ◌-◌, true, ℕ, Li
 ghost use Rattle.tb_journal.specs.Device.{IsOnDisk, LeavesOnly, HasCause, HasOwnCause, IsOfCall};
 ghost use Rattle.tb_journal.specs.Contents.{contents, recorded};
 ghost use Rattle.tb_journal.specs.Reading.{extent_of};
-ghost use Rattle.tb_journal.specs.Ready.{IsReady};
+ghost use Rattle.tb_journal.specs.Ready.{IsReady, IsOver};
 ghost use Rattle.tb_journal.specs.Creating.{is_blank};
 ghost use Rattle.tb_machine.specs.Histories.{start};
 ghost use Rattle.tb_keep.specs.Keeping.{Keeps, IsFresh, IsUsable};
 ghost use Rattle.tb_keep.specs.Restoration.{IsRestoredFrom, IsNotOfFile, HasStartCause, torn_bytes};
-ghost use Rattle.tb_keep.specs.Opening.{OpensFile, IsOpened, IsStarted, HasNoEntry, MayBeOpened, MayBeCreated, MayBeStarted, IsRefused, IsCreateRefused, IsStartRefused, HasCreateStartCause, HasEitherCause, IsUntouched, history_of, device_left, why_left};
+ghost use Rattle.tb_keep.specs.Opening.{OpensFile, CreatesIn, StartsFile, IsOpened, IsStarted, HasNoEntry, MayBeOpened, MayBeCreated, MayBeStarted, IsRefused, IsCreateRefused, IsStartRefused, HasCreateStartCause, HasEitherCause, IsUntouched, history_of, device_left, why_left};
 ghost use Rattle.tb_keep.specs.Entering.{StaysKept};
 ghost use Rattle.tb_keep.specs.Headed.{HasHead, HasRecords, IsOfDevice, HasDeviceCause, OpensOnly, journal_left};
 
@@ -42,14 +42,14 @@ fn not_kept<D: Device>(failed: NotOpened<D>) -> NotKept<D>
 /// Commits the head of a file without records.
 fn commit_head<D: Device>(journal: &mut Journal<D>, rules: Rules) -> Result<(), Fault>
     requires usable { journal.old.usable ≡ true }
-    requires ready { D.tells → IsReady D.disk journal.old }
+    requires over { D.tells → IsOver D.disk [] journal.old }
     requires none_waits { D.tells → journal.old.waiting ≡ [] }
-    requires no_records { D.tells → recorded (D.disk journal.old.device).seen ≡ [] }
-    ensures head { D.tells → OnOk result (HasHead D.disk rules.profile rules.clients_max journal.new) }
-    ensures any_moment { D.tells
+    ensures head { D.tells → IsReady D.disk journal.old
+        → OnOk result (HasHead D.disk rules.profile rules.clients_max journal.new) }
+    ensures any_moment { D.tells → IsReady D.disk journal.old
         → LeavesOnly (D.disk journal.old.device) (D.disk journal.new.device)
         (HasNoEntry rules.profile rules.clients_max) }
-    ensures fault { D.tells → IfErr result (λ fault. IsOfDevice (StartFault.Journal (OpenFault.Device fault))) }
+    ensures fault { IfErr result (λ fault. IsOfDevice (StartFault.Journal (OpenFault.Device fault))) }
     ensures cause { D.tells → HasOwnCause result (D.disk journal.old.device) (D.disk journal.new.device) }
     ensures usable { OnOk result (journal.new.usable ≡ true) }
 {
@@ -63,13 +63,13 @@ fn commit_head<D: Device>(journal: &mut Journal<D>, rules: Rules) -> Result<(), 
 /// Commits the head of a file without records. On a fault the device is given back.
 fn headed<D: Device>(journal: Journal<D>, rules: Rules) -> Result<Journal<D>, NotKept<D>>
     requires usable { journal.usable ≡ true }
-    requires ready { D.tells → IsReady D.disk journal }
+    requires over { D.tells → IsOver D.disk [] journal }
     requires none_waits { D.tells → journal.waiting ≡ [] }
-    requires no_records { D.tells → recorded (D.disk journal.device).seen ≡ [] }
-    ensures head { D.tells → IfOk result (HasHead D.disk rules.profile rules.clients_max) }
-    ensures any_moment { D.tells
+    ensures head { D.tells → IsReady D.disk journal
+        → IfOk result (HasHead D.disk rules.profile rules.clients_max) }
+    ensures any_moment { D.tells → IsReady D.disk journal
         → LeavesOnly (D.disk journal.device) (D.disk (journal_left result)) (HasNoEntry rules.profile rules.clients_max) }
-    ensures fault { D.tells → IfErr result (λ failed. IsOfDevice failed.fault) }
+    ensures fault { IfErr result (λ failed. IsOfDevice failed.fault) }
     ensures cause { D.tells
         → HasDeviceCause (why_left result) (D.disk journal.device) (D.disk (journal_left result)) }
     ensures usable { IfOk result (λ headed. headed.usable ≡ true) }
@@ -91,10 +91,10 @@ fn create_headed<D: Device>(
     device: D,
     rules: Rules,
 ) -> Result<Journal<D>, NotKept<D>>
-    requires sound { D.tells → (D.disk device).sound ≡ true }
-    ensures head { D.tells → IfOk result (HasHead D.disk rules.profile rules.clients_max) }
+    ensures head { D.tells → (D.disk device).sound ≡ true
+        → IfOk result (HasHead D.disk rules.profile rules.clients_max) }
     ensures blank { D.tells → IfOk result (λ _. is_blank (D.disk device).seen ≡ true) }
-    ensures any_moment { D.tells
+    ensures any_moment { D.tells → (D.disk device).sound ≡ true
         → LeavesOnly (D.disk device) (D.disk (journal_left result))
         (MayBeCreated rules.profile rules.clients_max (D.disk device)) }
     ensures refused { D.tells
@@ -102,6 +102,8 @@ fn create_headed<D: Device>(
     ensures cause { D.tells → HasCreateStartCause (why_left result) (D.disk device) (D.disk (journal_left result)) }
     ensures usable { IfOk result (λ headed. headed.usable ≡ true) }
     ensures outside { IfErr result (λ failed. IsNotOfFile failed.fault) }
+    // By the file that its reads are of.
+    ensures handed { (file : List ℕ) → D.holds device file → CreatesIn D.holds result file }
 {
     match tb_journal::create(global, device) {
         Ok(journal) => headed(journal, rules),
@@ -110,14 +112,15 @@ fn create_headed<D: Device>(
 }
 
 /// Creates a kept ledger without entries in an empty file. Where something stands in the file the fault is NotEmpty, and the
-/// file is as it was. No sync may have failed on the device before.
+/// file is as it was.
 pub fn create<D: Device>(global: Global, device: D, rules: Rules) -> Result<Keeper<D>, NotKept<D>>
-    requires sound { D.tells → (D.disk device).sound ≡ true }
-    ensures kept { D.tells → IfOk result (Keeps D.disk (history_of rules.profile rules.clients_max [])) }
-    ensures fresh { D.tells → IfOk result (IsFresh D.disk) }
+    // Where no sync has failed before.
+    ensures kept { D.tells → (D.disk device).sound ≡ true
+        → IfOk result (Keeps D.disk (history_of rules.profile rules.clients_max [])) }
+    ensures fresh { D.tells → (D.disk device).sound ≡ true → IfOk result (IsFresh D.disk) }
     ensures blank { D.tells → IfOk result (λ _. is_blank (D.disk device).seen ≡ true) }
     // A crash at any moment of the call leaves the file as it was, or no entry in it.
-    ensures any_moment { D.tells
+    ensures any_moment { D.tells → (D.disk device).sound ≡ true
         → LeavesOnly (D.disk device) (D.disk (device_left result))
         (MayBeCreated rules.profile rules.clients_max (D.disk device)) }
     ensures refused { D.tells
@@ -128,6 +131,8 @@ pub fn create<D: Device>(global: Global, device: D, rules: Rules) -> Result<Keep
     ensures uncut { IfOk result (λ keeper. keeper.cut ≡ 0) }
     ensures usable { IfOk result IsUsable }
     ensures outside { IfErr result (λ failed. IsNotOfFile failed.fault) }
+    // By the file that its reads are of.
+    ensures handed { (file : List ℕ) → D.holds device file → CreatesIn D.holds result file }
 {
     let _clients = rules.clients_max.get();
     let Ok(machine) = Machine::new_in(global, global, rules.profile, rules.clients_max) else {
@@ -150,12 +155,11 @@ fn open_headed<D: Device>(
     extent: Extent,
 ) -> Result<Journal<D>, NotKept<D>>
     requires few { extent.count ≤ extent.end }
-    requires sound { D.tells → (D.disk device).sound ≡ true }
-    requires kept { D.tells → IsOnDisk (D.disk device) }
+    requires kept { D.tells → (D.disk device).sound ≡ true → IsOnDisk (D.disk device) }
     requires read { D.tells → extent_of (contents (D.disk device).seen) ≡ Ok extent }
-    ensures opened { D.tells
+    ensures opened { D.tells → (D.disk device).sound ≡ true
         → IfOk result (HasRecords D.disk rules.profile rules.clients_max (recorded (D.disk device).seen)) }
-    ensures any_moment { D.tells
+    ensures any_moment { D.tells → (D.disk device).sound ≡ true
         → LeavesOnly (D.disk device) (D.disk (journal_left result))
         (OpensOnly rules.profile rules.clients_max (recorded (D.disk device).seen)) }
     ensures fault { D.tells → IfErr result (λ failed. IsOfDevice failed.fault) }
@@ -185,15 +189,14 @@ fn open_restored<D: Device>(
     cut: u64,
 ) -> Result<Keeper<D>, NotKept<D>>
     requires few { extent.count ≤ extent.end }
-    requires sound { D.tells → (D.disk device).sound ≡ true }
-    requires kept { D.tells → IsOnDisk (D.disk device) }
+    requires kept { D.tells → (D.disk device).sound ≡ true → IsOnDisk (D.disk device) }
     requires restored { D.tells
         → IsRestoredFrom rules.profile rules.clients_max (D.disk device).seen machine extent }
     requires torn { D.tells → cut ≡ torn_bytes (D.disk device).seen }
-    ensures opened { D.tells
+    ensures opened { D.tells → (D.disk device).sound ≡ true
         → IfOk result (IsOpened D.disk rules.profile rules.clients_max (D.disk device).seen) }
-    ensures fresh { D.tells → IfOk result (IsFresh D.disk) }
-    ensures any_moment { D.tells
+    ensures fresh { D.tells → (D.disk device).sound ≡ true → IfOk result (IsFresh D.disk) }
+    ensures any_moment { D.tells → (D.disk device).sound ≡ true
         → LeavesOnly (D.disk device) (D.disk (device_left result))
         (OpensOnly rules.profile rules.clients_max (recorded (D.disk device).seen)) }
     ensures fault { D.tells → IfErr result (λ failed. IsOfDevice failed.fault) }
@@ -233,14 +236,13 @@ fn open_short<D: Device>(
     machine: Machine<Global>,
 ) -> Result<Keeper<D>, NotKept<D>>
     requires few { extent.count ≤ extent.end }
-    requires sound { D.tells → (D.disk device).sound ≡ true }
-    requires kept { D.tells → IsOnDisk (D.disk device) }
+    requires kept { D.tells → (D.disk device).sound ≡ true → IsOnDisk (D.disk device) }
     requires restored { D.tells
         → IsRestoredFrom rules.profile rules.clients_max (D.disk device).seen machine extent }
-    ensures opened { D.tells
+    ensures opened { D.tells → (D.disk device).sound ≡ true
         → IfOk result (IsOpened D.disk rules.profile rules.clients_max (D.disk device).seen) }
-    ensures fresh { D.tells → IfOk result (IsFresh D.disk) }
-    ensures any_moment { D.tells
+    ensures fresh { D.tells → (D.disk device).sound ≡ true → IfOk result (IsFresh D.disk) }
+    ensures any_moment { D.tells → (D.disk device).sound ≡ true
         → LeavesOnly (D.disk device) (D.disk (device_left result))
         (MayBeOpened rules.profile rules.clients_max (D.disk device)) }
     ensures refused { D.tells
@@ -275,17 +277,16 @@ fn open_short<D: Device>(
 impl<D: Device> Keeper<D> {
     /// Opens a kept ledger: its machine stands after the entries that the file has. It is read in pieces, and each record is
     /// entered before the next is read. A file without records gets a head. What a crash left behind the records is cut off, if
-    /// it is no more than one batch can have: more is damage, and the file stays as it was (TornTooLong). No sync may have
-    /// failed on the device before.
+    /// it is no more than one batch can have: more is damage, and the file stays as it was (TornTooLong).
     pub fn open(global: Global, device: D, rules: Rules) -> Result<Keeper<D>, NotKept<D>>
-        requires sound { D.tells → (D.disk device).sound ≡ true }
-        ensures opened { D.tells
+        // Where no sync has failed before.
+        ensures opened { D.tells → (D.disk device).sound ≡ true
             → IfOk result (IsOpened D.disk rules.profile rules.clients_max (D.disk device).seen) }
         // So `keep` may serve.
-        ensures fresh { D.tells → IfOk result (IsFresh D.disk) }
+        ensures fresh { D.tells → (D.disk device).sound ≡ true → IfOk result (IsFresh D.disk) }
         ensures usable { IfOk result IsUsable }
         // A crash at any moment of the call leaves the history that was there, so that the call may be made again.
-        ensures any_moment { D.tells
+        ensures any_moment { D.tells → (D.disk device).sound ≡ true
             → LeavesOnly (D.disk device) (D.disk (device_left result))
             (MayBeOpened rules.profile rules.clients_max (D.disk device)) }
         // A file that is refused stays as it was.
@@ -306,14 +307,14 @@ impl<D: Device> Keeper<D> {
         }
     }
 
-    /// Creates a kept ledger in an empty file, and opens that of any other one. No sync may have failed on the device before.
+    /// Creates a kept ledger in an empty file, and opens that of any other one.
     pub fn start(global: Global, device: D, rules: Rules) -> Result<Keeper<D>, NotKept<D>>
-        requires sound { D.tells → (D.disk device).sound ≡ true }
-        ensures started { D.tells
+        // Where no sync has failed before.
+        ensures started { D.tells → (D.disk device).sound ≡ true
             → IfOk result (IsStarted D.disk rules.profile rules.clients_max (D.disk device).seen) }
-        ensures fresh { D.tells → IfOk result (IsFresh D.disk) }
+        ensures fresh { D.tells → (D.disk device).sound ≡ true → IfOk result (IsFresh D.disk) }
         ensures usable { IfOk result IsUsable }
-        ensures any_moment { D.tells
+        ensures any_moment { D.tells → (D.disk device).sound ≡ true
             → LeavesOnly (D.disk device) (D.disk (device_left result))
             (MayBeStarted rules.profile rules.clients_max (D.disk device)) }
         ensures refused { D.tells
@@ -321,6 +322,9 @@ impl<D: Device> Keeper<D> {
             (λ failed.
             IsStartRefused rules.profile rules.clients_max failed.fault (D.disk device) (D.disk failed.device)) }
         ensures cause { D.tells → HasEitherCause (why_left result) (D.disk device) (D.disk (device_left result)) }
+        // Of any device, by the file that its reads are of.
+        ensures handed { (file : List ℕ) → D.holds device file
+            → StartsFile result rules.profile rules.clients_max file }
     {
         let same = rules;
         match create(global, device, same) {

@@ -14,6 +14,7 @@ const BUFFER: usize = 65536;
 fn file_fault(fault: &FileFault) -> Fault {
     match fault {
         FileFault::Locked => Fault::Locked,
+        FileFault::Sync(fault) => disk_fault(*fault),
         FileFault::System(error) => match error.kind() {
             ErrorKind::NotFound => Fault::Missing,
             ErrorKind::PermissionDenied => Fault::Forbidden,

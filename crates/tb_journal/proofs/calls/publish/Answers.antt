@@ -2,18 +2,18 @@ use Rattle.std.proofs.Common.{rules}
 use Rattle.tb_journal.proofs.Publishing.{stage_failed, gate_done}
 use Rattle.tb_journal.proofs.calls.publish.Goals as goal
 
-pub returns-in-Ok : goal.returns-in-Ok
-returns-in-Ok g c t records fits spells some =
-    let staged = c.write_kept.ensures t in
-    let opened = c.write_kept-in-Ok.ensures t in
-    gate_done (g.D.Device.disk c.args.device.now) (c.requires.at_rest t) c.args.batch.now c.split_at.result.1.now records
+pub returns-in-Ok-clause-publishes : goal.returns-in-Ok-clause-publishes
+returns-in-Ok-clause-publishes g c t records fits spells some =
+    let staged = c.write_kept.ensures.writes t in
+    let opened = c.write_kept-in-Ok.ensures.writes t in
+    gate_done (g.D.Device.disk c.args.device.now) (c.requires.whole t) c.args.batch.now c.split_at.result.1.now records
     fits spells some c.split_at.ensures.back c.args.end (c.requires.ends t)
     (g.D.Device.disk c.write_kept.new.device) c.write_kept.result c.in-Ok.is (search rules)
     (g.D.Device.disk c.write_kept-in-Ok.new.device) c.write_kept-in-Ok.result (search rules)
 
-pub returns-in-Err : goal.returns-in-Err
-returns-in-Err g c t records fits spells some =
-    let staged = c.write_kept.ensures t in
-    stage_failed (g.D.Device.disk c.args.device.now) (c.requires.at_rest t) c.args.batch.now c.split_at.result.1.now records
+pub returns-in-Err-clause-publishes : goal.returns-in-Err-clause-publishes
+returns-in-Err-clause-publishes g c t records fits spells some =
+    let staged = c.write_kept.ensures.writes t in
+    stage_failed (g.D.Device.disk c.args.device.now) (c.requires.whole t) c.args.batch.now c.split_at.result.1.now records
     fits spells some c.split_at.ensures.back c.args.end (c.requires.ends t)
     (g.D.Device.disk c.write_kept.new.device) c.write_kept.result c.in-Err.fault c.in-Err.is (search rules)

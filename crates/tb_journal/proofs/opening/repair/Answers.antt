@@ -10,7 +10,7 @@ write_kept-requires g c = record { within = λ t. end_left (g.D.Device.disk c.ar
 pub returns-in-Ok : goal.returns-in-Ok
 returns-in-Ok g c t =
     repair_done (g.D.Device.disk c.args.device.now) (c.requires.reads t) c.args.end (c.requires.ends t) (g.D.Device.disk c.cut_kept.new.device) c.cut_kept.result c.in-Ok.is (c.cut_kept.ensures t)
-    (g.D.Device.disk c.write_kept.new.device) c.write_kept.result (c.write_kept.ensures t)
+    (g.D.Device.disk c.write_kept.new.device) c.write_kept.result (c.write_kept.ensures.writes t)
 
 pub returns-in-Err : goal.returns-in-Err
 returns-in-Err g c t =

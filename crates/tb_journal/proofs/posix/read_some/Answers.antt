@@ -1,5 +1,3 @@
-use Rattle.std.proofs.Common.{◌∙◌, length}
-use Rattle.tb_journal.specs.Device.{Torn, Cut}
 use Rattle.tb_journal.specs.System.{fault_of}
 use Rattle.tb_journal.proofs.Between.{looked_then}
 use Rattle.tb_journal.proofs.Retried.{interrupted_is, waits_again, read_done, read_failed}

@@ -1,5 +1,5 @@
 use Rattle.std.proofs.Common.{◌∙◌, length}
-use Rattle.tb_journal.specs.Device.{Torn, Cut}
+use Rattle.tb_journal.specs.Device.{Torn}
 use Rattle.tb_journal.specs.System.{fault_of}
 use Rattle.tb_journal.proofs.Between.{changes_then, torn_then}
 use Rattle.tb_journal.proofs.Retried.{interrupted_is, waits_again, write_done, write_failed}

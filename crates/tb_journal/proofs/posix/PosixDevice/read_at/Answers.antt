@@ -1,7 +1,7 @@
-use Rattle.std.proofs.Common.{◌≡◌, ◌+◌, ◌-◌, ◌<◌, ◌^◌, arith, inl, inr, length, subst, ℕ, Ok, Err, sym, ◌∙◌}
+use Rattle.std.proofs.Common.{◌-◌, ◌<◌, ◌^◌, arith, length, subst, ℕ, Ok, Err}
 use borrow.Rule.Slice.PartMut.{post_of}
 use Rattle.tb_journal.specs.Posix.{ReadsSome}
-use Rattle.tb_journal.proofs.WholeCalls.{room_for, next_fits, read_more, read_fails, read_ends, read_all}
+use Rattle.tb_journal.proofs.WholeCalls.{room_for, next_fits, read_more, read_fails}
 use Rattle.tb_journal.proofs.posix.PosixDevice.read_at.Goals as goal
 
 pub loop-count-preserved : goal.loop-count-preserved

@@ -1,4 +1,4 @@
-use Rattle.std.proofs.Common.{◌≡◌, ◌+◌, ◌-◌, ◌<◌, ◌≤◌, ◌^◌, arith, take, drop, length, length-take, length-drop, Ok, Err}
+use Rattle.std.proofs.Common.{◌-◌, arith, drop, length, length-take, length-drop, Ok, Err}
 use Rattle.tb_journal.proofs.WholeCalls.{goes_on_within, as_rest, write_more, write_fails, write_all}
 use Rattle.tb_journal.proofs.posix.PosixDevice.write_at.Goals as goal
 

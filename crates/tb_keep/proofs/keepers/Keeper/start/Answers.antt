@@ -1,9 +1,9 @@
-use Rattle.std.proofs.Common.{inr, [], refl, ◌∙◌, subst, List, ℕ, IfOk}
+use Rattle.std.proofs.Common.{inl, inr, [], refl, ◌∙◌, subst, List, ℕ, IfOk}
 use Rattle.tb_keep.specs.Opening.{IsOpened, device_left}
 use Rattle.tb_keep.specs.Opening.{IsCreateStartCause}
 use Rattle.tb_keep.specs.declared.faults.StartFault.{StartFault}
 use Rattle.tb_keep.proofs.Causes.{not_empty_none, has_start_then, has_either_of_start}
-use Rattle.tb_keep.proofs.Opened.{refused_at_last, started_at_last}
+use Rattle.tb_keep.proofs.Opened.{refused_at_last, started_at_last, opened_as_started, starts_file}
 use Rattle.tb_keep.proofs.keepers.Keeper.start.Goals as goal
 
 pub returns-in-Journal-Device-NotEmpty-clause-refused : goal.returns-in-Journal-Device-NotEmpty-clause-refused
@@ -29,19 +29,39 @@ returns-in-Journal-Device-NotEmpty-clause-cause g c t =
     has_either_of_start before _ _ (has_start_then before mid _ none untouched.seen _ (c.open.ensures.cause t))
 
 pub returns-in-Journal-Device-NotEmpty-clause-any_moment : goal.returns-in-Journal-Device-NotEmpty-clause-any_moment
-returns-in-Journal-Device-NotEmpty-clause-any_moment g c t =
+returns-in-Journal-Device-NotEmpty-clause-any_moment g c t sound =
     let disk = g.D.Device.disk in
     let here = c.in-Journal-Device-NotEmpty in
     let of_device = rw here.is at here.field-0-is in
     let not_empty = rw (here.is, of_device) at here.field-0-0-is in
-    let untouched = (rw (here.is, of_device, not_empty) at (c.in-Err.ensures.refused t)).0 in
-    started_at_last c.args.rules.profile c.args.rules.clients_max (disk c.args.device) (disk c.in-Err.failed.device) _ (g.met.D.Device.counts_now c.in-Err.failed.device) untouched (c.open.ensures.any_moment t)
+    let left = rw (here.is, of_device, not_empty) at (c.in-Err.ensures.refused t) in
+    started_at_last c.args.rules.profile c.args.rules.clients_max (disk c.args.device) (disk c.in-Err.failed.device) _ (g.met.D.Device.counts_now c.in-Err.failed.device)
+    left.0 (c.open.ensures.any_moment t (left.1 ∙ sound))
 
-pub open-requires : goal.open-requires
-open-requires g c = record {
-  sound = λ t.
-      let here = c.in-Journal-Device-NotEmpty in
-      let of_device = rw here.is at here.field-0-is in
-      let not_empty = rw (here.is, of_device) at here.field-0-0-is in
-      (rw (here.is, of_device, not_empty) at (c.in-Err.ensures.refused t)).1 ∙ c.requires.sound t;
-}
+pub returns-in-Journal-Device-NotEmpty-clause-started : goal.returns-in-Journal-Device-NotEmpty-clause-started
+returns-in-Journal-Device-NotEmpty-clause-started g c t sound =
+    let disk = g.D.Device.disk in
+    let here = c.in-Journal-Device-NotEmpty in
+    let of_device = rw here.is at here.field-0-is in
+    let not_empty = rw (here.is, of_device) at here.field-0-0-is in
+    let left = rw (here.is, of_device, not_empty) at (c.in-Err.ensures.refused t) in
+    opened_as_started disk c.args.rules.profile c.args.rules.clients_max (disk c.args.device).seen (disk c.in-Err.failed.device).seen c.open.result left.0.seen
+    (c.open.ensures.opened t (left.1 ∙ sound))
+
+pub returns-in-Journal-Device-NotEmpty-clause-fresh : goal.returns-in-Journal-Device-NotEmpty-clause-fresh
+returns-in-Journal-Device-NotEmpty-clause-fresh g c t sound =
+    let here = c.in-Journal-Device-NotEmpty in
+    let of_device = rw here.is at here.field-0-is in
+    let not_empty = rw (here.is, of_device) at here.field-0-0-is in
+    c.open.ensures.fresh t ((rw (here.is, of_device, not_empty) at (c.in-Err.ensures.refused t)).1 ∙ sound)
+
+pub returns-in-Journal-Device-NotEmpty-clause-handed : goal.returns-in-Journal-Device-NotEmpty-clause-handed
+returns-in-Journal-Device-NotEmpty-clause-handed g c file held =
+    let here = c.in-Journal-Device-NotEmpty in
+    let of_device = rw here.is at here.field-0-is in
+    let not_empty = rw (here.is, of_device) at here.field-0-0-is in
+    let left = (rw (here.is, of_device, not_empty) at (c.in-Err.ensures.handed file held)) refl in
+    starts_file c.args.rules.profile c.args.rules.clients_max file c.open.result (c.open.ensures.handed file left.1)
+
+pub returns-in-Ok-clause-handed : goal.returns-in-Ok-clause-handed
+returns-in-Ok-clause-handed g c file held = inr (c.in-Ok.ensures.handed file held, c.in-Ok.ensures.empty, c.in-Ok.ensures.uncut)
