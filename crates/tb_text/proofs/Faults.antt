@@ -5,7 +5,7 @@ use Rattle.std.proofs.Math.Seq.{take-length}
 use Rattle.std.proofs.lemmas.List.{take_more, take-append-drop}
 use Rattle.tb_records.specs.Messages.{Message}
 use Rattle.tb_text.specs.Scan.{Scan, behind, step, run, is_at_rest}
-use Rattle.tb_text.specs.Steps.{BeginsUpTo, Means, Reads, Stops}
+use Rattle.tb_text.specs.Steps.{BeginsUpTo, Means, Reads, Scans, Stops}
 use Rattle.tb_text.proofs.Runs.{run_append, run_behind}
 use Rattle.tb_text.proofs.Endings.{read_begins}
 use Rattle.std.proofs.lemmas.Bool.{both_ways}
@@ -54,3 +54,8 @@ begins_up_to text pairs (Some place) stops = (
   read_begins stops.last (take place text) stops.taken,
   λ below begins. nothing_goes_on text pairs begins.1 place begins.0 below stops begins.2,
 )
+
+-- what is taken to its end is not stopped before
+pub not_stopped : (text : List ℕ) (place : ℕ) (last after : Scan) → run (behind []) text ≡ Some last → Scans (behind []) text (Some place) after → ⊥
+not_stopped text place last after taken h =
+    none-some last (sym (stopped text place h.1 (drop (place + 1) text) h.0 h.2 h.3) ∙ (ap (run (behind [])) (take-append-drop (place + 1) text) ∙ taken))

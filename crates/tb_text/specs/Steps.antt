@@ -55,3 +55,12 @@ BeginsUpTo text (Some place) = (place ≤ length text) × BeginsStatements (take
 abbrev pub place_of : Option TextFault → Option ℕ
 place_of None = None
 place_of (Some fault) = Some fault.place
+
+-- a fault says what a reader is within behind these bytes, and what is to stand next there
+abbrev pub StandsBehind : List ℕ → TextFault → Type 0
+StandsBehind before fault = (last : Scan) × (run (behind []) before ≡ Some last) × (fault.lexeme ≡ last.lexeme) × (fault.awaited ≡ last.place)
+
+-- behind the bytes before its place
+abbrev pub Stands : List ℕ → Option TextFault → Type 0
+Stands text None = Unit {0}
+Stands text (Some fault) = StandsBehind (take fault.place text) fault

@@ -1,8 +1,8 @@
 //! What is wrong with a text, in words: the place, the word there, its line with a mark under the place, and what could
 //! stand there.
-ghost use Rattle.std.specs.Prelude.{◌≡◌, ◌≤◌, length, map, IfOk};
+ghost use Rattle.std.specs.Prelude.{◌≡◌, ◌≤◌, length, IfOk};
 ghost use Rattle.tb_text.specs.Positions.{is_of_word, ending_word, leading_word};
-ghost use Rattle.tb_text.specs.Shown.{shown, IsShown};
+ghost use Rattle.tb_text.specs.Shown.{IsShown, is_hidden, shown, shown_bytes};
 
 use crate::awaited::{Awaited, awaited_behind};
 use crate::lexemes::word_named;
@@ -10,6 +10,7 @@ use crate::nearest::nearest_word;
 use crate::reading::{TextFault, position};
 use crate::words::{Field, Word};
 use std::alloc::{AllocError, Global};
+use std::str;
 use tb_records::Operation;
 
 /// The most bytes of a line that are shown.
@@ -239,22 +240,31 @@ fn whole_characters(bytes: &[u8]) -> &[u8] {
     around(bytes, length).1
 }
 
-/// Appends as much space as bytes take.
-fn put_indent(out: &mut Vec<u8>, bytes: &[u8]) -> Result<(), AllocError> {
-    for byte in bytes {
-        match *byte {
-            b'\t' => out.push(b'\t')?,
-            // What goes on with a character takes no space of its own.
-            0x80..=0xbf => {}
-            _ => out.push(b' ')?,
-        }
+/// The bytes without the character that they end within, if they do.
+fn without_cut_character(bytes: &[u8]) -> &[u8] {
+    match str::from_utf8(bytes) {
+        Err(error) if error.error_len().is_none() => around(bytes, error.valid_up_to()).0,
+        _ => bytes,
+    }
+}
+
+/// Appends as much space as bytes take where they are shown: a column for each character.
+fn put_indent(alloc: Global, out: &mut Vec<u8>, bytes: &[u8]) -> Result<(), AllocError> {
+    let text = String::from_utf8_lossy(alloc, bytes)?;
+    for character in text.as_str().chars() {
+        out.push(if character == '\t' { b'\t' } else { b' ' })?;
     }
     Ok(())
 }
 
 /// Appends a line, cut around a place, and a mark under the place. The line is its bytes before the place and those from
 /// it on.
-fn put_line(out: &mut Vec<u8>, before: &[u8], rest: &[u8]) -> Result<(), AllocError> {
+fn put_line(
+    alloc: Global,
+    out: &mut Vec<u8>,
+    before: &[u8],
+    rest: &[u8],
+) -> Result<(), AllocError> {
     let is_long = SHOWN_MAX < before.len().saturating_add(rest.len());
     let from = if is_long && SHOWN_BEFORE < before.len() {
         before.len() - SHOWN_BEFORE
@@ -266,7 +276,11 @@ fn put_line(out: &mut Vec<u8>, before: &[u8], rest: &[u8]) -> Result<(), AllocEr
     } else {
         whole_characters(around(before, from).1)
     };
-    let shown_rest = around(rest, SHOWN_MAX.saturating_sub(shown_before.len())).0;
+    let shown_rest = if SHOWN_MAX.saturating_sub(shown_before.len()) < rest.len() {
+        without_cut_character(around(rest, SHOWN_MAX.saturating_sub(shown_before.len())).0)
+    } else {
+        rest
+    };
     let dots = if from == 0 { "" } else { "..." };
     let more = if shown_rest.len() < rest.len() {
         "..."
@@ -283,8 +297,8 @@ fn put_line(out: &mut Vec<u8>, before: &[u8], rest: &[u8]) -> Result<(), AllocEr
             b"\n  ".as_slice(),
         ],
     )?;
-    put_indent(out, dots.as_bytes())?;
-    put_indent(out, shown_before)?;
+    put_indent(alloc, out, dots.as_bytes())?;
+    put_indent(alloc, out, shown_before)?;
     put(out, "^")
 }
 
@@ -353,7 +367,7 @@ fn put_wrong(
     } else {
         put_wrong_word(out, word, awaited)?;
     }
-    put_line(out, ending_line(before), leading_line(rest))?;
+    put_line(alloc, out, ending_line(before), leading_line(rest))?;
     put_expected(alloc, out, awaited)
 }
 
@@ -405,34 +419,38 @@ fn put_fault(
     }
 }
 
-/// The byte that a terminal is shown for one of a text: `?` for a control character but the tab and the line end.
-fn shown(byte: u8) -> u8
-    ensures { result ≡ shown byte }
+/// Says that a terminal is not shown a character: a control character but the tab and the line end.
+fn is_hidden(character: char) -> bool
+    ensures { result ≡ is_hidden character }
 {
-    match byte {
-        b'\t' | b'\n' => byte,
-        0..=31 | 127 => b'?',
-        _ => byte,
-    }
+    character.is_control() && character != '\t' && character != '\n'
 }
 
-/// The bytes as a terminal is shown them.
-#[tactic(auto, using(crate::proofs::Showing::map_is_shown))]
-fn as_shown(alloc: Global, bytes: &[u8]) -> Result<Vec<u8>, AllocError>
-    ensures value { IfOk result (λ all. all.items ≡ map shown bytes.now) }
+/// The character that a terminal is shown for one of a text.
+fn shown(character: char) -> char
+    ensures { result ≡ shown character }
+{
+    if is_hidden(character) { '?' } else { character }
+}
+
+/// The bytes as a terminal is shown them: as text in UTF-8, with `?` for each control character but the tab and the line
+/// end, and U+FFFD for what is no UTF-8. AllocError where there is no memory.
+pub fn as_shown(alloc: Global, bytes: &[u8]) -> Result<Vec<u8>, AllocError>
+    ensures value { IfOk result (λ all. all.items ≡ shown_bytes bytes.now) }
     ensures shown { IfOk result (λ all. IsShown all.items) }
 {
-    let mut all = Vec::with_capacity(alloc, bytes.len())?;
-    for byte in bytes {
-        all.push(shown(*byte))?;
+    let text = String::from_utf8_lossy(alloc, bytes)?;
+    let mut all = String::new(alloc);
+    for character in text.as_str().chars() {
+        all.push(shown(character))?;
     }
-    Ok(all)
+    Ok(all.into_bytes())
 }
 
 /// What is wrong with a text, in words for its writer, without a line end behind them: the line and the column, the whole
 /// word there and the nearest one that statements have, the line with a mark under the place, and all that could stand
-/// there. The text's first byte stands at the line and the column `first`, both from 1. No control character of the text
-/// gets there but the tab, so that no text moves a terminal. AllocError where there is no memory.
+/// there. The text's first byte stands at the line and the column `first`, both from 1. The message is UTF-8, and no control
+/// character of the text gets there but the tab, so that no text moves a terminal. AllocError where there is no memory.
 pub fn explain_fault(
     alloc: Global,
     text: &[u8],

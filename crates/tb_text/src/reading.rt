@@ -1,6 +1,8 @@
 //! Texts of statements, read as requests.
-ghost use Rattle.std.specs.Prelude.{◌≡◌, IfOk};
-ghost use Rattle.tb_text.specs.Steps.{BeginsUpTo, Reads, place_of};
+ghost use Rattle.std.specs.Prelude.{◌≡◌, [], IfOk, List, Some, length, ℕ};
+ghost use Rattle.tb_records.specs.Messages.{Message};
+ghost use Rattle.tb_text.specs.Steps.{BeginsUpTo, Reads, Stands, StandsBehind, place_of};
+ghost use Rattle.tb_text.specs.Scan.{Scan, behind, run};
 ghost use Rattle.tb_text.specs.Positions.{line_from, column_from};
 
 use crate::places::{Lexeme, Place};
@@ -13,9 +15,9 @@ use tb_records::{Items, Request};
 pub struct TextFault {
     /// The number of bytes before the place.
     pub place: usize,
-    /// What the reader was within.
+    /// What the reader is within behind these bytes.
     pub lexeme: Lexeme,
-    /// The part of a statement that was to stand next.
+    /// The part of a statement that is to stand next behind them; of a word or number that is begun, the part that it is.
     pub awaited: Place,
 }
 
@@ -41,23 +43,51 @@ fn scan_text(alloc: Global, text: &[u8]) -> Result<(Scanner, Option<usize>), All
     Ok((scanner, place))
 }
 
+/// The fault of a text that goes wrong behind these bytes, with which some text of statements begins.
+fn fault_behind(alloc: Global, before: &[u8]) -> Result<TextFault, AllocError>
+    requires { (last : Scan) × (run (behind []) before.now ≡ Some last) }
+    ensures { IfOk result (λ fault.
+        (fault.place ≡ length before.now) × StandsBehind before.now fault) }
+{
+    let mut scanner = Scanner::new(alloc);
+    let None = scanner.scan(before)? else {
+        unreachable!()
+    };
+    let (lexeme, awaited) = scanner.stand();
+    Ok(TextFault {
+        place: before.len(),
+        lexeme,
+        awaited,
+    })
+}
+
+/// The fault of a text that goes wrong at a place, if it does.
+fn fault_at(
+    alloc: Global,
+    text: &[u8],
+    place: Option<usize>,
+) -> Result<Option<TextFault>, AllocError>
+    requires { (pairs : List (ℕ × Message)) × Reads text.now pairs place }
+    ensures place { IfOk result (λ fault. place_of fault ≡ place) }
+    ensures stands { IfOk result (λ fault. Stands text.now fault) }
+{
+    let Some(place) = place else {
+        return Ok(None);
+    };
+    let (before, _) = text.split_at(place);
+    Ok(Some(fault_behind(alloc, before)?))
+}
+
 /// Reads statements. With no fault the text means the requests; with one the text before its place begins a text of
 /// statements, and what stands there goes on none, or is the end of the text within a statement. AllocError where there
 /// is no memory for the requests.
 pub fn read_text(alloc: Global, text: &[u8]) -> Result<Reading, AllocError>
     ensures reads { IfOk result (λ reading. Reads text.now reading.pairs (place_of reading.fault)) }
     ensures place { IfOk result (λ reading. BeginsUpTo text.now (place_of reading.fault)) }
+    ensures stands { IfOk result (λ reading. Stands text.now reading.fault) }
 {
     let (scanner, place) = scan_text(alloc, text)?;
-    let (lexeme, awaited) = scanner.stand();
-    let fault = match place {
-        Some(place) => Some(TextFault {
-            place,
-            lexeme,
-            awaited,
-        }),
-        None => None,
-    };
+    let fault = fault_at(alloc, text, place)?;
     Ok(Reading {
         pairs: scanner.into_pairs(),
         fault,

@@ -253,23 +253,23 @@ const ROWS: [(&str, &str); 21] = [
 ];
 
 /// Says what is said of a text that goes wrong, whose first byte is at a line and a column.
-fn tells(rt: &(impl Abort + AllocGlobal), text: &str, first: (usize, usize), wanted: &str) {
-    let reading = read_text(rt.alloc(), text.as_bytes()).expect(rt, "memory");
+fn tells(rt: &(impl Abort + AllocGlobal), text: &[u8], first: (usize, usize), wanted: &str) {
+    let reading = read_text(rt.alloc(), text).expect(rt, "memory");
     let fault = reading.fault.expect(rt, "a fault");
-    let message = explain_fault(rt.alloc(), text.as_bytes(), fault, first).expect(rt, "memory");
+    let message = explain_fault(rt.alloc(), text, fault, first).expect(rt, "memory");
     holds(rt, message.as_slice() == wanted.as_bytes(), wanted);
 }
 
 #[test]
 fn messages(rt: HostRuntime) {
     for (text, message) in ROWS {
-        tells(&rt, text, (1, 1), message);
+        tells(&rt, text.as_bytes(), (1, 1), message);
     }
 }
 
 /// Texts with control characters and letters of several bytes in them: no control character but the tab is shown, and the mark stands
 /// right behind the last letter.
-const SHOWN: [(&str, &str); 8] = [
+const SHOWN: [(&str, &str); 11] = [
     (
         "client=7 \u{1b}[2Jregister;",
         "line 1, column 10: found the byte 27\n  client=7 ?[2Jregister;\n           ^\n  expected at, session, request or register",
@@ -277,6 +277,18 @@ const SHOWN: [(&str, &str); 8] = [
     (
         "client=7 \u{7f}register;",
         "line 1, column 10: found the byte 127\n  client=7 ?register;\n           ^\n  expected at, session, request or register",
+    ),
+    (
+        "client=7 \u{9b}2Jregister;",
+        "line 1, column 10: found '?2Jregister'\n  client=7 ?2Jregister;\n           ^\n  expected at, session, request or register",
+    ),
+    (
+        "client=7 # \u{80}\u{85}\u{9f}\u{a0}",
+        "line 1, column 20: the text ends within a statement\n  client=7 # ???\u{a0}\n                 ^\n  expected at, session, request or register",
+    ),
+    (
+        "client=0 # éééééééééééééééééééééééééééééééééééééééééééééééééééééééééééé",
+        "line 1, column 9: client is not 0\n  client=0 # éééééééééééééééééééééééééééééééééééééééééééé...\n          ^\n  expected a number from 1 to 2^128 - 1",
     ),
     (
         "client=7 # \u{1b}[31m red",
@@ -307,6 +319,29 @@ const SHOWN: [(&str, &str); 8] = [
 #[test]
 fn shown_on_a_terminal(rt: HostRuntime) {
     for (text, message) in SHOWN {
+        tells(&rt, text.as_bytes(), (1, 1), message);
+    }
+}
+
+/// Bytes that are no UTF-8: U+FFFD is shown for them, each with a column of its own.
+const NO_UTF_8: [(&[u8], &str); 3] = [
+    (
+        b"client=7 # \xff\xc3( \x9b",
+        "line 1, column 17: the text ends within a statement\n  client=7 # \u{fffd}\u{fffd}( \u{fffd}\n                  ^\n  expected at, session, request or register",
+    ),
+    (
+        b"client=7 \xe2\x82;",
+        "line 1, column 10: found '\u{fffd}'\n  client=7 \u{fffd};\n           ^\n  expected at, session, request or register",
+    ),
+    (
+        b"client=7 # \xed\xa0\x80",
+        "line 1, column 15: the text ends within a statement\n  client=7 # \u{fffd}\u{fffd}\u{fffd}\n                ^\n  expected at, session, request or register",
+    ),
+];
+
+#[test]
+fn what_is_no_text(rt: HostRuntime) {
+    for (text, message) in NO_UTF_8 {
         tells(&rt, text, (1, 1), message);
     }
 }
@@ -530,7 +565,7 @@ const PARTS: [(&str, (usize, usize), &str); 3] = [
 #[test]
 fn parts_of_texts(rt: HostRuntime) {
     for (text, first, message) in PARTS {
-        tells(&rt, text, first, message);
+        tells(&rt, text.as_bytes(), first, message);
     }
 }
 
