@@ -1,3 +1,7 @@
-pub mod Outcomes
+-- what public contracts cite, or reach through what they cite
+pub mod Totals
 pub mod Storms
+-- what private contracts alone cite
 pub mod Clients
+pub mod Outcomes
+pub mod Found

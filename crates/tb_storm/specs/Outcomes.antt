@@ -1,6 +1,6 @@
 -- Which fault of a storm is told.
 -- Cited by private contracts alone, of: outcomes, storms.
-use Rattle.std.specs.Prelude.{Option, Some, None, Result, Ok, Err}
+use Rattle.std.specs.Prelude.{ℕ, ◌≡◌, Option, Some, None, Result, Ok, Err, nat_lt, if◌then◌else◌}
 use Rattle.tb_service.specs.declared.ends.Ended.{Ended}
 use Rattle.tb_service.specs.declared.ends.Ended.TheVariants as way
 use Rattle.tb_storm.specs.declared.faults.StormFault.{StormFault}
@@ -21,3 +21,12 @@ outcome_of way.NoMemory fared found = Err storm.NoMemory
 outcome_of way.Closed None found = found
 outcome_of way.Closed (Some storm.GaveUp) (Err fault) = Err fault
 outcome_of way.Closed (Some fault) found = Err fault
+
+-- totals of fewer entries than there were replies are none: a client gave up
+abbrev pub answered : ℕ → Result Totals StormFault → Result Totals StormFault
+answered replies (Ok totals) = if nat_lt totals.commits replies then Err storm.GaveUp else Ok totals
+answered replies (Err fault) = Err fault
+
+-- what is told where the server ended so and the clients fared so, whatever a seat found
+abbrev pub Concludes : ℕ → Ended → Option StormFault → Result Totals StormFault → Type 0
+Concludes replies ended fared told = (found : Result Totals StormFault) × (told ≡ answered replies (outcome_of ended fared found))

@@ -1,7 +1,7 @@
 -- The exit status of each fault of a storm: 1 a device, memory or a copy failed, 3 a client gave up; the line that a fault is told by;
 -- and the lines of a storm that ended well.
 -- Cited by public contracts of: faults, storms.
-use Rattle.std.specs.Prelude.{ℕ, ◌≡◌, ◌⊎◌, List, ◌++◌, Result, Ok, Err, codes}
+use Rattle.std.specs.Prelude.{ℕ, ◌≡◌, ◌⊎◌, List, ◌++◌, Result, Ok, Err, IfOk, codes}
 use Rattle.std.specs.Fmt.{decimal}
 use Rattle.tb_records.specs.Transport.{Output, Sent, CutOff}
 use Rattle.tb_commands.specs.Statuses.{line_named, TellsLine}
@@ -12,13 +12,11 @@ use Rattle.tb_published.specs.declared.faults.SeatFault.TheVariants as seat
 use Rattle.tb_storm.specs.declared.faults.StormFault.{StormFault}
 use Rattle.tb_storm.specs.declared.faults.StormFault.TheVariants as storm
 use Rattle.tb_storm.specs.declared.totals.Totals.{Totals}
+use Rattle.tb_storm.specs.Totals.{AreTotals}
 
 abbrev pub storm_status : StormFault → ℕ
-storm_status storm.NoMemory = 1
-storm_status storm.NoPlace = 1
-storm_status storm.NoCopy = 1
 storm_status storm.GaveUp = 3
-storm_status storm.Device = 1
+storm_status fault = 1
 
 -- the fault of a storm whose opening is refused
 abbrev pub of_opening : OpenFault → StormFault
@@ -53,8 +51,7 @@ storm_lines clients totals =
 
 -- Lines were written, and nothing is told; or as far as the writer took them, and the fault is Device.
 abbrev pub Writes : List ℕ → ℕ → Output → Output → Output → Output → Type 0
-Writes lines status start written quiet told =
-    ((status ≡ 0) × Sent lines start written × (told ≡ quiet))
+Writes lines status start written quiet told = ((status ≡ 0) × Sent lines start written × (told ≡ quiet))
     ⊎ ((status ≡ storm_status storm.Device) × CutOff lines start written × TellsLine (storm_line storm.Device) quiet told)
 
 -- of a storm that ended with totals its lines are written; of another nothing is, and its fault is told
@@ -69,7 +66,8 @@ TellsOf clients (Ok totals) status start written quiet told =
     Exits clients (Ok totals) status start written quiet told ⊎ Exits clients (Err storm.NoMemory) status start written quiet told
 TellsOf clients (Err fault) status start written quiet told = Exits clients (Err fault) status start written quiet told
 
--- a storm of so many clients ended, with its totals or a fault
-pub record StormExits (clients status : ℕ) (start written quiet told : Output) : Type 0 where
-  pub outcome : Result Totals StormFault
-  pub exits : Exits clients outcome status start written quiet told
+-- A storm of so many clients, each with so many transfers, ended: with the totals of a history that has all that the clients saw, or
+-- with a fault.
+abbrev pub StormExits : ℕ → ℕ → ℕ → Output → Output → Output → Output → Type 0
+StormExits clients transfers status start written quiet told =
+    (outcome : Result Totals StormFault) × IfOk outcome (AreTotals clients transfers) × Exits clients outcome status start written quiet told

@@ -15,7 +15,7 @@ pub enum StormFault {
     NoMemory,
     /// The copies have no place for a reader.
     NoPlace,
-    /// There is no copy to be read.
+    /// There is no copy to be read, or it does not show the whole history.
     NoCopy,
     /// A client had no reply after all its calls.
     GaveUp,

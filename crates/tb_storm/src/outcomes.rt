@@ -1,6 +1,6 @@
 //! Which fault of a storm is told.
-ghost use Rattle.std.specs.Prelude.{◌≡◌};
-ghost use Rattle.tb_storm.specs.Outcomes.{first_of, outcome_of};
+ghost use Rattle.std.specs.Prelude.{◌≡◌, ◌≤◌, Ok, IfOk};
+ghost use Rattle.tb_storm.specs.Outcomes.{answered, first_of, outcome_of};
 
 use crate::faults::StormFault;
 use crate::totals::Totals;
@@ -23,12 +23,24 @@ pub(crate) fn conclude(
     fared: Option<StormFault>,
     found: Result<Totals, StormFault>,
 ) -> Result<Totals, StormFault>
-    ensures { result ≡ outcome_of ended fared found }
+    ensures told { result ≡ outcome_of ended fared found }
+    ensures totals { IfOk result (λ totals. found ≡ Ok totals) }
 {
     match (ended, fared, found) {
         (Ended::NoMemory, _, _) => Err(StormFault::NoMemory),
         (Ended::Closed, None, found) => found,
         (Ended::Closed, Some(StormFault::GaveUp), Err(fault)) => Err(fault),
         (Ended::Closed, Some(fault), _) => Err(fault),
+    }
+}
+
+/// What is told, but that totals of fewer entries than the clients saw replies are none.
+pub(crate) fn answered(replies: u32, told: Result<Totals, StormFault>) -> Result<Totals, StormFault>
+    ensures told { result ≡ answered replies told }
+    ensures totals { IfOk result (λ totals. (told ≡ Ok totals) × (replies ≤ totals.commits)) }
+{
+    match told {
+        Ok(totals) if (totals.commits as u64) < u64::from(replies) => Err(StormFault::GaveUp),
+        told => told,
     }
 }

@@ -1,17 +1,19 @@
 //! A storm: the server's thread, the clients' threads, and the lines that tell of them.
-ghost use Rattle.std.specs.Prelude.{◌≡◌, ◌<◌, ◌≤◌, IfOk, Result, map, fold};
+ghost use Rattle.std.specs.Prelude.{◌≡◌, ◌<◌, ◌≤◌, IfOk, length, map, fold};
 ghost use mathlib.Core.List.{IsPrefix};
 ghost use Rattle.tb_records.specs.Transport.{risen};
 ghost use Rattle.tb_commands.specs.Statuses.{TellsLine};
 ghost use Rattle.tb_storm.specs.declared.totals.Totals.{Totals};
 ghost use Rattle.tb_storm.specs.declared.faults.StormFault.{StormFault};
-ghost use Rattle.tb_storm.specs.Clients.{first_credits, transfers_after, credited_after, Totaled};
-ghost use Rattle.tb_storm.specs.Outcomes.{first_of, outcome_of};
+ghost use Rattle.tb_published.specs.Openings.{LegalIn};
+ghost use Rattle.tb_storm.specs.Found.{replies_of, transfers_after, credited_after, Totaled, TotaledIn};
+ghost use Rattle.tb_storm.specs.Totals.{first_credits, AreTotals};
+ghost use Rattle.tb_storm.specs.Outcomes.{first_of, Concludes};
 ghost use Rattle.tb_storm.specs.Storms.{storm_status, storm_line, Writes, TellsOf, StormExits};
 
 use crate::clients::Client;
 use crate::faults::StormFault;
-use crate::outcomes::{conclude, first_fault};
+use crate::outcomes::{answered, conclude, first_fault};
 use crate::scale::Scale;
 use crate::stage::Stage;
 use crate::totals::{Totals, lines_of};
@@ -112,13 +114,14 @@ fn fared<J: Naming>(first: Option<StormFault>, others: &[Client<J>]) -> Option<S
     fared
 }
 
-/// How many of the transfers with these ids a seat finds.
-fn count_transfers<J: Naming>(seat: &mut Seat<J>, ids: &[u128]) -> Result<usize, StormFault>
+/// How many of the transfers with these ids a seat finds, and after how many entries.
+fn count_transfers<J: Naming>(seat: &mut Seat<J>, ids: &[u128]) -> Result<(u64, usize), StormFault>
     ensures begins { IsPrefix seat.old seat.new }
-    ensures found { IfOk result (λ count. count ≡ transfers_after J.opening seat.new ids.now) }
+    ensures found { IfOk result (λ found. LegalIn J.opening seat.new × (found.0 ≡ length seat.new)
+        × (found.1 ≡ transfers_after J.opening seat.new ids.now)) }
 {
-    let (_, transfers) = seat.lookup_transfers(ids)?;
-    Ok(transfers.len())
+    let (seen, transfers) = seat.lookup_transfers(ids)?;
+    Ok((seen, transfers.len()))
 }
 
 /// What the first of accounts was credited with.
@@ -140,22 +143,28 @@ fn credited<J: Naming>(seat: &mut Seat<J>) -> Result<u128, StormFault>
     Ok(first_credits(accounts.as_slice()))
 }
 
-/// What the first client's seat finds once it has learnt all.
+/// What the first client's seat finds once it has learnt all. NoCopy where the copies do not show the whole history.
+#[tactic(auto, using(crate::proofs::Whole::totaled, crate::proofs::Whole::learnt))]
 fn totals_of<J: Naming>(
     alloc: Global,
     publisher: &Publisher<J>,
     seat: &mut Seat<J>,
     scale: Scale,
 ) -> Result<Totals, StormFault>
-    ensures { IfOk result
-        (λ totals. Totaled J.opening publisher.now.history publisher.now.shown totals) }
+    ensures learnt { IsPrefix publisher.now.shown seat.new }
+    ensures totals { IfOk result
+        (Totaled J.opening scale.clients scale.transfers publisher.now.history) }
 {
-    let ids = scale.ids(alloc)?;
     seat.learn(&publisher.tell());
-    let transfers = count_transfers(seat, ids.as_slice())?;
+    let ids = scale.ids(alloc)?;
+    let (seen, transfers) = count_transfers(seat, ids.as_slice())?;
     let credited = credited(seat)?;
+    let commits = publisher.history().len();
+    if !publisher.beside(seat) || seen != commits as u64 {
+        return Err(StormFault::NoCopy);
+    }
     Ok(Totals {
-        commits: publisher.history().len(),
+        commits,
         transfers,
         credited,
     })
@@ -170,18 +179,24 @@ fn end<J: Naming, R: Wait>(
     others: &[Client<J>],
     scale: Scale,
 ) -> Result<Totals, StormFault>
-    ensures { (found : Result Totals StormFault)
-        × (result
-        ≡ outcome_of finished.ended
-        (fold first_of first.old.fault (map (λ client. client.fault) others.now)) found) }
+    ensures told { Concludes (replies_of scale.clients scale.transfers) finished.ended
+        (fold first_of first.old.fault (map (λ client. client.fault) others.now)) result }
+    ensures totals { IfOk result
+        (Totaled J.opening scale.clients scale.transfers finished.publisher.history) }
+    ensures enough { IfOk result
+        (λ totals. replies_of scale.clients scale.transfers ≤ totals.commits) }
 {
     let found = totals_of(alloc, &finished.publisher, &mut first.seat, scale);
     let ended = finished.ended;
     drop(finished.close(rt));
-    conclude(ended, fared(first.fault, others), found)
+    answered(
+        scale.replies(),
+        conclude(ended, fared(first.fault, others), found),
+    )
 }
 
 /// The storm over a server, whose clients these are.
+#[tactic(auto, using(crate::proofs::Whole::in_one))]
 fn storm_with<J: Naming + Send + Sync, R: Threads + Wait + Sync>(
     rt: &R,
     alloc: Global,
@@ -189,7 +204,9 @@ fn storm_with<J: Naming + Send + Sync, R: Threads + Wait + Sync>(
     first: &mut Client<J>,
     others: &mut Vec<Client<J>>,
     scale: Scale,
-) -> Result<Totals, StormFault> {
+) -> Result<Totals, StormFault>
+    ensures { IfOk result (TotaledIn J.opening scale.clients scale.transfers) }
+{
     let stage = &Stage::new();
     let (finished, ()) = thread::join(
         rt,
@@ -215,7 +232,9 @@ fn storm_over<J: Naming + Send + Sync, R: Threads + Wait + Sync>(
     seats: &mut Vec<Seat<J>>,
     count: PortCount,
     scale: Scale,
-) -> Result<Totals, StormFault> {
+) -> Result<Totals, StormFault>
+    ensures { IfOk result (TotaledIn J.opening scale.clients scale.transfers) }
+{
     let Ok((server, mut ports)) = service(alloc, publisher, rt, count, Ticks(0), Open) else {
         return Err(StormFault::NoMemory);
     };
@@ -243,6 +262,7 @@ fn storm_in<J: Naming + Send + Sync, R: Threads + Wait + Sync>(
     scale: Scale,
 ) -> Result<Totals, StormFault>
     requires { opening ≡ J.opening }
+    ensures { IfOk result (TotaledIn opening scale.clients scale.transfers) }
 {
     let count = scale.clients + 1;
     let (Some(seats), Some(ports)) = (SeatCount::new(count), PortCount::new(count)) else {
@@ -255,11 +275,10 @@ fn storm_in<J: Naming + Send + Sync, R: Threads + Wait + Sync>(
 }
 
 /// The storm of profile 1 and 64 clients.
-fn play<R: Threads + Wait + Sync>(
-    rt: &R,
-    alloc: Global,
-    scale: Scale,
-) -> Result<Totals, StormFault> {
+#[tactic(auto, using(crate::proofs::Whole::are_totals))]
+fn play<R: Threads + Wait + Sync>(rt: &R, alloc: Global, scale: Scale) -> Result<Totals, StormFault>
+    ensures { IfOk result (AreTotals scale.clients scale.transfers) }
+{
     let Some(clients_max) = ClientsMax::new(64) else {
         return Err(StormFault::NoPlace);
     };
@@ -325,7 +344,7 @@ pub fn storm<R: Threads + Wait + Sync, W: Sink, E: Sink>(
     requires few { clients ≤ 16 }
     requires short { transfers ≤ 1000 }
     ensures quiet { result ≡ 0 → faults.new ≡ faults.old }
-    ensures ends { StormExits clients result (W.output writer.old) (W.output writer.new) (E.output faults.old)
+    ensures ends { StormExits clients transfers result (W.output writer.old) (W.output writer.new) (E.output faults.old)
         (E.output faults.new) }
 {
     let played = play(rt, alloc, Scale { clients, transfers });

@@ -1,0 +1,32 @@
+-- The ids of a storm's transfers, and what its totals are.
+-- Public contracts reach it through: Storms.
+use Rattle.std.specs.Prelude.{ℕ, zero, suc, ◌≡◌, ◌+◌, ◌*◌, ◌≤◌, List, [], ◌∷◌, ◌++◌, length}
+use Rattle.tb_records.specs.declared.records.Account.{Account}
+use Rattle.tb_records.specs.declared.limits.Profile.TheVariants as profile
+use Rattle.tb_ledger.specs.Books.{found_accounts, found_transfers}
+use Rattle.tb_machine.specs.declared.entries.Entry.{Entry}
+use Rattle.tb_published.specs.Openings.{Opening, LegalIn, after_in}
+use Rattle.tb_storm.specs.declared.totals.Totals.{Totals}
+
+-- these ids, and those of a client's first transfers, so many
+abbrev pub with_ids_of : List ℕ → ℕ → ℕ → List ℕ
+with_ids_of ids client zero = ids
+with_ids_of ids client (suc k) = with_ids_of ids client k ++ (client * 1000000 + (k + 1)) ∷ []
+
+-- the ids of so many transfers of each of so many clients
+abbrev pub ids_of : ℕ → ℕ → List ℕ
+ids_of zero transfers = []
+ids_of (suc client) transfers = with_ids_of (ids_of client transfers) (client + 1) transfers
+
+-- what the first of these accounts was credited with; 0 where there is none
+abbrev pub first_credits : List Account → ℕ
+first_credits [] = 0
+first_credits (account ∷ accounts) = account.credits_posted
+
+-- Totals of a legal history by profile 1 that is open to 64 clients: the number of its entries, how many of the storm's transfers are
+-- found after it, and what account 1000 was credited with. It has as many entries as the clients saw replies, or more: each one to its
+-- register and to each of its transfers, and the first client one to its register and one to the accounts.
+abbrev pub AreTotals : ℕ → ℕ → Totals → Type 0
+AreTotals clients transfers totals = (o : Opening) × (h : List Entry) × (o.profile ≡ profile.One) × (o.clients_max ≡ 64) × LegalIn o h
+    × (totals.commits ≡ length h) × (clients * (transfers + 1) + 2 ≤ totals.commits) × (totals.transfers ≡ length (found_transfers (after_in o h).books (ids_of clients transfers)))
+    × (totals.credited ≡ first_credits (found_accounts (after_in o h).books (1000 ∷ [])))
