@@ -16,7 +16,8 @@ rules, no log), `wrong` (four wrong replicas, which the part `faults` has to fin
 `access` (TLS and passwords), and where it is named `rates` (next to the listener over tbd). Where
 etcd, PostgreSQL, one of their Python packages or the server is not there, parts are skipped by
 name. --replica runs another replica in the place of the right one: a KIND of
-checks/clusters/wrong_replica.py. --show tells what happens while money moves and machines are
+checks/clusters/wrong_replica.py. --follow gives the replicas another server, which takes entries
+with their positions. --show tells what happens while money moves and machines are
 killed.
 
 Prints a line for each case; ends in 'N passed, M failed'.
@@ -48,7 +49,7 @@ import show  # noqa: E402
 import tried  # noqa: E402
 from access import Closed  # noqa: E402
 from faults import Faults  # noqa: E402
-from processes import Cluster, Postgres, missing, until  # noqa: E402
+from processes import Cluster, Machines, Postgres, missing, until  # noqa: E402
 from traffic import Traffic  # noqa: E402
 from tried import case  # noqa: E402
 
@@ -118,17 +119,15 @@ def agree(name, cluster, traffic, trimmed=False):
 
 
 def waits(faults, traffic):
-    """Prints for each kind of fault how long clients waited that were not answered meanwhile."""
+    """Prints for each kind of fault how long clients waited whose requests were in flight."""
     for kind in Faults.KINDS:
-        longest = [
-            max(traffic.waits_between(start - 0.5, end + 10.0) or [0.0])
-            for it, start, end in faults.done
-            if it == kind
-        ]
-        if longest:
+        found = [traffic.waits_at(start, end) for it, start, end in faults.done if it == kind]
+        first = [wait for waits, _ in found for wait in waits]
+        if first:
+            middle, most = statistics.median(first), max(longest for _, longest in found)
             print(
-                f"  {kind}: {len(longest)} times; the longest wait of a client "
-                f"p50 {statistics.median(longest):.1f} s, most {max(longest):.1f} s"
+                f"  {kind}: {len(found)} times; clients waited {middle:.2f} s at the median, "
+                f"{most:.1f} s at most"
             )
 
 
@@ -402,6 +401,7 @@ def words():
     )
     parser.add_argument("--seed", type=int, default=1, help="of the order of faults (1)")
     parser.add_argument("--replica", metavar="KIND", help="a wrong replica")
+    parser.add_argument("--follow", metavar="PROGRAM", help="tb_follow, as the replicas' server")
     parser.add_argument("--show", action="store_true", help="tell what happens")
     parser.add_argument("--seconds", type=int, default=60, help="how long --show takes (60)")
     return parser.parse_args()
@@ -409,6 +409,7 @@ def words():
 
 def main():
     given = words()
+    Machines.follows = given.follow and os.path.abspath(given.follow)
     if given.show:
         return shown(given)
     for name in given.only or [it for it in PARTS if it not in APART]:

@@ -39,7 +39,20 @@ def replies_to(script, clients_max):
 
 def replies_of(cluster, at):
     with open(cluster.out(at), "rb") as file:
-        return file.read()
+        data = file.read()
+    return b"".join(frames_of(data)) if cluster.follows else data
+
+
+def frames_of(data):
+    """The replies of tb_follow without their places, and without the hashes between them."""
+    at = 0
+    while at < len(data):
+        if data[at] == 2:
+            at += 1 + 8 + 64
+        else:
+            start = at + 1 + 8 + 4
+            at = start + 48 + int.from_bytes(data[start + 32 : start + 36], "little")
+            yield data[start:at]
 
 
 def settled(cluster, seconds=90):

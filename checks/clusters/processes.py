@@ -118,6 +118,7 @@ class Machines:
     """Replicas on the loopback interface, over the log of a subclass."""
 
     nodes = ()  # the engine's processes
+    follows = None  # tb_follow, where that is the server
 
     def __init__(self, folder, clients_max, replica, count):
         self.folder, self.count, self.clients_max = folder, count, clients_max
@@ -134,10 +135,12 @@ class Machines:
         return f"{self.folder}/replies{at}"
 
     def replica_words(self, at, words, more=()):
-        command = ["bash", "-c", KEEPING, "bash", PROGRAM, self.out(at)]
+        command = ["bash", "-c", KEEPING, "bash", self.follows or PROGRAM, self.out(at)]
         given = ["--log", self.log(at), "--copy", self.copy(at), "--name", f"r{at}", *more]
-        given += ["--tcp", f"127.0.0.1:{self.tcp[at]}", "--connections", "200", "--"]
-        return [PYTHON, "-B", *words, *given, *command, "run", str(self.clients_max)]
+        given += ["--tcp", f"127.0.0.1:{self.tcp[at]}", "--connections", "200"]
+        given += ["--positions", "--"] if self.follows else ["--"]
+        form = [] if self.follows else ["run"]
+        return [PYTHON, "-B", *words, *given, *command, *form, str(self.clients_max)]
 
     def start(self):
         self.start_engine()

@@ -116,8 +116,14 @@ class Traffic:
     def evictions(self):
         return sum(it.evictions for it in self.clients)
 
-    def waits_between(self, start, end):
-        return [wait for it in self.clients for at, wait in it.waits if start <= at - wait <= end]
+    def waits_at(self, start, end):
+        """How long those waited whose requests were in flight at the start, and the longest wait
+        until the end."""
+        spans = [(at - wait, at) for it in self.clients for at, wait in it.waits]
+        first = [at - begin for begin, at in spans if begin <= start <= at]
+        return first, max(
+            (at - begin for begin, at in spans if begin <= end and start <= at), default=0.0
+        )
 
     def posted(self):
         return posted_at(*(port for _, port in self.addresses))

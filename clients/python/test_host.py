@@ -15,7 +15,7 @@ import unittest
 
 from tb_client.frames import request_frame
 from tb_client.names import Operation
-from tb_host import faults, log, machines
+from tb_host import checksums, faults, log, machines
 from tb_host.entries import MOMENT_MAX, NOTHING, Claim, Entry, chained, test_pairs
 from tb_host.faults import Fault
 from tb_host.lines import Ended, Told
@@ -38,6 +38,37 @@ while head := stdin.read(56):
     stdout.flush()
 """
 COMMAND = [sys.executable, "-SEc", SERVER, "run", "64"]
+
+# The same with entries and their positions, as `tb_follow` takes them. WRONG makes one thing wrong.
+FOLLOWER = """
+import hashlib, os, struct, sys
+stdin, stdout, wrong = sys.stdin.buffer, sys.stdout.buffer, os.environ.get("WRONG")
+commit, at, hashes = 0, 0, [bytes(32), bytes(32)]
+def add(which, more):
+    hashes[which] = hashlib.sha256(hashes[which] + more).digest()
+while kind := stdin.read(1):
+    if kind == b"\\2":
+        said = [bytes(32), hashes[1]] if wrong == "log" else hashes
+        stdout.write(kind + struct.pack("<Q", at) + b"".join(said))
+        stdout.flush()
+        continue
+    position, length, checksum = struct.unpack("<QII", stdin.read(16))
+    assert (kind, position) == (b"\\1", at + 1)
+    at, pairs, place, index = position, stdin.read(length), 0, 0
+    add(0, pairs)
+    while place < length:
+        header = pairs[place + 8 : place + 56]
+        place += 56 + struct.unpack_from("<I", header, 32)[0]
+        commit += 1
+        session = commit if header[28] == 2 else 1
+        reply = header[:16] + struct.pack("<Q", session) + header[24:29] + bytes(7)
+        reply += struct.pack("<QI", commit, 0)
+        add(1, reply)
+        skips = wrong == "index" and at == 2
+        stdout.write(kind + struct.pack("<QI", at, index + skips) + reply)
+        index += 1
+"""
+FOLLOWS = [sys.executable, "-SEc", FOLLOWER, "64"]
 
 
 def register(client):
@@ -227,11 +258,14 @@ class Replicas(unittest.IsolatedAsyncioTestCase):
         self.addCleanup(holder.cleanup)
         self.folder, self.log = os.path.join(holder.name, "copy"), MemoryLog()
         self.told = io.StringIO()
-        self.enterContext(contextlib.redirect_stderr(self.told))
+        redirection = contextlib.redirect_stderr(self.told)
+        redirection.__enter__()
+        self.addCleanup(redirection.__exit__, None, None, None)
         self.copy = self.running = None
 
     def made(self, name="r0", **more):
         given = dict(command=COMMAND, slow=5.0, patience=0.5, ahead=60.0, distrust=[], shown="x")
+        given["positions"] = False
         self.copy = Copy(self.folder)
         self.addCleanup(self.copy.close)
         self.copy.scan()
@@ -347,6 +381,51 @@ class Replicas(unittest.IsolatedAsyncioTestCase):
         said = {"clock": time.time_ns(), "fault": f"Diverged: writer {it.writer.hex()} .."}
         await self.log.report("r1", json.dumps(said).encode())
         self.assertEqual(await self.ended(), "Diverged")
+
+    async def test_a_server_that_takes_positions(self):
+        it = await self.began(command=FOLLOWS, positions=True)
+        replies = await asyncio.gather(*(self.asked(it, client) for client in range(1, 20)))
+        self.assertEqual([reply[0] for reply in replies], list(range(1, 20)))
+        digest = NOTHING
+        for reply in replies:
+            digest = chained(digest, reply)
+        it.follower.kill()
+        await self.asked(it, 77)
+        for _ in range(200):
+            if it.follower.answered == self.copy.position:
+                break
+            await asyncio.sleep(0.02)
+        reply = it.follower.hashes[self.copy.position - 1]
+        self.assertEqual((it.follower.answered, reply), (self.copy.position, digest))
+        await self.closed(it)
+
+    async def test_a_server_that_is_wrong_about_positions(self):
+        for wrong, said in (
+            ("log", "Diverged: .* has another hash at position 1"),
+            ("index", ".* wrote what has no place in the log"),
+        ):
+            self.folder, self.log = f"{self.folder}{wrong}", MemoryLog()
+            command = ["env", f"WRONG={wrong}", *FOLLOWS]
+            it = await self.began(command=command, positions=True)
+            asked = [asyncio.ensure_future(self.asked(it, client)) for client in (1, 2)]
+            await asyncio.wait(asked[:1])
+            asked.append(asyncio.ensure_future(self.asked(it, 3)))
+            with self.assertRaisesRegex(Ended, said):
+                await asyncio.wait_for(self.running, 20)
+            await asyncio.gather(*asked, return_exceptions=True)
+
+    def test_checksums(self):
+        for crc in (checksums.crc32c, checksums.in_python):
+            self.assertEqual(crc(b"123456789"), 0xE3069283)
+            self.assertEqual(crc(b""), 0)
+
+    async def test_another_replica_of_its_name(self):
+        it = await self.began()
+        await self.asked(it, 6)
+        await self.log.report("r0", json.dumps({"writer": "another"}).encode())
+        with self.assertRaises(Ended) as found:
+            await asyncio.wait_for(self.running, 20)
+        self.assertEqual(str(found.exception), "another replica has the name r0")
 
     async def test_no_log(self):
         it = await self.began()
@@ -468,6 +547,11 @@ class Words(unittest.TestCase):
     def test_what_replicas_have_in_common(self):
         head = {"format": 1, "rules": 1, "clients_max": 64, "profile": 1}
         self.assertEqual(head_of(["tb_script", "run", "64"]), head)
+        self.assertEqual(head_of(["tb_follow", "64"], True), head)
+        self.assertEqual(head_of(["tb_follow", "64", "1"], True), head)
+        for wrong in (["64"], ["tb_follow", "run"], ["a", "x", "1", "2", "x"]):
+            with self.assertRaises(ValueError):
+                head_of(wrong, True)
         self.assertEqual(
             head_of(["tb_script", "run", "8", "2"]), {**head, "clients_max": 8, "profile": 2}
         )

@@ -198,7 +198,7 @@ class EtcdLog:
         return None
 
     def look_elsewhere(self) -> None:
-        if self.watch is not None and len(self.addresses) > 1:
+        if self.watch is not None:
             self.is_moving = True
             self.watch.cancel()
 

@@ -4,11 +4,13 @@ from __future__ import annotations
 import asyncio
 import collections
 import contextlib
+import struct
 from typing import Callable, Deque, Dict, List, Sequence, Tuple
 
 from tb_client.frames import asker, reply_fault
 from tb_client.layout import HEADER
 
+from .checksums import crc32c
 from .entries import NOTHING, Entry, askers, chained
 from .faults import Fault
 from .lines import Ended
@@ -16,6 +18,10 @@ from .local_copy import KEPT, Copy
 from .process import ServerProcess, kill
 
 READ = 1 << 18  # bytes of replies that are read at a time
+# what is written to `tb_follow`, and what it writes
+ENTRY, QUESTION = b"\1", b"\2"
+NUMBERS, REPLIED = struct.Struct("<QI"), struct.Struct("<QI")
+HASHES = struct.Struct("<Q32s32s")
 
 
 def _failed(task: asyncio.Future[None]) -> bool:
@@ -46,7 +52,8 @@ class Follower(ServerProcess):
         self.fed: Deque[Fed] = collections.deque()
         self.answered = 0  # the position up to which this process has answered
         self.hashes: Dict[int, bytes] = {0: NOTHING}  # of the replies up to a position
-        self.last = NOTHING  # of those of this process
+        self.last = NOTHING  # of all replies of this process
+        self.digest = NOTHING  # of those up to the position that is answered
         self.known = copy.position  # up to which replies were tested when they came first
         self.moved = asyncio.Event()
 
@@ -58,9 +65,13 @@ class Follower(ServerProcess):
             async for record in self.copy.follow():
                 pairs = Entry.from_bytes(record.entry).pairs
                 self.fed.append(Fed(record.position, askers(pairs)))
-                self._pass_empty()
-                stdin.write(pairs)
+                stdin.write(self.item(record.position, pairs))
+                self.pass_empty()
                 await stdin.drain()
+
+    def item(self, position: int, pairs: bytes) -> bytes:
+        """What the process is written of an entry."""
+        return pairs
 
     # replies
 
@@ -69,7 +80,7 @@ class Follower(ServerProcess):
     ) -> None:
         assert process.stdin is not None
         self.fed.clear()
-        self.answered, self.last = 0, NOTHING
+        self.answered, self.last, self.digest = 0, NOTHING, NOTHING
         feeding = asyncio.ensure_future(self._feed(process.stdin))
         feeding.add_done_callback(lambda it: kill(process) if _failed(it) else None)
         data = bytearray()
@@ -85,22 +96,35 @@ class Follower(ServerProcess):
             feeding.result()
 
     def _take(self, process: asyncio.subprocess.Process, data: bytes) -> int:
-        """Takes the whole replies of these bytes. Answers how many bytes they have."""
+        """Takes what is whole of these bytes. Answers how many bytes it has."""
         at = 0
-        while len(data) - at >= HEADER:
-            header = data[at : at + HEADER]
-            end = at + HEADER + int.from_bytes(header[32:36], "little")
-            if not self._is_next(header):
-                kill(process)
-                raise Ended(f"{self.words[0]} wrote what is no reply to the next pair", 1)
-            if end > len(data):
-                break
-            self._answer(data[at:end])
-            at = end
+        try:
+            while (end := self.taken(data, at)) > at:
+                at = end
+        except Ended:
+            kill(process)
+            raise
         return at
 
+    def taken(self, data: bytes, at: int) -> int:
+        """Takes what begins at this place. Answers where it ends: here, where it is not whole."""
+        return self.take_reply(data, at) or at
+
+    def take_reply(self, data: bytes, at: int) -> int:
+        """Takes the reply at this place. Answers where it ends, 0 where it is not whole."""
+        header = data[at : at + HEADER]
+        if len(header) < HEADER:
+            return 0
+        end = at + HEADER + int.from_bytes(header[32:36], "little")
+        if not self._is_next(header):
+            raise Ended(f"{self.words[0]} wrote what is no reply to the next pair", 1)
+        if end > len(data):
+            return 0
+        self._answer(data[at:end])
+        return end
+
     def _is_next(self, header: bytes) -> bool:
-        if not self.fed:
+        if not self.fed or len(self.fed[0].replies) == len(self.fed[0].wanted):
             return False
         it = self.fed[0]
         is_asked = it.wanted[len(it.replies)] == asker(header)
@@ -110,22 +134,20 @@ class Follower(ServerProcess):
         it = self.fed[0]
         it.replies.append(reply)
         self.tell(it.position, len(it.replies) - 1, reply)
-        if len(it.replies) == len(it.wanted):
-            self._finish(self.fed.popleft())
-            self._pass_empty()
+        self.last = chained(self.last, reply)
+        self.pass_empty()
 
-    def _pass_empty(self) -> None:
-        """An entry without pairs is answered when those before it are."""
-        while self.fed and not self.fed[0].wanted:
-            self._finish(self.fed.popleft())
+    def pass_empty(self) -> None:
+        """Finishes what has all its replies; an entry without pairs when those before it have."""
+        while self.fed and len(self.fed[0].replies) == len(self.fed[0].wanted):
+            self.finish(self.fed.popleft())
 
-    def _finish(self, it: Fed) -> None:
-        digest = chained(self.last, b"".join(it.replies))
+    def finish(self, it: Fed) -> None:
         before = self.hashes.get(it.position)
-        if before is not None and before != digest:
+        if before is not None and before != self.last:
             said = f"{self.words[0]} answers the entry at {it.position} otherwise than before"
             raise Fault("Diverged", said)
-        self.hashes[it.position] = self.last = digest
+        self.hashes[it.position] = self.digest = self.last
         self.hashes.pop(it.position - KEPT, None)
         self.answered = it.position
         self.known = max(self.known, it.position)
@@ -133,7 +155,44 @@ class Follower(ServerProcess):
 
     def state(self) -> Tuple[int, bytes]:
         """The position up to which replies are there, and their hash."""
-        return self.answered, self.last
+        return self.answered, self.digest
 
     def lost(self) -> None:
         """What was asked is asked again, of the next process."""
+
+
+class PositionFollower(Follower):
+    """A server process that takes entries with their positions, as `tb_follow` does. It refuses a
+    gap, a repeat and a damaged entry, writes each reply with its place in the log, and answers with
+    the hashes of the log and of the replies behind each entry."""
+
+    def item(self, position: int, pairs: bytes) -> bytes:
+        numbers = NUMBERS.pack(position, len(pairs))
+        checksum = crc32c(numbers + pairs).to_bytes(4, "little")
+        return b"".join((ENTRY, numbers, checksum, pairs, QUESTION))
+
+    def pass_empty(self) -> None:
+        """An entry is finished with the answer to the question behind it."""
+
+    def taken(self, data: bytes, at: int) -> int:
+        if data[at : at + 1] == QUESTION:
+            return self._take_hashes(data, at)
+        if len(data) - at < 1 + REPLIED.size:
+            return at
+        position, index = REPLIED.unpack_from(data, at + 1)
+        place = (self.fed[0].position, len(self.fed[0].replies)) if self.fed else None
+        if data[at : at + 1] != ENTRY or place != (position, index):
+            raise Ended(f"{self.words[0]} wrote what has no place in the log", 1)
+        return self.take_reply(data, at + 1 + REPLIED.size) or at
+
+    def _take_hashes(self, data: bytes, at: int) -> int:
+        if len(data) - at < 1 + HASHES.size:
+            return at
+        position, log, replies = HASHES.unpack_from(data, at + 1)
+        it = self.fed.popleft() if self.fed else Fed(0, [])
+        if (it.position, len(it.replies)) != (position, len(it.wanted)):
+            raise Ended(f"{self.words[0]} wrote hashes that were not asked for", 1)
+        if replies != self.last or log != self.copy.hashes.get(position, log):
+            raise Fault("Diverged", f"{self.words[0]} has another hash at position {position}")
+        self.finish(it)
+        return at + 1 + HASHES.size

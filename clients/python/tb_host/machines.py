@@ -137,10 +137,15 @@ def _run_words(given: Sequence[str]) -> argparse.Namespace:
         default=[],
         help="do not compare what this writer had (after Diverged: docs/use/CLUSTER.md)",
     )
+    parser.add_argument(
+        "--positions",
+        action="store_true",
+        help="COMMAND takes entries with their positions, as tb_follow 64 does",
+    )
     add_command(parser)
     found = parser.parse_args(given)
     try:
-        head_of(found.command)
+        head_of(found.command, found.positions)
     except ValueError as error:
         parser.error(str(error))
     settle_places(found)

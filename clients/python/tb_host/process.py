@@ -222,6 +222,16 @@ async def first(*futures: asyncio.Future[Any]) -> None:
     await asyncio.wait(futures, return_when=asyncio.FIRST_COMPLETED)
 
 
+async def came(event: asyncio.Event, seconds: float) -> bool:
+    """Whether an event comes in time. Unlike `wait_for` it can be cancelled while it comes."""
+    waiting = asyncio.ensure_future(event.wait())
+    try:
+        await asyncio.wait([waiting], timeout=seconds)
+    finally:
+        waiting.cancel()
+    return event.is_set()
+
+
 async def cancelled(tasks: Sequence[asyncio.Future[Any]]) -> None:
     """Cancels tasks until they have ended. A `wait_for` whose event comes at the same time takes no
     notice of the first time."""
@@ -229,4 +239,4 @@ async def cancelled(tasks: Sequence[asyncio.Future[Any]]) -> None:
     while left:
         for it in left:
             it.cancel()
-        _, left = await asyncio.wait(left, timeout=LAST_WORDS)
+        _, left = await asyncio.wait(left, timeout=5 * LAST_WORDS)

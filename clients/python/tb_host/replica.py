@@ -13,12 +13,12 @@ from typing import Any, Deque, Dict, List, Optional, Set, Tuple
 
 from .entries import MOMENT, PAIRS_MAX, Claim, Entry, test_pairs
 from .faults import Fault
-from .follower import Follower
-from .lines import Told, say
+from .follower import Follower, PositionFollower
+from .lines import Ended, Told, say
 from .local_copy import KEPT, Copy, kept
 from .log import Log, LogFull, LogGone, NoLog, Report, Written
 from .moments import SECOND, Moments
-from .process import cancelled, first
+from .process import came, cancelled, first
 
 LOOK = 0.25  # seconds after which it is looked for requests that wait too long
 ELSEWHERE = 2.0  # seconds for which what was written may be read late
@@ -30,16 +30,20 @@ FORMAT = 1
 RULES = 1  # grows where a server answers a script otherwise than before
 
 
-def head_of(words: List[str]) -> Dict[str, int]:
-    """What replicas of one log have in common, of a server's command, which ends in run CLIENTS_MAX
-    [PROFILE]. Raises `ValueError`."""
-    for at in (len(words) - 2, len(words) - 3):
-        numbers = words[at + 1 :]
-        if at > 0 and words[at] == "run" and all(it.isascii() and it.isdigit() for it in numbers):
-            clients_max, profile = int(numbers[0]), int(numbers[1]) if numbers[1:] else 1
+def head_of(words: List[str], has_positions: bool = False) -> Dict[str, int]:
+    """What replicas of one log have in common, of a server's command, which ends in `run
+    CLIENTS_MAX [PROFILE]`; where it takes entries with their positions, in the two numbers alone.
+    Raises `ValueError`."""
+    lead = [] if has_positions else ["run"]
+    for count in (2, 1):
+        numbers = words[-count:]
+        start = len(words) - count - len(lead)
+        is_form = start > 0 and words[start : len(words) - count] == lead
+        if is_form and all(it.isascii() and it.isdigit() for it in numbers):
+            clients_max, profile = map(int, [*numbers, "1"][:2])
             head = {"format": FORMAT, "rules": RULES, "clients_max": clients_max}
             return {**head, "profile": profile}
-    raise ValueError("COMMAND does not end in run CLIENTS_MAX [PROFILE]")
+    raise ValueError(f"COMMAND does not end in {' '.join([*lead, 'CLIENTS_MAX [PROFILE]'])}")
 
 
 class Pair:
@@ -63,7 +67,8 @@ class Replica:
     def __init__(self, given: argparse.Namespace, log: Log, copy: Copy, name: str) -> None:
         self.given, self.log, self.copy, self.name = given, log, copy, name
         self.writer = os.urandom(16)  # another one at each start
-        self.follower = Follower(given.command, given.slow, copy, self.tell)
+        kind = PositionFollower if given.positions else Follower
+        self.follower = kind(given.command, given.slow, copy, self.tell)
         self.moments = Moments()
         self.stopping = self.follower.stopping
         self.queue: Deque[Pair] = collections.deque()
@@ -77,6 +82,7 @@ class Replica:
         self.hello = 0  # what this clock had when the others were asked for theirs
         self.heard: Dict[str, int] = {}  # the same of others, which are to be answered
         self.ahead: Dict[str, int] = {}  # by how much this clock is ahead of another's, at least
+        self.is_heard = False  # whether an own report was read
         self.is_met = False  # whether the others were asked
         self.is_away = False  # whether it was said that there is no log
         self.reporting = asyncio.Event()
@@ -251,6 +257,7 @@ class Replica:
         """Takes what another replica says: the clock that it has, where it was asked for that; that
         it asks for this one's; or that it diverged from this one."""
         if report.name == self.name:
+            self._test_name(report.data)
             return
         with contextlib.suppress(ValueError, TypeError, KeyError):
             said = json.loads(report.data)
@@ -261,6 +268,14 @@ class Replica:
                 self.reporting.set()
             if self.writer.hex() in said.get("fault", ""):
                 raise Fault("Diverged", f"{report.name} says: {said['fault']}")
+
+    def _test_name(self, data: bytes) -> None:
+        """Raises `Ended` where another replica reports by this one's name: what is trimmed goes by
+        the names."""
+        is_mine = self.writer.hex().encode() in data
+        if self.is_heard and not is_mine:
+            raise Ended(f"another replica has the name {self.name}", 1)
+        self.is_heard = self.is_heard or is_mine
 
     def _test_clock(self) -> None:
         """Raises `Ahead` where this clock is ahead of that of each replica that answered."""
@@ -294,9 +309,8 @@ class Replica:
 
     async def _report(self) -> None:
         while True:
-            with contextlib.suppress(asyncio.TimeoutError):
-                await asyncio.wait_for(self.reporting.wait(), REPORT)
-            if self.reporting.is_set() or self.reported != self.copy.synced:
+            is_asked = await came(self.reporting, REPORT)
+            if is_asked or self.reported != self.copy.synced:
                 self.reporting.clear()
                 await self.report()
 
@@ -325,7 +339,7 @@ class Replica:
     async def _settle_head(self) -> None:
         """Makes the log's head, or raises `OtherRules` where another one is there. The copy keeps
         it, since the head has an id: so a copy goes on with its own log alone."""
-        wanted: Dict[str, Any] = dict(head_of(self.given.command))
+        wanted: Dict[str, Any] = dict(head_of(self.given.command, self.given.positions))
         named = {**wanted, "id": os.urandom(16).hex()}
         found = await self.log.head(json.dumps(named, sort_keys=True).encode())
         said = f"the log has {found.decode(errors='replace')}, and"
@@ -379,6 +393,7 @@ class Replica:
             await self._end(tasks)
         finally:
             self.follower.is_over = True
+            self.follower.kill()
             await cancelled(tasks)
             for pair in [*self.queue, *sum(self.sent.values(), []), *sum(self.own.values(), [])]:
                 pair.fail("ProgramEnded")
@@ -388,16 +403,13 @@ class Replica:
         for it in tasks:
             fault = it.exception() if it.done() else None
             if fault is not None:
-                self.follower.kill()
                 if isinstance(fault, Fault):
                     await self.report(fault=str(fault))
                 raise fault
         self.copy.sync(*self.copy.mark())
         await self.report()
         self.follower.close()
-        following = tasks[-2]
-        await asyncio.wait([following], timeout=self.given.slow)
-        self.follower.kill()
+        await asyncio.wait([tasks[-2]], timeout=self.given.slow)
 
     def close(self) -> None:
         self.closed.set()

@@ -105,8 +105,9 @@ async def hashes(given: argparse.Namespace) -> int:
     for record in records_of(given.copy):
         pairs = Entry.from_bytes(record.entry).pairs
         process.stdin.write(pairs)
-        said = [await _reply(process.stdout) for _ in cut(pairs)]
-        log, replies = chained(log, pairs), chained(replies, b"".join(said))
+        log = chained(log, pairs)
+        for _ in cut(pairs):
+            replies = chained(replies, await _reply(process.stdout))
         position = record.position
         if position == given.at:
             break
