@@ -25,6 +25,7 @@ Prints a line for each case; ends in 'N passed, M failed'.
 import argparse
 import contextlib
 import os
+import signal
 import statistics
 import subprocess
 import sys
@@ -38,7 +39,8 @@ WRONG = ("executes_early", "replies_early", "skips_at_restart", "takes_twice_at_
 SHARP = ("replica killed", "links of a replica cut", "all nodes killed")
 HOW = f"{TOP}/checks/clusters/wrong_replica.py"
 
-if __name__ == "__main__" and os.path.realpath(sys.executable) != os.path.realpath(PYTHON):
+IS_OTHER = os.path.realpath(sys.executable) != os.path.realpath(PYTHON)
+if __name__ == "__main__" and IS_OTHER and os.access(PYTHON, os.X_OK):
     os.execv(PYTHON, [PYTHON, "-B", *sys.argv])  # Debian's packages are seen by its Python alone
 
 sys.path[:0] = [f"{TOP}/checks/clusters", f"{TOP}/checks"]
@@ -301,8 +303,8 @@ def part_postgresql(given):
         for process in (cluster.replicas[0], standby, primary, cluster.replicas[1], standby):
             time.sleep(2)
             faults.kill(process)
+        rows_without_a_standby(cluster, traffic)
         before = traffic.made
-        faults.hold(standby, standby.signal_server)
         until(lambda: traffic.made > before, 60, "transfers go on")
         time.sleep(11)  # a replica reports every 10 seconds
         words = ("--log-user", "postgres", "--log", cluster.log())
@@ -311,6 +313,26 @@ def part_postgresql(given):
         agree("postgresql", cluster, traffic)
         status, said = cluster.part("trim", *words)
         case("postgresql: the log is trimmed", status == 0, said.strip())
+
+
+def rows_without_a_standby(cluster, traffic):
+    """A wait for the standby is cancelled: the primary then shows rows that it alone has. They are
+    not to be answered before the standby has them."""
+    standby = cluster.nodes[1]
+    until(cluster.is_streaming, 60, "the standby streams")
+    standby.send(signal.SIGSTOP)
+    standby.signal_server(signal.SIGSTOP)
+    time.sleep(2)
+    made, rows = traffic.made, len(cluster.script())
+    for _ in range(30):
+        cluster.cancel_waits()
+        time.sleep(0.1)
+    shown = len(cluster.script())
+    case("postgresql: rows that no standby has are visible", shown > rows, f"{rows}, then {shown}")
+    answered = traffic.made - made
+    case("postgresql: nothing of them is answered", answered == 0, f"{answered} are answered")
+    standby.send(signal.SIGCONT)
+    standby.signal_server(signal.SIGCONT)
 
 
 def part_access(given):
@@ -355,7 +377,7 @@ def part_rates(given):
             print(f"  restart with {done} transfers in requests of {batch}: {took:.1f} s")
 
 
-def shown(given):
+def show_it(given):
     """Tells what happens to three machines, and the totals at the end."""
     lacks = missing("etcd")
     if lacks:
@@ -411,7 +433,7 @@ def main():
     given = words()
     Machines.follows = given.follow and os.path.abspath(given.follow)
     if given.show:
-        return shown(given)
+        return show_it(given)
     for name in given.only or [it for it in PARTS if it not in APART]:
         lacks = missing("postgresql" if name == "postgresql" else "etcd")
         if lacks:

@@ -309,14 +309,24 @@ class Postgres(Machines):
     def end_engine(self):
         """Its nodes are killed."""
 
-    def script(self):
+    def asked(self, query):
         import psycopg
 
         place = f"host=127.0.0.1 port={self.ports[0]} user=postgres dbname=postgres"
-        with psycopg.connect(place) as it:
-            return [
-                bytes(row[0]) for row in it.execute("SELECT entry FROM bank_log ORDER BY position")
-            ]
+        with psycopg.connect(place, autocommit=True) as it:
+            return it.execute(query).fetchall()
+
+    def script(self):
+        return [bytes(it[0]) for it in self.asked("SELECT entry FROM bank_log ORDER BY position")]
+
+    def is_streaming(self):
+        return bool(self.asked("SELECT pid FROM pg_stat_replication WHERE state = 'streaming'"))
+
+    def cancel_waits(self):
+        """Cancels each wait for the standby. What was waited for is committed, and answered."""
+        self.asked(
+            "SELECT pg_cancel_backend(pid) FROM pg_stat_activity WHERE wait_event = 'SyncRep'"
+        )
 
 
 def postgres_folder():
