@@ -1,8 +1,7 @@
 -- A file stands for one history, and its machine is the one that served.
-use Rattle.std.proofs.Common.{arith, ℕ, ◌≡◌, Bool, true, false, cond, fold, List, [], ◌∷◌, ◌++◌, map, refl, sym, ap, ◌∙◌, subst}
+use Rattle.std.proofs.Common.{arith, ℕ, ◌≡◌, Bool, cond, fold, List, [], ◌∷◌, ◌++◌, map, refl, sym, ap, ◌∙◌, subst}
 use Rattle.std.proofs.lemmas.Grind.{common_steps}
 use Rattle.tb_records.specs.declared.limits.Profile.{Profile}
-use Rattle.tb_records.specs.declared.limits.Profile.TheVariants.{One, Two}
 use Rattle.tb_journal.specs.Contents.{records_of as records_in}
 use Rattle.tb_machine.specs.declared.entries.Entry.{Entry}
 use Rattle.tb_machine.specs.Histories.{State, start, step}

@@ -1,10 +1,9 @@
 -- How long the batch of some pairs is.
-use Rattle.std.proofs.Common.{arith, ◌≡◌, ℕ, ◌+◌, ◌*◌, ◌≤◌, ◌^◌, Bool, true, false, cond, List, [], ◌∷◌, ◌++◌, length, map, refl, length-append}
+use Rattle.std.proofs.Common.{arith, ◌≡◌, ℕ, ◌+◌, ◌≤◌, Bool, true, false, cond, List, [], ◌∷◌, ◌++◌, length, map, refl, length-append}
 use Rattle.tb_records.specs.declared.bodies.Body.{Body}
 use Rattle.tb_records.specs.Messages.{Message, operation, item_count}
-use Rattle.tb_records.specs.Numbers.{le_bytes}
 use Rattle.tb_records.specs.Sizes.{length-le_bytes}
-use Rattle.tb_records.specs.Frames.{header_bytes, body_bytes, item_size}
+use Rattle.tb_records.specs.Frames.{header_bytes, body_bytes}
 use Rattle.tb_records.specs.DumpBytes.{numbers_bytes}
 use Rattle.tb_records.proofs.StreamAnswers.{length-body}
 use Rattle.tb_journal.specs.Contents.{at_rest, blocks_length}

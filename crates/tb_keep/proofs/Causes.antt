@@ -1,13 +1,13 @@
 -- The cause of a fault, where no call failed before.
-use Rattle.std.proofs.Common.{arith, ◌≡◌, ◌⊎◌, inl, inr, ℕ, List, Bool, true, Result, Ok, Err, IfErr, refl, sym, ap, ◌∙◌, subst}
+use Rattle.std.proofs.Common.{arith, ◌≡◌, ◌⊎◌, inl, inr, ℕ, List, true, Result, Ok, Err, IfErr, refl, sym, subst}
 use Rattle.std.proofs.lemmas.Grind.{common_steps}
 use Rattle.tb_journal.specs.declared.faults.Fault.{Fault}
 use Rattle.tb_journal.specs.declared.faults.Fault.TheVariants as faults
 use Rattle.tb_journal.specs.declared.opening.OpenFault.{OpenFault}
 use Rattle.tb_journal.specs.declared.opening.OpenFault.TheVariants as open_faults
-use Rattle.tb_journal.specs.Device.{Disk, FailsNone, HasFailed, IsCause, IsOfCall, IsOfSync}
-use Rattle.tb_journal.specs.Creating.{is_blank, IsCreateCause, HasCreateCause}
-use Rattle.tb_journal.specs.Opening.{IsOpenCause, HasOpenCause}
+use Rattle.tb_journal.specs.Device.{Disk, FailsNone, IsCause, IsOfCall, IsOfSync}
+use Rattle.tb_journal.specs.Creating.{is_blank, IsCreateCause}
+use Rattle.tb_journal.specs.Opening.{IsOpenCause}
 use Rattle.tb_journal.proofs.Causes.{none_since, cause_since, has_open_cause_since}
 use Rattle.tb_records.specs.declared.limits.Profile.{Profile}
 use Rattle.tb_keep.specs.declared.faults.StartFault.{StartFault}

@@ -3,7 +3,7 @@ use Rattle.std.proofs.Common.{rules, arith, ℕ, ◌≡◌, inr, true, false, Li
 use Rattle.std.proofs.lemmas.Grind.{common_steps}
 use Rattle.tb_records.specs.declared.faults.FrameFault.{FrameFault}
 use Rattle.tb_records.specs.DumpBytes.{head_bytes}
-use Rattle.tb_records.specs.Transport.{Output, Sent, CutOff, IsSent}
+use Rattle.tb_records.specs.Transport.{Output, Sent, IsSent}
 use Rattle.tb_records.proofs.Sendings.{sent_rest}
 use Rattle.tb_journal.specs.declared.opening.OpenFault.{OpenFault}
 use Rattle.tb_journal.specs.Contents.{Records, contents, records_of}

@@ -1,5 +1,5 @@
 -- The records of a file as they are read and entered.
-use Rattle.std.proofs.Common.{rules, arith, ℕ, ◌≡◌, ◌⊎◌, inl, inr, true, false, List, [], ◌∷◌, ◌++◌, length, refl, sym, ap, ◌∙◌, subst, append_assoc, append-nil, Ok, Err, ◌<◌, ◌≤◌}
+use Rattle.std.proofs.Common.{arith, ℕ, ◌≡◌, ◌⊎◌, inl, inr, true, false, List, [], ◌∷◌, ◌++◌, refl, sym, ap, ◌∙◌, subst, append_assoc, Ok, Err, ◌<◌, ◌≤◌}
 use Rattle.std.proofs.lemmas.Grind.{common_steps}
 use Rattle.tb_records.specs.declared.limits.Profile.{Profile}
 use Rattle.tb_journal.specs.declared.reading.Extent.{Extent}
@@ -18,7 +18,7 @@ use Rattle.tb_keep.specs.Restoration.{RecordsLead, StopsAt, RestoresRecord, Rest
 use Rattle.tb_keep.specs.declared.heads.Rules.{Rules}
 use Rattle.tb_keep.specs.Entering.{StaysKept, EntersNext, EntersAll, FindsBehind}
 use Rattle.tb_keep.proofs.Opened.{Counts, untouched_then}
-use Rattle.tb_keep.proofs.Leading.{leads_none, leads_more, stops_file}
+use Rattle.tb_keep.proofs.Leading.{leads_more, stops_file}
 
 -- a device that is only looked at
 

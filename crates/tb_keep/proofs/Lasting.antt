@@ -11,7 +11,7 @@ use Rattle.tb_machine.specs.Histories.{State, start, fits, step, LegalFrom}
 use Rattle.tb_machine.specs.Scripts.{Pair, entry_of, is_entered, after_pair}
 use Rattle.tb_machine.proofs.Legal.{legal_join}
 use Rattle.tb_keep.specs.Keeping.{History, state_of, longer, head_record, records_of, AreRecorded, IsKeepable}
-use Rattle.tb_keep.specs.Rounds.{state_from, entries_from, records_from, pairs_of, AreServed}
+use Rattle.tb_keep.specs.Rounds.{state_from, entries_from, records_from, AreServed}
 use Rattle.tb_keep.specs.Moments.{Lasts, RoundsAreServed}
 
 legal_pairs : (S : State) (ps : List Pair) → AreServed S ps → LegalFrom S (entries_from S ps)

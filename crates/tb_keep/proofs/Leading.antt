@@ -8,7 +8,6 @@ use Rattle.tb_machine.specs.Dumps.{dumped}
 use Rattle.tb_machine.specs.Recording.{IsRecord}
 use Rattle.tb_keep.specs.Keeping.{AreRecorded}
 use Rattle.tb_keep.specs.declared.faults.StartFault.{StartFault}
-use Rattle.tb_keep.specs.declared.faults.StartFault.TheVariants as start
 use Rattle.tb_keep.specs.Restoration.{RecordsLead, RestoresAll, HeadAnswers, StopsFile}
 
 pub leads_none : (S : State) → RecordsLead S [] S

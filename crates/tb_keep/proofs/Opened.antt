@@ -2,25 +2,21 @@
 use Rattle.std.proofs.Common.{arith, ◌≡◌, inl, inr, ℕ, ◌<◌, ◌≤◌, ◌^◌, List, Result, Ok, Err, IfOk, IfErr, MatchResult, sym, ap, ◌∙◌, subst}
 use Rattle.std.proofs.lemmas.Grind.{common_steps}
 use Rattle.tb_records.specs.declared.limits.Profile.{Profile}
-use Rattle.tb_journal.specs.declared.faults.Fault.TheVariants as faults
-use Rattle.tb_journal.specs.declared.reading.Refusal.TheVariants as refusals
-use Rattle.tb_journal.specs.declared.opening.OpenFault.{OpenFault}
-use Rattle.tb_journal.specs.declared.opening.OpenFault.TheVariants as open_faults
 use Rattle.tb_journal.specs.Device.{Disk, LeavesOnly}
 use Rattle.tb_journal.specs.Contents.{Records, contents, recorded}
-use Rattle.tb_journal.specs.Opening.{IsAsBefore, IsOpenCause}
+use Rattle.tb_journal.specs.Opening.{IsAsBefore}
 use Rattle.tb_journal.specs.declared.reading.Extent.{Extent}
 use Rattle.tb_journal.proofs.Moments.{then, weaker}
 use Rattle.tb_journal.proofs.Opened.{is_told}
 use Rattle.tb_journal.proofs.Walks.{whole_begins}
 use Rattle.tb_machine.specs.Histories.{State}
+use Rattle.tb_journal.specs.declared.opening.OpenFault.TheVariants as open_faults
 use Rattle.tb_keep.specs.declared.faults.StartFault.{StartFault}
 use Rattle.tb_keep.specs.declared.faults.StartFault.TheVariants as start
 use Rattle.tb_keep.specs.declared.opening.NotKept.{NotKept}
 use Rattle.tb_keep.specs.Keeping.{Keeping}
 use Rattle.tb_keep.specs.Restoration.{IsRestored, IsRestoredFrom, IsNotOfFile, IsTornTooLong, StopsOpening, torn_bytes}
 use Rattle.tb_keep.specs.Opening.{OpensFile, StartsFile, IsOpened, IsStarted, IsUntouched, MayBeOpened, MayBeStarted, IsRefused, IsStartRefused}
-use Rattle.tb_keep.specs.Headed.{IsOfDevice, OpensOnly}
 
 abbrev pub Counts : Disk → Type 0
 Counts disk = (t : ℕ) (c : List ℕ) → t ≤ disk.moment → disk.may_leave c → disk.left_since t c
@@ -34,26 +30,43 @@ untouched_then before mid after counts first second = record {
   any_moment = then before mid after (IsAsBefore before) first.any_moment (weaker mid after (IsAsBefore mid) (IsAsBefore before) (still_before before mid counts first) second.any_moment);
 }
 
-refused_then : (profile : Profile) (clients_max : ℕ) (before mid after : Disk) (fault : StartFault) → Counts mid → IsUntouched before mid
-    → IsRefused profile clients_max fault mid after → IsStartRefused profile clients_max fault before after
-refused_then profile clients_max before mid after fault counts first is = grind (arith, common_steps, untouched_then)
+module _ (profile : Profile) (clients_max : ℕ) (before mid after : Disk) (counts : Counts mid) (first : IsUntouched before mid) where
+  for_before : (fault : StartFault) → StopsOpening fault profile clients_max mid.seen × IsUntouched mid after
+      → StopsOpening fault profile clients_max before.seen × IsUntouched before after
+  for_before fault is = (subst (λ (file : List ℕ). StopsOpening fault profile clients_max file) first.seen is.0, untouched_then before mid after counts first is.1)
 
-pub refused_at_last : {D : Type 0} (disk : D → Disk) (profile : Profile) (clients_max : ℕ) (before mid : Disk) (result : Result (Keeping D) (NotKept D)) → Counts mid
-    → IsUntouched before mid
-    → IfErr result (λ failed. IsRefused profile clients_max failed.fault mid (disk failed.device))
-    → IfErr result (λ failed. IsStartRefused profile clients_max failed.fault before (disk failed.device))
-refused_at_last disk profile clients_max before mid result counts first is = grind (arith, common_steps, refused_then)
+  still_refused : (fault : StartFault) → IsRefused profile clients_max fault mid after → IsRefused profile clients_max fault before after
+  still_refused (start.Journal (open_faults.Device fault)) is = tt
+  still_refused (start.Journal (open_faults.Refused why)) is = for_before (start.Journal (open_faults.Refused why)) is
+  still_refused start.Head is = for_before start.Head is
+  still_refused start.OtherRules is = for_before start.OtherRules is
+  still_refused (start.Record place fault) is = for_before (start.Record place fault) is
+  still_refused (start.Entry fault) is = for_before (start.Entry fault) is
+  still_refused start.NoMemory is = for_before start.NoMemory is
+  still_refused (start.TornTooLong at bytes) is = for_before (start.TornTooLong at bytes) is
 
-still_refused : (profile : Profile) (clients_max : ℕ) (before mid after : Disk) (fault : StartFault) → Counts mid → IsUntouched before mid
-    → IsRefused profile clients_max fault mid after → IsRefused profile clients_max fault before after
-still_refused profile clients_max before mid after fault counts first is = grind (arith, common_steps, untouched_then)
+  refused_then : (fault : StartFault) → IsRefused profile clients_max fault mid after → IsStartRefused profile clients_max fault before after
+  refused_then (start.Journal (open_faults.Device fault)) is = tt
+  refused_then (start.Journal (open_faults.Refused why)) is = for_before (start.Journal (open_faults.Refused why)) is
+  refused_then start.Head is = for_before start.Head is
+  refused_then start.OtherRules is = for_before start.OtherRules is
+  refused_then (start.Record place fault) is = for_before (start.Record place fault) is
+  refused_then (start.Entry fault) is = for_before (start.Entry fault) is
+  refused_then start.NoMemory is = untouched_then before mid after counts first is.1
+  refused_then (start.TornTooLong at bytes) is = for_before (start.TornTooLong at bytes) is
 
-pub refused_still : {D : Type 0} (disk : D → Disk) (profile : Profile) (clients_max : ℕ) (before mid : Disk) (result : Result (Keeping D) (NotKept D)) → Counts mid
-    → IsUntouched before mid
-    → IfErr result (λ failed. IsRefused profile clients_max failed.fault mid (disk failed.device))
-    → IfErr result (λ failed. IsRefused profile clients_max failed.fault before (disk failed.device))
-refused_still disk profile clients_max before mid (Ok keeper) counts first is = tt
-refused_still disk profile clients_max before mid (Err failed) counts first is = still_refused profile clients_max before mid (disk failed.device) failed.fault counts first is
+module _ {D : Type 0} (disk : D → Disk) (profile : Profile) (clients_max : ℕ) (before mid : Disk) where
+  pub refused_at_last : (result : Result (Keeping D) (NotKept D)) → Counts mid → IsUntouched before mid
+      → IfErr result (λ failed. IsRefused profile clients_max failed.fault mid (disk failed.device))
+      → IfErr result (λ failed. IsStartRefused profile clients_max failed.fault before (disk failed.device))
+  refused_at_last (Ok keeper) counts first is = tt
+  refused_at_last (Err failed) counts first is = refused_then profile clients_max before mid (disk failed.device) counts first failed.fault is
+
+  pub refused_still : (result : Result (Keeping D) (NotKept D)) → Counts mid → IsUntouched before mid
+      → IfErr result (λ failed. IsRefused profile clients_max failed.fault mid (disk failed.device))
+      → IfErr result (λ failed. IsRefused profile clients_max failed.fault before (disk failed.device))
+  refused_still (Ok keeper) counts first is = tt
+  refused_still (Err failed) counts first is = still_refused profile clients_max before mid (disk failed.device) counts first failed.fault is
 
 may_be : (profile : Profile) (clients_max : ℕ) (before mid : Disk) → Counts mid → IsUntouched before mid → (c : List ℕ) → MayBeOpened profile clients_max mid c → MayBeStarted profile clients_max before c
 may_be profile clients_max before mid counts first c (inl was) = inl (inl (still_before before mid counts first c was))

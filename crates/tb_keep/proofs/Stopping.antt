@@ -1,13 +1,11 @@
 -- The faults of a pair: behind which nothing is told, and before which all is.
-use Rattle.std.proofs.Common.{arith, ◌≡◌, true, false, List, [], ◌∷◌, ℕ, Err, inl, inr, refl, subst}
+use Rattle.std.proofs.Common.{arith, ◌≡◌, true, false, List, [], ◌∷◌, ℕ, Err, inl, refl}
 use Rattle.std.proofs.lemmas.Grind.{common_steps}
 use Rattle.tb_records.specs.Transport.{Input, Output}
 use Rattle.tb_journal.specs.Device.{Disk}
-use Rattle.tb_machine.specs.declared.serving.RunFault.TheVariants as run
 use Rattle.tb_machine.specs.Scripts.{Pair}
 use Rattle.tb_machine.specs.Runs.{Reads}
 use Rattle.tb_keep.specs.declared.faults.KeepFault.{KeepFault}
-use Rattle.tb_keep.specs.declared.faults.KeepFault.TheVariants as keep
 use Rattle.tb_keep.specs.Keeping.{Keeping}
 use Rattle.tb_keep.specs.Steps.{IsSudden, is_end_of_time, KeepsPair, EndsTold, EndsNext}
 

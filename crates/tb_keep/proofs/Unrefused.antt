@@ -1,12 +1,10 @@
 -- The records of a history that may be kept are not refused.
-use Rattle.std.proofs.Common.{arith, ℕ, ◌≡◌, ◌⊎◌, ◌+◌, ◌<◌, ◌≤◌, ◌^◌, inl, inr, Bool, true, false, cond, not, ◌==◌, ◌&&◌, fold, List, [], ◌∷◌, ◌++◌, map, Some, None, Err, refl, sym, ap, ◌∙◌, subst}
+use Rattle.std.proofs.Common.{arith, ℕ, ◌≡◌, ◌⊎◌, ◌+◌, ◌<◌, ◌≤◌, ◌^◌, inl, inr, Bool, true, cond, not, ◌==◌, ◌&&◌, fold, List, [], ◌∷◌, ◌++◌, map, Some, None, Err, refl, sym, ap, ◌∙◌, subst}
 use Rattle.std.proofs.lemmas.Grind.{common_steps}
 use Rattle.std.specs.Prelude.{nat_le}
 use Rattle.tb_records.specs.declared.faults.FrameFault.{FrameFault}
-use Rattle.tb_records.specs.declared.faults.FrameFault.TheVariants as frame
 use Rattle.tb_journal.specs.declared.opening.OpenFault.TheVariants as open_faults
 use Rattle.tb_journal.specs.declared.reading.Refusal.{Refusal}
-use Rattle.tb_journal.specs.declared.reading.Refusal.TheVariants as refusals
 use Rattle.tb_journal.specs.Device.{Disk}
 use Rattle.tb_journal.specs.Contents.{Records}
 use Rattle.tb_journal.specs.Opening.{refused_as}

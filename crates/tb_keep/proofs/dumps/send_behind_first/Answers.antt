@@ -2,7 +2,6 @@ use Rattle.std.proofs.Common.{[], ◌∷◌, ℕ, List, sym, subst}
 use Rattle.tb_journal.specs.Scans.{HasRead}
 use Rattle.tb_keep.proofs.Causes.{has_dump_then}
 use Rattle.tb_keep.proofs.Sources.{stops_by_read}
-use Rattle.tb_keep.proofs.Entered.{stays_then}
 use Rattle.tb_keep.proofs.Dumping.{sends_behind, sends_nothing, sends_unread}
 use Rattle.tb_keep.proofs.dumps.send_behind_first.Goals as goal
 

@@ -1,4 +1,4 @@
-use Rattle.std.proofs.Common.{arith, refl, ◌<◌, ◌≤◌, ◌^◌}
+use Rattle.std.proofs.Common.{arith, refl}
 use Rattle.tb_keep.proofs.Opened.{opens_file, too_long}
 use Rattle.tb_keep.proofs.opening.open_short.Goals as goal
 

@@ -1,9 +1,6 @@
-use Rattle.std.proofs.Common.{Err, inr, sym, ◌∙◌}
-use Rattle.tb_machine.specs.declared.serving.RunFault.TheVariants as run
+use Rattle.std.proofs.Common.{sym, ◌∙◌}
 use Rattle.tb_machine.specs.Scripts.{Pair}
 use Rattle.tb_machine.proofs.Running.{reads_one}
-use Rattle.tb_keep.specs.declared.faults.KeepFault.TheVariants as keep
-use Rattle.tb_keep.specs.Rounds.{IsRead}
 use Rattle.tb_keep.proofs.Stopping.{ends_refused, ends_untimely}
 use Rattle.tb_keep.proofs.serving.keep_next.Goals as goal
 

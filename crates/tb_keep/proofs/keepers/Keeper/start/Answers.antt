@@ -1,7 +1,4 @@
-use Rattle.std.proofs.Common.{inl, inr, [], refl, ◌∙◌, subst, List, ℕ, IfOk}
-use Rattle.tb_keep.specs.Opening.{IsOpened, device_left}
-use Rattle.tb_keep.specs.Opening.{IsCreateStartCause}
-use Rattle.tb_keep.specs.declared.faults.StartFault.{StartFault}
+use Rattle.std.proofs.Common.{inr, refl, ◌∙◌}
 use Rattle.tb_keep.proofs.Causes.{not_empty_none, has_start_then, has_either_of_start}
 use Rattle.tb_keep.proofs.Opened.{refused_at_last, started_at_last, opened_as_started, starts_file}
 use Rattle.tb_keep.proofs.keepers.Keeper.start.Goals as goal
