@@ -1,102 +1,47 @@
 //! `tbd`: a ledger server whose history is in a file. It serves requests from standard input to standard output, each reply
-//! told when the entry that it rests on is on the disk; writes the history of a file as a dump; and tells what is in a file.
+//! sent when the entry that it rests on is on the disk; writes the history of a file as a dump; and reports what is in a file.
+//! tb_keep_commands has what it does, over any files, reader and writer.
 //!
-//! Modules, each over those before it:
+//! Module:
 //!
-//! - `arguments`: what the words of the command line ask for.
-//! - `help`: the page of usage.
-//! - `faults`: why the program ends with a status other than 0, and its line.
-//! - `summaries`: what `check` tells of a file.
-//! - `files`: `dump` and `check`, a file read without a write.
-//! - `serving`: `run`, a ledger over a file served.
+//! - `files`: the files of the system.
 #![tactic(auto)]
 
-mod arguments;
-mod faults;
 mod files;
-mod help;
-mod serving;
-mod summaries;
 
-use arguments::{Form, read_form, wrong_words};
-use faults::Fault;
-use files::{check, dump, gone_out};
-use help::{USAGE, VERSION};
-use serving::run;
-use std::io;
+use files::SystemFiles;
+use std::io::{BufWriter, Stderr};
 use std::process::ExitCode;
 use tb_commands::words;
-use tb_keep::Rules;
+use tb_keep_commands::{refuse, serve, words_fault};
+use tb_records::Counting;
 
-/// Does what the form asks for, over the file of the second word.
-fn perform(rt: &HostRuntime, form: Form, words: &[String]) -> Result<(), Fault> {
-    let path = match words {
-        [_, path, ..] => path.as_str(),
-        _ => "",
-    };
-    match form {
-        Form::Run(clients_max, profile) => {
-            let rules = Rules {
-                profile,
-                clients_max,
-            };
-            run(rt, path, rules)
-        }
-        Form::Dump => dump(rt, path),
-        Form::Check => check(rt, path),
-        Form::Help => print(rt, USAGE),
-        Form::Version => print(rt, VERSION),
-    }
-}
+/// The bytes of standard error that are held, so that a line goes out at once.
+const LINE: usize = 1024;
 
-/// Prints a text.
-fn print(rt: &HostRuntime, text: &str) -> Result<(), Fault> {
-    gone_out(print!(rt; "{text}"))
-}
-
-/// Tells what is wrong with words that are none of the program's forms: without words, the page of usage.
-fn tell_usage(rt: &HostRuntime, words: &[String]) -> io::Result<()> {
-    match words {
-        [] => eprint!(rt; "{USAGE}"),
-        words => {
-            let what = wrong_words(rt.alloc(), words)?;
-            eprintln!(rt; "tbd: Usage: {what}")
-        }
-    }
-}
-
-/// Tells a fault, in one line.
-fn tell(rt: &HostRuntime, fault: Fault, words: &[String]) -> io::Result<()> {
-    match (fault, words) {
-        (Fault::Missing | Fault::Forbidden | Fault::Unopened, [_, path, ..]) => {
-            eprintln!(rt; "tbd: {fault} {path}")
-        }
-        _ => eprintln!(rt; "tbd: {fault}"),
-    }
-}
-
-/// Does what the words ask for, and answers the exit status.
-fn command(rt: &HostRuntime, words: &[String]) -> u8 {
-    let Some(form) = read_form(words) else {
-        let _ = tell_usage(rt, words);
-        return Fault::Usage.status();
-    };
-    match perform(rt, form, words) {
-        Ok(()) => 0,
-        Err(fault) => {
-            let _ = tell(rt, fault, words);
-            fault.status()
-        }
+/// Standard error behind a buffer; where there is no memory for one, without.
+fn lines(rt: &HostRuntime) -> BufWriter<Stderr> {
+    match BufWriter::with_capacity(rt.alloc(), LINE, rt.stderr()) {
+        Ok(lines) => lines,
+        Err(_) => BufWriter::with_capacity(rt.alloc(), 0, rt.stderr()).unwrap(),
     }
 }
 
 fn main(rt: HostRuntime) -> ExitCode {
+    let mut faults = Counting::new(lines(&rt));
     let status = match words(&rt) {
-        Ok(words) => command(&rt, words.as_slice()),
-        Err(_) => {
-            let _ = tell(&rt, Fault::Usage, &[]);
-            Fault::Usage.status()
+        Ok(words) => {
+            let mut files = SystemFiles { rt: &rt };
+            serve(
+                rt.alloc(),
+                &mut files,
+                words.as_slice(),
+                rt.stdin(),
+                rt.stdout(),
+                &mut faults,
+            )
         }
+        Err(error) => refuse(words_fault(&error), &mut faults),
     };
     ExitCode::from(status)
 }

@@ -1,15 +1,17 @@
-//! Why the program ends with a status other than 0, and the line that says so.
+//! Why a command ends with a status other than 0.
 ghost use Rattle.std.specs.Prelude.{◌≡◌, ◌<◌};
-ghost use Rattle.tbd.specs.Statuses.{fault_status, opened_fault, read_fault, refused_fault, disk_fault, dumped_fault, started_fault, kept_fault};
+ghost use Rattle.tb_keep_commands.specs.Statuses.{fault_status, opened_fault, read_fault, refused_fault, disk_fault, dumped_fault, started_fault, kept_fault, words_fault};
 
-use std::fmt;
+use crate::openers::OpeningFault;
+use std::io;
+use std::io::ErrorKind;
 use tb_journal::{OpenFault, Refusal};
 use tb_keep::{DumpFault, KeepFault, StartFault};
 use tb_machine::{RestoreFault, RunFault};
 use tb_records::FrameFault;
 
 /// What is damaged in a file.
-#[derive(Clone, Copy)]
+#[derive(Clone, Copy, Debug, PartialEq, Eq)]
 pub enum Damage {
     /// The block at this offset is not whole, or its checksum does not match.
     Block { at: usize },
@@ -21,25 +23,19 @@ pub enum Damage {
     Torn { at: u64, bytes: u64 },
 }
 
-/// Why the program ends with a status other than 0.
-#[derive(Clone, Copy)]
+/// Why a command ends with a status other than 0.
+#[derive(Clone, Copy, Debug, PartialEq, Eq)]
 pub enum Fault {
     /// The arguments are none of the program's forms.
     Usage,
     /// A pipe, or a read, write or sync of the file failed.
     Device,
-    /// There is no such file, or no such folder.
-    Missing,
-    /// This user may not open the file.
-    Forbidden,
-    /// The file cannot be opened.
-    Unopened,
+    /// The file was not opened.
+    Opening(OpeningFault),
     /// There is no memory.
     NoMemory,
     /// A request is none, or no time is left for it.
     Request(RunFault),
-    /// Another process has the file open.
-    Locked,
     /// The file is no journal.
     NotAJournal,
     /// The file is a journal, but its first record is no ledger's head, or it has none.
@@ -135,6 +131,16 @@ pub fn kept_fault(fault: KeepFault) -> Fault
     }
 }
 
+/// The fault where the words cannot be had: there is no memory for them, or a word is no text.
+pub fn words_fault(error: &io::Error) -> Fault
+    ensures { result ≡ words_fault error.now }
+{
+    match error.kind() {
+        ErrorKind::OutOfMemory => Fault::NoMemory,
+        _ => Fault::Usage,
+    }
+}
+
 impl Fault {
     /// The exit status.
     pub fn status(self) -> u8
@@ -142,68 +148,14 @@ impl Fault {
         ensures value { result ≡ fault_status self }
     {
         match self {
-            Fault::Device | Fault::Missing | Fault::Forbidden | Fault::Unopened | Fault::NoMemory =>
-                1,
+            Fault::Opening(OpeningFault::Locked) => 4,
+            Fault::Device | Fault::NoMemory | Fault::Opening(_) => 1,
             Fault::Usage | Fault::Request(_) => 2,
-            Fault::Locked => 4,
             Fault::NotAJournal | Fault::NoHead => 5,
             Fault::Damaged(_) => 6,
             Fault::OtherRules => 7,
             Fault::Full => 8,
             Fault::SyncFailed => 9,
-        }
-    }
-}
-
-impl fmt::Display for Damage {
-    ghost use Rattle.std.specs.Prelude.{Some};
-    ghost use Rattle.tbd.specs.Statuses.{damage_text};
-
-    ghost output = { λ damage. Some (damage_text damage) };
-
-    fn fmt<W: fmt::Write>(&self, f: &mut fmt::Formatter<W>) -> fmt::Result {
-        match self {
-            Damage::Block { at } => write!(f, "at byte {at}"),
-            Damage::Record { place, fault } => write!(f, "record {place}: {fault}"),
-            Damage::Entry(fault) => write!(f, "record {}: {}", fault.place, fault.cause),
-            Damage::Torn { at, bytes } => {
-                write!(
-                    f,
-                    "{bytes} bytes behind byte {at}, more than one batch can have"
-                )
-            }
-        }
-    }
-}
-
-impl fmt::Display for Fault {
-    ghost use Rattle.std.specs.Prelude.{Some};
-    ghost use Rattle.tbd.specs.Statuses.{fault_text};
-
-    ghost output = { λ fault. Some (fault_text fault) };
-
-    fn fmt<W: fmt::Write>(&self, f: &mut fmt::Formatter<W>) -> fmt::Result {
-        match self {
-            Fault::Usage => f.write_str("Usage"),
-            Fault::Device => f.write_str("Device"),
-            Fault::Missing => f.write_str("Device: cannot find"),
-            Fault::Forbidden => f.write_str("Device: no permission to open"),
-            Fault::Unopened => f.write_str("Device: cannot open"),
-            Fault::NoMemory => f.write_str("NoMemory"),
-            Fault::Request(fault) => f.write_str(fault.name()),
-            Fault::Locked => f.write_str("Locked: another program has the file open"),
-            Fault::NotAJournal => f.write_str("NotAJournal"),
-            Fault::NoHead => f.write_str("NotAJournal: the first record is no ledger's head"),
-            Fault::Damaged(damage) => write!(f, "Damaged: {damage}"),
-            Fault::OtherRules => {
-                f.write_str("OtherRules: tbd check shows those that the file was made with")
-            }
-            Fault::Full => f.write_str("Full"),
-            Fault::SyncFailed => {
-                f.write_str(
-                    "SyncFailed: restart the machine or copy the file before the next start",
-                )
-            }
         }
     }
 }

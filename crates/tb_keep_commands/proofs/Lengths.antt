@@ -1,0 +1,26 @@
+-- Words that are so many.
+use Rattle.std.proofs.Common.{◌≡◌, ℕ, ◌<◌, ◌≤◌, ◌-◌, List, [], ◌∷◌, ◌++◌, length, take, drop, get_or, map, codes, refl, arith}
+use Rattle.std.proofs.lemmas.List.{take_all}
+use Rattle.tb_keep_commands.specs.Forms.{wrong_run, so_wrong, wrong}
+use Rattle.tb_keep_commands.specs.Statuses.{shown_words, usage_lines, wrong_line}
+
+module _ {X : Type 0} (bytes : X → List ℕ) where
+  pub three_said : (words : List X) → 3 ≤ length words → length words < 4 → wrong_run (map bytes words) ≡ so_wrong (map bytes words) (codes "CLIENTS_MAX is 1 to 64")
+  three_said [] low high = absurd (omega (arith, low))
+  three_said (a ∷ []) low high = absurd (omega (arith, low))
+  three_said (a ∷ b ∷ []) low high = absurd (omega (arith, low))
+  three_said (a ∷ b ∷ c ∷ []) low high = refl
+  three_said (a ∷ b ∷ c ∷ d ∷ rest) low high = absurd (omega (arith, high))
+
+  -- a word and those behind it
+  pub shown_front : (words : List X) (word d : X) → 1 ≤ length words → word ≡ get_or words 0 d
+      → (32 ∷ bytes word) ++ shown_words (map bytes (take (length words - 1) (drop 1 words))) ≡ shown_words (map bytes words)
+  shown_front [] word d some same = absurd (omega (arith, some))
+  shown_front (x ∷ xs) word d some same =
+      let all : take (length (x ∷ xs) - 1) xs ≡ xs = take_all _ xs (omega arith) in
+      rw (same, all) refl
+
+  -- words that are some are told with what is wrong with them
+  pub usage_is : (words : List X) → 1 ≤ length words → usage_lines (map bytes words) ≡ wrong_line (wrong (map bytes words))
+  usage_is [] some = absurd (omega (arith, some))
+  usage_is (x ∷ xs) some = refl

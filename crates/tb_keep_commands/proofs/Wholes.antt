@@ -1,0 +1,54 @@
+-- What was read of a whole file, and what is reported of it.
+use Rattle.std.proofs.Common.{◌≡◌, ℕ, ◌-◌, List, length, Result, Ok, refl, sym, ap, ◌∙◌, subst}
+use Rattle.tb_journal.specs.declared.reading.Extent.{Extent}
+use Rattle.tb_journal.specs.declared.reading.Refusal.{Refusal}
+use Rattle.tb_journal.specs.Contents.{Contents, Records, contents, records_of, recorded, records_end}
+use Rattle.tb_journal.specs.Reading.{extent_of}
+use Rattle.tb_machine.specs.Histories.{State}
+use Rattle.tb_machine.proofs.Held.{commit_is}
+use Rattle.tb_keep.specs.declared.heads.Rules.{Rules}
+use Rattle.tb_keep.specs.Reading.{IsHistory}
+use Rattle.tb_keep_commands.specs.declared.summaries.Found.{Found}
+use Rattle.tb_keep_commands.specs.declared.summaries.Summary.{Summary}
+use Rattle.tb_keep_commands.specs.Summaries.{IsFound, IsSummary, summary_of}
+
+same_extent : (a b : Extent) (found : Result Extent Refusal) → found ≡ Ok a → found ≡ Ok b → b ≡ a
+same_extent a b found one two = cc
+
+-- where records end and how many they are
+pub extent_is : (file : List ℕ) (records : List (List ℕ)) (extent : Extent) → contents file ≡ Records records → extent_of (contents file) ≡ Ok extent
+    → (extent.count ≡ length (recorded file)) × (extent.end ≡ records_end (recorded file))
+extent_is file records extent reads found =
+    let P : Contents → Type 0 = λ c. extent_of c ≡ Ok extent → (extent.count ≡ length (records_of c)) × (extent.end ≡ records_end (records_of c)) in
+    subst P (sym reads) (λ is.
+    let same = same_extent (record { end = records_end records; count = length records }) extent (extent_of (Records records)) refl is in
+    (ap (λ (e : Extent). e.count) same, ap (λ (e : Extent). e.end) same)) found
+
+module _ (rules : Rules) (S : State) (extent : Extent) (entries time : ℕ) (file : List ℕ) where
+  pub found_is : IsHistory rules S file → extent_of (contents file) ≡ Ok extent → entries ≡ S.commit → time ≡ S.books.time
+      → IsFound (record { rules = rules; records = extent.count; entries = entries; time = time; end = extent.end }) file
+  found_is is read as_commit as_time =
+      let h = is.history in
+      let ends = extent_is file _ extent is.stands.reads read in
+      record {
+        history = h;
+        stands = is.stands;
+        profile = sym is.profile;
+        clients = sym is.clients;
+        records = ends.0;
+        entries = as_commit ∙ ap (λ (T : State). T.commit) is.state ∙ commit_is h.profile h.clients_max h.entries is.stands.keepable.legal;
+        time = as_time ∙ ap (λ (T : State). T.books.time) is.state;
+        end = ends.1;
+      }
+
+pub summary_is : (found : Found) (s : Summary) (len : ℕ) (file : List ℕ) → s ≡ summary_of found len → IsFound found file → IsSummary len s file
+summary_is found s len file same is = subst (λ (t : Summary). IsSummary len t file) (sym same) (record {
+  history = is.history;
+  stands = is.stands;
+  profile = is.profile;
+  clients = is.clients;
+  records = is.records;
+  entries = is.entries;
+  time = is.time;
+  torn = ap (λ n. len - n - 1) is.end;
+})

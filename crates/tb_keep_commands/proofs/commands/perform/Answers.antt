@@ -1,0 +1,17 @@
+use Rattle.std.proofs.Common.{refl}
+use Rattle.tb_keep_commands.proofs.commands.perform.Goals as goal
+
+pub returns-in-Run : goal.returns-in-Run
+returns-in-Run g c = rw c.in-Run.is c.run_over.ensures
+
+pub returns-in-Dump : goal.returns-in-Dump
+returns-in-Dump g c = rw c.in-Dump.is (refl, refl, c.dump_over.ensures)
+
+pub returns-in-Check : goal.returns-in-Check
+returns-in-Check g c = rw c.in-Check.is (refl, refl, c.check_over.ensures)
+
+pub returns-in-Help : goal.returns-in-Help
+returns-in-Help g c = rw c.in-Help.is (refl, refl, refl, c.print.ensures)
+
+pub returns-in-Version : goal.returns-in-Version
+returns-in-Version g c = rw c.in-Version.is (refl, refl, refl, c.print-in-Version.ensures)

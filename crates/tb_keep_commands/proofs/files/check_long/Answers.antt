@@ -1,0 +1,21 @@
+use Rattle.std.proofs.Common.{Ok, Err, refl}
+use Rattle.tb_keep_commands.proofs.Wholes.{summary_is}
+use Rattle.tb_keep_commands.proofs.files.check_long.Goals as goal
+
+pub returns-in-Ok : goal.returns-in-Ok
+returns-in-Ok g c = record {
+  found = Ok c.in-Ok.found;
+  whole = record { found_is = c.in-Ok.ensures.found; same = c.in-Ok.ensures.same; cause = c.in-Ok.ensures.cause };
+  checks = (
+    c.summary.result,
+    λ file holds. summary_is c.in-Ok.found c.summary.result c.args.len file c.summary.ensures (c.in-Ok.ensures.found file holds),
+    c.report.ensures,
+  );
+}
+
+pub returns-in-Err : goal.returns-in-Err
+returns-in-Err g c = record {
+  found = Err c.in-Err.fault;
+  whole = record { found_is = c.in-Err.ensures.found; same = c.in-Err.ensures.same; cause = c.in-Err.ensures.cause };
+  checks = (rw c.started_fault.ensures refl, refl);
+}

@@ -1,0 +1,10 @@
+use Rattle.tb_keep_commands.proofs.lines.put_opening.Goals as goal
+
+pub returns-in-Locked : goal.returns-in-Locked
+returns-in-Locked g c = rw c.in-Locked.is c.put_all.ensures
+
+pub returns-in-Missing : goal.returns-in-Missing
+returns-in-Missing g c = rw c.in-Missing.is c.put_both.ensures
+
+pub returns-in-Unopened : goal.returns-in-Unopened
+returns-in-Unopened g c = rw c.in-Unopened.is c.put_both-in-Unopened.ensures

@@ -1,0 +1,16 @@
+use Rattle.std.proofs.Common.{Ok, Err, refl}
+use Rattle.tb_keep_commands.proofs.serving.start.Goals as goal
+
+pub returns-in-Ok : goal.returns-in-Ok
+returns-in-Ok g c = record {
+  started = Ok c.in-Ok.keeper;
+  starts = λ t. record { answers = c.in-Ok.ensures.started t; cause = c.in-Ok.ensures.cause t; any_moment = c.in-Ok.ensures.any_moment t };
+  serves = c.serve.ensures;
+}
+
+pub returns-in-Err : goal.returns-in-Err
+returns-in-Err g c = record {
+  started = Err c.in-Err.failed;
+  starts = λ t. record { answers = c.in-Err.ensures.refused t; cause = c.in-Err.ensures.cause t; any_moment = c.in-Err.ensures.any_moment t };
+  serves = (rw c.refused.ensures refl, refl, refl, refl);
+}

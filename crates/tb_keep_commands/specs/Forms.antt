@@ -1,0 +1,98 @@
+-- What the words of the command line ask for, and what is wrong with words that ask for nothing.
+-- Cited by public contracts of: arguments, commands.
+use Rattle.std.specs.Prelude.{ℕ, ◌≡◌, ◌||◌, nat_eq, List, [], ◌∷◌, Option, Some, None, if◌then◌else◌, codes, refl}
+use Rattle.std.specs.Cmp.Lexicographic.{pointwise}
+use Rattle.tb_commands.specs.Forms.{clients_of, profile_of}
+use Rattle.tb_records.specs.declared.limits.Profile.{Profile}
+use Rattle.tb_records.specs.declared.limits.Profile.TheVariants.{One}
+use Rattle.tb_keep_commands.specs.declared.arguments.Form.{Form}
+use Rattle.tb_keep_commands.specs.declared.arguments.Form.TheVariants as form
+
+-- `--help`, `-h` or `--version`
+abbrev pub form_alone : List ℕ → Option Form
+form_alone word =
+    if pointwise nat_eq word (codes "--help") || pointwise nat_eq word (codes "-h") then Some form.Help
+    else if pointwise nat_eq word (codes "--version") then Some form.Version
+    else None
+
+-- `dump FILE` or `check FILE`
+abbrev pub form_over : List ℕ → Option Form
+form_over word =
+    if pointwise nat_eq word (codes "dump") then Some form.Dump
+    else if pointwise nat_eq word (codes "check") then Some form.Check
+    else None
+
+abbrev pub run_by : Option ℕ → Option Profile → Option Form
+run_by None profile = None
+run_by (Some clients_max) None = None
+run_by (Some clients_max) (Some profile) = Some (form.Run clients_max profile)
+
+-- `run FILE CLIENTS_MAX` with a profile
+abbrev pub run_form : List ℕ → List ℕ → Option Profile → Option Form
+run_form word clients profile = if pointwise nat_eq word (codes "run") then run_by (clients_of clients) profile else None
+
+abbrev pub form_of : List (List ℕ) → Option Form
+form_of [] = None
+form_of (word ∷ []) = form_alone word
+form_of (word ∷ file ∷ []) = form_over word
+form_of (word ∷ file ∷ clients ∷ []) = run_form word clients (Some One)
+form_of (word ∷ file ∷ clients ∷ profile ∷ []) = run_form word clients (profile_of profile)
+form_of (word ∷ file ∷ clients ∷ profile ∷ more ∷ rest) = None
+
+-- the word that names the file
+abbrev pub file_word : List (List ℕ) → List ℕ
+file_word [] = []
+file_word (word ∷ []) = []
+file_word (word ∷ file ∷ rest) = file
+
+-- what is wrong with words that are no form, and those of them that are shown before it
+pub record Wrong : Type 0 where
+  pub shown : List (List ℕ)
+  pub what : List ℕ
+
+abbrev pub so_wrong : List (List ℕ) → List ℕ → Wrong
+so_wrong shown what = record { shown = shown; what = what }
+
+-- of four words the last is wrong where the third is a number of clients
+abbrev pub wrong_last : Option ℕ → List ℕ
+wrong_last None = codes "CLIENTS_MAX is 1 to 64"
+wrong_last (Some clients_max) = codes "PROFILE is 1 or 2"
+
+-- words that begin with `run`
+abbrev pub wrong_run : List (List ℕ) → Wrong
+wrong_run [] = so_wrong [] (codes "no words")
+wrong_run (word ∷ []) = so_wrong (word ∷ []) (codes "FILE and CLIENTS_MAX are missing")
+wrong_run (word ∷ file ∷ []) = so_wrong (word ∷ file ∷ []) (codes "CLIENTS_MAX is missing, 1 to 64")
+wrong_run (word ∷ file ∷ clients ∷ []) = so_wrong (word ∷ file ∷ clients ∷ []) (codes "CLIENTS_MAX is 1 to 64")
+wrong_run (word ∷ file ∷ clients ∷ profile ∷ []) = so_wrong (word ∷ file ∷ clients ∷ profile ∷ []) (wrong_last (clients_of clients))
+wrong_run (word ∷ file ∷ clients ∷ profile ∷ more ∷ rest) = so_wrong (word ∷ []) (codes "too many words")
+
+-- words that begin with one that takes a file
+abbrev pub wrong_over : List (List ℕ) → Wrong
+wrong_over [] = so_wrong [] (codes "no words")
+wrong_over (word ∷ []) = so_wrong (word ∷ []) (codes "FILE is missing")
+wrong_over (word ∷ file ∷ rest) = so_wrong (word ∷ []) (codes "too many words")
+
+-- words that begin with another: one of a form without a file, or none
+abbrev pub wrong_alone : Option Form → List ℕ → Wrong
+wrong_alone (Some form) word = so_wrong (word ∷ []) (codes "too many words")
+wrong_alone None word = so_wrong (word ∷ []) (codes "unknown; tbd --help shows the forms")
+
+abbrev pub wrong_by : Option Form → List ℕ → List (List ℕ) → Wrong
+wrong_by (Some form) word rest = wrong_over (word ∷ rest)
+wrong_by None word rest = wrong_alone (form_alone word) word
+
+abbrev pub wrong : List (List ℕ) → Wrong
+wrong [] = so_wrong [] (codes "no words")
+wrong (word ∷ rest) = if pointwise nat_eq word (codes "run") then wrong_run (word ∷ rest) else wrong_by (form_over word) word rest
+
+-- rows
+
+pub profile_one_is_the_default : form_of (codes "run" ∷ codes "ledger" ∷ codes "2" ∷ []) ≡ Some (form.Run 2 One)
+profile_one_is_the_default = refl
+
+pub no_profile_three : form_of (codes "run" ∷ codes "ledger" ∷ codes "2" ∷ codes "3" ∷ []) ≡ None
+no_profile_three = refl
+
+pub profile_is_wrong : (wrong (codes "run" ∷ codes "ledger" ∷ codes "2" ∷ codes "3" ∷ [])).what ≡ codes "PROFILE is 1 or 2"
+profile_is_wrong = refl

@@ -1,0 +1,5 @@
+pub mod Forms
+pub mod Outcomes
+pub mod Outlets
+pub mod Statuses
+pub mod Summaries

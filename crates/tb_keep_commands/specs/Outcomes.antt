@@ -1,0 +1,215 @@
+-- What each form does, and how a command ends: its outcome, exit status and line.
+-- Cited by public contracts of: commands.
+use Rattle.std.specs.Prelude.{ℕ, ◌≡◌, ◌-◌, List, [], length, Result, Ok, Err, IfOk}
+use Rattle.tb_records.specs.Transport.{Input, Output, Sent, CutOff}
+use Rattle.tb_journal.specs.declared.faults.Fault as journal
+use Rattle.tb_journal.specs.Device.{Disk, Looks, LeavesOnly}
+use Rattle.tb_keep.specs.declared.faults.DumpFault.{DumpFault}
+use Rattle.tb_keep.specs.declared.faults.KeepFault.{KeepFault}
+use Rattle.tb_keep.specs.declared.faults.StartFault.{StartFault}
+use Rattle.tb_keep.specs.declared.heads.Rules.{Rules}
+use Rattle.tb_keep.specs.declared.opening.NotKept.{NotKept}
+use Rattle.tb_keep.specs.Keeping.{Keeping}
+use Rattle.tb_keep.specs.Opening.{IsStarted, IsStartRefused, MayBeStarted, HasEitherCause, device_left, why_left}
+use Rattle.tb_keep.specs.Reading.{Dumps, HasDumpCause, rules_of}
+use Rattle.tb_keep.specs.Restoration.{HasStartCause}
+use Rattle.tb_keep.specs.Rounds.{Served}
+use Rattle.tb_keep_commands.specs.declared.arguments.Form.{Form}
+use Rattle.tb_keep_commands.specs.declared.arguments.Form.TheVariants as form
+use Rattle.tb_keep_commands.specs.declared.faults.Fault.{Fault}
+use Rattle.tb_keep_commands.specs.declared.faults.Fault.TheVariants.{Device, NoMemory, Opening}
+use Rattle.tb_keep_commands.specs.declared.help.TheConstants.{USAGE, VERSION}
+use Rattle.tb_keep_commands.specs.declared.openers.OpeningFault.{OpeningFault}
+use Rattle.tb_keep_commands.specs.declared.summaries.Found.{Found}
+use Rattle.tb_keep_commands.specs.declared.summaries.Summary.{Summary}
+use Rattle.tb_keep_commands.specs.Statuses.{disk_fault, dumped_fault, started_fault, kept_fault, fault_status, fault_line, SaysLine, TellsCut}
+use Rattle.tb_keep_commands.specs.Summaries.{ReadsWhole, IsSummary, summary_text}
+
+-- done, or not to its end
+abbrev pub Outcome : Type 0
+Outcome = Result (Unit {0}) Fault
+
+-- a text went out whole, or a prefix of it and the writer failed
+abbrev pub Prints : List ℕ → Outcome → Output → Output → Type 0
+Prints text (Ok done) start written = Sent text start written
+Prints text (Err fault) start written = (fault ≡ Device) × CutOff text start written
+
+-- the text of a summary was printed, or there is no memory for it
+abbrev pub Reports : Outcome → Summary → Output → Output → Type 0
+Reports (Err NoMemory) s start written = written ≡ start
+Reports outcome s start written = Prints (summary_text s) outcome start written
+
+abbrev pub kept_outcome : Result ℕ KeepFault → Outcome
+kept_outcome (Ok count) = Ok tt
+kept_outcome (Err fault) = Err (kept_fault fault)
+
+abbrev pub dump_outcome : Result (Unit {0}) DumpFault → Outcome
+dump_outcome (Ok done) = Ok tt
+dump_outcome (Err fault) = Err (dumped_fault fault)
+
+module _ (tells : Type 0) {D : Type 0} (disk : D → Disk) (holds : D → List ℕ → Type 0) where
+  -- of the file that the reads of a device are of
+  abbrev pub OfFile : D → (List ℕ → Type 0) → Type 0
+  OfFile device Is = (file : List ℕ) → holds device file → Is file
+
+  -- a device was read to the end of its file, as one history, or it is told why not; the file stays
+  pub record IsReadWhole (found : Result Found StartFault) (device after : D) : Type 0 where
+    pub found_is : OfFile device (ReadsWhole found)
+    pub same : OfFile device (holds after)
+    pub cause : tells → HasStartCause found (disk device) (disk after)
+
+  -- a dump of a file of these rules was written, or as much of it as the answer says
+  pub record IsDumped (result : Result (Unit {0}) DumpFault) (rules : Rules) (device after : D) (start written : Output) : Type 0 where
+    pub dumps : OfFile device (λ file. Dumps result rules file start written)
+    pub cause : tells → HasDumpCause result (disk device) (disk after)
+
+  -- where a file was found to be one history its dump was written, or why not; else nothing was
+  abbrev pub DumpsFound : Result Found StartFault → Outcome → D → D → Output → Output → Type 0
+  DumpsFound (Err fault) outcome device after start written = (outcome ≡ Err (started_fault fault)) × (written ≡ start)
+  DumpsFound (Ok found) outcome device after start written =
+      (result : Result (Unit {0}) DumpFault) × IsDumped result found.rules device after start written × (outcome ≡ dump_outcome result)
+
+  -- a file was read to its end before a byte of its dump was written
+  pub record DumpsFile (outcome : Outcome) (device after : D) (start written : Output) : Type 0 where
+    pub found : Result Found StartFault
+    pub between : D
+    pub whole : IsReadWhole found device between
+    pub dumps : DumpsFound found outcome between after start written
+
+  -- where a file of so many bytes was found to be one history its summary was printed; else nothing was
+  abbrev pub ChecksFound : Result Found StartFault → ℕ → Outcome → D → Output → Output → Type 0
+  ChecksFound (Err fault) len outcome device start written = (outcome ≡ Err (started_fault fault)) × (written ≡ start)
+  ChecksFound (Ok found) len outcome device start written =
+      (s : Summary) × OfFile device (IsSummary len s) × Reports outcome s start written
+
+  -- a file of so many bytes was read to its end before its summary was printed
+  pub record ChecksLong (len : ℕ) (outcome : Outcome) (device after : D) (start written : Output) : Type 0 where
+    pub found : Result Found StartFault
+    pub whole : IsReadWhole found device after
+    pub checks : ChecksFound found len outcome device start written
+
+  -- a device was asked for the length of its file, which stays
+  pub record IsAsked (len : Result ℕ journal.Fault) (device after : D) : Type 0 where
+    pub long : OfFile device (λ file. IfOk len (λ n. n ≡ length file))
+    pub same : OfFile device (holds after)
+    pub looks : tells → Looks len (disk device) (disk after)
+
+  abbrev pub ChecksBy : Result ℕ journal.Fault → Outcome → D → D → Output → Output → Type 0
+  ChecksBy (Err fault) outcome device after start written = (outcome ≡ Err (disk_fault fault)) × (written ≡ start)
+  ChecksBy (Ok len) outcome device after start written = ChecksLong len outcome device after start written
+
+  -- a file's length was asked for, and then it was checked
+  pub record ChecksFile (outcome : Outcome) (device after : D) (start written : Output) : Type 0 where
+    pub len : Result ℕ journal.Fault
+    pub between : D
+    pub asked : IsAsked len device between
+    pub checks : ChecksBy len outcome between after start written
+
+  -- what its start cut off behind the records of a file of so many bytes was told, and then a ledger was kept
+  pub record ServesKept (outcome : Outcome) (keeper : Keeping D) (len : ℕ) (first last : Input) (start written quiet told : Output) : Type 0 where
+    pub cut : TellsCut keeper.cut (len - keeper.cut - 1) quiet told
+    pub result : Result ℕ KeepFault
+    pub after : Keeping D
+    pub served : Served tells disk result keeper after first last start written
+    pub outcome_is : outcome ≡ kept_outcome result
+
+  -- what a start over a device answers, of one that tells what its calls do
+  abbrev pub StartAnswers : Result (Keeping D) (NotKept D) → Rules → D → Type 0
+  StartAnswers (Ok keeper) rules device = IsStarted disk rules.profile rules.clients_max (disk device).seen keeper
+  StartAnswers (Err failed) rules device = IsStartRefused rules.profile rules.clients_max failed.fault (disk device) (disk failed.device)
+
+  pub record Starts (result : Result (Keeping D) (NotKept D)) (rules : Rules) (device : D) : Type 0 where
+    pub answers : StartAnswers result rules device
+    pub cause : HasEitherCause (why_left result) (disk device) (disk (device_left result))
+    -- a crash at any moment of it
+    pub any_moment : LeavesOnly (disk device) (disk (device_left result)) (MayBeStarted rules.profile rules.clients_max (disk device))
+
+  -- a ledger that was started was kept; where none was nothing was read, written or told but why
+  abbrev pub ServesStarted : Result (Keeping D) (NotKept D) → Outcome → ℕ → Input → Input → Output → Output → Output → Output → Type 0
+  ServesStarted (Ok keeper) outcome len first last start written quiet told = ServesKept outcome keeper len first last start written quiet told
+  ServesStarted (Err failed) outcome len first last start written quiet told =
+      (outcome ≡ Err (started_fault failed.fault)) × (last ≡ first) × (written ≡ start) × (told ≡ quiet)
+
+  pub record ServesLong (outcome : Outcome) (rules : Rules) (len : ℕ) (device : D) (first last : Input) (start written quiet told : Output) : Type 0 where
+    pub started : Result (Keeping D) (NotKept D)
+    pub starts : tells → Starts started rules device
+    pub serves : ServesStarted started outcome len first last start written quiet told
+
+  abbrev pub ServesBy : Result ℕ journal.Fault → Outcome → Rules → D → Input → Input → Output → Output → Output → Output → Type 0
+  ServesBy (Err fault) outcome rules device first last start written quiet told =
+      (outcome ≡ Err (disk_fault fault)) × (last ≡ first) × (written ≡ start) × (told ≡ quiet)
+  ServesBy (Ok len) outcome rules device first last start written quiet told =
+      ServesLong outcome rules len device first last start written quiet told
+
+  -- a file's length was asked for, and then a ledger of these rules was started over it, and kept
+  pub record ServesFile (outcome : Outcome) (rules : Rules) (device : D) (first last : Input) (start written quiet told : Output) : Type 0 where
+    pub len : Result ℕ journal.Fault
+    pub between : D
+    pub asked : IsAsked len device between
+    pub serves : ServesBy len outcome rules between first last start written quiet told
+
+-- an opening answered this: a device, with which that was done; or a fault, and nothing was done
+abbrev pub DoneWith : {D : Type 0} → Result D OpeningFault → Outcome → Type 0 → (D → Type 0) → Type 0
+DoneWith (Ok device) outcome Nothing Does = Does device
+DoneWith (Err fault) outcome Nothing Does = (outcome ≡ Err (Opening fault)) × Nothing
+
+-- an opening may answer so, and leave what opens like this
+pub record Opens {D O : Type 0} (may : Result D OpeningFault → O → Type 0) (left : O) (outcome : Outcome) (Nothing : Type 0) (Does : D → Type 0) : Type 0 where
+  pub answer : Result D OpeningFault
+  pub answered : may answer left
+  pub done : DoneWith answer outcome Nothing Does
+
+module _ (tells : Type 0) {D : Type 0} (disk : D → Disk) (holds : D → List ℕ → Type 0) {O : Type 0} (may : Result D OpeningFault → O → Type 0) (left : O) where
+  abbrev pub RunsOver : Outcome → Rules → Input → Input → Output → Output → Output → Output → Type 0
+  RunsOver outcome rules first last start written quiet told =
+      Opens may left outcome ((last ≡ first) × (written ≡ start) × (told ≡ quiet))
+      (λ device. ServesFile tells disk holds outcome rules device first last start written quiet told)
+
+  abbrev pub DumpsOver : Outcome → Output → Output → Type 0
+  DumpsOver outcome start written =
+      Opens may left outcome (written ≡ start) (λ device. (after : D) × DumpsFile tells disk holds outcome device after start written)
+
+  abbrev pub ChecksOver : Outcome → Output → Output → Type 0
+  ChecksOver outcome start written =
+      Opens may left outcome (written ≡ start) (λ device. (after : D) × ChecksFile tells disk holds outcome device after start written)
+
+-- what was held back went out where all was done; where it does not go out, that is the outcome
+abbrev pub Finishes : Type 0 → Outcome → Outcome → Output → Output → Type 0
+Finishes gone (Ok done) (Ok finished) middle written = gone × Sent [] middle written
+Finishes gone (Ok done) (Err fault) middle written = (fault ≡ Device) × CutOff [] middle written
+Finishes gone (Err fault) outcome middle written = (outcome ≡ Err fault) × (written ≡ middle)
+
+abbrev pub outcome_status : Outcome → ℕ
+outcome_status (Ok done) = 0
+outcome_status (Err fault) = fault_status fault
+
+-- nothing is told of a form that was done, and of a fault its line
+abbrev pub Tells : Outcome → List ℕ → Output → Output → Type 0
+Tells (Ok done) path before after = after ≡ before
+Tells (Err fault) path before after = SaysLine (fault_line fault path) before after
+
+module _ (tells : Type 0) {D : Type 0} (disk : D → Disk) (holds : D → List ℕ → Type 0) {O : Type 0} (makes opens : O → List ℕ → Result D OpeningFault → O → Type 0) (before : O) (name : List ℕ) (left : O) where
+  -- what a form does over what opens devices: `run` has the device of a name made where there is none, `dump` and `check` open one that is
+  -- there, and the other forms open none. What it tells while it goes on stands before the line of its outcome
+  abbrev pub Performs : Form → Outcome → Input → Input → Output → Output → Output → Output → Type 0
+  Performs (form.Run clients_max profile) outcome first last start written quiet told =
+      RunsOver tells disk holds (makes before name) left outcome (rules_of profile clients_max) first last start written quiet told
+  Performs form.Dump outcome first last start written quiet told =
+      (last ≡ first) × (told ≡ quiet) × DumpsOver tells disk holds (opens before name) left outcome start written
+  Performs form.Check outcome first last start written quiet told =
+      (last ≡ first) × (told ≡ quiet) × ChecksOver tells disk holds (opens before name) left outcome start written
+  Performs form.Help outcome first last start written quiet told =
+      (left ≡ before) × (last ≡ first) × (told ≡ quiet) × Prints USAGE.now outcome start written
+  Performs form.Version outcome first last start written quiet told =
+      (left ≡ before) × (last ≡ first) × (told ≡ quiet) × Prints VERSION.now outcome start written
+
+  -- a form was done, or not to its end; what it wrote went out; and the exit status and the line are those of the outcome
+  pub record Exits (gone : Type 0) (form : Form) (status : ℕ) (first last : Input) (start written quiet told : Output) : Type 0 where
+    pub performed : Outcome
+    pub middle : Output
+    pub noted : Output
+    pub performs : Performs form performed first last start middle quiet noted
+    pub outcome : Outcome
+    pub finishes : Finishes gone performed outcome middle written
+    pub status_is : status ≡ outcome_status outcome
+    pub line : Tells outcome name noted told

@@ -1,0 +1,70 @@
+-- What is read of a whole file, and what `check` reports of it.
+-- Cited by public contracts of: summaries.
+use Rattle.std.specs.Prelude.{ℕ, ◌≡◌, ◌-◌, List, [], ◌∷◌, ◌++◌, length, codes, Result, Ok, Err, refl}
+use Rattle.std.specs.Fmt.{decimal, digits}
+use Rattle.tb_records.specs.declared.limits.Profile.TheVariants.{One}
+use Rattle.tb_records.specs.DumpBytes.{profile_number}
+use Rattle.tb_journal.specs.Contents.{recorded, records_end}
+use Rattle.tb_keep.specs.declared.faults.StartFault.{StartFault}
+use Rattle.tb_keep.specs.Keeping.{History, state_of, IsLedger}
+use Rattle.tb_keep.specs.Reading.{IsNoHistory, rules_of}
+use Rattle.tb_keep_commands.specs.declared.summaries.Found.{Found}
+use Rattle.tb_keep_commands.specs.declared.summaries.Summary.{Summary}
+
+-- the file stands for a history, and this is what was read of it
+pub record IsFound (found : Found) (file : List ℕ) : Type 0 where
+  pub history : History
+  pub stands : IsLedger history file
+  pub profile : found.rules.profile ≡ history.profile
+  pub clients : found.rules.clients_max ≡ history.clients_max
+  pub records : found.records ≡ length (recorded file)
+  pub entries : found.entries ≡ length history.entries
+  pub time : found.time ≡ (state_of history).books.time
+  pub end : found.end ≡ records_end (recorded file)
+
+-- the file was read to its end as one history, or there is none
+abbrev pub ReadsWhole : Result Found StartFault → List ℕ → Type 0
+ReadsWhole (Ok found) file = IsFound found file
+ReadsWhole (Err fault) file = IsNoHistory fault file
+
+-- what stands in a file of so many bytes behind the closed gate is torn
+abbrev pub summary_of : Found → ℕ → Summary
+summary_of found len = record {
+  rules = found.rules;
+  records = found.records;
+  entries = found.entries;
+  time = found.time;
+  torn = len - found.end - 1;
+}
+
+-- the file stands for a history, and this is what is in it, if it has so many bytes: its records, its entries, the rules that it was made
+-- with, the time of the last entry, and the bytes behind the records that a start would cut off
+pub record IsSummary (len : ℕ) (s : Summary) (file : List ℕ) : Type 0 where
+  pub history : History
+  pub stands : IsLedger history file
+  pub profile : s.rules.profile ≡ history.profile
+  pub clients : s.rules.clients_max ≡ history.clients_max
+  pub records : s.records ≡ length (recorded file)
+  pub entries : s.entries ≡ length history.entries
+  pub time : s.time ≡ (state_of history).books.time
+  pub torn : s.torn ≡ len - records_end (recorded file) - 1
+
+-- a number behind its name, before other lines
+abbrev pub line_before : List ℕ → ℕ → List ℕ → List ℕ
+line_before name number others = name ++ (decimal number ++ 10 ∷ others)
+
+abbrev pub summary_text : Summary → List ℕ
+summary_text s =
+    line_before (codes "records ") s.records
+    (line_before (codes "entries ") s.entries
+    (line_before (codes "profile ") (profile_number s.rules.profile)
+    (line_before (codes "clients_max ") s.rules.clients_max
+    (line_before (codes "last time ") s.time
+    (line_before (codes "torn bytes ") s.torn [])))))
+
+-- rows
+
+pub two_entries : summary_text (record { rules = rules_of One 2; records = 3; entries = 2; time = 11; torn = 0 })
+    ≡ codes "records 3\nentries 2\nprofile 1\nclients_max 2\nlast time 11\ntorn bytes 0\n"
+unfolding digits
+two_entries = refl

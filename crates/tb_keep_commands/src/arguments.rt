@@ -1,0 +1,141 @@
+//! What the words of the command line ask for, and what is wrong with words that ask for nothing.
+ghost use Rattle.std.specs.Prelude.{◌≡◌, map, string_bytes};
+ghost use Rattle.tb_keep_commands.specs.Forms.{form_alone, form_of, form_over, run_form, file_word, wrong_last, wrong_run, wrong_over, wrong};
+ghost use Rattle.tb_commands.specs.Forms.{clients_of};
+
+use tb_commands::{read_clients_max, read_profile};
+use tb_records::{ClientsMax, Profile};
+
+/// What the program is asked to do.
+#[derive(Clone, Copy)]
+pub enum Form {
+    /// Serve requests over a file, which is made where there is none.
+    Run(ClientsMax, Profile),
+    /// Write the history of a file as a dump.
+    Dump,
+    /// Read a file, and tell what is in it.
+    Check,
+    /// The page of usage out.
+    Help,
+    /// The program's version out.
+    Version,
+}
+
+/// What a word with a file asks for.
+fn form_over(word: &str) -> Option<Form>
+    ensures { result ≡ form_over word.now }
+{
+    match word {
+        "dump" => Some(Form::Dump),
+        "check" => Some(Form::Check),
+        _ => None,
+    }
+}
+
+/// What a word asks for.
+fn form_alone(word: &str) -> Option<Form>
+    ensures { result ≡ form_alone word.now }
+{
+    match word {
+        "--help" | "-h" => Some(Form::Help),
+        "--version" => Some(Form::Version),
+        _ => None,
+    }
+}
+
+/// What a word with a file, the number of clients and a profile asks for.
+fn run_form(word: &str, clients_max: &str, profile_given: Option<Profile>) -> Option<Form>
+    ensures { result ≡ run_form word.now clients_max.now profile_given }
+{
+    if word != "run" {
+        return None;
+    }
+    Some(Form::Run(read_clients_max(clients_max.as_bytes())?, profile_given?))
+}
+
+/// What the words ask for, None where they are not a form of the program's arguments. The second word is the file.
+pub fn read_form(words: &[String]) -> Option<Form>
+    ensures { result ≡ form_of (map string_bytes words.now) }
+{
+    match words {
+        [word] => form_alone(word.as_str()),
+        [word, _file] => form_over(word.as_str()),
+        [word, _file, clients_max] => {
+            run_form(word.as_str(), clients_max.as_str(), Some(Profile::One))
+        }
+        [word, _file, clients_max, last] => run_form(
+            word.as_str(),
+            clients_max.as_str(),
+            read_profile(last.as_str().as_bytes()),
+        ),
+        _ => None,
+    }
+}
+
+/// The word that names the file, the second one; an empty one where there is none.
+pub fn file_word(words: &[String]) -> &str
+    ensures { result.now ≡ file_word (map string_bytes words.now) }
+{
+    match words {
+        [_, file, ..] => file.as_str(),
+        _ => "",
+    }
+}
+
+/// What is wrong with four words that begin with `run`, of which the third is to be a number of clients.
+fn wrong_last(clients_max: &str) -> &'static str
+    ensures { result.now ≡ wrong_last (clients_of clients_max.now) }
+{
+    match read_clients_max(clients_max.as_bytes()) {
+        None => "CLIENTS_MAX is 1 to 64",
+        Some(_) => "PROFILE is 1 or 2",
+    }
+}
+
+/// What is wrong with words that begin with `run`, and those of them that are shown before it.
+fn wrong_run(words: &[String]) -> (&[String], &'static str)
+    ensures shown { map string_bytes result.0.now ≡ (wrong_run (map string_bytes words.now)).shown }
+    ensures what { result.1.now ≡ (wrong_run (map string_bytes words.now)).what }
+{
+    match words {
+        [] => (words, "no words"),
+        [_] => (words, "FILE and CLIENTS_MAX are missing"),
+        [_, _] => (words, "CLIENTS_MAX is missing, 1 to 64"),
+        [_, _, _] => (words, "CLIENTS_MAX is 1 to 64"),
+        [_, _, clients_max, _] => (words, wrong_last(clients_max.as_str())),
+        [_, ..] => (&words[..1], "too many words"),
+    }
+}
+
+/// What is wrong with words that begin with one that takes a file, and those of them that are shown before it.
+fn wrong_over(words: &[String]) -> (&[String], &'static str)
+    ensures shown { map string_bytes result.0.now ≡ (wrong_over (map string_bytes words.now)).shown }
+    ensures what { result.1.now ≡ (wrong_over (map string_bytes words.now)).what }
+{
+    match words {
+        [] => (words, "no words"),
+        [_] => (words, "FILE is missing"),
+        [_, ..] => (&words[..1], "too many words"),
+    }
+}
+
+/// What is wrong with words that are none of the program's forms, and those of them that are shown before it.
+pub fn wrong(words: &[String]) -> (&[String], &'static str)
+    ensures shown { map string_bytes result.0.now ≡ (wrong (map string_bytes words.now)).shown }
+    ensures what { result.1.now ≡ (wrong (map string_bytes words.now)).what }
+{
+    let [first, ..] = words else {
+        return (words, "no words");
+    };
+    let word = first.as_str();
+    if word == "run" {
+        return wrong_run(words);
+    }
+    match form_over(word) {
+        Some(_) => wrong_over(words),
+        None => match form_alone(word) {
+            Some(_) => (&words[..1], "too many words"),
+            None => (&words[..1], "unknown; tbd --help shows the forms"),
+        },
+    }
+}

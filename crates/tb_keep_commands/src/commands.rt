@@ -1,0 +1,198 @@
+//! The program's forms, over what opens devices, any reader and any writer, and the exit status of each outcome.
+ghost use Rattle.std.specs.Prelude.{◌≡◌, None, Some, map, string_bytes};
+ghost use Rattle.tb_keep_commands.specs.declared.arguments.Form.{Form};
+ghost use Rattle.tb_keep_commands.specs.Forms.{form_of, file_word};
+ghost use Rattle.tb_keep_commands.specs.Statuses.{SaysLine, usage_lines};
+ghost use Rattle.tb_keep_commands.specs.Outcomes.{Performs, Prints, RunsOver, DumpsOver, ChecksOver, Finishes, Exits};
+
+use crate::arguments::{Form, file_word, read_form};
+use crate::faults::Fault;
+use crate::files::{check, dump};
+use crate::help::{USAGE, VERSION};
+use crate::lines::{tell, tell_usage};
+use crate::openers::Opener;
+use crate::outlets::Outlet;
+use crate::serving::run;
+use std::alloc::Global;
+use tb_keep::Rules;
+use tb_records::{Sink, Source, put_all};
+
+/// Serves a ledger over the device of a name, which is made where there is none.
+fn run_over<O: Opener, R: Source, W: Sink, E: Sink>(
+    alloc: Global,
+    opener: &mut O,
+    name: &str,
+    rules: Rules,
+    reader: &mut R,
+    writer: &mut W,
+    faults: &mut E,
+) -> Result<(), Fault>
+    ensures { RunsOver O.File.tells O.File.disk O.File.holds (O.makes opener.old name.now) opener.new result
+        rules (R.input reader.old) (R.input reader.new) (W.output writer.old) (W.output writer.new)
+        (E.output faults.old) (E.output faults.new) }
+{
+    match opener.make(name) {
+        Ok(device) => run(alloc, device, rules, reader, writer, faults),
+        Err(fault) => Err(Fault::Opening(fault)),
+    }
+}
+
+/// Writes the dump of the device of a name.
+fn dump_over<O: Opener, W: Sink>(
+    alloc: Global,
+    opener: &mut O,
+    name: &str,
+    writer: &mut W,
+) -> Result<(), Fault>
+    ensures { DumpsOver O.File.tells O.File.disk O.File.holds (O.opens opener.old name.now) opener.new result
+        (W.output writer.old) (W.output writer.new) }
+{
+    let opened = opener.open(name);
+    match opened {
+        Ok(device) => {
+            let mut device = device;
+            let dumped = dump(alloc, &mut device, writer);
+            drop(device);
+            dumped
+        }
+        Err(fault) => Err(Fault::Opening(fault)),
+    }
+}
+
+/// Writes what is in the device of a name.
+fn check_over<O: Opener, W: Sink>(
+    alloc: Global,
+    opener: &mut O,
+    name: &str,
+    writer: &mut W,
+) -> Result<(), Fault>
+    ensures { ChecksOver O.File.tells O.File.disk O.File.holds (O.opens opener.old name.now) opener.new result
+        (W.output writer.old) (W.output writer.new) }
+{
+    let found = opener.open(name);
+    match found {
+        Ok(device) => {
+            let mut device = device;
+            let checked = check(alloc, &mut device, writer);
+            drop(device);
+            checked
+        }
+        Err(fault) => Err(Fault::Opening(fault)),
+    }
+}
+
+/// Prints a text.
+fn print<W: Sink>(writer: &mut W, text: &str) -> Result<(), Fault>
+    ensures { Prints text.now result (W.output writer.old) (W.output writer.new) }
+{
+    match put_all(writer, text.as_bytes()) {
+        Ok(()) => Ok(()),
+        Err(_) => Err(Fault::Device),
+    }
+}
+
+/// Does what the form asks for, over the device of a name.
+fn perform<O: Opener, R: Source, W: Sink, E: Sink>(
+    alloc: Global,
+    opener: &mut O,
+    form: Form,
+    name: &str,
+    reader: &mut R,
+    writer: &mut W,
+    faults: &mut E,
+) -> Result<(), Fault>
+    ensures { Performs O.File.tells O.File.disk O.File.holds O.makes O.opens opener.old name.now opener.new form
+        result (R.input reader.old) (R.input reader.new) (W.output writer.old) (W.output writer.new)
+        (E.output faults.old) (E.output faults.new) }
+{
+    match form {
+        Form::Run(clients_max, profile) => {
+            let rules = Rules {
+                profile,
+                clients_max,
+            };
+            run_over(alloc, opener, name, rules, reader, writer, faults)
+        }
+        Form::Dump => dump_over(alloc, opener, name, writer),
+        Form::Check => check_over(alloc, opener, name, writer),
+        Form::Help => print(writer, USAGE),
+        Form::Version => print(writer, VERSION),
+    }
+}
+
+/// Sends what a writer holds back where all was done.
+fn finish<W: Outlet>(done: Result<(), Fault>, writer: &mut W) -> Result<(), Fault>
+    ensures { Finishes (W.gone writer.new) done result (W.output writer.old) (W.output writer.new) }
+{
+    match done {
+        Ok(()) => match writer.finish() {
+            Ok(()) => Ok(()),
+            Err(_) => Err(Fault::Device),
+        },
+        Err(fault) => Err(fault),
+    }
+}
+
+/// Does what the form asks for, over the device of a name, and answers the exit status.
+fn exit<O: Opener, R: Source, W: Outlet, E: Sink>(
+    alloc: Global,
+    opener: &mut O,
+    form: Form,
+    name: &str,
+    reader: &mut R,
+    writer: &mut W,
+    faults: &mut E,
+) -> u8
+    ensures { Exits O.File.tells O.File.disk O.File.holds O.makes O.opens opener.old name.now opener.new
+        (W.gone writer.new) form result (R.input reader.old) (R.input reader.new) (W.output writer.old)
+        (W.output writer.new) (E.output faults.old) (E.output faults.new) }
+{
+    let done = perform(alloc, opener, form, name, reader, writer, faults);
+    match finish(done, writer) {
+        Ok(()) => 0,
+        Err(fault) => {
+            tell(fault, name, faults);
+            fault.status()
+        }
+    }
+}
+
+/// Does what the words ask for, and answers the exit status: 0 done, else that of the fault, whose line goes to `faults`.
+/// With 0 nothing goes there but what a start of `run` says that cut torn bytes off. Words that are none of the program's
+/// forms are found before anything is opened or read.
+pub fn command<O: Opener, R: Source, W: Outlet, E: Sink>(
+    alloc: Global,
+    opener: &mut O,
+    words: &[String],
+    reader: &mut R,
+    writer: &mut W,
+    faults: &mut E,
+) -> u8
+    ensures usage { form_of (map string_bytes words.now) ≡ None → result ≡ 2 }
+    ensures unopened { form_of (map string_bytes words.now) ≡ None → opener.new ≡ opener.old }
+    ensures unread { form_of (map string_bytes words.now) ≡ None → reader.new ≡ reader.old }
+    ensures unwritten { form_of (map string_bytes words.now) ≡ None → writer.new ≡ writer.old }
+    ensures told { let said = map string_bytes words.now in
+        form_of said ≡ None → SaysLine (usage_lines said) (E.output faults.old) (E.output faults.new) }
+    ensures served { (form : Form) → form_of (map string_bytes words.now) ≡ Some form
+        → Exits O.File.tells O.File.disk O.File.holds O.makes O.opens opener.old
+        (file_word (map string_bytes words.now)) opener.new (W.gone writer.new) form result
+        (R.input reader.old) (R.input reader.new) (W.output writer.old) (W.output writer.new)
+        (E.output faults.old) (E.output faults.new) }
+{
+    match read_form(words) {
+        Some(form) => exit(
+            alloc,
+            opener,
+            form,
+            file_word(words),
+            reader,
+            writer,
+            faults,
+        ),
+        None => {
+            tell_usage(words, faults);
+            Fault::Usage.status()
+        }
+    }
+}

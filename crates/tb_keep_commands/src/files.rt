@@ -1,0 +1,113 @@
+//! Devices that are read without a write.
+ghost use Rattle.std.specs.Prelude.{◌≡◌, ℕ, List, Ok};
+ghost use Rattle.tb_keep.specs.Opening.{IsUntouched};
+ghost use Rattle.tb_keep.specs.Restoration.{HasStartCause};
+ghost use Rattle.tb_keep_commands.specs.Summaries.{ReadsWhole};
+ghost use Rattle.tb_keep_commands.specs.Outcomes.{DumpsFound, DumpsFile, ChecksLong, ChecksFile, Reports};
+
+use crate::faults::{Fault, disk_fault, dumped_fault, started_fault};
+use crate::summaries::{Found, Summary};
+use std::alloc::Global;
+use std::format;
+use tb_journal::Device;
+use tb_keep::{StartFault, read_history, write_dump};
+use tb_records::{Sink, put_all};
+
+/// Reads a whole file, whose records are those of one history.
+#[tactic(auto, using(crate::proofs::Wholes::found_is))]
+fn read_whole<D: Device>(alloc: Global, device: &mut D) -> Result<Found, StartFault>
+    ensures found { (file : List ℕ) → D.holds device.old file → ReadsWhole result file }
+    ensures same { (file : List ℕ) → D.holds device.old file → D.holds device.new file }
+    ensures untouched { D.tells → IsUntouched (D.disk device.old) (D.disk device.new) }
+    ensures cause { D.tells → HasStartCause result (D.disk device.old) (D.disk device.new) }
+{
+    match read_history(alloc, device) {
+        Ok((rules, machine, extent)) => {
+            let (entries, time) = (machine.commit(), machine.time());
+            drop(machine);
+            Ok(Found {
+                rules,
+                records: extent.count,
+                entries,
+                time,
+                end: extent.end,
+            })
+        }
+        Err(fault) => Err(fault),
+    }
+}
+
+/// Writes the dump of a file of which this was read.
+fn dump_found<D: Device, W: Sink>(
+    alloc: Global,
+    device: &mut D,
+    found: Found,
+    writer: &mut W,
+) -> Result<(), Fault>
+    ensures { DumpsFound D.tells D.disk D.holds (Ok found) result device.old device.new (W.output writer.old)
+        (W.output writer.new) }
+{
+    match write_dump(alloc, device, found.rules, writer) {
+        Ok(()) => Ok(()),
+        Err(fault) => Err(dumped_fault(fault)),
+    }
+}
+
+/// Writes the history of a file as a dump. The file is read twice: before anything is written all of it was read.
+pub(crate) fn dump<D: Device, W: Sink>(
+    alloc: Global,
+    device: &mut D,
+    writer: &mut W,
+) -> Result<(), Fault>
+    ensures { DumpsFile D.tells D.disk D.holds result device.old device.new (W.output writer.old)
+        (W.output writer.new) }
+{
+    match read_whole(alloc, device) {
+        Ok(found) => dump_found(alloc, device, found, writer),
+        Err(fault) => Err(started_fault(fault)),
+    }
+}
+
+/// Writes what is in a file.
+fn report<W: Sink>(alloc: Global, summary: Summary, writer: &mut W) -> Result<(), Fault>
+    ensures { Reports result summary (W.output writer.old) (W.output writer.new) }
+{
+    match format!(in alloc; "{summary}") {
+        Ok(text) => match put_all(writer, text.as_bytes()) {
+            Ok(()) => Ok(()),
+            Err(_) => Err(Fault::Device),
+        },
+        Err(_) => Err(Fault::NoMemory),
+    }
+}
+
+/// Reads a whole file of so many bytes, and writes what is in it.
+fn check_long<D: Device, W: Sink>(
+    alloc: Global,
+    device: &mut D,
+    len: usize,
+    writer: &mut W,
+) -> Result<(), Fault>
+    ensures { ChecksLong D.tells D.disk D.holds len result device.old device.new (W.output writer.old)
+        (W.output writer.new) }
+{
+    match read_whole(alloc, device) {
+        Ok(found) => report(alloc, found.summary(len), writer),
+        Err(fault) => Err(started_fault(fault)),
+    }
+}
+
+/// Reads a whole file, and writes what is in it. Nobody else writes to it meanwhile, since it is locked.
+pub(crate) fn check<D: Device, W: Sink>(
+    alloc: Global,
+    device: &mut D,
+    writer: &mut W,
+) -> Result<(), Fault>
+    ensures { ChecksFile D.tells D.disk D.holds result device.old device.new (W.output writer.old)
+        (W.output writer.new) }
+{
+    match device.len() {
+        Ok(len) => check_long(alloc, device, len, writer),
+        Err(fault) => Err(disk_fault(fault)),
+    }
+}

@@ -1,0 +1,58 @@
+//! The way from a program's arguments, input and output to its commands.
+ghost use Rattle.std.specs.Prelude.{◌≡◌, []};
+ghost use Rattle.tb_keep_commands.specs.Statuses.{SaysLine, fault_status, fault_line};
+
+use crate::arguments::{Form, read_form};
+use crate::commands::command;
+use crate::faults::Fault;
+use crate::lines::tell;
+use crate::openers::Opener;
+use crate::outlets::Outgoing;
+use std::alloc::Global;
+use std::io::{BufReader, BufWriter, Read, Write};
+use tb_records::{Buffered, Sink};
+
+/// The bytes of input that `run` holds at a time. What is held goes behind one commit, so fewer bytes would need more syncs.
+const INPUT: usize = 1 << 20;
+
+/// The bytes of output that `dump` holds at a time.
+const OUTPUT: usize = 65536;
+
+/// The bytes that a form's reader and writer hold. Replies are written at once, each time all that are at hand; and a form that
+/// writes once needs no buffer.
+fn capacities(form: Option<Form>) -> (usize, usize) {
+    match form {
+        Some(Form::Run(_, _)) => (INPUT, 0),
+        Some(Form::Dump) => (0, OUTPUT),
+        _ => (0, 0),
+    }
+}
+
+/// Serves the command that the words are, between an input and an output, both buffered, and answers the exit status.
+pub fn serve<O: Opener, R: Read + Drop, W: Write + Drop, E: Sink>(
+    alloc: Global,
+    opener: &mut O,
+    words: &[String],
+    input: R,
+    output: W,
+    faults: &mut E,
+) -> u8 {
+    let (held_in, held_out) = capacities(read_form(words));
+    let input = BufReader::with_capacity(alloc, held_in, input);
+    let output = BufWriter::with_capacity(alloc, held_out, output);
+    let (Ok(input), Ok(output)) = (input, output) else {
+        return refuse(Fault::NoMemory, faults);
+    };
+    let mut reader = Buffered::new(input);
+    let mut writer = Outgoing::new(output);
+    command(alloc, opener, words, &mut reader, &mut writer, faults)
+}
+
+/// Tells a fault of no file, and answers its status.
+pub fn refuse<E: Sink>(fault: Fault, faults: &mut E) -> u8
+    ensures value { result ≡ fault_status fault }
+    ensures told { SaysLine (fault_line fault []) (E.output faults.old) (E.output faults.new) }
+{
+    tell(fault, "", faults);
+    fault.status()
+}

@@ -1,0 +1,41 @@
+//! The commands of `tbd`, a ledger server whose history is in a file: over whatever opens devices, any reader and any writer.
+//!
+//! Modules, each over those before it:
+//!
+//! - `arguments`: what the words of the command line ask for, and what is wrong with words that ask for nothing.
+//! - `help`: the page of usage.
+//! - `openers`: `Opener`, what opens the device of a name, and why it does not.
+//! - `outlets`: `Outlet`, a writer that says at its end whether all that was put went out.
+//! - `faults`: why a command ends with a status other than 0.
+//! - `lines`: the lines that say so.
+//! - `summaries`: what `check` reports of a file.
+//! - `files`: `dump` and `check`, a file read without a write.
+//! - `serving`: `run`, a ledger over a file served.
+//! - `commands`: `command`, each form, and the exit status of each outcome.
+//! - `host`: `serve`, from a program's arguments, input and output to `command`.
+//!
+//! specs/Forms is which words ask for what, specs/Outcomes what each form does and how it ends, specs/Statuses the exit
+//! status and the line of each fault.
+#![tactic(auto)]
+
+mod arguments;
+mod commands;
+mod faults;
+mod files;
+mod help;
+mod host;
+mod lines;
+mod openers;
+mod outlets;
+mod serving;
+mod summaries;
+
+pub use arguments::{Form, file_word, read_form, wrong};
+pub use commands::command;
+pub use faults::{Damage, Fault, words_fault};
+pub use help::{USAGE, VERSION};
+pub use host::{refuse, serve};
+pub use lines::{tell, tell_usage};
+pub use openers::{Opener, OpeningFault, opening_fault};
+pub use outlets::{Outgoing, Outlet};
+pub use summaries::Summary;

@@ -1,0 +1,312 @@
+//! The lines of standard error.
+ghost use Rattle.std.specs.Prelude.{◌≡◌, ◌++◌, codes, map, string_bytes};
+ghost use Rattle.std.specs.Fmt.{decimal};
+ghost use Rattle.tb_records.specs.Transport.{IsSent};
+ghost use Rattle.tb_keep_commands.specs.Statuses.{damage_text, opening_text, fault_text, fault_line, shown_words, wrong_line, usage_lines, SaysLine, TellsCut};
+ghost use Rattle.tb_keep_commands.specs.Forms.{wrong};
+
+use crate::arguments::wrong;
+use crate::faults::{Damage, Fault};
+use crate::help::USAGE;
+use crate::openers::OpeningFault;
+use itoa::Buffer;
+use tb_records::{FrameFault, Sink, put_all};
+
+/// Writes two texts, one behind the other.
+#[tactic(auto, using(tb_records::proofs::Sendings::sent_rest, tb_records::proofs::Sendings::sent_few))]
+fn put_both<E: Sink>(faults: &mut E, first: &str, second: &str) -> Result<(), FrameFault>
+    ensures { IsSent result (first.now ++ second.now) (E.output faults.old) (E.output faults.new) }
+{
+    put_all(faults, first.as_bytes())?;
+    put_all(faults, second.as_bytes())
+}
+
+/// Writes a text and a number behind it.
+fn put_number<E: Sink>(faults: &mut E, first: &str, number: u64) -> Result<(), FrameFault>
+    ensures { IsSent result (first.now ++ decimal number) (E.output faults.old) (E.output faults.new) }
+{
+    let mut buffer = Buffer::new();
+    put_both(faults, first, buffer.format(number))
+}
+
+/// Writes the place of a record and what is wrong with it.
+#[tactic(auto, using(tb_records::proofs::Sendings::sent_rest, tb_records::proofs::Sendings::sent_few))]
+fn put_place<E: Sink>(
+    faults: &mut E,
+    first: &str,
+    place: u64,
+    second: &str,
+    what: &str,
+) -> Result<(), FrameFault>
+    ensures { IsSent result ((first.now ++ decimal place) ++ (second.now ++ what.now)) (E.output faults.old)
+        (E.output faults.new) }
+{
+    put_number(faults, first, place)?;
+    put_both(faults, second, what)
+}
+
+/// Writes a number and a text behind it.
+fn put_counted<E: Sink>(faults: &mut E, number: u64, last: &str) -> Result<(), FrameFault>
+    ensures { IsSent result (decimal number ++ last.now) (E.output faults.old) (E.output faults.new) }
+{
+    let mut buffer = Buffer::new();
+    put_both(faults, buffer.format(number), last)
+}
+
+/// Writes two numbers, each with a text behind it.
+#[tactic(auto, using(tb_records::proofs::Sendings::sent_rest, tb_records::proofs::Sendings::sent_few))]
+fn put_torn<E: Sink>(
+    faults: &mut E,
+    bytes: u64,
+    first: &str,
+    at: u64,
+    last: &str,
+) -> Result<(), FrameFault>
+    ensures { IsSent result ((decimal bytes ++ first.now) ++ (decimal at ++ last.now)) (E.output faults.old)
+        (E.output faults.new) }
+{
+    put_counted(faults, bytes, first)?;
+    put_counted(faults, at, last)
+}
+
+/// Writes what is damaged.
+fn put_damage<E: Sink>(faults: &mut E, damage: Damage) -> Result<(), FrameFault>
+    ensures { IsSent result (damage_text damage) (E.output faults.old) (E.output faults.new) }
+{
+    match damage {
+        Damage::Block { at } => put_number(faults, "at byte ", at as u64),
+        Damage::Record { place, fault } => put_place(faults, "record ", place, ": ", fault.name()),
+        Damage::Entry(fault) => put_place(faults, "record ", fault.place, ": ", fault.cause.name()),
+        Damage::Torn { at, bytes } => put_torn(
+            faults,
+            bytes,
+            " bytes behind byte ",
+            at,
+            ", more than one batch can have",
+        ),
+    }
+}
+
+/// Writes why a file of this path was not opened.
+fn put_opening<E: Sink>(faults: &mut E, fault: OpeningFault, path: &str) -> Result<(), FrameFault>
+    ensures { IsSent result (opening_text fault path.now) (E.output faults.old) (E.output faults.new) }
+{
+    match fault {
+        OpeningFault::Locked => put_all(faults, b"Locked: another program has the file open"),
+        OpeningFault::Missing => put_both(faults, "Device: cannot find ", path),
+        OpeningFault::Forbidden => put_both(faults, "Device: no permission to open ", path),
+        OpeningFault::NoMemory => put_all(faults, b"NoMemory"),
+        OpeningFault::Unopened => put_both(faults, "Device: cannot open ", path),
+    }
+}
+
+/// Writes a text and what is damaged.
+#[tactic(auto, using(tb_records::proofs::Sendings::sent_rest, tb_records::proofs::Sendings::sent_few))]
+fn put_damaged<E: Sink>(faults: &mut E, first: &str, damage: Damage) -> Result<(), FrameFault>
+    ensures { IsSent result (first.now ++ damage_text damage) (E.output faults.old) (E.output faults.new) }
+{
+    put_all(faults, first.as_bytes())?;
+    put_damage(faults, damage)
+}
+
+/// Writes a fault's name, and what there is to say of it, over a file of this path.
+fn put_fault<E: Sink>(faults: &mut E, fault: Fault, path: &str) -> Result<(), FrameFault>
+    ensures { IsSent result (fault_text fault path.now) (E.output faults.old) (E.output faults.new) }
+{
+    match fault {
+        Fault::Usage => put_all(faults, b"Usage"),
+        Fault::Device => put_all(faults, b"Device"),
+        Fault::Opening(fault) => put_opening(faults, fault, path),
+        Fault::NoMemory => put_all(faults, b"NoMemory"),
+        Fault::Request(fault) => put_all(faults, fault.name().as_bytes()),
+        Fault::NotAJournal => put_all(faults, b"NotAJournal"),
+        Fault::NoHead => put_all(faults, b"NotAJournal: the first record is no ledger's head"),
+        Fault::Damaged(damage) => put_damaged(faults, "Damaged: ", damage),
+        Fault::OtherRules => put_all(
+            faults,
+            b"OtherRules: tbd check shows those that the file was made with",
+        ),
+        Fault::Full => put_all(faults, b"Full"),
+        Fault::SyncFailed => put_all(
+            faults,
+            b"SyncFailed: restart the machine or copy the file before the next start",
+        ),
+    }
+}
+
+/// Writes the end of a line, and passes the line on.
+#[tactic(auto, using(crate::proofs::Passing::sent_passed))]
+fn end_line<E: Sink>(faults: &mut E) -> Result<(), FrameFault>
+    ensures { IsSent result (codes "\n") (E.output faults.old) (E.output faults.new) }
+{
+    put_all(faults, b"\n")?;
+    faults.pass_on();
+    Ok(())
+}
+
+/// Writes a fault and the end of its line.
+#[tactic(auto, using(tb_records::proofs::Sendings::sent_rest, tb_records::proofs::Sendings::sent_few))]
+fn put_rest<E: Sink>(faults: &mut E, fault: Fault, path: &str) -> Result<(), FrameFault>
+    ensures { IsSent result (fault_text fault path.now ++ codes "\n") (E.output faults.old)
+        (E.output faults.new) }
+{
+    put_fault(faults, fault, path)?;
+    end_line(faults)
+}
+
+/// Writes a text and the line of a fault behind it.
+#[tactic(auto, using(tb_records::proofs::Sendings::sent_rest, tb_records::proofs::Sendings::sent_few))]
+fn put_line<E: Sink>(
+    faults: &mut E,
+    first: &str,
+    fault: Fault,
+    path: &str,
+) -> Result<(), FrameFault>
+    ensures { IsSent result (first.now ++ (fault_text fault path.now ++ codes "\n")) (E.output faults.old)
+        (E.output faults.new) }
+{
+    put_all(faults, first.as_bytes())?;
+    put_rest(faults, fault, path)
+}
+
+/// Tells a fault over a file of this path, in one line. A failure to write it changes no status.
+pub fn tell<E: Sink>(fault: Fault, path: &str, faults: &mut E)
+    ensures { SaysLine (fault_line fault path.now) (E.output faults.old) (E.output faults.new) }
+{
+    let _ = put_line(faults, "tbd: ", fault, path);
+}
+
+/// Writes a number behind a text, and the end of the line.
+#[tactic(auto, using(tb_records::proofs::Sendings::sent_rest, tb_records::proofs::Sendings::sent_few))]
+fn put_end<E: Sink>(faults: &mut E, first: &str, at: u64) -> Result<(), FrameFault>
+    ensures { IsSent result ((first.now ++ decimal at) ++ codes "\n") (E.output faults.old)
+        (E.output faults.new) }
+{
+    put_number(faults, first, at)?;
+    end_line(faults)
+}
+
+/// Writes two numbers, each behind a text, and the end of the line.
+#[tactic(auto, using(tb_records::proofs::Sendings::sent_rest, tb_records::proofs::Sendings::sent_few))]
+fn put_cut<E: Sink>(
+    faults: &mut E,
+    first: &str,
+    bytes: u64,
+    second: &str,
+    at: u64,
+) -> Result<(), FrameFault>
+    ensures { IsSent result
+        ((first.now ++ decimal bytes) ++ ((second.now ++ decimal at) ++ codes "\n")) (E.output faults.old)
+        (E.output faults.new) }
+{
+    put_number(faults, first, bytes)?;
+    put_end(faults, second, at)
+}
+
+/// What stands between the two numbers.
+const BEHIND: &str = " bytes of a batch that was not committed, behind byte ";
+
+/// Tells how many bytes a start cut off behind the records, which end at this place; nothing where there were none.
+pub(crate) fn tell_cut<E: Sink>(bytes: u64, at: u64, faults: &mut E)
+    ensures { TellsCut bytes at (E.output faults.old) (E.output faults.new) }
+{
+    if bytes != 0 {
+        let _ = put_cut(faults, "tbd: cut ", bytes, BEHIND, at);
+    }
+}
+
+/// Writes words, a space before each.
+fn put_words<E: Sink>(faults: &mut E, words: &[String]) -> Result<(), FrameFault>
+    ensures { IsSent result (shown_words (map string_bytes words.now)) (E.output faults.old)
+        (E.output faults.new) }
+{
+    match words {
+        [] => Ok(()),
+        [word, rest @ ..] => match put_both(faults, " ", word.as_str()) {
+            Ok(()) => put_words(faults, rest),
+            Err(fault) => Err(fault),
+        },
+    }
+}
+
+/// Writes what is wrong, and the end of the line.
+#[tactic(auto, using(tb_records::proofs::Sendings::sent_rest, tb_records::proofs::Sendings::sent_few))]
+fn put_what<E: Sink>(faults: &mut E, what: &str) -> Result<(), FrameFault>
+    ensures { IsSent result (what.now ++ codes "\n") (E.output faults.old) (E.output faults.new) }
+{
+    put_all(faults, what.as_bytes())?;
+    end_line(faults)
+}
+
+/// Writes a text and what is wrong behind it.
+#[tactic(auto, using(tb_records::proofs::Sendings::sent_rest, tb_records::proofs::Sendings::sent_few))]
+fn put_behind<E: Sink>(faults: &mut E, first: &str, what: &str) -> Result<(), FrameFault>
+    ensures { IsSent result (first.now ++ (what.now ++ codes "\n")) (E.output faults.old)
+        (E.output faults.new) }
+{
+    put_all(faults, first.as_bytes())?;
+    put_what(faults, what)
+}
+
+/// Writes words and what is wrong with them.
+#[tactic(auto, using(tb_records::proofs::Sendings::sent_rest, tb_records::proofs::Sendings::sent_few))]
+fn put_said<E: Sink>(
+    faults: &mut E,
+    shown: &[String],
+    between: &str,
+    what: &str,
+) -> Result<(), FrameFault>
+    ensures { IsSent result
+        (shown_words (map string_bytes shown.now) ++ (between.now ++ (what.now ++ codes "\n")))
+        (E.output faults.old) (E.output faults.new) }
+{
+    put_words(faults, shown)?;
+    put_behind(faults, between, what)
+}
+
+/// Writes a text, and the rest of the line of words that are none of the program's forms.
+#[tactic(auto, using(tb_records::proofs::Sendings::sent_rest, tb_records::proofs::Sendings::sent_few))]
+fn put_wrong<E: Sink>(
+    faults: &mut E,
+    first: &str,
+    shown: &[String],
+    what: &str,
+) -> Result<(), FrameFault>
+    ensures { IsSent result
+        (first.now ++ (shown_words (map string_bytes shown.now) ++ (codes ": " ++ (what.now ++ codes "\n"))))
+        (E.output faults.old) (E.output faults.new) }
+{
+    put_all(faults, first.as_bytes())?;
+    put_said(faults, shown, ": ", what)
+}
+
+/// Writes a page, and passes it on.
+#[tactic(auto, using(crate::proofs::Passing::sent_passed))]
+fn put_page<E: Sink>(faults: &mut E, page: &str) -> Result<(), FrameFault>
+    ensures { IsSent result page.now (E.output faults.old) (E.output faults.new) }
+{
+    put_all(faults, page.as_bytes())?;
+    faults.pass_on();
+    Ok(())
+}
+
+/// Writes the line of words that are none of the program's forms.
+fn put_usage<E: Sink>(faults: &mut E, words: &[String]) -> Result<(), FrameFault>
+    ensures { IsSent result (wrong_line (wrong (map string_bytes words.now))) (E.output faults.old)
+        (E.output faults.new) }
+{
+    let (shown, what) = wrong(words);
+    put_wrong(faults, "tbd: Usage:", shown, what)
+}
+
+/// Tells what is wrong with words that are none of the program's forms: without words, the page of usage. A failure to write
+/// it changes no status.
+pub fn tell_usage<E: Sink>(words: &[String], faults: &mut E)
+    ensures { SaysLine (usage_lines (map string_bytes words.now)) (E.output faults.old)
+        (E.output faults.new) }
+{
+    let _ = match words {
+        [] => put_page(faults, USAGE),
+        _ => put_usage(faults, words),
+    };
+}

@@ -1,0 +1,58 @@
+//! What opens the device of a name.
+ghost use Rattle.std.specs.Prelude.{◌≡◌, true, ℕ, List, Result, IfOk};
+ghost use Rattle.tb_keep_commands.specs.declared.openers.OpeningFault.{OpeningFault};
+ghost use Rattle.tb_keep_commands.specs.Statuses.{opening_fault};
+
+use std::io::ErrorKind;
+use tb_journal::{Device, FileFault};
+
+/// Why a device was not opened.
+#[derive(Clone, Copy, Debug, PartialEq, Eq)]
+pub enum OpeningFault {
+    /// Another process has it open.
+    Locked,
+    /// There is none of this name, or no folder for it.
+    Missing,
+    /// This user may not open it.
+    Forbidden,
+    /// There is no memory.
+    NoMemory,
+    /// It cannot be opened.
+    Unopened,
+}
+
+/// The fault of a file of the system that is not opened.
+pub fn opening_fault(fault: &FileFault) -> OpeningFault
+    ensures { result ≡ opening_fault fault.now }
+{
+    match fault {
+        FileFault::Locked => OpeningFault::Locked,
+        FileFault::System(error) => match error.kind() {
+            ErrorKind::NotFound => OpeningFault::Missing,
+            ErrorKind::PermissionDenied => OpeningFault::Forbidden,
+            ErrorKind::OutOfMemory => OpeningFault::NoMemory,
+            _ => OpeningFault::Unopened,
+        },
+    }
+}
+
+/// What opens devices by their names, as a folder opens files.
+pub trait Opener {
+    /// What is opened.
+    type File: Device + Drop;
+
+    /// An opening may answer this, where what is not there is made. Anything, where an opener does not say it.
+    ghost makes: { Self → List ℕ → Result Self.File OpeningFault → Self → Type 0 } = { λ before name answer after. Unit {0} };
+
+    /// An opening may answer this, where nothing is made.
+    ghost opens: { Self → List ℕ → Result Self.File OpeningFault → Self → Type 0 } = { λ before name answer after. Unit {0} };
+
+    /// Opens the device of this name, and makes it where there is none. No sync has failed on it.
+    fn make(&mut self, name: &str) -> Result<Self::File, OpeningFault>
+        ensures made { makes self.old name.now result self.new }
+        ensures sound { Self.File.tells → IfOk result (λ device. (Self.File.disk device).sound ≡ true) };
+
+    /// Opens the device of this name, which is there.
+    fn open(&mut self, name: &str) -> Result<Self::File, OpeningFault>
+        ensures { opens self.old name.now result self.new };
+}

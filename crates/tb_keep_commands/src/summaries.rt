@@ -1,0 +1,75 @@
+//! What `check` reports of a file.
+ghost use Rattle.std.specs.Prelude.{◌≡◌, ◌-◌};
+ghost use Rattle.tb_records.specs.DumpBytes.{profile_number};
+ghost use Rattle.tb_keep_commands.specs.Summaries.{summary_of};
+
+use std::fmt;
+use tb_keep::Rules;
+use tb_records::Profile;
+
+/// What was read of a file whose records are all those of one history.
+#[derive(Clone, Copy)]
+pub(crate) struct Found {
+    pub rules: Rules,
+    pub records: usize,
+    pub entries: u64,
+    /// The time of the last entry.
+    pub time: u64,
+    /// Where the records end.
+    pub end: usize,
+}
+
+impl Found {
+    /// What is in such a file of so many bytes.
+    pub fn summary(self, len: usize) -> Summary
+        ensures { result ≡ summary_of self len }
+    {
+        Summary {
+            rules: self.rules,
+            records: self.records,
+            entries: self.entries,
+            time: self.time,
+            torn: len.saturating_sub(self.end).saturating_sub(1),
+        }
+    }
+}
+
+/// What is in a file.
+#[derive(Clone, Copy)]
+pub struct Summary {
+    pub rules: Rules,
+    /// The head, and one for each entry.
+    pub records: usize,
+    pub entries: u64,
+    /// The time of the last entry, in nanoseconds.
+    pub time: u64,
+    /// The bytes that a start would cut off.
+    pub torn: usize,
+}
+
+/// The number of a profile.
+fn profile_number(profile: Profile) -> u8
+    ensures { result ≡ profile_number profile }
+{
+    match profile {
+        Profile::One => 1,
+        Profile::Two => 2,
+    }
+}
+
+impl fmt::Display for Summary {
+    ghost use Rattle.std.specs.Prelude.{Some};
+    ghost use Rattle.tb_keep_commands.specs.Summaries.{summary_text};
+
+    ghost output = { λ summary. Some (summary_text summary) };
+
+    fn fmt<W: fmt::Write>(&self, f: &mut fmt::Formatter<W>) -> fmt::Result {
+        let profile = profile_number(self.rules.profile);
+        let clients_max = self.rules.clients_max.get();
+        write!(
+            f,
+            "records {}\nentries {}\nprofile {profile}\nclients_max {clients_max}\nlast time {}\ntorn bytes {}\n",
+            self.records, self.entries, self.time, self.torn
+        )
+    }
+}

@@ -1,0 +1,27 @@
+//! The tests of tb_keep_commands, by its public calls alone: so the library is not proved a second time for them.
+//!
+//! Modules:
+//!
+//! - `frames`: the bytes of a script, of its replies and of its dump, by the formats.
+//! - `files`: files in memory, and what opens them and fails in each way.
+//! - `pipes`: a writer that fails at a byte, or at its flush.
+//! - `rows`: what a command is run on, and what it must answer.
+//! - `outcomes`: what becomes of each form, over each file.
+//! - `words`: words that are no form, and faults of the system.
+//! - `outputs`: outputs and calls on the file that fail.
+#![tactic(auto)]
+
+#[cfg(test)]
+mod files;
+#[cfg(test)]
+mod frames;
+#[cfg(test)]
+mod outcomes;
+#[cfg(test)]
+mod outputs;
+#[cfg(test)]
+mod pipes;
+#[cfg(test)]
+mod rows;
+#[cfg(test)]
+mod words;

@@ -1,0 +1,190 @@
+//! What becomes of each form, over each file.
+use crate::files::Has;
+use crate::rows::{Out, Row, WELL, run};
+use tb_keep_commands::OpeningFault;
+
+const RUN: &[&str] = &["run", "ledger", "2"];
+
+const DUMP: &[&str] = &["dump", "ledger"];
+
+const CHECK: &[&str] = &["check", "ledger"];
+
+/// A form over a file that is done.
+fn done(words: Words, has: Has, out: Out) -> Row {
+    Row {
+        words,
+        has,
+        out,
+        ..WELL
+    }
+}
+
+/// A form over a file that is refused, with nothing written.
+fn refused(words: Words, has: Has, status: u8, line: Line) -> Row {
+    Row {
+        words,
+        has,
+        status,
+        line,
+        ..WELL
+    }
+}
+
+/// A form whose file is not opened.
+fn unopened(words: Words, fault: OpeningFault, status: u8, line: Line) -> Row {
+    Row {
+        words,
+        fault: Some(fault),
+        status,
+        line,
+        ..WELL
+    }
+}
+
+type Words = &'static [&'static str];
+
+type Line = &'static str;
+
+const ALL: &str = "records 3\nentries 2\nprofile 1\nclients_max 2\nlast time 11\ntorn bytes 0\n";
+
+const ALL_AND_TORN: &str =
+    "records 3\nentries 2\nprofile 1\nclients_max 2\nlast time 11\ntorn bytes 5\n";
+
+const ALL_AND_MORE: &str =
+    "records 3\nentries 2\nprofile 1\nclients_max 2\nlast time 11\ntorn bytes 4194305\n";
+
+const DONE: &[(Words, Has, Out)] = &[
+    (RUN, Has::Nothing, Out::Replies),
+    (RUN, Has::NoByte, Out::Replies),
+    (RUN, Has::NoRecord, Out::Replies),
+    (&["run", "ledger", "2", "1"], Has::NoByte, Out::Replies),
+    (DUMP, Has::Entries, Out::Dump),
+    (DUMP, Has::Torn, Out::Dump),
+    (CHECK, Has::Entries, Out::Text(ALL)),
+    (CHECK, Has::Torn, Out::Text(ALL_AND_TORN)),
+    (CHECK, Has::TornLong, Out::Text(ALL_AND_MORE)),
+];
+
+#[test]
+fn what_is_asked_for_is_done(rt: HostRuntime) {
+    for (words, has, out) in DONE {
+        run(&rt, rt.alloc(), done(words, *has, *out));
+    }
+}
+
+const NO_JOURNAL: &str = "tbd: NotAJournal\n";
+
+const NO_HEAD: &str = "tbd: NotAJournal: the first record is no ledger's head\n";
+
+const ROT: &str = "tbd: Damaged: at byte 94\n";
+
+const TORN: &str = "tbd: Damaged: 4194305 bytes behind byte 182, more than one batch can have\n";
+
+const OTHER: &str = "tbd: OtherRules: tbd check shows those that the file was made with\n";
+
+const REFUSED: &[(Words, Has, u8, Line)] = &[
+    (RUN, Has::Text, 5, NO_JOURNAL),
+    (DUMP, Has::Text, 5, NO_JOURNAL),
+    (CHECK, Has::Text, 5, NO_JOURNAL),
+    (DUMP, Has::NoByte, 5, NO_JOURNAL),
+    (CHECK, Has::NoByte, 5, NO_JOURNAL),
+    (RUN, Has::NoHead, 5, NO_HEAD),
+    (DUMP, Has::NoHead, 5, NO_HEAD),
+    (CHECK, Has::NoHead, 5, NO_HEAD),
+    (DUMP, Has::NoRecord, 5, NO_HEAD),
+    (CHECK, Has::NoRecord, 5, NO_HEAD),
+    (RUN, Has::Rot, 6, ROT),
+    (RUN, Has::TornLong, 6, TORN),
+    (DUMP, Has::Rot, 6, ROT),
+    (CHECK, Has::Rot, 6, ROT),
+    (&["run", "ledger", "3"], Has::Entries, 7, OTHER),
+    (&["run", "ledger", "2", "2"], Has::Entries, 7, OTHER),
+];
+
+#[test]
+fn a_file_is_refused_for_what_stands_in_it(rt: HostRuntime) {
+    for (words, has, status, line) in REFUSED {
+        run(&rt, rt.alloc(), refused(words, *has, *status, line));
+    }
+}
+
+const MISSING: &str = "tbd: Device: cannot find ledger\n";
+
+const OPENINGS: &[(Words, OpeningFault, u8, Line)] = &[
+    (RUN, OpeningFault::Missing, 1, MISSING),
+    (DUMP, OpeningFault::Missing, 1, MISSING),
+    (CHECK, OpeningFault::Missing, 1, MISSING),
+    (
+        RUN,
+        OpeningFault::Forbidden,
+        1,
+        "tbd: Device: no permission to open ledger\n",
+    ),
+    (
+        CHECK,
+        OpeningFault::Forbidden,
+        1,
+        "tbd: Device: no permission to open ledger\n",
+    ),
+    (
+        DUMP,
+        OpeningFault::Unopened,
+        1,
+        "tbd: Device: cannot open ledger\n",
+    ),
+    (DUMP, OpeningFault::NoMemory, 1, "tbd: NoMemory\n"),
+    (
+        RUN,
+        OpeningFault::Locked,
+        4,
+        "tbd: Locked: another program has the file open\n",
+    ),
+    (
+        CHECK,
+        OpeningFault::Locked,
+        4,
+        "tbd: Locked: another program has the file open\n",
+    ),
+];
+
+#[test]
+fn an_opening_fails_in_each_way(rt: HostRuntime) {
+    for (words, fault, status, line) in OPENINGS {
+        run(&rt, rt.alloc(), unopened(words, *fault, *status, line));
+    }
+}
+
+/// A file that is not there is made by `run` alone.
+#[test]
+fn a_file_is_made_by_run_alone(rt: HostRuntime) {
+    let alloc = rt.alloc();
+    let made = run(&rt, alloc, done(RUN, Has::Nothing, Out::Replies));
+    assert!(rt; made == 1);
+    for words in [DUMP, CHECK] {
+        let made = run(&rt, alloc, refused(words, Has::Nothing, 1, MISSING));
+        assert!(rt; made == 0);
+    }
+}
+
+/// The one that was named is opened.
+#[test]
+fn the_second_word_names_the_file(rt: HostRuntime) {
+    let line = "tbd: Device: cannot find check\n";
+    run(
+        &rt,
+        rt.alloc(),
+        refused(&["check", "check"], Has::Entries, 1, line),
+    );
+}
+
+/// What a start cuts off it tells, and goes on.
+#[test]
+fn a_start_tells_what_it_cuts_off(rt: HostRuntime) {
+    let line = "tbd: cut 5 bytes of a batch that was not committed, behind byte 182\n";
+    let row = Row {
+        asks: false,
+        line,
+        ..done(RUN, Has::Torn, Out::Nothing)
+    };
+    run(&rt, rt.alloc(), row);
+}

@@ -1,0 +1,113 @@
+//! What a command is run on, and what it must answer.
+use crate::files::{Folder, Has};
+use crate::frames::{dump, empty_dump, replies, script};
+use crate::pipes::Pipe;
+use std::alloc::Global;
+use std::process::Abort;
+use tb_keep_commands::{OpeningFault, serve};
+use tb_records::Counting;
+
+/// What must go out.
+#[derive(Clone, Copy)]
+pub enum Out {
+    Nothing,
+    /// The replies to the script.
+    Replies,
+    /// The dump of what the script makes.
+    Dump,
+    /// That of a ledger without entries.
+    EmptyDump,
+    /// This text.
+    Text(&'static str),
+    /// A prefix of this text, of the replies, of the dump.
+    Prefix(&'static str),
+    SomeReplies,
+    SomeDump,
+}
+
+/// A command, what it finds, and what it must answer.
+#[derive(Clone, Copy)]
+pub struct Row {
+    pub words: &'static [&'static str],
+    pub has: Has,
+    /// Says whether the script comes in, or nothing.
+    pub asks: bool,
+    /// How an opening fails.
+    pub fault: Option<OpeningFault>,
+    /// The call on the file that fails, the first one at 1; none at 0.
+    pub fails_at: u64,
+    /// The bytes that the output takes, and whether its flush answers well.
+    pub room: usize,
+    pub flushes: bool,
+    pub status: u8,
+    pub out: Out,
+    pub line: &'static str,
+}
+
+/// A command over a ledger of the script that goes well, to be changed.
+pub const WELL: Row = Row {
+    words: &[],
+    has: Has::Entries,
+    asks: true,
+    fault: None,
+    fails_at: 0,
+    room: 4096,
+    flushes: true,
+    status: 0,
+    out: Out::Nothing,
+    line: "",
+};
+
+/// Says whether these bytes are those: compared here alone, since a comparison of bytes is dear to prove.
+fn same(found: &[u8], wanted: &[u8]) -> bool {
+    found == wanted
+}
+
+/// Says whether what went out is what must go out.
+fn is_out(rt: &impl Abort, alloc: Global, out: Out, found: &[u8]) -> bool {
+    match out {
+        Out::Nothing => found.is_empty(),
+        Out::Replies => same(found, &replies(rt, alloc)),
+        Out::Dump => same(found, &dump(rt, alloc)),
+        Out::EmptyDump => same(found, &empty_dump(rt, alloc)),
+        Out::Text(text) => same(found, text.as_bytes()),
+        Out::Prefix(text) => text.as_bytes().starts_with(found),
+        Out::SomeReplies => replies(rt, alloc).starts_with(found),
+        Out::SomeDump => dump(rt, alloc).starts_with(found),
+    }
+}
+
+/// The words as a program has them.
+fn words_of(rt: &impl Abort, alloc: Global, words: &[&str]) -> Vec<String> {
+    let mut all = Vec::new(alloc);
+    for word in words {
+        let word = String::from_str(alloc, word).expect(rt, "memory");
+        all.push(word).expect(rt, "memory");
+    }
+    all
+}
+
+/// Runs a row, and answers how many files were made.
+pub fn run(rt: &impl Abort, alloc: Global, row: Row) -> u32 {
+    let mut folder = Folder::new(rt, alloc, row.has, row.fault, row.fails_at);
+    let words = words_of(rt, alloc, row.words);
+    let script = if row.asks {
+        script(rt, alloc)
+    } else {
+        Vec::new(alloc)
+    };
+    let mut pipe = Pipe::new(alloc, row.room, row.flushes);
+    let mut lines = Counting::new(Vec::new(alloc));
+    let status = serve(
+        alloc,
+        &mut folder,
+        words.as_slice(),
+        script.as_slice(),
+        &mut pipe,
+        &mut lines,
+    );
+    assert!(rt; status == row.status);
+    assert!(rt; is_out(rt, alloc, row.out, pipe.bytes()));
+    assert!(rt; same(&lines.into_inner(), row.line.as_bytes()));
+    folder.made
+}

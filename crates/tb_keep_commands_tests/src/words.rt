@@ -1,0 +1,102 @@
+//! Words, and what is said of those that are no form.
+use crate::files::Has;
+use crate::rows::{Out, Row, WELL, run};
+use std::io::{self, ErrorKind};
+use tb_journal::FileFault;
+use tb_keep_commands::{Fault, OpeningFault, USAGE, opening_fault, words_fault};
+
+/// Words that are no form.
+fn wrong(words: &'static [&'static str], line: &'static str) -> Row {
+    Row {
+        words,
+        has: Has::Nothing,
+        status: 2,
+        line,
+        ..WELL
+    }
+}
+
+const WRONG: &[(&[&str], &str)] = &[
+    (&[], USAGE),
+    (
+        &["serve"],
+        "tbd: Usage: serve: unknown; tbd --help shows the forms\n",
+    ),
+    (
+        &["serve", "ledger"],
+        "tbd: Usage: serve: unknown; tbd --help shows the forms\n",
+    ),
+    (
+        &["run"],
+        "tbd: Usage: run: FILE and CLIENTS_MAX are missing\n",
+    ),
+    (
+        &["run", "ledger"],
+        "tbd: Usage: run ledger: CLIENTS_MAX is missing, 1 to 64\n",
+    ),
+    (
+        &["run", "ledger", "0"],
+        "tbd: Usage: run ledger 0: CLIENTS_MAX is 1 to 64\n",
+    ),
+    (
+        &["run", "ledger", "65", "1"],
+        "tbd: Usage: run ledger 65 1: CLIENTS_MAX is 1 to 64\n",
+    ),
+    (
+        &["run", "ledger", "64", "3"],
+        "tbd: Usage: run ledger 64 3: PROFILE is 1 or 2\n",
+    ),
+    (
+        &["run", "ledger", "2", "1", "x"],
+        "tbd: Usage: run: too many words\n",
+    ),
+    (&["dump"], "tbd: Usage: dump: FILE is missing\n"),
+    (&["check"], "tbd: Usage: check: FILE is missing\n"),
+    (
+        &["check", "ledger", "2"],
+        "tbd: Usage: check: too many words\n",
+    ),
+    (&["--help", "run"], "tbd: Usage: --help: too many words\n"),
+];
+
+#[test]
+fn words_that_are_no_form_are_told(rt: HostRuntime) {
+    for (words, line) in WRONG {
+        run(&rt, rt.alloc(), wrong(words, line));
+    }
+}
+
+/// A text that is printed.
+fn text(words: &'static [&'static str], text: &'static str) -> Row {
+    Row {
+        words,
+        has: Has::Nothing,
+        out: Out::Text(text),
+        ..WELL
+    }
+}
+
+#[test]
+fn texts_are_printed(rt: HostRuntime) {
+    let rows = [
+        text(&["--help"], USAGE),
+        text(&["-h"], USAGE),
+        text(&["--version"], "tbd 0.1.0\n"),
+    ];
+    for row in rows {
+        let made = run(&rt, rt.alloc(), row);
+        assert!(rt; made == 0);
+    }
+}
+
+#[test]
+fn a_fault_of_the_system_is_told_as_what_it_is(rt: HostRuntime) {
+    let found = |kind| opening_fault(&FileFault::System(io::Error::from(kind)));
+    assert!(rt; opening_fault(&FileFault::Locked) == OpeningFault::Locked);
+    assert!(rt; found(ErrorKind::NotFound) == OpeningFault::Missing);
+    assert!(rt; found(ErrorKind::PermissionDenied) == OpeningFault::Forbidden);
+    assert!(rt; found(ErrorKind::OutOfMemory) == OpeningFault::NoMemory);
+    assert!(rt; found(ErrorKind::IsADirectory) == OpeningFault::Unopened);
+    assert!(rt; words_fault(&io::Error::from(ErrorKind::OutOfMemory)) == Fault::NoMemory);
+    assert!(rt; words_fault(&io::Error::from(ErrorKind::InvalidData)) == Fault::Usage);
+}
