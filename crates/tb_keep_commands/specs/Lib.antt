@@ -1,4 +1,5 @@
 pub mod Forms
+pub mod Hosts
 pub mod Outcomes
 pub mod Outlets
 pub mod Statuses

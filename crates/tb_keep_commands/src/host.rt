@@ -1,5 +1,7 @@
 //! The way from a program's arguments, input and output to its commands.
-ghost use Rattle.std.specs.Prelude.{◌≡◌, []};
+ghost use Rattle.std.specs.Prelude.{◌≡◌, ◌⊎◌, [], map, string_bytes};
+ghost use Rattle.tb_keep_commands.specs.Forms.{form_of};
+ghost use Rattle.tb_keep_commands.specs.Hosts.{input_size, Commands, Serves, WantsMemory};
 ghost use Rattle.tb_keep_commands.specs.Statuses.{SaysLine, fault_status, fault_line};
 
 use crate::arguments::{Form, read_form};
@@ -20,12 +22,32 @@ const OUTPUT: usize = 65536;
 
 /// The bytes that a form's reader and writer hold. Replies are written at once, each time all that are at hand; and a form that
 /// writes once needs no buffer.
-fn capacities(form: Option<Form>) -> (usize, usize) {
+fn capacities(form: Option<Form>) -> (usize, usize)
+    ensures { result.0 ≡ input_size form }
+{
     match form {
         Some(Form::Run(_, _)) => (INPUT, 0),
         Some(Form::Dump) => (0, OUTPUT),
         _ => (0, 0),
     }
+}
+
+/// Serves the command that the words are, between a reader and a writer with a buffer each.
+fn between<O: Opener, R: Read + Drop, W: Write + Drop, E: Sink>(
+    alloc: Global,
+    opener: &mut O,
+    words: &[String],
+    input: BufReader<R>,
+    output: BufWriter<W>,
+    faults: &mut E,
+) -> u8
+    ensures { let said = map string_bytes words.now in
+        Commands O.File.tells O.File.disk O.File.holds O.makes O.opens opener.old opener.new R.remaining
+        W.contents (form_of said) said result input output (E.output faults.old) (E.output faults.new) }
+{
+    let mut reader = Buffered::new(input);
+    let mut writer = Outgoing::new(output);
+    command(alloc, opener, words, &mut reader, &mut writer, faults)
 }
 
 /// Serves the command that the words are, between an input and an output, both buffered, and answers the exit status.
@@ -36,16 +58,19 @@ pub fn serve<O: Opener, R: Read + Drop, W: Write + Drop, E: Sink>(
     input: R,
     output: W,
     faults: &mut E,
-) -> u8 {
+) -> u8
+    ensures { Serves O.File.tells O.File.disk O.File.holds O.makes O.opens opener.old opener.new R.remaining
+        W.contents (map string_bytes words.now) result input output (E.output faults.old) (E.output faults.new)
+        ⊎ WantsMemory opener.old opener.new result (E.output faults.old) (E.output faults.new) }
+{
     let (held_in, held_out) = capacities(read_form(words));
-    let input = BufReader::with_capacity(alloc, held_in, input);
-    let output = BufWriter::with_capacity(alloc, held_out, output);
-    let (Ok(input), Ok(output)) = (input, output) else {
+    let Ok(input) = BufReader::with_capacity(alloc, held_in, input) else {
         return refuse(Fault::NoMemory, faults);
     };
-    let mut reader = Buffered::new(input);
-    let mut writer = Outgoing::new(output);
-    command(alloc, opener, words, &mut reader, &mut writer, faults)
+    let Ok(output) = BufWriter::with_capacity(alloc, held_out, output) else {
+        return refuse(Fault::NoMemory, faults);
+    };
+    between(alloc, opener, words, input, output, faults)
 }
 
 /// Tells a fault of no file, and answers its status.

@@ -15,7 +15,7 @@
 //! - `host`: `serve`, from a program's arguments, input and output to `command`.
 //!
 //! specs/Forms is which words ask for what, specs/Outcomes what each form does and how it ends, specs/Statuses the exit
-//! status and the line of each fault.
+//! status and the line of each fault, specs/Hosts what `serve` does.
 #![tactic(auto)]
 
 mod arguments;

@@ -1,0 +1,56 @@
+-- What a command does between a std reader and a std writer, each behind a buffer.
+-- Cited by public contracts of: host.
+use Rattle.std.specs.Prelude.{ℕ, ◌≡◌, ◌^◌, List, [], Option, Some, None, Result}
+use Rattle.std.specs.Io.Buffered.{reader_buffer, reader_capacity, reader_inner, reader_remaining, writer_buffer, writer_contents, writer_inner}
+use Rattle.std.specs.declared.io.buffered.BufReader.{BufReader}
+use Rattle.std.specs.declared.io.buffered.BufWriter.{BufWriter}
+use Rattle.std.specs.declared.alloc.Global.{Global}
+use Rattle.tb_records.specs.Transport.{Input, Output}
+use Rattle.tb_journal.specs.Device.{Disk}
+use Rattle.tb_keep_commands.specs.declared.arguments.Form.{Form}
+use Rattle.tb_keep_commands.specs.declared.arguments.Form.TheVariants as form
+use Rattle.tb_keep_commands.specs.declared.faults.Fault.TheVariants.{NoMemory}
+use Rattle.tb_keep_commands.specs.Forms.{form_of, file_word}
+use Rattle.tb_keep_commands.specs.declared.openers.OpeningFault.{OpeningFault}
+use Rattle.tb_keep_commands.specs.Outcomes.{Exits}
+use Rattle.tb_keep_commands.specs.Outlets.{Watched, outgoing}
+use Rattle.tb_keep_commands.specs.Statuses.{SaysLine, fault_line, usage_lines}
+
+-- the bytes of input that a form holds at a time; the others read none
+abbrev pub input_size : Option Form → ℕ
+input_size (Some (form.Run clients_max profile)) = 2 ^ 20
+input_size asked = 0
+
+abbrev pub input_of : {R : Type 0} → (R → Option (List ℕ)) → Watched (BufReader R Global) → Input
+input_of remaining r = record { left = reader_remaining remaining r.inner; failed = r.failures; halted = r.halted; at_hand = reader_buffer r.inner }
+
+abbrev pub output_of : {W : Type 0} → (W → Option (List ℕ)) → Watched (BufWriter W Global) → Output
+output_of contents w = record { written = writer_contents contents w.inner; failed = w.failures; stalled = w.stalls; halted = w.halted; held = w.held }
+
+-- there is no memory for the buffers: nothing is opened, and that is told
+abbrev pub WantsMemory : {O : Type 0} → O → O → ℕ → Output → Output → Type 0
+WantsMemory before left status quiet told = (status ≡ 1) × (left ≡ before) × SaysLine (fault_line NoMemory []) quiet told
+
+module _ (tells : Type 0) {D : Type 0} (disk : D → Disk) (holds : D → List ℕ → Type 0) {O : Type 0} (makes opens : O → List ℕ → Result D OpeningFault → O → Type 0) (before left : O) {R W : Type 0} (remaining : R → Option (List ℕ)) (contents : W → Option (List ℕ)) where
+  -- a form was done, or not to its end; where it was done the buffer of the output is empty at its end
+  pub record Hosted (form : Form) (name : List ℕ) (status : ℕ) (input : BufReader R Global) (output : BufWriter W Global) (quiet told : Output) : Type 0 where
+    pub last : Watched (BufReader R Global)
+    pub final : Watched (BufWriter W Global)
+    pub exits : Exits tells disk holds makes opens before name left (writer_buffer final.inner ≡ []) form status
+        (input_of remaining (outgoing input)) (input_of remaining last) (output_of contents (outgoing output)) (output_of contents final) quiet told
+
+  -- the form that words ask for was done, or not to its end; or they ask for none, and that is told
+  abbrev pub Commands : Option Form → List (List ℕ) → ℕ → BufReader R Global → BufWriter W Global → Output → Output → Type 0
+  Commands None words status input output quiet told = (status ≡ 2) × (left ≡ before) × SaysLine (usage_lines words) quiet told
+  Commands (Some form) words status input output quiet told = Hosted form (file_word words) status input output quiet told
+
+  -- over an input and an output, each behind a buffer with nothing in it
+  pub record Serves (words : List (List ℕ)) (status : ℕ) (input : R) (output : W) (quiet told : Output) : Type 0 where
+    pub reader : BufReader R Global
+    pub of_input : reader_inner reader ≡ input
+    pub read_ahead : reader_buffer reader ≡ []
+    pub holds_input : reader_capacity reader ≡ input_size (form_of words)
+    pub writer : BufWriter W Global
+    pub of_output : writer_inner writer ≡ output
+    pub held_back : writer_buffer writer ≡ []
+    pub commands : Commands (form_of words) words status reader writer quiet told
