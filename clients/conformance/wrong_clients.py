@@ -102,9 +102,8 @@ WRONG = {
         "    if asker(reply) == asker(frame):\n        return\n",
         "    return\n",
         "sessions.py",
-        "        if (reply.client, reply.number, reply.operation) != (self.client, "
-        "asked.number, asked.operation):\n",
-        "        if False:\n",
+        "            asked.operation,\n        ):\n",
+        "            asked.operation,\n        ) and False:\n",
     ),
     "the session of a reply is not looked at": (
         "frames.py",
@@ -122,8 +121,8 @@ WRONG = {
     ),
     "each byte of a reply puts the limit off": (
         "sockets.py",
-        "            self._wait(it, deadline)\n",
-        "            self._wait(it, time.monotonic() + self.timeout)\n",
+        "        while len(data) < count:\n            self._wait(it, deadline)\n",
+        "        while len(data) < count:\n            it.settimeout(self.timeout)\n",
     ),
     "a connection that was closed is not looked at": (
         "sockets.py",
@@ -171,8 +170,8 @@ WRONG = {
     ),
     "a file has the number of the request in doubt": (
         "sessions.py",
-        '"session": self.session, "number": self.number,',
-        '"session": self.session, "number": self.number + (self.pending is not None),',
+        '"number": self.number,',
+        '"number": self.number + (self.pending is not None),',
     ),
     "bytes of another session are loaded": (
         "sessions.py",
@@ -301,7 +300,10 @@ def main():
     with concurrent.futures.ThreadPoolExecutor(given.jobs) as pool:
         runs = {name: pool.submit(caught, edits, 1) for name, edits in chosen.items()}
         for name, run in runs.items():
-            status, said = run.result()
+            try:
+                status, said = run.result()
+            except LookupError as why:
+                status, said = 2, str(why)
             missed += status != 1
             print(
                 f"caught: {name}: by {said}"
