@@ -21,7 +21,7 @@ BUILT = f"{HERE}/out/classes:{HERE}/out/test-classes"
 SECONDS = 1800  # that the kit may take for one wrong client
 JAVA = ["java", "-XX:TieredStopAtLevel=1", "-XX:+UseSerialGC", "-Xshare:auto", "-cp"]
 
-# Each: what is wrong, the class, the text that stands there once, and the text in its place.
+# Each: what is wrong, the class, and texts that are there once, each with the text in its place.
 WRONG = {
     "a new number for each retry": (
         "Session",
@@ -120,6 +120,8 @@ WRONG = {
         "Frames",
         "        if (given.length > Layout.ITEMS_MAX) {\n",
         "        if (given.length > Layout.ITEMS_MAX + 1) {\n",
+        "        return length / size > Layout.ITEMS_MAX ?",
+        "        return length / size > Layout.ITEMS_MAX + 1 ?",
     ),
     "numbers that are too large are cut": (
         "Values",
@@ -208,13 +210,15 @@ def compiled(folder, edit):
     compiled, and stands before those that build.sh made."""
     if not edit:
         return BUILT
-    name, old, new = edit
+    name, *texts = edit
     with open(f"{HERE}/src/main/java/tbclient/{name}.java", encoding="utf-8") as it:
         text = it.read()
-    if text.count(old) != 1:
-        raise LookupError(f"{name} has {text.count(old)} times: {old.strip()}")
+    for old, new in zip(texts[::2], texts[1::2]):
+        if text.count(old) != 1:
+            raise LookupError(f"{name} has {text.count(old)} times: {old.strip()}")
+        text = text.replace(old, new)
     with open(f"{folder}/{name}.java", "w", encoding="utf-8") as it:
-        it.write(text.replace(old, new))
+        it.write(text)
     words = ["javac", "-nowarn", "--release", "17", "-cp", BUILT, "-d", f"{folder}/classes"]
     ran = subprocess.run([*words, f"{folder}/{name}.java"], capture_output=True, text=True)
     if ran.returncode:
@@ -248,7 +252,10 @@ def main():
         return 1
     missed = 0
     for name, edit in chosen.items():
-        status, said = caught(edit)
+        try:
+            status, said = caught(edit)
+        except LookupError as why:
+            status, said = 2, str(why)
         missed += status != 1
         how = "caught: " if status == 1 else "FAILED: not caught: "
         print(f"{how}{name}: by {said}" if status == 1 else f"{how}{name}: {said}", flush=True)
