@@ -378,7 +378,12 @@ def in_python():
     for file, number_word, text_word, _, _, name in KINDS:
         rows = defined(file, number_word, text_word)
         found = {it: int(value) for it, value in getattr(tb_client, name).__members__.items()}
-        yield same(f"{name} in Python", {text: number for number, text in rows.values()}, found)
+        wanted = {text: number for number, text in rows.values()}
+        if name != "Status":  # in capitals too, as TigerBeetle's client has them
+            wanted |= {text.upper(): number for text, number in wanted.items()}
+        if name.endswith("Flags"):
+            wanted["NONE"] = 0
+        yield same(f"{name} in Python", wanted, found)
     statuses = statuses_of_outcomes()
     yield same(
         "REFUSALS in Python",

@@ -8,19 +8,27 @@ ITEMS = {"account": "accounts", "transfer": "transfers", "id": "ids"}
 
 
 def names(table):
+    """The classes of names. All but a status have them in capitals too, as TigerBeetle's client in
+    Python."""
     kinds = t.kinds(table)
     found = {}
     for kind, name in NAMES.items():
-        lines = [f"class {name}(enum.IntEnum):"]
-        found[kind] = (
-            "\n".join(lines + [f"    {word} = {at}" for at, word, _ in kinds[kind]]) + "\n"
-        )
-    for kind, rows in t.flags(table).items():
-        lines = ["@_kept_apart", f"class {t.camel(kind)}Flags(enum.IntFlag):"]
-        found[f"{kind}_flags"] = (
-            "\n".join(lines + [f"    {word} = {bit}" for bit, word, _ in rows]) + "\n"
-        )
+        rows = [(word, at) for at, word, _ in kinds[kind]]
+        lines = [f"class {name}(enum.IntEnum):", *members(rows)]
+        found[kind] = "\n".join(lines + ([] if kind == "status" else capitals(rows))) + "\n"
+    for kind, flags in t.flags(table).items():
+        rows = [(word, bit) for bit, word, _ in flags]
+        lines = ["@_kept_apart", f"class {t.camel(kind)}Flags(enum.IntFlag):", "    NONE = 0"]
+        found[f"{kind}_flags"] = "\n".join(lines + members(rows) + capitals(rows)) + "\n"
     return found
+
+
+def members(rows):
+    return [f"    {word} = {number}" for word, number in rows]
+
+
+def capitals(rows):
+    return members((word.upper(), number) for word, number in rows)
 
 
 def layout(table):
@@ -42,6 +50,7 @@ def layout(table):
         f"RECORD = {size['record']}  # bytes of an account or a transfer",
         f"ID = {size['id']}",
         f"RESULT = {size['result']}",
+        f"FLAGS_AT = {place(table, 'flags')}  # of a record",
         f"ITEMS_MAX = {most['items_max']}  # accounts, transfers or ids in a request",
         f"CLIENTS_MAX = {most['clients_max']}  # clients that can have a session at one time",
         f"NUMBER_MAX = {most['number_max']}  # the last number of a request in its session",
@@ -60,6 +69,17 @@ def layout(table):
         "",
     ]
     return "\n".join(lines)
+
+
+def place(table, name):
+    """Where accounts and transfers have a field."""
+    (found,) = {
+        field["at"]
+        for record in ("account", "transfer")
+        for field in t.layout(table, record)["fields"]
+        if field["name"] == name
+    }
+    return found
 
 
 def packed(table, name, start):

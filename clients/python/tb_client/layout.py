@@ -13,6 +13,7 @@ HEADER = 48  # bytes of the header of a request or reply
 RECORD = 128  # bytes of an account or a transfer
 ID = 16
 RESULT = 8
+FLAGS_AT = 118  # of a record
 ITEMS_MAX = 8190  # accounts, transfers or ids in a request
 CLIENTS_MAX = 64  # clients that can have a session at one time
 NUMBER_MAX = 4294967295  # the last number of a request in its session

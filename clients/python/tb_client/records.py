@@ -153,3 +153,8 @@ class Transfer:
 class EventResult:
     index: int
     result: Union[CreateAccountResult, CreateTransferResult]
+
+
+# as TigerBeetle's client calls them
+CreateAccountsResult = EventResult
+CreateTransfersResult = EventResult
