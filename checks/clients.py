@@ -125,7 +125,7 @@ def shown_python():
 def survival():
     """The README's way that survives a crash: a sale, a crash before its reply came, and an
     eviction while it is in doubt."""
-    sale, crash, eviction = shown_python()[1:4]
+    sale, crash, eviction = shown_python()[2:5]
     sale_again = "Transfer(id(), 1, 2, 10, ledger=700, code=10)"
     sent = f"session.prepare(Operation.create_transfers, [{sale_again}])\n"
     sent += "session.save('session.json')\n"
@@ -151,7 +151,8 @@ transport.close()
 
 
 def sockets():
-    """The page's listener and its client, over a Unix socket."""
+    """The page's listener and its client over a Unix socket, and the README's client with the face
+    of TigerBeetle's."""
     (shown,) = re.findall(r"```python\n(.*?)```", page(), re.S)
     command = re.search(r"```sh\n(clients/python/tb_listen.py .*?)\n```", page())[1].replace(
         "crates/tbd/out/tbd", KEEPER
@@ -177,6 +178,9 @@ def sockets():
                 f"import os\nos.chdir({folder!r})\n{shown}",
             )
             case("what it finds", output == "[]\n", output.strip())
+            shown = shown_python()[1].replace('"3001"', f'"{folder}/ledger.sock"')
+            output = script("the README's ClientSync", CLIENT, "-c", shown)
+            case("what that moves", output == "[10]\n", output.strip())
         finally:
             listener.terminate()
             status, told = listener.wait(SECONDS), listener.stderr.read()

@@ -9,9 +9,14 @@ the same bytes again until it has the reply. It works over any transport, an obj
     Direct     a function that serves one frame, as that of embed/python/tb_embed.py
     Faulty     another transport, of which it loses the requests and replies that it is told to lose
 
+`ClientSync` and `ClientAsync` have the face of TigerBeetle's own client, over a pool of sessions.
+
 docs/use/CLIENTS.md says how to use it, docs/use/FORMATS.md has the frames, docs/use/RULES.md the
 result codes.
 """
+import logging
+
+from .clients import ClientAsync, ClientSync
 from .errors import (
     REFUSALS,
     BadReply,
@@ -55,12 +60,15 @@ from .names import (
     TransferFlags,
 )
 from .program import Program
-from .records import Account, EventResult, Transfer
+from .records import Account, CreateAccountsResult, CreateTransfersResult, EventResult, Transfer
 from .sessions import Saved, Session, require_ok
 from .sockets import Socket
 from .transports import Direct, Faulty, Transport
 
+__version__ = "0.1.0"
 MAX = amount_max
+
+logging.getLogger("tb_client").addHandler(logging.NullHandler())
 
 __all__ = [
     "Account",
@@ -69,12 +77,16 @@ __all__ = [
     "Busy",
     "CannotConnect",
     "CannotStart",
+    "ClientAsync",
     "ClientError",
+    "ClientSync",
     "ClockJumped",
     "Closed",
     "Collision",
     "CreateAccountResult",
+    "CreateAccountsResult",
     "CreateTransferResult",
+    "CreateTransfersResult",
     "Direct",
     "EventResult",
     "EventsFailed",

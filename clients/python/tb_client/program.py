@@ -2,6 +2,7 @@
 from __future__ import annotations
 
 import contextlib
+import logging
 import os
 import selectors
 import signal
@@ -19,6 +20,7 @@ from .values import MOMENT_MAX, U64, path_of, seconds, truth, whole
 
 CHUNK = 1 << 20
 SCRIPT_MAX = 256 << 20
+log = logging.getLogger("tb_client")
 LONGEST = 3600.0  # seconds of one wait for the pipes: the system takes no number of them
 
 
@@ -59,7 +61,12 @@ class Program(Closing):
         self._is_amid = False  # between what the system did and what is kept of it here
         self._start()
 
+    def __repr__(self) -> str:
+        state = "not running" if self.process is None else f"process {self.process.pid}"
+        return f"<Program {' '.join(self.command)}, {state}>"
+
     def _start(self) -> None:
+        log.info("starts %s, and sends it %d requests", self.command[0], len(self.script))
         try:
             self.process = subprocess.Popen(
                 self.command, stdin=subprocess.PIPE, stdout=subprocess.PIPE, stderr=subprocess.PIPE
@@ -192,6 +199,7 @@ class Program(Closing):
         process = cast("subprocess.Popen[bytes]", self.process)
         fault = self._last_words(self._pipes()[2]).decode(errors="replace").strip()
         fault = fault[len("tbs: ") :] if fault.startswith("tbs: ") else fault
+        log.warning("%s ended: %s", self.command[0], how or fault or "without a word")
         # one that writes no more replies, and does not end, is killed
         status = _end_of(process, self.timeout)
         # No reply after these was given out. The next one is at fault, or was not executed as far

@@ -2,6 +2,7 @@
 from __future__ import annotations
 
 import json
+import logging
 import threading
 import time
 from typing import (
@@ -24,6 +25,7 @@ from .errors import (
     BadReply,
     Busy,
     ClockJumped,
+    Closed,
     EventsFailed,
     Evicted,
     InDoubt,
@@ -73,6 +75,7 @@ PAUSE = 0.05
 PAUSE_MAX = 1.0  # seconds, beyond which it is doubled no more
 
 S = TypeVar("S", bound="Session")
+log = logging.getLogger("tb_client")
 
 
 class Saved(TypedDict):
@@ -91,7 +94,7 @@ def _running_ns() -> int:
     return time.clock_gettime_ns(getattr(time, "CLOCK_BOOTTIME", time.CLOCK_MONOTONIC))
 
 
-def _pauses(first: float) -> Iterator[float]:
+def pauses_from(first: float) -> Iterator[float]:
     """The seconds that go by before each attempt where the server said to come later."""
     pause, greatest = first, max(first, PAUSE_MAX)
     while True:
@@ -160,8 +163,20 @@ class Session(Closing):
         self.pending = None if pending is None else bytes(pending)
         self._refused: Optional[Type[Exception]] = None
         self._may_be_sent = pending is not None
+        self._is_abandoned = False
         self._moments = _Moments()
         self._lock = threading.RLock()
+
+    def __repr__(self) -> str:
+        doubt = ""
+        if self.pending is not None:
+            asked = header_of(self.pending)
+            doubt = f" in doubt: request {asked.number}, {asked.operation.name}"
+        ended = ", abandoned" if self._is_abandoned else ""
+        return (
+            f"<Session {self.session} of client {self.client}, {self.number} requests answered"
+            f"{',' if doubt else ''}{doubt}{ended}>"
+        )
 
     @classmethod
     def register(
@@ -239,6 +254,7 @@ class Session(Closing):
         could not be synced."""
         name = path_of("path", path)
         with self._lock:
+            self._test_not_abandoned()
             write_whole(name, json.dumps(self.saved).encode("ascii"))
 
     @classmethod
@@ -271,6 +287,24 @@ class Session(Closing):
         with self._lock:
             return None if self.pending is None else Request.from_bytes(self.pending)
 
+    def abandon(self) -> Optional[Request]:
+        """Gives the session up, and answers the request in doubt, which is given up with it.
+
+        That request may have been executed, or may be yet, where its bytes are on their way, and
+        the session cannot go on without knowing: each later call of it is `Closed`, and the file of
+        `save` stays as it is. Create the records again with the same ids, in a new session: what
+        was executed is then answered `exists`, and money moves once. The transport stays open."""
+        with self._lock:
+            given_up = self.in_doubt
+            if not self._is_abandoned:
+                log.warning("abandoned: %r", self)
+            self.pending, self._is_abandoned = None, True
+            return given_up
+
+    def _test_not_abandoned(self) -> None:
+        if self._is_abandoned:
+            raise Closed("this Session was abandoned: register a new one")
+
     def create_accounts(self, accounts: Iterable[Account]) -> List[EventResult]:
         """Creates accounts. Answers the results of those that were not created, by index."""
         return cast(List[EventResult], self._ask(Operation.create_accounts, accounts))
@@ -289,7 +323,13 @@ class Session(Closing):
 
     def _ask(self, operation: Operation, items: Iterable[Item]) -> Any:
         with self._lock:
-            self.prepare(operation, items)
+            self._test_not_in_doubt()
+            return self.ask_body(operation, body_of(operation, items))
+
+    def ask_body(self, kind: Operation, body: bytes) -> Any:
+        """Makes the next request of its items' bytes, and sends it."""
+        with self._lock:
+            self.prepare_body(kind, body)
             try:
                 return self.retry()
             except NotSent:
@@ -302,7 +342,11 @@ class Session(Closing):
         with self._lock:
             self._test_not_in_doubt()
             kind = operation_of(operation)
-            body = body_of(kind, items)
+            self.prepare_body(kind, body_of(kind, items))
+
+    def prepare_body(self, kind: Operation, body: bytes) -> None:
+        """`prepare`, where the items' bytes are there already."""
+        with self._lock:
             self._test_not_in_doubt()  # again, since what gives the items may have used the session
             if kind == Operation.register:
                 if self.session:
@@ -317,6 +361,7 @@ class Session(Closing):
             self._refused, self._may_be_sent = None, False
 
     def _test_not_in_doubt(self) -> None:
+        self._test_not_abandoned()
         if self.pending is None:
             return
         refusal = self._refused
@@ -334,6 +379,7 @@ class Session(Closing):
         """Sends the request in doubt, the same bytes each time, until its reply has come. Answers
         what it says: results of a create, records of a look-up, None of a register."""
         with self._lock:
+            self._test_not_abandoned()
             if self.pending is None:
                 raise NothingInDoubt("no request is in doubt")
             attempts, pauses = self._options()
@@ -350,6 +396,7 @@ class Session(Closing):
                     if not left:
                         raise
                     last = str(why)
+                    log.warning("sent again, %d times left: %s", left, why)
                     if isinstance(why, (Busy, NoMemory, NotYet)):
                         time.sleep(next(pauses))
             raise AssertionError("attempts is 1 at least")
@@ -361,7 +408,8 @@ class Session(Closing):
         callable_of("now", self.now)
         if self.jump_max is not None:
             seconds("jump_max", self.jump_max, 0)
-        return whole("attempts", self.attempts, U32, 1), _pauses(seconds("pause", self.pause, 0))
+        pauses = pauses_from(seconds("pause", self.pause, 0))
+        return whole("attempts", self.attempts, U32, 1), pauses
 
     def _exchange(self, moment: int, frame: bytes) -> bytes:
         try:
@@ -395,6 +443,7 @@ class Session(Closing):
                     f"session {session}"
                 )
             refusal = REFUSALS[Status(reply.status)]
+            log.warning("request %d is refused: %s", asked.number, refusal.__name__)
             self._refused = refusal
             raise refusal(
                 f"request {asked.number} of session {session} is refused: {refusal.reason}"
@@ -406,6 +455,9 @@ class Session(Closing):
         said = said_by(asked.operation, reply.body)
         test_said(cast(bytes, self.pending), asked.operation, said)
         self.session, self.number, self.pending = session, asked.number, None
+        if asked.operation == Operation.register:
+            log.info("client %d is registered, session %d", self.client, session)
+        log.debug("request %d, %s: answered", asked.number, asked.operation.name)
         return said
 
     def close(self) -> None:

@@ -2,6 +2,7 @@
 from __future__ import annotations
 
 import contextlib
+import logging
 import os
 import select
 import socket
@@ -23,6 +24,7 @@ FIRST_PAUSE = 0.02  # seconds, before the server is called again; doubled each t
 LAST_PAUSE = 0.5
 # begins what a server says before it closes a connection: fewer bytes than a frame has
 TOLD = b"tb_listen: "
+log = logging.getLogger("tb_client")
 
 
 class Socket(Closing):
@@ -50,6 +52,16 @@ class Socket(Closing):
         self._lock = threading.Lock()
         self._owner = os.getpid()
         self._closed = False
+
+    def __repr__(self) -> str:
+        state = "closed" if self._closed else "not connected" if self._socket is None else ""
+        others = len(self._addresses) - 1
+        parts = [
+            f"{_shown(self.address)}{f' and {others} more' if others else ''}",
+            *(["TLS"] if self._tls else []),
+            *([state] if state else []),
+        ]
+        return f"<Socket {', '.join(parts)}>"
 
     @property
     def address(self) -> Place:
@@ -121,8 +133,10 @@ class Socket(Closing):
                 # of the time, so that one that does not answer leaves some
                 share = (deadline - time.monotonic()) / left
                 self._socket = _call(self.address, max(share, 0.001), self._tls)
+                log.info("connected to %s", _shown(self.address))
                 return None
             except OSError as error:
+                log.info("no connection to %s: %s", _shown(self.address), error.strerror or error)
                 fault = error
                 self._next()
         return fault
@@ -132,6 +146,7 @@ class Socket(Closing):
 
     def _lose(self) -> None:
         """Closes the connection. The next one goes to the next address."""
+        log.info("leaves the connection to %s", _shown(self.address))
         self._hang_up()
         self._next()
 

@@ -45,6 +45,9 @@ class Direct(Closing):
     def __init__(self, serve: Callable[[int, bytes], bytes]) -> None:
         self._serve, self._lock, self._closed = callable_of("serve", serve), threading.Lock(), False
 
+    def __repr__(self) -> str:
+        return f"<Direct {self._serve!r}{', closed' if self._closed else ''}>"
+
     def exchange(self, moment: int, frame: bytes) -> bytes:
         with self._lock:
             if self._closed:
@@ -67,6 +70,9 @@ class Faulty(Closing):
         self.requests, self.replies = _numbers("requests", requests), _numbers("replies", replies)
         self.count = 0
         self._lock = threading.Lock()
+
+    def __repr__(self) -> str:
+        return f"<Faulty {self.inner!r}, {self.count} exchanges>"
 
     def exchange(self, moment: int, frame: bytes) -> bytes:
         with self._lock:

@@ -1,0 +1,188 @@
+"""Clients with the face of TigerBeetle's own in Python, over a pool of sessions."""
+from __future__ import annotations
+
+import asyncio
+import concurrent.futures
+import contextlib
+import os
+import ssl
+from types import TracebackType
+from typing import Any, Callable, Iterable, List, Optional, Type, TypeVar, Union, cast
+
+from .errors import CannotConnect, InvalidType, InvalidValue, ReplyLost
+from .names import Operation
+from .pools import Call, Pool
+from .records import Account, CreateAccountsResult, CreateTransfersResult, Transfer
+from .sessions import JUMP_MAX
+from .sockets import Address, Socket
+from .transports import Closing, Transport
+from .values import U16, U128, callable_of, kind_of, seconds, whole
+
+HOST = "127.0.0.1"  # of a port alone
+SESSIONS_MAX = 64  # that a server has at one time
+
+A = TypeVar("A", bound="ClientAsync")
+Addresses = Union[Address, List[Address]]
+
+
+class _Client:
+    """What both clients are made of.
+
+    `replica_addresses` is text as TigerBeetle's client takes it, ports or hosts with ports with
+    commas between ("3000", "10.0.0.1:3000,10.0.0.2:3000"), or a path of a Unix socket, which has a
+    slash; or what `Socket` takes. `cluster_id` is any number: the server has none, and it is not
+    sent.
+
+    Up to `sessions` requests go out at once, and the server has places for 64 sessions in all. With
+    one session, which is the default, requests are executed in the order of the calls. A call waits
+    until its answer is there, whatever is lost and whoever ends meanwhile; with `timeout` it waits
+    so many seconds. `connect` makes a transport in place of a Socket to the addresses."""
+
+    def __init__(
+        self,
+        cluster_id: int,
+        replica_addresses: Addresses,
+        *,
+        sessions: int = 1,
+        timeout: Optional[float] = None,
+        tls: Optional[ssl.SSLContext] = None,
+        connect: Optional[Callable[[], Transport]] = None,
+    ) -> None:
+        self.cluster_id = whole("cluster_id", cluster_id, U128)
+        self.replica_addresses = replica_addresses
+        self.timeout = None if timeout is None else seconds("timeout", timeout, 0.001)
+        self._sessions = whole("sessions", sessions, SESSIONS_MAX, 1)
+        if connect is None:
+            places = addresses_of(replica_addresses)
+            Socket(places, tls=tls).close()  # which refuses what it can't take
+            self._pool = Pool(lambda: Socket(places, tls=tls), self._sessions, None)
+        else:
+            self._pool = Pool(callable_of("connect", connect), self._sessions, JUMP_MAX)
+
+    def __repr__(self) -> str:
+        many = "1 session" if self._sessions == 1 else f"{self._sessions} sessions"
+        return f"<{type(self).__name__} of {self.replica_addresses}, {many}>"
+
+    def _late(self, call: Call) -> Any:
+        """The answer of a call whose time went by and that was cancelled, where it came just then;
+        else what became of the call is raised."""
+        if not call.future.cancelled():
+            return call.future.result()
+        within = f"within {self.timeout:g} seconds"
+        if call.may_be_sent:
+            raise ReplyLost(f"no reply {within}: what was asked for may be executed yet")
+        raise CannotConnect(f"not sent {within}, and will not be")
+
+
+class ClientSync(_Client, Closing):
+    """A client for threads, which may share it: what they ask for while a request is on its way
+    goes out as the next one, and each gets its own results. At the end of a `with` it is closed.
+
+        with ClientSync(cluster_id=0, replica_addresses="3000") as client:
+            errors = client.create_transfers([Transfer(id=id(), ..)])
+    """
+
+    def create_accounts(self, accounts: Iterable[Account]) -> List[CreateAccountsResult]:
+        """Creates accounts. Answers the results of those that were not created, by index."""
+        return cast(List[CreateAccountsResult], self._ask(Operation.create_accounts, accounts))
+
+    def create_transfers(self, transfers: Iterable[Transfer]) -> List[CreateTransfersResult]:
+        """Makes transfers. Answers the results of those that were not made, by index."""
+        return cast(List[CreateTransfersResult], self._ask(Operation.create_transfers, transfers))
+
+    def lookup_accounts(self, accounts: Iterable[int]) -> List[Account]:
+        """The accounts that are there, in the order of the ids."""
+        return cast(List[Account], self._ask(Operation.lookup_accounts, accounts))
+
+    def lookup_transfers(self, transfers: Iterable[int]) -> List[Transfer]:
+        """The transfers that are there, in the order of the ids."""
+        return cast(List[Transfer], self._ask(Operation.lookup_transfers, transfers))
+
+    def _ask(self, operation: Operation, items: Iterable[Any]) -> Any:
+        call = self._pool.ask(operation, items)
+        try:
+            with contextlib.suppress(concurrent.futures.TimeoutError):
+                return call.future.result(self.timeout)
+        finally:
+            call.future.cancel()  # nobody waits for it any more
+        return self._late(call)
+
+    def close(self) -> None:
+        """Closes the client. A request that is on its way is waited for, as long as one sending may
+        take; what was not sent yet is `Closed`."""
+        self._pool.close()
+
+
+class ClientAsync(_Client):
+    """A client for asyncio: the same calls, to be awaited. A call that is cancelled and was not
+    sent is not executed; one that was sent may be, as after a timeout. Either way the client goes
+    on.
+
+        async with ClientAsync(cluster_id=0, replica_addresses="3000") as client:
+            errors = await client.create_transfers([Transfer(id=id(), ..)])
+    """
+
+    async def create_accounts(self, accounts: Iterable[Account]) -> List[CreateAccountsResult]:
+        """Creates accounts. Answers the results of those that were not created, by index."""
+        asked = self._ask(Operation.create_accounts, accounts)
+        return cast(List[CreateAccountsResult], await asked)
+
+    async def create_transfers(self, transfers: Iterable[Transfer]) -> List[CreateTransfersResult]:
+        """Makes transfers. Answers the results of those that were not made, by index."""
+        asked = self._ask(Operation.create_transfers, transfers)
+        return cast(List[CreateTransfersResult], await asked)
+
+    async def lookup_accounts(self, accounts: Iterable[int]) -> List[Account]:
+        """The accounts that are there, in the order of the ids."""
+        return cast(List[Account], await self._ask(Operation.lookup_accounts, accounts))
+
+    async def lookup_transfers(self, transfers: Iterable[int]) -> List[Transfer]:
+        """The transfers that are there, in the order of the ids."""
+        return cast(List[Transfer], await self._ask(Operation.lookup_transfers, transfers))
+
+    async def _ask(self, operation: Operation, items: Iterable[Any]) -> Any:
+        call = self._pool.ask(operation, items)
+        try:
+            with contextlib.suppress(asyncio.TimeoutError):
+                return await asyncio.wait_for(asyncio.wrap_future(call.future), self.timeout)
+        finally:
+            call.future.cancel()  # nobody waits for it any more
+        return self._late(call)
+
+    async def close(self) -> None:
+        """Closes the client, as that of `ClientSync`."""
+        await asyncio.get_running_loop().run_in_executor(None, self._pool.close)
+
+    async def __aenter__(self: A) -> A:
+        return self
+
+    async def __aexit__(
+        self,
+        kind: Optional[Type[BaseException]],
+        error: Optional[BaseException],
+        trace: Optional[TracebackType],
+    ) -> None:
+        await self.close()
+
+
+def addresses_of(addresses: Addresses) -> Addresses:
+    """Addresses as `Socket` takes them."""
+    if isinstance(addresses, (list, tuple, os.PathLike)):
+        return addresses
+    if not isinstance(addresses, str):
+        kind = kind_of(addresses)
+        raise InvalidType("replica_addresses", f"must be text or addresses, not {kind}")
+    return [_address(it.strip()) for it in addresses.split(",")]
+
+
+def _address(text: str) -> Address:
+    if "/" in text:
+        return text
+    host, _, port = text.rpartition(":")
+    if not port.isascii() or not port.isdigit():
+        raise InvalidValue(
+            "replica_addresses",
+            f"has {text!r:.60}: write a port, HOST:PORT, or a path with a slash",
+        )
+    number = whole("port", int(port[:6]), U16, 1)
+    return host.strip("[]") or HOST, number

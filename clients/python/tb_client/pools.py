@@ -1,0 +1,251 @@
+"""Sessions that many callers share. What they ask for while a session waits for its reply goes out
+as its next request, in one."""
+from __future__ import annotations
+
+import collections
+import concurrent.futures
+import contextlib
+import logging
+import os
+import threading
+from typing import Any, Callable, Deque, Iterable, List, Optional, Tuple
+
+from .errors import Busy, CannotConnect, Closed, Evicted, NoMemory, NotSent, NotYet, ReplyLost
+from .frames import body_of
+from .ids import id as new_id
+from .joined import CREATES, answers, is_linked, settled
+from .layout import ITEM_SIZES, ITEMS_MAX, RECORD
+from .names import Operation
+from .sessions import PAUSE, Session, pauses_from
+from .transports import Transport, close_transport
+
+log = logging.getLogger("tb_client")
+
+
+class Call:
+    """What one caller asks for: its list as bytes, and the future that gets its answer."""
+
+    def __init__(self, operation: Operation, body: bytes) -> None:
+        self.operation, self.body = operation, body
+        self.count = len(body) // ITEM_SIZES[operation]
+        self.future: concurrent.futures.Future[Any] = concurrent.futures.Future()
+        self.may_be_sent = False
+
+    @property
+    def is_open(self) -> bool:
+        """Whether the list ends in a chain that a next event would be joined to."""
+        return self.operation in CREATES and self.count > 0 and is_linked(self.body, -RECORD)
+
+    def tell(self, answer: Any = None, error: Optional[BaseException] = None) -> None:
+        """Gives the caller its answer, where it still waits for one."""
+        with contextlib.suppress(concurrent.futures.InvalidStateError):
+            if error is not None:
+                self.future.set_exception(error)
+            else:
+                self.future.set_result(answer)
+
+
+class Pool:
+    """Up to so many sessions, each with a thread and a transport of its own. They are registered
+    when they are needed. Calls are answered in their order where there is one session."""
+
+    def __init__(
+        self, connect: Callable[[], Transport], sessions: int, jump_max: Optional[float]
+    ) -> None:
+        self._connect, self._sessions, self._jump_max = connect, sessions, jump_max
+        self._calls: Deque[Call] = collections.deque()
+        self._changed = threading.Condition()
+        self._workers: List[Worker] = []
+        self._idle = 0
+        self._stopped = threading.Event()
+        self._owner = os.getpid()
+
+    def ask(self, operation: Operation, items: Iterable[Any]) -> Call:
+        """Takes what a caller asks for. Its values are tested here, so that a wrong one is nobody
+        else's fault."""
+        call = Call(operation, body_of(operation, items))
+        if self._owner != os.getpid():
+            raise Closed("this client belongs to the process that made it")
+        with self._changed:
+            if self._stopped.is_set():
+                raise Closed("this client was closed")
+            if self._idle <= len(self._calls) and len(self._workers) < self._sessions:
+                self._workers.append(Worker(self, self._connect(), self._jump_max))
+                self._workers[-1].start()
+            self._calls.append(call)
+            self._changed.notify()
+        return call
+
+    # What workers call
+
+    def wait(self) -> bool:
+        """Waits until there is a call to answer. False at the end."""
+        with self._changed:
+            self._idle += 1
+            while not self._calls and not self._stopped.is_set():
+                self._changed.wait()
+            self._idle -= 1
+            return not self._stopped.is_set()
+
+    def take(self) -> List[Call]:
+        """The next calls that one request can hold, but those whose callers have gone. A list is
+        never cut, and none is joined to one that ends in an open chain."""
+        batch: List[Call] = []
+        count = 0
+        with self._changed:
+            while self._calls and (not batch or _may_join(batch[-1], count, self._calls[0])):
+                call = self._calls.popleft()
+                call.may_be_sent = True  # before it is asked: who leaves later is told so
+                if not call.future.cancelled():
+                    batch.append(call)
+                    count += call.count
+        return batch
+
+    def give_back(self, batch: List[Call]) -> None:
+        """Puts calls back of which nothing was sent."""
+        with self._changed:
+            for call in reversed(batch):
+                call.may_be_sent = False
+                self._calls.appendleft(call)
+
+    def pause(self, seconds: float, why: Exception) -> None:
+        """Waits before the same bytes are sent again. At the client's end `why` is raised."""
+        log.info("sent again in %.2f s: %s", seconds, why)
+        if self._stopped.wait(seconds):
+            raise why
+
+    def close(self) -> None:
+        """Ends the sessions. Requests on their way are waited for as long as their transport
+        does."""
+        if self._owner != os.getpid():
+            return
+        with self._changed:
+            self._stopped.set()
+            left, workers = list(self._calls), list(self._workers)
+            self._calls.clear()
+            self._changed.notify_all()
+        for call in left:
+            call.tell(error=Closed("this client was closed, and nothing of this call was sent"))
+        for worker in workers:
+            worker.end()
+
+
+def _may_join(last: Call, count: int, call: Call) -> bool:
+    """Whether a call may go out behind others, of which this is the last one."""
+    fits = count + call.count <= ITEMS_MAX
+    return fits and call.operation == last.operation and not last.is_open
+
+
+class Worker(threading.Thread):
+    """A thread that answers calls, over a session that it registers when it needs one."""
+
+    def __init__(self, pool: Pool, transport: Transport, jump_max: Optional[float]) -> None:
+        super().__init__(name="tb_client", daemon=True)
+        self._pool, self._transport, self._jump_max = pool, transport, jump_max
+        self._session: Optional[Session] = None
+
+    def run(self) -> None:
+        while self._pool.wait():
+            try:
+                self._registered()
+            except CannotConnect as why:
+                log.warning("%s", why)
+                continue
+            except BaseException as why:
+                self._leave()
+                self._tell_all(self._pool.take(), why)
+                continue
+            batch = self._pool.take()
+            if batch:
+                self._serve(batch)
+
+    def _serve(self, batch: List[Call]) -> None:
+        operation, bodies = batch[0].operation, [call.body for call in batch]
+        try:
+            said, is_doubtful = self._ask(operation, b"".join(bodies))
+            if is_doubtful and operation in CREATES:
+                said = settled(operation, b"".join(bodies), said, self._look_up)
+            found = answers(operation, bodies, said)
+        except CannotConnect:
+            self._pool.give_back(batch)
+        except BaseException as why:
+            if not isinstance(why, NotSent):
+                self._leave()
+            self._tell_all(batch, why)
+        else:
+            for call, answer in zip(batch, found):
+                call.tell(answer)
+
+    @staticmethod
+    def _tell_all(batch: List[Call], why: BaseException) -> None:
+        for call in batch:
+            call.tell(error=why)
+
+    def _look_up(self, operation: Operation, body: bytes) -> Any:
+        return self._ask(operation, body, True)[0]
+
+    def _ask(
+        self, operation: Operation, body: bytes, is_doubtful: bool = False
+    ) -> Tuple[Any, bool]:
+        """What the reply to a request says, and whether the request may have been executed before,
+        in a session that has ended. `CannotConnect` where nothing was ever sent."""
+        is_lost, patience = False, _Patience()
+        while True:
+            try:
+                session = self._registered()
+                said = (
+                    session.ask_body(operation, body)
+                    if session.pending is None
+                    else session.retry()
+                )
+                return said, is_doubtful
+            except Evicted:
+                is_doubtful, is_lost = is_doubtful or is_lost, False
+                self._leave()
+            except CannotConnect as why:
+                if not is_lost and not is_doubtful:
+                    raise
+                log.warning("%s", why)
+            except Closed as why:
+                if not is_lost and not is_doubtful:
+                    raise
+                raise ReplyLost("this client was closed before the reply came") from why
+            except (ReplyLost, NoMemory, NotYet) as why:
+                is_lost = is_lost or isinstance(why, ReplyLost) and not isinstance(why, Busy)
+                self._pool.pause(patience.next(why), why)
+
+    def _registered(self) -> Session:
+        """The session, registered. `CannotConnect` where nothing answers."""
+        if self._session is None:
+            self._session = Session(self._transport, new_id(), attempts=1, jump_max=self._jump_max)
+            self._session.prepare(Operation.register)
+        session, patience = self._session, _Patience()
+        while not session.session:
+            try:
+                session.retry()
+            except (ReplyLost, NoMemory, NotYet) as why:
+                self._pool.pause(patience.next(why), why)
+        return session
+
+    def _leave(self) -> None:
+        """Gives the session up. The next request has a new one."""
+        if self._session is not None:
+            self._session.abandon()
+            self._session = None
+
+    def end(self) -> None:
+        close_transport(self._transport)
+        if threading.current_thread() is not self:
+            self.join()
+
+
+class _Patience:
+    """The seconds before each next sending, which follows a first lost reply at once."""
+
+    def __init__(self) -> None:
+        self._pauses, self._is_first = pauses_from(PAUSE), True
+
+    def next(self, why: Exception) -> float:
+        is_at_once = self._is_first and not isinstance(why, (Busy, NoMemory, NotYet))
+        self._is_first = False
+        return 0.0 if is_at_once else next(self._pauses)
