@@ -370,12 +370,12 @@ def client(shared):
         require_ok(session.create_accounts([Account(id, ledger=700, code=10) for id in (1, 2)]))
         require_ok(session.create_transfers([Transfer(11, 1, 2, 100, ledger=700, code=10)]))
         looked_up = session.lookup_accounts([1, 2])
-        shown = [Account.from_bytes(server.account(id)) for id in (1, 2)]
+        shown = [server.account(id) for id in (1, 2)]
         case(
             "Python's client over the embedded server",
             looked_up == shown and shown[0].debits_posted == 100 and server.account(3) is None,
         )
-        moved = Transfer.from_bytes(server.transfer(11))
+        moved = server.transfer(11)
         case(
             "the transfer as it was recorded",
             (moved.amount, moved.timestamp, server.transfer(12)) == (100, 13, None),

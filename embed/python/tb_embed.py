@@ -150,7 +150,7 @@ class Server(Closing):
         profile: int = 1,
         room: int = 4096,
     ) -> None:
-        name = path_of("path", path)
+        self._path = name = path_of("path", path)
         places, profile = whole("clients_max", clients_max, CLIENTS_MAX, 1), whole(
             "profile", profile, 2, 1
         )
@@ -173,13 +173,18 @@ class Server(Closing):
             self._check(status)
             return ctypes.string_at(self._room, self._written.value)
 
-    def account(self, id: int) -> Optional[bytes]:
-        """The 128 bytes of an account as it stands after the last request, or None."""
-        return self._record(self._library.tb_embed_account, id)
+    def __repr__(self) -> str:
+        return f"<Server {self._path}{'' if self._handle.is_open else ', closed'}>"
 
-    def transfer(self, id: int) -> Optional[bytes]:
-        """The 128 bytes of a transfer as it was recorded, or None."""
-        return self._record(self._library.tb_embed_transfer, id)
+    def account(self, id: int) -> Optional[tb_client.Account]:
+        """An account as it is after the last request, or None."""
+        record = self._record(self._library.tb_embed_account, id)
+        return None if record is None else tb_client.Account.from_bytes(record)
+
+    def transfer(self, id: int) -> Optional[tb_client.Transfer]:
+        """A transfer as it was recorded, or None."""
+        record = self._record(self._library.tb_embed_transfer, id)
+        return None if record is None else tb_client.Transfer.from_bytes(record)
 
     def close(self) -> None:
         """Frees the server. Its calls are refused from then on, as Closed."""

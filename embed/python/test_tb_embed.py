@@ -246,11 +246,13 @@ class OverCtypes(unittest.TestCase):
                             server.serve(moment, request), moment.to_bytes(8, "little") + request
                         )
                 for id in (0, 1, 2**64, 2**128 - 1):
-                    self.assertEqual(server.account(id), id.to_bytes(16, "little") + bytes(112))
+                    self.assertEqual(server.account(id), tb_client.Account(id))
                 self.assertIsNone(server.transfer(9))
+                self.assertEqual(repr(server), f"<Server {path}>")
                 self.assertRaises(tb_embed.NoMemory, server.serve, 3, b"")
             self.assertRaises(tb_embed.Closed, server.serve, 5, b"")
             self.assertRaises(tb_embed.Closed, server.account, 5)
+            self.assertEqual(repr(server), f"<Server {path}, closed>")
 
 
 class Examples(unittest.TestCase):
