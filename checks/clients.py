@@ -380,8 +380,10 @@ def wrong():
 
 
 def scenarios():
-    """That the scenarios are those that are made."""
-    done("scenarios", [sys.executable, "-B", f"{TOP}/clients/conformance/make_scenarios.py"])
+    """That the scenarios are those that are made, and that the wrong clients can be made."""
+    kit = [sys.executable, "-B"]
+    done("scenarios", [*kit, f"{TOP}/clients/conformance/make_scenarios.py"])
+    done("wrong clients", [*kit, f"{TOP}/clients/conformance/wrong_clients.py", "--texts"])
 
 
 def examples():

@@ -1,7 +1,7 @@
 #!/usr/bin/env python3
 """Sees that the kit catches wrong clients: the client in Python with one thing wrong, each in turn.
 
-    clients/conformance/wrong_clients.py [--only PATTERN] [--jobs N]
+    clients/conformance/wrong_clients.py [--only PATTERN] [--jobs N] [--texts]
 
 Each wrong client is an edit of clients/python/tb_client in a copy of its own. The kit has to fail
 for it; the client as it is has to pass. Prints which scenario caught it, and 'N of M wrong clients
@@ -115,9 +115,9 @@ WRONG = {
     ),
     "a late reply is waited for on the old connection": (
         "sockets.py",
-        "            except OSError as error:\n                self._lose()\n",
-        "            except OSError as error:\n                if not isinstance(error, "
-        "socket.timeout):\n                    self._lose()\n",
+        "        except OSError as error:\n            self._lose()\n",
+        "        except OSError as error:\n            if not isinstance(error, socket.timeout):\n"
+        "                self._lose()\n",
     ),
     "each byte of a reply puts the limit off": (
         "sockets.py",
@@ -285,13 +285,32 @@ def words():
     parser.add_argument(
         "--only", metavar="PATTERN", default="*", help="wrong clients with such a name"
     )
+    parser.add_argument(
+        "--texts", action="store_true", help="see that each text is there, and run nothing"
+    )
     parser.add_argument("--jobs", metavar="N", type=int, default=4, help="kits at once (4)")
     return parser.parse_args()
+
+
+def texts(chosen):
+    """Whether each wrong client can be made."""
+    gone = 0
+    for name, edits in chosen.items():
+        with tempfile.TemporaryDirectory() as folder:
+            try:
+                edited(folder, edits)
+            except LookupError as why:
+                print(f"FAILED: {name}: {why}")
+                gone += 1
+    print(f"{len(chosen) - gone} of {len(chosen)} wrong clients can be made")
+    return 1 if gone else 0
 
 
 def main():
     given = words()
     chosen = {name: edits for name, edits in WRONG.items() if fnmatch.fnmatch(name, given.only)}
+    if given.texts:
+        return texts(chosen)
     status, said = caught((), 4)
     if status:
         print(f"FAILED: the client as it is: {said}")
