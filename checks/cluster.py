@@ -434,15 +434,19 @@ def main():
     Machines.follows = given.follow and os.path.abspath(given.follow)
     if given.show:
         return show_it(given)
+    skipped = []
     for name in given.only or [it for it in PARTS if it not in APART]:
         lacks = missing("postgresql" if name == "postgresql" else "etcd")
         if lacks:
             print(f"skipped: {name} (not there: {', '.join(lacks)})")
+            skipped.append(name)
             continue
         try:
             PARTS[name](given)
         except (TimeoutError, subprocess.TimeoutExpired) as error:
             case(f"{name}: it goes on", False, str(error))
+    if skipped:
+        print(f"{len(skipped)} skipped: {' '.join(skipped)}")
     return tried.status()
 
 

@@ -4,6 +4,7 @@ from __future__ import annotations
 import asyncio
 import collections
 import contextlib
+import fcntl
 import struct
 from typing import Callable, Deque, Dict, List, Sequence, Tuple
 
@@ -17,6 +18,8 @@ from .lines import Ended
 from .local_copy import KEPT, Copy
 from .process import ServerProcess, kill
 
+F_SETPIPE_SZ = 1031  # of Linux: Python has its name from 3.10 on
+PIPE = 1 << 20  # bytes that a pipe to the server may hold
 READ = 1 << 18  # bytes of replies that are read at a time
 # what is written to `tb_follow`, and what it writes
 ENTRY, QUESTION = b"\1", b"\2"
@@ -26,6 +29,12 @@ HASHES = struct.Struct("<Q32s32s")
 
 def _failed(task: asyncio.Future[None]) -> bool:
     return task.done() and not task.cancelled() and task.exception() is not None
+
+
+def _widen(stdin: asyncio.StreamWriter) -> None:
+    """Lets a pipe hold a long request whole, where the system allows that."""
+    with contextlib.suppress(OSError, AttributeError):
+        fcntl.fcntl(stdin.get_extra_info("pipe").fileno(), F_SETPIPE_SZ, PIPE)
 
 
 class Fed:
@@ -79,6 +88,7 @@ class Follower(ServerProcess):
         self, process: asyncio.subprocess.Process, stdout: asyncio.StreamReader
     ) -> None:
         assert process.stdin is not None
+        _widen(process.stdin)
         self.fed.clear()
         self.answered, self.last, self.digest = 0, NOTHING, NOTHING
         feeding = asyncio.ensure_future(self._feed(process.stdin))

@@ -87,7 +87,8 @@ class Replica:
         self.is_away = False  # whether it was said that there is no log
         self.reporting = asyncio.Event()
         self.reported: Tuple[int, int] = (-1, -1)
-        self.closed = asyncio.Event()
+        self.start = copy.position  # what the copy had
+        self.served, self.closed = asyncio.Event(), asyncio.Event()
 
     # requests
 
@@ -102,7 +103,9 @@ class Replica:
         return await pair.reply
 
     async def begun(self) -> None:
-        """It serves from its start on: requests wait for their place in the log."""
+        """Comes when the server has answered what the copy had at the start. Until then a client is
+        told `Starting`, and goes to another replica."""
+        await self.served.wait()
 
     def lag(self) -> float:
         return self.moments.lag()
@@ -244,6 +247,8 @@ class Replica:
     async def _compare_later(self) -> None:
         """Compares what writers had of replies with those that came since."""
         while True:
+            if self.follower.answered >= self.start:
+                self.served.set()
             await self.follower.moved.wait()
             self.follower.moved.clear()
             while self.claims and min(self.claims) <= self.follower.answered:
