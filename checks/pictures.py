@@ -228,6 +228,45 @@ def copies() -> str:
     return picture(740, 262, "One writer, two copies, many seats", parts)
 
 
+# A request's way through three machines
+
+
+def machines() -> str:
+    title = "A request's way through three machines"
+    parts = [text(16, 26, title, "head ink"), box(30, 42, 170, 42, ["client", "a list of three"])]
+    for at in range(3):
+        left, is_asked = 30 + 240 * at, at == 0
+        middle = left + 85
+        copies = ["copy of the log", "a file; cut where it is torn"]
+        parts += [
+            box(left, 118, 170, 56, [f"replica {at + 1}", "tests frames, gives moments"]),
+            box(left, 308, 170, 46, copies, "warm"),
+            box(left, 392, 170, 46, ["server", "proved: the same replies"], "deep"),
+            arrow([(middle, 274), (middle, 307)]),
+            arrow([(middle, 354), (middle, 391)]),
+            text(middle + 8, 297, "3. each entry, in order", "soft small"),
+            text(middle + 8, 378, "4. its pairs", "soft small"),
+        ]
+        if is_asked:
+            parts += [
+                arrow([(middle - 30, 84), (middle - 30, 117)]),
+                text(middle - 22, 106, "1. request", "soft small"),
+                arrow([(middle - 30, 174), (middle - 30, 225)]),
+                text(middle - 22, 204, "2. append once", "soft small"),
+                '<path d="M30 415 L14 415 L14 63 L28 63" class="line"/>',
+                '<polygon points="29,63 21,59 21,67" class="tip"/>',
+                text(20, 460, "5. reply k is of pair k of the log", "soft small"),
+            ]
+        else:
+            parts.append(text(left, 460, "its reply goes to nobody here", "soft small"))
+    lines = [
+        "the agreed log: etcd or PostgreSQL",
+        "ordered; acknowledged when a majority's disks have it",
+    ]
+    parts.append(box(30, 226, 650, 48, lines))
+    return picture(740, 480, title, parts)
+
+
 # What a crash leaves
 
 
@@ -401,7 +440,8 @@ def reads() -> str:
     )
 
 
-PICTURES = {it.__name__: it for it in (crates, request, copies, crash, speed, kept, reads)}
+DRAWN = (crates, request, copies, machines, crash, speed, kept, reads)
+PICTURES = {it.__name__: it for it in DRAWN}
 
 
 def main() -> int:
