@@ -94,7 +94,7 @@ class MemoryLog:
         self.failing = None
         self.grown = asyncio.Event()
         self.kept = {}
-        self.start = 0  # up to where it was trimmed
+        self.start = self.more = 0  # up to where it was trimmed, and places before its items
 
     async def head(self, wanted):
         self._test()
@@ -121,7 +121,7 @@ class MemoryLog:
             raise LogGone("it is gone")
         at = place
         while True:
-            while at == len(self.items):
+            while at >= len(self.items):
                 self.grown.clear()
                 await self.grown.wait()
             at += 1
@@ -138,6 +138,9 @@ class MemoryLog:
 
     async def reports(self):
         return self.kept
+
+    async def last(self):
+        return len(self.items) + self.more
 
     async def trimmed(self):
         return self.start, self.start
@@ -464,8 +467,28 @@ class Replicas(unittest.IsolatedAsyncioTestCase):
         self.log.heads = []
         self.assertEqual(await self.begins(it), "OtherRules", "the same rules, and another log")
 
+    async def test_a_log_that_lost_its_end(self):
+        it = self.made()
+        for number in (1, 2):
+            one = entry(A, number, pair(1, register(number)))
+            self.copy.append(number, one, one.to_bytes())
+        self.log.put(entry(A, 1, pair(1, register(1))).to_bytes())
+        self.assertEqual(await self.begins(it), "Diverged")
+        self.log.put(entry(A, 2, pair(1, register(2))).to_bytes())
+        await it.begin()
+
+    async def test_a_log_that_loses_its_end_meanwhile(self):
+        it = await self.began()
+        await self.asked(it, 6)
+        await self.asked(it, 7)
+        del self.log.items[1:]  # the reader waits for more
+        self.log.made.clear()
+        with contextlib.suppress(Told):
+            await self.asked(it, 8)
+        self.assertEqual(await self.ended(), "Diverged")
+
     async def test_a_log_that_was_trimmed(self):
-        self.log.start = 3
+        self.log.start = self.log.more = 3
         self.assertEqual(await self.begins(self.made()), "Trimmed")
 
     async def test_a_log_that_is_gone_where_it_is_read(self):
@@ -479,6 +502,7 @@ class Replicas(unittest.IsolatedAsyncioTestCase):
         it = self.made()
         late = entry(A, 1, pair(time.time_ns() + 100 * 10**9, register(5)))
         self.copy.append(1, late, late.to_bytes())
+        self.log.put(late.to_bytes())
         self.assertEqual(await self.begins(it), "Ahead")
         it.given.ahead = 200.0
         await it.begin()

@@ -142,6 +142,10 @@ class EtcdLog:
         made = await self._put_once(self.prefix + b"head", wanted)
         return wanted if made.succeeded else bytes(made.responses[0].response_range.kvs[0].value)
 
+    async def last(self) -> int:
+        found = await self._call("keys", "Range", rpc.RangeRequest(key=self.prefix + b"head"))
+        return int(found.header.revision)
+
     async def append(self, writer: bytes, number: int, data: bytes) -> int:
         key = self.prefix + b"log/%s/%020d" % (writer.hex().encode(), number)
         made = await self._put_once(key, data, TRY)

@@ -64,6 +64,9 @@ class Log(Protocol):
     async def head(self, wanted: bytes) -> bytes:
         """The log's head. It is this one where none was there before."""
 
+    async def last(self) -> int:
+        """A place that no entry lies behind yet."""
+
     async def append(self, writer: bytes, number: int, data: bytes) -> int:
         """Appends an entry once, however often it is called with this writer and number. Answers
         its place. Raises `LogFull`, or `NoLog` where the outcome is not known."""

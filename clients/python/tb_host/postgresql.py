@@ -165,6 +165,11 @@ class PostgresLog:
         rows = await self._rows(it, "SELECT value FROM {keys} WHERE key = %s", key)
         return bytes(rows[0][0]) if rows else None
 
+    async def last(self) -> int:
+        query = "SELECT coalesce(max(position), 0) FROM {log}"
+        rows = await self._call(lambda it: self._rows(it, query))
+        return max(int(rows[0][0]), (await self.trimmed())[1])
+
     async def append(self, writer: bytes, number: int, data: bytes) -> int:
         async def work(it: Any) -> int:
             there = "SELECT position FROM {log} WHERE writer = %s AND number = %s"

@@ -76,7 +76,6 @@ class Replica:
         self.number = 0
         self.sent: Dict[int, List[Pair]] = {}  # own entries that were not read yet, by their number
         self.own: Dict[int, List[Pair]] = {}  # those that were read, by their position
-        self.seen = asyncio.Event()
         self.claims: Dict[int, Set[Tuple[bytes, bytes]]] = {}  # of replies that are not there yet
         self.is_full = False
         self.hello = 0  # what this clock had when the others were asked for theirs
@@ -166,8 +165,10 @@ class Replica:
         """Appends an entry once: by the same name until it is in the log."""
         while number in self.sent:
             try:
-                await self.log.append(self.writer, number, data)
+                place = await self.log.append(self.writer, number, data)
                 self.is_full = self.is_away = False
+                if number in self.sent and place <= self.copy.place:
+                    self._test_place(place)
                 break
             except LogFull as full:
                 if not self.is_full:
@@ -180,6 +181,13 @@ class Replica:
             await asyncio.sleep(PAUSE)
         if number in self.sent:
             asyncio.get_running_loop().call_later(ELSEWHERE, self._look_elsewhere, number)
+
+    def _test_place(self, last: int) -> None:
+        """Raises `Diverged` where the log ends before the copy does: the engine has lost what it
+        acknowledged, or an old state of it was brought back."""
+        if last < self.copy.place or last == self.copy.place and self.sent:
+            said = f"the log ends at place {last}, and the copy at {self.copy.place}"
+            raise Fault("Diverged", f"{said}; keep all files")
 
     def _look_elsewhere(self, number: int) -> None:
         """Reads at another address where what was written is not read there."""
@@ -331,6 +339,7 @@ class Replica:
         """Compares the log's head, and tests the clock. Raises why the replica cannot serve."""
         try:
             await self._settle_head()
+            self._test_place(await self.log.last())
             position, _ = await self.log.trimmed()
             if position > self.copy.position:
                 said = f"the log begins behind position {position}, and the copy has "
