@@ -1,0 +1,84 @@
+-- What is read of an entry behind its kind, and why it is refused.
+use Rattle.std.specs.Prelude.{ℕ, ◌≡◌, ◌≢◌, ◌⊎◌, ◌+◌, ◌≤◌, nat_le, nat_lt, List, [], ◌++◌, length, Option, Some, None, if◌then◌else◌, Err}
+use Rattle.std.specs.Io.KnownBytes.{Consumes, IsAtEnd}
+use Rattle.tb_records.specs.declared.faults.FrameFault.{FrameFault}
+use Rattle.tb_records.specs.declared.faults.FrameFault.TheVariants as frame
+use Rattle.tb_records.specs.Numbers.{le_bytes}
+use Rattle.tb_records.specs.Ordered.{Each}
+use Rattle.tb_records.specs.Inputs.{IsTimed, TimedAnswered}
+use Rattle.tb_records.specs.Transport.{Input, Fails}
+use Rattle.tb_machine.specs.Scripts.{Pair}
+use Rattle.tb_log.specs.declared.faults.LogFault.{LogFault}
+use Rattle.tb_log.specs.declared.faults.LogFault.TheVariants.{Device, NoMemory, Short, Gap, Repeat, TooLong, Damaged, BadEntry}
+use Rattle.tb_log.specs.Format.{content_max, content_of, numbers, checksum_of, summed}
+
+-- the input ended within an item, or its reader failed, or there was no memory
+abbrev pub Breaks : LogFault → Input → Input → Type 0
+Breaks Short before after = IsAtEnd after.left × (after.failed ≡ before.failed)
+Breaks Device before after = Fails before after
+Breaks NoMemory before after = after.failed ≡ before.failed
+Breaks fault before after = ⊥
+
+-- what is wrong with an entry's numbers behind the last position; the first test that holds decides
+abbrev pub head_fault : ℕ → ℕ → ℕ → Option LogFault
+head_fault last position long =
+    if nat_le position last then Some (Repeat position)
+    else if nat_lt (last + 1) position then Some (Gap position)
+    else if nat_lt content_max long then Some (TooLong position)
+    else None
+
+-- an entry was read whole, and its checksum is right
+pub record ReadsEntry (content : List ℕ) (last : ℕ) (before after : Input) : Type 0 where
+  pub few : length content ≤ content_max
+  pub bytes : Consumes before.left after.left (summed (last + 1) (checksum_of (last + 1) content) content)
+  pub counted : after.failed ≡ before.failed
+
+-- its numbers are wrong: no byte behind them was read
+pub record IsWrong (fault : LogFault) (last : ℕ) (before after : Input) : Type 0 where
+  pub position : ℕ
+  pub long : ℕ
+  pub sum : ℕ
+  pub bytes : Consumes before.left after.left (numbers position long ++ le_bytes 4 sum)
+  pub fault_is : head_fault last position long ≡ Some fault
+  pub counted : after.failed ≡ before.failed
+
+-- its checksum is that of another
+pub record IsDamaged (fault : LogFault) (last : ℕ) (before after : Input) : Type 0 where
+  pub content : List ℕ
+  pub sum : ℕ
+  pub bytes : Consumes before.left after.left (summed (last + 1) sum content)
+  pub wrong : sum ≢ checksum_of (last + 1) content
+  pub fault_is : fault ≡ Damaged (last + 1)
+  pub counted : after.failed ≡ before.failed
+
+-- the fault of what is no pair, in the entry at a position
+abbrev pub pair_fault : ℕ → FrameFault → LogFault
+pair_fault position frame.NoMemory = NoMemory
+pair_fault position fault = BadEntry position fault
+
+-- the content begins with these pairs
+pub record BeginsWith (ps : List Pair) (content left : List ℕ) : Type 0 where
+  pub spelled : content ≡ content_of ps ++ left
+  pub fit : Each IsTimed ps
+
+-- the content is pairs
+abbrev pub IsPairs : List ℕ → Type 0
+IsPairs content = (ps : List Pair) × BeginsWith ps content []
+
+-- behind pairs with which the content begins comes what is no pair
+pub record IsNoPairs (fault : LogFault) (position : ℕ) (content : List ℕ) : Type 0 where
+  pub pairs : List Pair
+  pub left : List ℕ
+  pub front : BeginsWith pairs content left
+  pub cause : FrameFault
+  pub rest : List ℕ
+  pub read : TimedAnswered (Err cause) left rest
+  pub fault_is : fault ≡ pair_fault position cause
+
+pub record IsBad (fault : LogFault) (last : ℕ) (before after : Input) : Type 0 where
+  pub content : List ℕ
+  pub entry : ReadsEntry content last before after
+  pub bad : IsNoPairs fault (last + 1) content
+
+abbrev pub RefusesEntry : LogFault → ℕ → Input → Input → Type 0
+RefusesEntry fault last before after = Breaks fault before after ⊎ IsWrong fault last before after ⊎ IsDamaged fault last before after ⊎ IsBad fault last before after

@@ -1,0 +1,128 @@
+-- What a follower answers from a reader to a writer: items were taken one after another, and then the input ended or a fault came.
+use Rattle.std.specs.Prelude.{ℕ, true, false, ◌≡◌, ◌≢◌, ◌⊎◌, ◌+◌, ◌-◌, ◌^◌, ◌≤◌, List, [], ◌∷◌, ◌++◌, length, fold, Result, Ok, Err}
+use Rattle.std.specs.Io.KnownBytes.{Consumes, IsAtEnd}
+use Rattle.tb_records.specs.declared.limits.Profile.{Profile}
+use Rattle.tb_records.specs.Ordered.{Each}
+use Rattle.tb_records.specs.ReplyFrames.{IsReply}
+use Rattle.tb_records.specs.Inputs.{IsTimed, timed_bytes}
+use Rattle.tb_records.specs.Transport.{Input, Output, Sent, CutOff}
+use Rattle.tb_machine.specs.Histories.{State}
+use Rattle.tb_machine.specs.Scripts.{Pair, has_time}
+use Rattle.tb_machine.specs.Runs.{is_new_in, IsTimely}
+use Rattle.tb_log.specs.declared.faults.LogFault.{LogFault}
+use Rattle.tb_log.specs.declared.faults.LogFault.TheVariants.{Device, NoMemory, UnknownKind, TimeExhausted, TooMany}
+use Rattle.tb_log.specs.Format.{content_max, content_of, entry_bytes, question_bytes, reply_item, standing_item}
+use Rattle.tb_log.specs.Following.{Following, begun, answer_of, with_pair, with_content, AreAnswered, replies_from, Item, Entry, Question, after_items, bytes_of, given, AllAnswered}
+use Rattle.tb_log.specs.Entries.{Breaks, IsPairs, RefusesEntry}
+
+-- one pair of an entry
+
+abbrev pub IsUntimely : State → Pair → Type 0
+IsUntimely S p = (is_new_in S p ≡ true) × (has_time S p ≡ false)
+
+-- a pair is answered with its index; where the writer failed, a prefix of the answer was written, and on any other fault nothing
+abbrev pub Answers : ℕ → Result (Unit {0}) LogFault → Following → Following → Pair → Output → Output → Type 0
+Answers index (Ok done) F G p before after =
+    IsTimely F.state p × IsReply (answer_of F p) × (G ≡ with_pair F p) × Sent (reply_item F.position index (answer_of F p)) before after
+Answers index (Err Device) F G p before after = CutOff (reply_item F.position index (answer_of F p)) before after
+Answers index (Err NoMemory) F G p before after = after ≡ before
+Answers index (Err (TimeExhausted at)) F G p before after = (at ≡ F.position) × IsUntimely F.state p × (after ≡ before)
+Answers index (Err fault) F G p before after = ⊥
+
+-- the content of an entry
+
+-- the first pairs of the content were answered, and the rest of it is left
+pub record Serves (ps : List Pair) (F G : Following) (content left : List ℕ) (before after : Output) : Type 0 where
+  pub spelled : content ≡ content_of ps ++ left
+  pub fit : Each IsTimed ps
+  pub state : G ≡ fold with_pair F ps
+  pub answered : AreAnswered F ps
+  pub sent : Sent (replies_from F 0 ps) before after
+
+-- the next pair cannot be answered
+pub record IsUnanswered (fault : LogFault) (index : ℕ) (F : Following) (left : List ℕ) (before after : Output) : Type 0 where
+  pub pair : Pair
+  pub rest : List ℕ
+  pub spelled : left ≡ timed_bytes pair ++ rest
+  pub later : Following
+  pub stop : Answers index (Err fault) F later pair before after
+
+-- a fault among the pairs of an entry: there is no memory to read the next pair, or it is not answered
+pub record Stops (fault : LogFault) (F : Following) (content : List ℕ) (before after : Output) : Type 0 where
+  pub pairs : List Pair
+  pub now : Following
+  pub left : List ℕ
+  pub middle : Output
+  pub served : Serves pairs F now content left before middle
+  pub stop : ((fault ≡ NoMemory) × (after ≡ middle)) ⊎ IsUnanswered fault (length pairs) now left middle after
+
+-- items
+
+-- the numbers of each pair fit, and the content of each entry is short enough
+abbrev pub ItemFits : Item → Type 0
+ItemFits (Entry ps) = (length (content_of ps) ≤ content_max) × Each IsTimed ps
+ItemFits Question = Unit {0}
+
+-- a byte that begins no item
+pub record IsUnknown (fault : LogFault) (before after : Input) : Type 0 where
+  pub kind : ℕ
+  pub byte : Consumes before.left after.left (kind ∷ [])
+  pub entry : kind ≢ 1
+  pub question : kind ≢ 2
+  pub fault_is : fault ≡ UnknownKind kind
+  pub counted : after.failed ≡ before.failed
+
+-- an entry that is refused: nothing of it is served
+pub record IsRefused (fault : LogFault) (F : Following) (before after : Input) : Type 0 where
+  pub middle : Input
+  pub kind : Consumes before.left middle.left (1 ∷ [])
+  pub counted : middle.failed ≡ before.failed
+  pub refused : RefusesEntry fault F.position middle after
+
+-- an entry whose pairs are not all served
+pub record IsStopped (fault : LogFault) (F : Following) (before after : Input) (start written : Output) : Type 0 where
+  pub content : List ℕ
+  pub few : length content ≤ content_max
+  pub whole : IsPairs content
+  pub read : Consumes before.left after.left (entry_bytes (F.position + 1) content)
+  pub counted : after.failed ≡ before.failed
+  pub stops : Stops fault (with_content F content) content start written
+
+-- a question that is not answered
+pub record IsUntold (fault : LogFault) (F : Following) (before after : Input) (start written : Output) : Type 0 where
+  pub read : Consumes before.left after.left question_bytes
+  pub counted : after.failed ≡ before.failed
+  pub told : ((fault ≡ NoMemory) × (written ≡ start)) ⊎ ((fault ≡ Device) × CutOff (standing_item F.position F.log F.replies) start written)
+
+-- a fault of the next item
+abbrev pub Refuses : LogFault → Following → Input → Input → Output → Output → Type 0
+Refuses fault F before after start written =
+    ((Breaks fault before after ⊎ IsUnknown fault before after ⊎ IsRefused fault F before after) × (written ≡ start))
+    ⊎ IsStopped fault F before after start written
+    ⊎ IsUntold fault F before after start written
+
+-- the faults that come of no item: no memory for the machine, and so many items that they cannot be counted
+abbrev pub Halts : LogFault → List Item → Type 0
+Halts NoMemory items = items ≡ []
+Halts TooMany items = length items ≡ 2 ^ 64 - 1
+Halts fault items = ⊥
+
+-- what ended it behind the items: the end of the input, with the position of the last entry; or a fault
+abbrev pub Ended : Result ℕ LogFault → List Item → Following → Input → Input → Output → Output → Type 0
+Ended (Ok position) items F before after start written =
+    (position ≡ F.position) × Consumes before.left after.left [] × IsAtEnd after.left × (after.failed ≡ before.failed) × (written ≡ start)
+Ended (Err fault) items F before after start written =
+    Refuses fault F before after start written
+    ⊎ (Halts fault items × (after ≡ before) × (written ≡ start))
+
+-- a whole run: some items were read and answered, and then it ended
+pub record Followed (profile : Profile) (clients_max : ℕ) (result : Result ℕ LogFault) (before after : Input) (start written : Output) : Type 0 where
+  pub items : List Item
+  pub middle : Input
+  pub made : Output
+  pub fit : Each ItemFits items
+  pub read : Consumes before.left middle.left (bytes_of (begun profile clients_max) items)
+  pub counted : middle.failed ≡ before.failed
+  pub answered : AllAnswered (begun profile clients_max) items
+  pub sent : Sent (given (begun profile clients_max) items) start made
+  pub ended : Ended result items (after_items (begun profile clients_max) items) middle after made written

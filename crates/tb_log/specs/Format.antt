@@ -1,0 +1,56 @@
+-- The bytes of a log's items, and of a follower's answers.
+use Rattle.std.specs.Prelude.{ℕ, List, [], ◌∷◌, ◌++◌, length, flat_map, replicate}
+use Rattle.tb_records.specs.Messages.{Answer}
+use Rattle.tb_records.specs.Numbers.{le_bytes}
+use Rattle.tb_records.specs.ReplyFrames.{reply_bytes}
+use Rattle.tb_records.specs.Inputs.{timed_bytes}
+use Rattle.tb_journal.specs.Checksum.{checksum}
+use Rattle.tb_machine.specs.Scripts.{Pair}
+use Rattle.sha2.specs.Sha256.{sha256}
+
+-- what is read
+
+-- an entry has less than 16 MiB of pairs
+abbrev pub content_max : ℕ
+content_max = 16777215
+
+-- the content of an entry: its pairs, each a moment and the frame of a request
+abbrev pub content_of : List Pair → List ℕ
+content_of ps = flat_map timed_bytes ps
+
+-- the numbers of an entry: its position, and the length of its content
+abbrev pub numbers : ℕ → ℕ → List ℕ
+numbers position long = le_bytes 8 position ++ le_bytes 4 long
+
+-- the checksum of an entry: of its numbers and its content
+abbrev pub checksum_of : ℕ → List ℕ → ℕ
+checksum_of position content = checksum (numbers position (length content) ++ content)
+
+-- an entry behind its kind, with any checksum
+abbrev pub summed : ℕ → ℕ → List ℕ → List ℕ
+summed position sum content = numbers position (length content) ++ le_bytes 4 sum ++ content
+
+abbrev pub entry_bytes : ℕ → List ℕ → List ℕ
+entry_bytes position content = 1 ∷ summed position (checksum_of position content) content
+
+abbrev pub question_bytes : List ℕ
+question_bytes = 2 ∷ []
+
+-- what is written
+
+-- the reply to the pair of an index in the entry at a position
+abbrev pub reply_item : ℕ → ℕ → Answer → List ℕ
+reply_item position index answer = 1 ∷ le_bytes 8 position ++ le_bytes 4 index ++ reply_bytes answer
+
+-- the answer to a question: the position of the last entry, the hash of the log up to it, the hash of the replies up to it
+abbrev pub standing_item : ℕ → List ℕ → List ℕ → List ℕ
+standing_item position log replies = 2 ∷ le_bytes 8 position ++ log ++ replies
+
+-- chained hashes
+
+abbrev pub no_hash : List ℕ
+no_hash = replicate 32 0
+
+-- the hash of what came before with one part more
+abbrev pub chained : List ℕ → List ℕ → List ℕ
+chained hash bytes = sha256 (hash ++ bytes)

@@ -1,0 +1,135 @@
+-- What a follower's steps do: for private functions alone.
+use Rattle.std.specs.Prelude.{ℕ, true, false, ◌≡◌, ◌≢◌, ◌⊎◌, ◌≤◌, ◌<◌, Bool, List, [], ◌∷◌, ◌++◌, length, take, Option, Some, None, Result, Ok, Err, MatchResult}
+use Rattle.std.specs.Io.KnownBytes.{Consumes, IsAtEnd}
+use Rattle.tb_records.specs.Numbers.{le_bytes}
+use Rattle.tb_records.specs.Ordered.{Each}
+use Rattle.tb_records.specs.ReplyFrames.{IsReply}
+use Rattle.tb_records.specs.Inputs.{IsTimed}
+use Rattle.tb_records.specs.Transport.{Input, Output, Sent, CutOff}
+use Rattle.tb_machine.specs.Histories.{State, answer_to}
+use Rattle.tb_machine.specs.Scripts.{Pair, after_pair}
+use Rattle.tb_machine.specs.Runs.{IsTimely, answer_bytes}
+use Rattle.tb_log.specs.declared.faults.LogFault.{LogFault}
+use Rattle.tb_log.specs.declared.faults.LogFault.TheVariants.{Device, NoMemory, Damaged, TimeExhausted}
+use Rattle.tb_log.specs.declared.entries.Head.{Head}
+use Rattle.tb_log.specs.Format.{content_of, numbers, checksum_of, standing_item}
+use Rattle.tb_log.specs.Following.{Following, with_content, Item, Entry, with_item, item_bytes, given_to, IsAnswered}
+use Rattle.tb_log.specs.Entries.{Breaks, IsPairs, ReadsEntry, RefusesEntry}
+use Rattle.tb_log.specs.Follows.{IsUntimely, Serves, Stops, ItemFits, Refuses}
+
+-- reading
+
+-- the lowest n bytes of a number
+abbrev pub low_bytes : ℕ → ℕ → List ℕ
+low_bytes n x = le_bytes n x
+
+-- the first n bytes of a buffer came from the reader: all of it, or all that was left
+pub record Filled (n : ℕ) (buffer : List ℕ) (before after : Input) : Type 0 where
+  pub within : n ≤ length buffer
+  pub bytes : Consumes before.left after.left (take n buffer)
+  pub end : n < length buffer → IsAtEnd after.left
+  pub counted : after.failed ≡ before.failed
+
+-- just these bytes were read
+pub record Takes (bytes : List ℕ) (before after : Input) : Type 0 where
+  pub consumed : Consumes before.left after.left bytes
+  pub counted : after.failed ≡ before.failed
+
+-- a value's bytes were read
+abbrev pub Reads : {X : Type 0} → (X → List ℕ) → Result X LogFault → Input → Input → Type 0
+Reads bytes_of result before after = MatchResult result (λ x. Takes (bytes_of x) before after) (λ fault. Breaks fault before after)
+
+-- the first byte of an item was read, or there is none
+abbrev pub Begins : Result (Option ℕ) LogFault → Input → Input → Type 0
+Begins (Ok None) before after = Takes [] before after × IsAtEnd after.left
+Begins (Ok (Some kind)) before after = Takes (kind ∷ []) before after
+Begins (Err fault) before after = Breaks fault before after
+
+abbrev pub head_bytes : Head → List ℕ
+head_bytes head = numbers head.position head.length ++ le_bytes 4 head.checksum
+
+-- the content behind an entry's numbers, with its checksum or with another
+pub record ReadsContent (head : Head) (content : List ℕ) (before after : Input) : Type 0 where
+  pub long : length content ≡ head.length
+  pub read : Takes content before after
+  pub sum : head.checksum ≡ checksum_of head.position content
+
+pub record MissesContent (head : Head) (fault : LogFault) (before after : Input) : Type 0 where
+  pub content : List ℕ
+  pub long : length content ≡ head.length
+  pub read : Takes content before after
+  pub wrong : head.checksum ≢ checksum_of head.position content
+  pub fault_is : fault ≡ Damaged head.position
+
+-- answering
+
+-- the frame of the reply to a pair
+abbrev pub Frames : List ℕ → Pair → State → State → Type 0
+Frames frame p S T = IsTimely S p × (T ≡ after_pair S p) × (frame ≡ answer_bytes S p) × IsReply (answer_to (after_pair S p) p.1)
+
+abbrev pub NoFrame : ℕ → LogFault → Pair → State → Type 0
+NoFrame position NoMemory p S = Unit {0}
+NoFrame position (TimeExhausted at) p S = (at ≡ position) × IsUntimely S p
+NoFrame position fault p S = ⊥
+
+-- bytes were written, or the device failed and left a prefix of them
+abbrev pub Writes : Result (Unit {0}) LogFault → List ℕ → Output → Output → Type 0
+Writes (Ok done) bytes before after = Sent bytes before after
+Writes (Err Device) bytes before after = CutOff bytes before after
+Writes (Err fault) bytes before after = ⊥
+
+-- a question was answered, or there was no memory, or the device failed
+abbrev pub TellsStanding : Result (Unit {0}) LogFault → Following → Output → Output → Type 0
+TellsStanding (Ok done) F before after = Sent (standing_item F.position F.log F.replies) before after
+TellsStanding (Err Device) F before after = CutOff (standing_item F.position F.log F.replies) before after
+TellsStanding (Err NoMemory) F before after = after ≡ before
+TellsStanding (Err fault) F before after = ⊥
+
+-- items
+
+-- the pairs of an entry were all answered, or not
+abbrev pub ServesContent : Result (Unit {0}) LogFault → Following → Following → List ℕ → Output → Output → Type 0
+ServesContent (Ok done) F G content before after = (ps : List Pair) × Serves ps F G content [] before after
+ServesContent (Err fault) F G content before after = Stops fault F content before after
+
+-- an entry whose pairs are not all served
+pub record StopsEntry (fault : LogFault) (F : Following) (before after : Input) (start written : Output) : Type 0 where
+  pub content : List ℕ
+  pub read : ReadsEntry content F.position before after
+  pub whole : IsPairs content
+  pub stops : Stops fault (with_content F content) content start written
+
+-- an entry was read behind its kind and served
+pub record ServesEntry (F G : Following) (before after : Input) (start written : Output) : Type 0 where
+  pub pairs : List Pair
+  pub read : ReadsEntry (content_of pairs) F.position before after
+  pub fit : Each IsTimed pairs
+  pub answered : IsAnswered F (Entry pairs)
+  pub state : G ≡ with_item F (Entry pairs)
+  pub sent : Sent (given_to F (Entry pairs)) start written
+
+abbrev pub TakesEntry : Result (Unit {0}) LogFault → Following → Following → Input → Input → Output → Output → Type 0
+TakesEntry (Ok done) F G before after start written = ServesEntry F G before after start written
+TakesEntry (Err fault) F G before after start written =
+    (RefusesEntry fault F.position before after × (written ≡ start)) ⊎ StopsEntry fault F before after start written
+
+-- an item was read and answered
+pub record TakesItem (F G : Following) (before after : Input) (start written : Output) : Type 0 where
+  pub item : Item
+  pub fit : ItemFits item
+  pub read : Takes (item_bytes F item) before after
+  pub answered : IsAnswered F item
+  pub state : G ≡ with_item F item
+  pub sent : Sent (given_to F item) start written
+
+-- there was none
+pub record TakesNone (F G : Following) (before after : Input) (start written : Output) : Type 0 where
+  pub read : Takes [] before after
+  pub end : IsAtEnd after.left
+  pub state : G ≡ F
+  pub silent : written ≡ start
+
+abbrev pub TakesNext : Result Bool LogFault → Following → Following → Input → Input → Output → Output → Type 0
+TakesNext (Ok true) F G before after start written = TakesItem F G before after start written
+TakesNext (Ok false) F G before after start written = TakesNone F G before after start written
+TakesNext (Err fault) F G before after start written = Refuses fault F before after start written

@@ -1,0 +1,54 @@
+//! Hashes of parts that came one after another.
+ghost use Rattle.std.specs.Prelude.{◌≡◌};
+ghost use Rattle.tb_log.specs.Format.{no_hash, chained};
+
+use sha2::{Digest, Sha256};
+use std::marker::Model;
+
+/// The hash of parts that came one after another: that of each is SHA-256 of the hash before it and its bytes. Its 32 bytes go
+/// on with the next part.
+#[derive(Drop)]
+pub struct Chain {
+    hash: [u8; 32],
+}
+
+impl Model for Chain {
+    ghost use Rattle.std.specs.Prelude.{ℕ, List};
+
+    ghost Value = { List ℕ };
+
+    ghost view = { λ c. c.hash };
+}
+
+impl Chain {
+    /// The hash before the first part: 32 zeros.
+    pub fn new() -> Chain
+        ensures { result ≡ no_hash }
+    {
+        Chain { hash: [0; 32] }
+    }
+
+    /// A hash that goes on from its 32 bytes.
+    pub fn from_bytes(hash: [u8; 32]) -> Chain
+        ensures { result ≡ hash }
+    {
+        Chain { hash }
+    }
+
+    /// The 32 bytes.
+    pub fn as_bytes(&self) -> &[u8; 32]
+        ensures { result.now ≡ self.now }
+    {
+        &self.hash
+    }
+
+    /// Adds a part.
+    pub fn add(&mut self, bytes: &[u8])
+        ensures { self.new ≡ chained self.old bytes.now }
+    {
+        let mut hasher = Sha256::new();
+        hasher.update(&self.hash);
+        hasher.update(bytes);
+        self.hash = hasher.finalize();
+    }
+}

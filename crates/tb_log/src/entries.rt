@@ -1,0 +1,119 @@
+//! An entry from a reader, behind its kind: its numbers are tested before its content is read, and its checksum after.
+ghost use Rattle.std.specs.Prelude.{◌≡◌, ◌≤◌, ◌+◌, ◌⊎◌, length, Ok, Err, MatchOption, MatchResult};
+ghost use Rattle.tb_log.specs.Entries.{Breaks, head_fault, pair_fault, IsPairs, IsNoPairs, ReadsEntry, RefusesEntry};
+ghost use Rattle.tb_log.specs.Format.{content_max};
+ghost use Rattle.tb_log.specs.Steps.{head_bytes, Reads, ReadsContent, MissesContent};
+
+use crate::checksums::entry_sum;
+use crate::faults::LogFault;
+use crate::inputs::{bytes_from, u32_from, u64_from};
+use std::alloc::Global;
+use tb_records::streams::read_timed_from;
+use tb_records::{Counting, FrameFault, Source};
+
+/// The greatest number of bytes of an entry's pairs: 16 MiB less one.
+const CONTENT_MAX: u32 = 0xFF_FFFF;
+
+/// What comes before the pairs of an entry.
+#[derive(Clone, Copy)]
+pub(crate) struct Head {
+    position: u64,
+    length: u32,
+    checksum: u32,
+}
+
+/// Reads the numbers of an entry.
+#[tactic(auto, using(crate::proofs::Taking::takes_head, crate::proofs::Taking::breaks_since))]
+fn head_from<S: Source>(source: &mut S) -> Result<Head, LogFault>
+    ensures { Reads head_bytes result (S.input source.old) (S.input source.new) }
+{
+    let position = u64_from(source)?;
+    let length = u32_from(source)?;
+    let checksum = u32_from(source)?;
+    Ok(Head {
+        position,
+        length,
+        checksum,
+    })
+}
+
+/// Says what is wrong with the numbers of an entry behind the last position.
+fn judge_head(head: &Head, last: u64) -> Result<(), LogFault>
+    ensures { MatchOption (head_fault last head.now.position head.now.length) (result ≡ Ok tt)
+        (λ fault. result ≡ Err fault) }
+{
+    let position = head.position;
+    if position <= last {
+        return Err(LogFault::Repeat(position));
+    }
+    if position - last > 1 {
+        return Err(LogFault::Gap(position));
+    }
+    if head.length > CONTENT_MAX {
+        return Err(LogFault::TooLong(position));
+    }
+    Ok(())
+}
+
+/// Reads the content behind the numbers, and tests its checksum.
+fn content_from<S: Source>(alloc: Global, source: &mut S, head: &Head) -> Result<Vec<u8>, LogFault>
+    requires { head.now.length ≤ content_max }
+    ensures { MatchResult result
+        (λ content. ReadsContent head.now content.items (S.input source.old) (S.input source.new))
+        (λ fault. Breaks fault (S.input source.old) (S.input source.new)
+        ⊎ MissesContent head.now fault (S.input source.old) (S.input source.new)) }
+{
+    let content = bytes_from(alloc, source, head.length as usize)?;
+    if entry_sum(head.position, &content) != head.checksum {
+        return Err(LogFault::Damaged(head.position));
+    }
+    Ok(content)
+}
+
+/// The fault of what is no pair.
+fn pair_fault(position: u64, fault: FrameFault) -> LogFault
+    ensures { result ≡ pair_fault position fault }
+{
+    match fault {
+        FrameFault::NoMemory => LogFault::NoMemory,
+        fault => LogFault::BadEntry(position, fault),
+    }
+}
+
+/// Tests that the content of the entry at a position is pairs, before the first of them is served.
+fn check_pairs(global: Global, position: u64, content: &[u8]) -> Result<(), LogFault>
+    requires { length content.now ≤ content_max }
+    ensures { MatchResult result (λ _. IsPairs content.now)
+        (λ fault. IsNoPairs fault position content.now) }
+{
+    let mut source = Counting::new(content);
+    for k in 0..0x100_0000u32 {
+        match read_timed_from(global, &mut source) {
+            Ok(Some(pair)) => drop(pair),
+            Ok(None) => return Ok(()),
+            Err(fault) => return Err(pair_fault(position, fault)),
+        }
+    }
+    unreachable!()
+}
+
+/// Reads the entry behind the last position: its position and its content, which is pairs.
+#[tactic(auto, using(crate::proofs::Taking::entry_read, crate::proofs::Taking::entry_lost, crate::proofs::Taking::entry_wrong))]
+pub(crate) fn entry_from<S: Source>(
+    alloc: Global,
+    source: &mut S,
+    last: u64,
+) -> Result<(u64, Vec<u8>), LogFault>
+    ensures { MatchResult result
+        (λ entry.
+        (entry.0 ≡ last + 1)
+        × ReadsEntry entry.1.items last (S.input source.old) (S.input source.new)
+        × IsPairs entry.1.items)
+        (λ fault. RefusesEntry fault last (S.input source.old) (S.input source.new)) }
+{
+    let head = head_from(source)?;
+    judge_head(&head, last)?;
+    let content = content_from(alloc, source, &head)?;
+    check_pairs(alloc, head.position, &content)?;
+    Ok((head.position, content))
+}

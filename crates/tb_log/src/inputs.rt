@@ -1,0 +1,86 @@
+//! Bytes and numbers from a reader.
+ghost use Rattle.std.specs.Prelude.{◌≡◌, vec_len, IfOk, MatchResult};
+ghost use Rattle.tb_log.specs.Entries.{Breaks};
+ghost use Rattle.tb_log.specs.Steps.{low_bytes, Filled, Reads, Begins};
+
+use crate::faults::LogFault;
+use byteorder::{ByteOrder, LittleEndian};
+use std::alloc::Global;
+use tb_records::Source;
+
+/// Fills the buffer, and returns how many of its bytes were filled: fewer than all only at the end of the input.
+fn fill<S: Source>(source: &mut S, buffer: &mut [u8]) -> Result<usize, LogFault>
+    ensures { MatchResult result
+        (λ n. Filled n buffer.new (S.input source.old) (S.input source.new))
+        (λ f. Breaks f (S.input source.old) (S.input source.new)) }
+{
+    let mut filled = 0;
+    while filled < buffer.len() {
+        match source.pull(&mut buffer[filled..]) {
+            Ok(0) => return Ok(filled),
+            Ok(count) => filled += count,
+            Err(_) => return Err(LogFault::Device),
+        }
+    }
+    Ok(filled)
+}
+
+/// Fills the buffer. Short where the input ends before.
+#[tactic(auto, using(crate::proofs::Taking::all_filled))]
+fn fill_all<S: Source>(source: &mut S, buffer: &mut [u8]) -> Result<(), LogFault>
+    ensures { Reads (λ _. buffer.new) result (S.input source.old) (S.input source.new) }
+{
+    if fill(source, buffer)? < buffer.len() {
+        return Err(LogFault::Short);
+    }
+    Ok(())
+}
+
+/// The byte that begins the next item; None where the input ends before it.
+#[tactic(auto, using(crate::proofs::Taking::none_filled, crate::proofs::Taking::one_filled))]
+pub(crate) fn kind_from<S: Source>(source: &mut S) -> Result<Option<u8>, LogFault>
+    ensures { Begins result (S.input source.old) (S.input source.new) }
+{
+    let mut bytes = [0; 1];
+    let bytes: &mut [u8] = &mut bytes;
+    if fill(source, bytes)? == 0 {
+        return Ok(None);
+    }
+    Ok(Some(bytes[0]))
+}
+
+/// A number of 8 bytes.
+#[tactic(auto, using(crate::proofs::Numbers::eight_bytes))]
+pub(crate) fn u64_from<S: Source>(source: &mut S) -> Result<u64, LogFault>
+    ensures { Reads (low_bytes 8) result (S.input source.old) (S.input source.new) }
+{
+    let mut bytes = [0; 8];
+    let bytes: &mut [u8] = &mut bytes;
+    fill_all(source, bytes)?;
+    Ok(LittleEndian::read_u64(bytes))
+}
+
+/// A number of 4 bytes.
+#[tactic(auto, using(crate::proofs::Numbers::four_bytes))]
+pub(crate) fn u32_from<S: Source>(source: &mut S) -> Result<u32, LogFault>
+    ensures { Reads (low_bytes 4) result (S.input source.old) (S.input source.new) }
+{
+    let mut bytes = [0; 4];
+    let bytes: &mut [u8] = &mut bytes;
+    fill_all(source, bytes)?;
+    Ok(LittleEndian::read_u32(bytes))
+}
+
+/// So many bytes. The memory for them is taken before the first is read.
+pub(crate) fn bytes_from<S: Source>(
+    alloc: Global,
+    source: &mut S,
+    count: usize,
+) -> Result<Vec<u8>, LogFault>
+    ensures read { Reads (λ bytes. bytes.items) result (S.input source.old) (S.input source.new) }
+    ensures count { IfOk result (λ bytes. vec_len bytes ≡ count) }
+{
+    let mut bytes = vec![in alloc; 0u8; count]?;
+    fill_all(source, &mut bytes)?;
+    Ok(bytes)
+}
