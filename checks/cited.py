@@ -39,7 +39,13 @@ FUNCTION = re.compile(r"^( *)pub (?:const |unsafe )*fn (\w+)")
 TRAIT_FUNCTION = re.compile(r"^( *)(?:const |unsafe )*fn (\w+)")
 IMPL = re.compile(r"^impl\b(?:<.*?>)? (?:.* for )?&?(?:mut )?(\w+)")
 HEADS = ("-- Cited by", "-- Public contracts reach it", "-- No contract cites it")
-LINES_MAX = 4500
+# Lines that public contracts reach: of most crates together (4,500, and 100 more for the laws of a
+# script on several machines and causes of faults), and of crates that came later.
+LINES_MAX = 4600
+LATER = {"tb_keep_commands": 360, "tb_log": 230}
+# A crate that the heads of other crates' files leave out: for a comment in a low crate, all that
+# stands on it would have to be proved again. It is named there when that crate changes.
+UNNAMED = ("tb_log",)
 TOOLS = (
     "tb_uses",
     "tb_bench",
@@ -203,7 +209,8 @@ def told(crate, found):
     """Modules by their crates, that of the file first, as a list in words."""
     by_crate = {}
     for owner, module in sorted(found, key=lambda it: (it[0] != crate, it)):
-        by_crate.setdefault(owner, []).append(module)
+        if owner == crate or owner not in UNNAMED:
+            by_crate.setdefault(owner, []).append(module)
     return "; ".join(
         ("" if owner == crate else f"{owner}: ") + ", ".join(modules)
         for owner, modules in by_crate.items()
@@ -278,9 +285,12 @@ def main():
         every, set().union(*(found for crate in crates() for found in contracts(crate).values()))
     )
     if given.bounds:
-        count = sum(every[it][0] for it in reached)
-        print(f"{count} lines that public contracts reach; bound {LINES_MAX}")
-        return int(count > LINES_MAX)
+        counts = dict.fromkeys(["all others", *LATER], 0)
+        for it in reached:
+            counts[it[0] if it[0] in LATER else "all others"] += every[it][0]
+        for name, bound in {"all others": LINES_MAX, **LATER}.items():
+            tried.case(name, counts[name] <= bound, f"{counts[name]} lines; bound {bound}")
+        return tried.status()
     total = [0, 0]
     print("| crate | lines that public contracts reach | all lines of definitions |\n|---|---|---|")
     for crate in wanted:

@@ -281,7 +281,8 @@ def reply_tests(text):
 
 # What the listener serves connections with.
 LISTENER = [
-    f"clients/python/tb_host/{it}.py" for it in ("command", "connections", "lines", "serving")
+    f"clients/python/tb_host/{it}.py"
+    for it in ("access", "command", "connections", "lines", "process", "serving")
 ]
 RECORDS = {"account": "Account", "transfer": "Transfer", "result": "EventResult"}
 SPELLINGS = {
