@@ -20,7 +20,12 @@ import tried
 ROOT = pathlib.Path(__file__).resolve().parent.parent
 WORDS_MAX, LINES_MAX, SENTENCE_MAX = 40_000, 90, 40
 # Pages of what came after the bound was set.
-APART = {"docs/use/LISTENER.md", "docs/use/CLUSTER.md", "docs/use/TERMINAL.md"}
+APART = {
+    "docs/use/CLUSTER.md",
+    "docs/use/LISTENER.md",
+    "docs/use/READING.md",
+    "docs/use/TERMINAL.md",
+}
 APART_SECTIONS = {"docs/use/CLIENTS.md": "Clients by feature"}
 PLAIN = {
     r"processor (?:time|minutes|seconds)": "CPU time",

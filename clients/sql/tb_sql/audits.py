@@ -14,7 +14,7 @@ from .sqlite_store import SqliteStore
 
 Store = Union[SqliteStore, PostgresStore]
 
-EVENTS_MAX = 20_000  # of a transaction, and those of the entry that reaches it
+EVENTS_MAX = 40_000  # of a transaction, and those of the entry that reaches it
 IDLE = 0.2  # seconds without a line, after which what is whole is written
 CHUNK = 1 << 20
 ENTRY = b'{"commit":"'

@@ -3,6 +3,7 @@
 from __future__ import annotations
 
 import argparse
+import gc
 import signal
 import sys
 import time
@@ -22,6 +23,11 @@ CHECK = """Computes the balances again from the postings, and compares. With --s
 server for its accounts, which takes a session and an entry for each 8190 accounts."""
 STATUSES = """Exit status: 0 done; 1 a file, a program or a database failed, or a check found a
 difference; 2 the input or the words are wrong."""
+
+
+# Rows are freed without a search for cycles, of which they have none: it would take a quarter of a
+# load's time.
+GARBAGE = 500_000
 
 
 class Progress:
@@ -55,6 +61,7 @@ def load(given: argparse.Namespace) -> int:
     if given.follow and not given.ledger:
         raise_usage("--follow goes with --ledger; an audit on standard input is followed anyway")
     ledger = Ledger(given.ledger, given.tbd, given.tbt) if given.ledger else None
+    gc.set_threshold(GARBAGE)
     store = store_of(given.file)
     try:
         loading = Loading(store)

@@ -12,7 +12,7 @@ from .model import Account, Changes, OpenSession, PendingTransfer, Position
 from .numbers import Number, held
 from .schema import SCHEMA, TABLES, columns, sqlite_schema
 
-CACHE_KIB = 65_536
+CACHE_KIB = 131_072
 PATIENCE = 30.0  # seconds, for another process that writes
 
 
@@ -138,7 +138,8 @@ class SqliteStore:
         self._insert("entries", changes.entries)
         self._insert("accounts", changes.accounts)
         self._insert("transfers", changes.transfers)
-        self._insert("postings", changes.postings)
+        # in the order of their keys, so that neighbours are written together
+        self._insert("postings", sorted(changes.postings, key=_key_of))
         self._insert("refused", changes.refused)
         self._connection.executemany(
             "UPDATE accounts SET debits_pending = ?, debits_posted = ?, credits_pending = ?,"
@@ -182,6 +183,10 @@ class SqliteStore:
     def _insert(self, table: str, rows: Iterable[Sequence[Any]]) -> None:
         places = ", ".join("?" * len(columns(table)))
         self._connection.executemany(f"INSERT INTO {table} VALUES ({places})", rows)
+
+
+def _key_of(posting: Sequence[Any]) -> Tuple[bool, Any, int]:
+    return isinstance(posting[0], str), posting[0], posting[1]
 
 
 def _sums(account: Account) -> Tuple[Number, Number, Number, Number]:

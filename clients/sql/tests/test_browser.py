@@ -262,7 +262,7 @@ class Browser(unittest.TestCase):
         if not folder:
             self.skipTest("TB_SQL_PICTURES names no folder")
         for name, address, scheme, height in (
-            ("books-overview", "/", "light", 1130),
+            ("books-overview", "/", "light", 905),
             ("books-account", f"/account/{SALES}", "light", 900),
             ("books-dark", f"/transfer/{GREAT}", "dark", 560),
         ):

@@ -37,6 +37,12 @@ class Check(Tables):
             self.found("UPDATE accounts SET debits_posted =" " debits_posted + 1 WHERE id = 3"),
         )
 
+    def test_number_of_postings(self):
+        self.assertIn(
+            "account 3: postings: ",
+            self.found("UPDATE accounts SET postings = postings + 1 WHERE id = 3"),
+        )
+
     def test_pending_sums(self):
         self.assertIn(
             "account 2: credits_pending: ",

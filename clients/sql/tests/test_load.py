@@ -1,12 +1,17 @@
 """Loading: what each kind of event does to the tables, going on, and what is refused."""
 
+import contextlib
+import io
 import subprocess
 import time
 import unittest
 
 from support import COMMAND, Tables  # noqa: I001
 from audits import MAX, START, Audit, account, transfer
-from tb_sql.errors import Refused
+from tb_sql.audits import Loading
+from tb_sql.commands import Progress
+from tb_sql.errors import Failed, Refused
+from tb_sql.sqlite_store import SqliteStore
 
 SECOND = 10**9
 
@@ -355,7 +360,9 @@ class OtherHistories(Tables):
     def test_two_loads_at_once(self):
         """One of them ends with a message; the tables stay whole."""
         audit = history()
-        first = subprocess.Popen([*COMMAND, "load", self.path, "--quiet"], stdin=subprocess.PIPE)
+        first = subprocess.Popen(
+            [*COMMAND, "load", self.path, "--quiet"], stdin=subprocess.PIPE, stderr=subprocess.PIPE
+        )
         data = audit.bytes
         half = data.index(b"\n", len(data) // 2) + 1
         first.stdin.write(data[:half])
@@ -372,7 +379,46 @@ class OtherHistories(Tables):
         first.stdin.write(data[half:])
         first.stdin.close()
         self.assertEqual(first.wait(60), 1)
+        self.assertIn(b"another load writes to it", first.stderr.read())
+        first.stderr.close()
         self.assertEqual(self.contents(), whole)
+
+    def test_load_that_is_behind(self):
+        """One that began before another one wrote is refused before it writes a row."""
+        first, second = Audit().register(), Audit().register().accounts(account(1))
+        self.load(first)
+        store = SqliteStore(self.path)
+        loading = Loading(store)
+        self.load(second)
+        self.change("DELETE FROM entries WHERE commit_number = 2")
+        self.change("DELETE FROM accounts")
+        before = self.contents()
+        with self.assertRaises(Failed) as raised:
+            loading.read(iter(second.bytes.splitlines(keepends=True)))
+        store.close()
+        self.assertIn("another load writes to it", str(raised.exception))
+        self.assertEqual(self.contents(), before)
+
+
+class Shown:
+    """A load as a progress sees it."""
+
+    commit_number, events = 12345, 67890
+
+
+class ProgressLine(unittest.TestCase):
+    def test_line(self):
+        for is_shown, wanted in ((True, 2), (False, 0)):
+            err = io.StringIO()
+            with contextlib.redirect_stderr(err):
+                progress = Progress(Shown(), is_shown)
+                progress.tell()
+                progress.last -= 1
+                progress.tell()
+                progress.tell()
+                progress.end()
+            self.assertEqual(err.getvalue().count("\r"), wanted)
+            self.assertEqual("commit 12,345: 67,890 events" in err.getvalue(), is_shown)
 
 
 class Words(Tables):

@@ -136,6 +136,11 @@ class Numbers(unittest.TestCase):
             with self.assertRaises(ValueError):
                 time_of(text)
 
+    def test_held(self):
+        end = 1 << 63
+        self.assertEqual([held(it) for it in (end - 1, 1 - end)], [end - 1, 1 - end])
+        self.assertEqual([held(it) for it in (end, -end)], [str(end), str(-end)])
+
     def test_ids(self):
         self.assertEqual(id_of(" 1,000 "), 1000)
         self.assertEqual(id_of("0xff"), 255)
