@@ -3,6 +3,7 @@
 callers that do not wait; what a session that is abandoned means, logs and reprs."""
 import asyncio
 import os
+import pwd
 import struct
 import sys
 import tempfile
@@ -687,6 +688,42 @@ class Asynchronous(unittest.IsolatedAsyncioTestCase):
         self.go_on.set()
         self.assertEqual(await first, [])
         self.assertEqual(await self.client.lookup_transfers([12]), [])
+
+
+class Ranges(unittest.TestCase):
+    """Client ids whose upper 64 bits are a peer's number."""
+
+    def test_ids(self):
+        server = InProcess()
+        sessions = [Session.register(server, client_range=it) for it in (0, 1, 1, 2**64 - 1)]
+        self.assertEqual([it.client >> 64 for it in sessions], [0, 1, 1, 2**64 - 1])
+        self.assertEqual(len({it.client for it in sessions}), 4)
+        for wrong in (-1, 2**64, "1", 1.0):
+            with self.assertRaises(tb.Invalid):
+                Session.register(server, client_range=wrong)
+            with self.assertRaises(tb.Invalid):
+                ClientSync(0, "3000", client_range=wrong)
+
+    def test_after_an_eviction(self):
+        server = InProcess(clients_max=1)
+        with over(server, client_range=16) as client:
+            client.create_accounts([account(1)])
+            Session.register(server)
+            client.lookup_accounts([1])
+        registered = [it for it in map(asked, server.frames) if it[3] == tb.Operation.register]
+        self.assertEqual([it[0] >> 64 for it in (registered[0], registered[2])], [16, 16])
+
+    def test_who_is_not_let_in(self):
+        with tempfile.TemporaryDirectory() as folder:
+            clients = os.path.join(folder, "clients")
+            with open(clients, "w") as file:
+                file.write(f"user {pwd.getpwuid(os.getuid()).pw_name} 16\n")
+            with Running("--clients", clients, folder=folder) as listener:
+                with ClientSync(0, listener.path, client_range=16) as client:
+                    self.assertEqual(client.create_accounts([account(1)]), [])
+                with ClientSync(0, listener.path, client_range=17) as client:
+                    with self.assertRaisesRegex(tb.ReplyLost, "ClientNotAllowed"):
+                        client.lookup_accounts([1])
 
 
 class Abandoned(unittest.TestCase):

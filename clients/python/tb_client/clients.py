@@ -10,6 +10,7 @@ from types import TracebackType
 from typing import Any, Callable, Iterable, List, Optional, Type, TypeVar, Union, cast
 
 from .errors import CannotConnect, InvalidType, InvalidValue, ReplyLost
+from .ids import new_client
 from .names import Operation
 from .pools import Call, Pool
 from .records import Account, CreateAccountsResult, CreateTransfersResult, Transfer
@@ -36,7 +37,8 @@ class _Client:
     Up to `sessions` requests go out at once, and the server has places for 64 sessions in all. With
     one session, which is the default, requests are executed in the order of the calls. A call waits
     until its answer is there, whatever is lost and whoever ends meanwhile; with `timeout` it waits
-    so many seconds. `connect` makes a transport in place of a Socket to the addresses."""
+    so many seconds. `connect` makes a transport in place of a Socket to the addresses.
+    With `client_range` the clients' ids are those whose upper 64 bits are that number."""
 
     def __init__(
         self,
@@ -47,17 +49,20 @@ class _Client:
         timeout: Optional[float] = None,
         tls: Optional[ssl.SSLContext] = None,
         connect: Optional[Callable[[], Transport]] = None,
+        client_range: Optional[int] = None,
     ) -> None:
         self.cluster_id = whole("cluster_id", cluster_id, U128)
         self.replica_addresses = replica_addresses
         self.timeout = None if timeout is None else seconds("timeout", timeout, 0.001)
         self._sessions = whole("sessions", sessions, SESSIONS_MAX, 1)
+        new_client(client_range)  # which refuses what is no range
         if connect is None:
             places = addresses_of(replica_addresses)
             Socket(places, tls=tls).close()  # which refuses what it can't take
-            self._pool = Pool(lambda: Socket(places, tls=tls), self._sessions, None)
+            self._pool = Pool(lambda: Socket(places, tls=tls), self._sessions, None, client_range)
         else:
-            self._pool = Pool(callable_of("connect", connect), self._sessions, JUMP_MAX)
+            made = callable_of("connect", connect)
+            self._pool = Pool(made, self._sessions, JUMP_MAX, client_range)
 
     def __repr__(self) -> str:
         many = "1 session" if self._sessions == 1 else f"{self._sessions} sessions"

@@ -4,7 +4,9 @@ from __future__ import annotations
 import os
 import threading
 import time
-from typing import Callable
+from typing import Callable, Optional
+
+from .values import U64, whole
 
 RANDOM_BITS = 80
 MILLISECOND = 1_000_000  # nanoseconds
@@ -58,3 +60,12 @@ def id() -> int:
     """A new id of 128 bits: 48 bits of milliseconds since 1970, and 80 random ones. It is above
     each earlier one of this process, in any thread, and neither 0 nor 2^128 - 1."""
     return _ids.next()
+
+
+def new_client(client_range: Optional[int] = None) -> int:
+    """The id of a new client: any, or one whose upper 64 bits are this number."""
+    if client_range is None:
+        return id()
+    upper = whole("client_range", client_range, U64)
+    lower: int = 1 + int.from_bytes(os.urandom(8), "little") % U64  # so that no id is 0
+    return upper << 64 | lower

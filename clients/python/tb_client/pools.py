@@ -12,13 +12,14 @@ from typing import Any, Callable, Deque, Iterable, List, Optional, Tuple
 
 from .errors import Busy, CannotConnect, Closed, Evicted, NoMemory, NotSent, NotYet, ReplyLost
 from .frames import body_of
-from .ids import id as new_id
+from .ids import new_client
 from .joined import CREATES, answers, is_linked, settled
 from .layout import ITEM_SIZES, ITEMS_MAX, RECORD
 from .names import Operation
 from .sessions import PAUSE, Session, pauses_from
 from .transports import Transport, close_transport
 
+FORBIDDEN = ("NotAllowed", "ClientNotAllowed")  # what the server tells who may not come
 log = logging.getLogger("tb_client")
 
 
@@ -50,9 +51,14 @@ class Pool:
     when they are needed. Calls are answered in their order where there is one session."""
 
     def __init__(
-        self, connect: Callable[[], Transport], sessions: int, jump_max: Optional[float]
+        self,
+        connect: Callable[[], Transport],
+        sessions: int,
+        jump_max: Optional[float],
+        client_range: Optional[int],
     ) -> None:
-        self._connect, self._sessions, self._jump_max = connect, sessions, jump_max
+        self._connect, self._sessions = connect, sessions
+        self._jump_max, self._client_range = jump_max, client_range
         self._calls: Deque[Call] = collections.deque()
         self._changed = threading.Condition()
         self._workers: List[Worker] = []
@@ -70,7 +76,7 @@ class Pool:
             if self._stopped.is_set():
                 raise Closed("this client was closed")
             if self._idle <= len(self._calls) and len(self._workers) < self._sessions:
-                self._workers.append(Worker(self, self._connect(), self._jump_max))
+                self._workers.append(Worker(self, self._connect()))
                 self._workers[-1].start()
             self._calls.append(call)
             self._changed.notify()
@@ -108,8 +114,18 @@ class Pool:
                 call.may_be_sent = False
                 self._calls.appendleft(call)
 
+    def new_session(self, transport: Transport) -> Session:
+        """A session that is to be registered. Each of its calls sends once."""
+        client = new_client(self._client_range)
+        session = Session(transport, client, attempts=1, jump_max=self._jump_max)
+        session.prepare(Operation.register)
+        return session
+
     def pause(self, seconds: float, why: Exception) -> None:
-        """Waits before the same bytes are sent again. At the client's end `why` is raised."""
+        """Waits before the same bytes are sent again. At the client's end `why` is raised, and
+        where the server does not let this client in."""
+        if isinstance(why, ReplyLost) and why.told in FORBIDDEN:
+            raise why
         log.info("sent again in %.2f s: %s", seconds, why)
         if self._stopped.wait(seconds):
             raise why
@@ -139,9 +155,9 @@ def _may_join(last: Call, count: int, call: Call) -> bool:
 class Worker(threading.Thread):
     """A thread that answers calls, over a session that it registers when it needs one."""
 
-    def __init__(self, pool: Pool, transport: Transport, jump_max: Optional[float]) -> None:
+    def __init__(self, pool: Pool, transport: Transport) -> None:
         super().__init__(name="tb_client", daemon=True)
-        self._pool, self._transport, self._jump_max = pool, transport, jump_max
+        self._pool, self._transport = pool, transport
         self._session: Optional[Session] = None
 
     def run(self) -> None:
@@ -217,8 +233,7 @@ class Worker(threading.Thread):
     def _registered(self) -> Session:
         """The session, registered. `CannotConnect` where nothing answers."""
         if self._session is None:
-            self._session = Session(self._transport, new_id(), attempts=1, jump_max=self._jump_max)
-            self._session.prepare(Operation.register)
+            self._session = self._pool.new_session(self._transport)
         session, patience = self._session, _Patience()
         while not session.session:
             try:

@@ -50,7 +50,7 @@ from .frames import (
     said_by,
     test_said,
 )
-from .ids import id as new_id
+from .ids import new_client
 from .layout import NUMBER_MAX, SECOND
 from .names import Operation, Status
 from .records import Account, EventResult, Transfer
@@ -184,16 +184,18 @@ class Session(Closing):
         transport: Transport,
         client: Optional[int] = None,
         *,
+        client_range: Optional[int] = None,
         attempts: int = ATTEMPTS,
         now: Callable[[], int] = time.time_ns,
         jump_max: Optional[float] = JUMP_MAX,
         pause: float = PAUSE,
     ) -> S:
         """Registers the client, and answers its new session. Where no id is given the client has
-        a new one."""
+        a new one; with `client_range` one whose upper 64 bits are that number, for a listener that
+        lets each peer have a range."""
         self = cls(
             transport,
-            new_id() if client is None else client,
+            new_client(client_range) if client is None else client,
             attempts=attempts,
             now=now,
             jump_max=jump_max,
