@@ -136,7 +136,7 @@ def waits(faults, traffic):
 def part_faults(given):
     """Faults of all kinds under 24 clients."""
     with cluster_of(given) as cluster:
-        traffic = Traffic(cluster.tcp, 24, pause=0.02, spread=True)
+        traffic = Traffic(cluster.tcp, 24, pause=given.pause, spread=True)
         traffic.open_accounts()
         traffic.start()
         faults = Faults(cluster, given.seed, given.kinds)
@@ -423,6 +423,12 @@ def words():
     )
     parser.add_argument("--seed", type=int, default=1, help="of the order of faults (1)")
     parser.add_argument("--replica", metavar="KIND", help="a wrong replica")
+    parser.add_argument(
+        "--pause",
+        type=float,
+        default=0.1,
+        help="seconds between two requests of a client of the first part (0.1)",
+    )
     parser.add_argument("--follow", metavar="PROGRAM", help="tb_follow, as the replicas' server")
     parser.add_argument("--show", action="store_true", help="tell what happens")
     parser.add_argument("--seconds", type=int, default=60, help="how long --show takes (60)")
