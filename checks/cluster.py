@@ -121,15 +121,18 @@ def agree(name, cluster, traffic, trimmed=False):
 
 
 def waits(faults, traffic):
-    """Prints for each kind of fault how long clients waited whose requests were in flight."""
+    """Prints how long each client waited at most, from each fault until a second after its end."""
     for kind in Faults.KINDS:
-        found = [traffic.waits_at(start, end) for it, start, end in faults.done if it == kind]
-        first = [wait for waits, _ in found for wait in waits]
-        if first:
-            middle, most = statistics.median(first), max(longest for _, longest in found)
+        found = [
+            wait
+            for it, start, end in faults.done
+            if it == kind
+            for wait in traffic.waits_between(start, end + 1)
+        ]
+        if found:
             print(
-                f"  {kind}: {len(found)} times; clients waited {middle:.2f} s at the median, "
-                f"{most:.1f} s at most"
+                f"  {kind}: {len(found) // len(traffic.clients)} times; a client waited "
+                f"{statistics.median(found):.2f} s at the median, {max(found):.1f} s at most"
             )
 
 
@@ -141,7 +144,7 @@ def part_faults(given):
         traffic.start()
         faults = Faults(cluster, given.seed, given.kinds)
         for _ in range(0, given.faults, 13):
-            faults.some(min(13, given.faults - len(faults.done)))
+            faults.some(min(13, given.faults - len(faults.done)), given.between)
             named = restarted(cluster)
             if named:
                 case("faults: a replica ended", False, "; ".join(named))
@@ -423,6 +426,9 @@ def words():
     )
     parser.add_argument("--seed", type=int, default=1, help="of the order of faults (1)")
     parser.add_argument("--replica", metavar="KIND", help="a wrong replica")
+    parser.add_argument(
+        "--between", type=float, default=0.5, help="seconds between two faults, on average (0.5)"
+    )
     parser.add_argument(
         "--pause",
         type=float,

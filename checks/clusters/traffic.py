@@ -116,14 +116,12 @@ class Traffic:
     def evictions(self):
         return sum(it.evictions for it in self.clients)
 
-    def waits_at(self, start, end):
-        """How long those waited whose requests were in flight at the start, and the longest wait
-        until the end."""
-        spans = [(at - wait, at) for it in self.clients for at, wait in it.waits]
-        first = [at - begin for begin, at in spans if begin <= start <= at]
-        return first, max(
-            (at - begin for begin, at in spans if begin <= end and start <= at), default=0.0
-        )
+    def waits_between(self, start, end):
+        """The longest wait of each client for a request that it had between these times."""
+        return [
+            max((wait for at, wait in it.waits if at - wait <= end and start <= at), default=0.0)
+            for it in self.clients
+        ]
 
     def posted(self):
         return posted_at(*(port for _, port in self.addresses))
