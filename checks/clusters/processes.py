@@ -36,10 +36,11 @@ class Process:
 
     def __init__(self, name, words, folder):
         self.name, self.words, self.log = name, words, f"{folder}/{name}.log"
-        self.process = None
+        self.process, self.since = None, 0
 
     def start(self):
         with open(self.log, "ab") as log:
+            self.since = log.tell()
             self.process = subprocess.Popen(
                 self.words, stdin=subprocess.DEVNULL, stdout=log, stderr=log, cwd=CLIENT
             )
@@ -65,9 +66,14 @@ class Process:
             self.kill()
             return None
 
-    def said(self):
+    def said(self, since=0):
         with open(self.log, encoding="utf-8", errors="replace") as file:
+            file.seek(since)
             return file.read()
+
+    def listens(self):
+        """Whether it serves since its last start."""
+        return "listens on" in self.said(self.since)
 
     def children(self):
         """The processes that it started: the server, and its shell."""
@@ -150,7 +156,7 @@ class Machines:
             self.until_listens(at)
 
     def until_listens(self, at, seconds=90):
-        until(lambda: is_open(self.tcp[at]), seconds, f"{self.replicas[at].name} listens")
+        until(self.replicas[at].listens, seconds, f"{self.replicas[at].name} listens")
 
     def part(self, *words, seconds=60):
         """Runs a part of tb-replica, as status. Answers its status, and what it printed."""

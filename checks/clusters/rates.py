@@ -7,7 +7,7 @@ import sys
 import tempfile
 import time
 
-from processes import CLIENT, HERE, PYTHON, TOP, Process, free_ports, is_open, until
+from processes import CLIENT, HERE, PYTHON, TOP, Process, free_ports, until
 
 TBD = os.environ.get("TBD", f"{TOP}/crates/tbd/out/tbd")
 LOADS = (("24 clients with single transfers", 24, 1), ("1 client with batches of 8190", 1, 8190))
@@ -22,7 +22,7 @@ def listener():
         it = Process("listener", [*words, TBD, "run", f"{folder}/ledger.tbk", "64"], folder)
         it.start()
         try:
-            until(lambda: is_open(port), 60, "the listener listens")
+            until(it.listens, 60, "the listener listens")
             yield port
         finally:
             it.end()
