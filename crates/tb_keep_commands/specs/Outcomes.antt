@@ -1,6 +1,6 @@
 -- What each form does, and how a command ends: its outcome, exit status and line.
 -- Cited by public contracts of: commands.
-use Rattle.std.specs.Prelude.{ℕ, ◌≡◌, ◌-◌, List, [], length, Result, Ok, Err, IfOk}
+use Rattle.std.specs.Prelude.{ℕ, true, ◌≡◌, ◌-◌, List, [], length, Result, Ok, Err, IfOk}
 use Rattle.tb_records.specs.Transport.{Input, Output, Sent, CutOff}
 use Rattle.tb_journal.specs.declared.faults.Fault as journal
 use Rattle.tb_journal.specs.Device.{Disk, Looks, LeavesOnly}
@@ -10,7 +10,7 @@ use Rattle.tb_keep.specs.declared.faults.StartFault.{StartFault}
 use Rattle.tb_keep.specs.declared.heads.Rules.{Rules}
 use Rattle.tb_keep.specs.declared.opening.NotKept.{NotKept}
 use Rattle.tb_keep.specs.Keeping.{Keeping}
-use Rattle.tb_keep.specs.Opening.{IsStarted, IsStartRefused, MayBeStarted, HasEitherCause, device_left, why_left}
+use Rattle.tb_keep.specs.Opening.{IsStarted, StartsFile, IsStartRefused, MayBeStarted, HasEitherCause, device_left, why_left}
 use Rattle.tb_keep.specs.Reading.{Dumps, HasDumpCause, rules_of}
 use Rattle.tb_keep.specs.Restoration.{HasStartCause}
 use Rattle.tb_keep.specs.Rounds.{Served}
@@ -113,16 +113,16 @@ module _ (tells : Type 0) {D : Type 0} (disk : D → Disk) (holds : D → List �
     pub served : Served tells disk result keeper after first last start written
     pub outcome_is : outcome ≡ kept_outcome result
 
-  -- what a start over a device answers, of one that tells what its calls do
+  -- what a start over a device answers, of one that tells what its calls do; of one that is kept, where no sync has failed before
   abbrev pub StartAnswers : Result (Keeping D) (NotKept D) → Rules → D → Type 0
-  StartAnswers (Ok keeper) rules device = IsStarted disk rules.profile rules.clients_max (disk device).seen keeper
+  StartAnswers (Ok keeper) rules device = (disk device).sound ≡ true → IsStarted disk rules.profile rules.clients_max (disk device).seen keeper
   StartAnswers (Err failed) rules device = IsStartRefused rules.profile rules.clients_max failed.fault (disk device) (disk failed.device)
 
   pub record Starts (result : Result (Keeping D) (NotKept D)) (rules : Rules) (device : D) : Type 0 where
     pub answers : StartAnswers result rules device
     pub cause : HasEitherCause (why_left result) (disk device) (disk (device_left result))
-    -- a crash at any moment of it
-    pub any_moment : LeavesOnly (disk device) (disk (device_left result)) (MayBeStarted rules.profile rules.clients_max (disk device))
+    -- a crash at any moment of it, where none has
+    pub any_moment : (disk device).sound ≡ true → LeavesOnly (disk device) (disk (device_left result)) (MayBeStarted rules.profile rules.clients_max (disk device))
 
   -- a ledger that was started was kept; where none was nothing was read, written or told but why
   abbrev pub ServesStarted : Result (Keeping D) (NotKept D) → Outcome → ℕ → Input → Input → Output → Output → Output → Output → Type 0
@@ -133,6 +133,7 @@ module _ (tells : Type 0) {D : Type 0} (disk : D → Disk) (holds : D → List �
   pub record ServesLong (outcome : Outcome) (rules : Rules) (len : ℕ) (device : D) (first last : Input) (start written quiet told : Output) : Type 0 where
     pub started : Result (Keeping D) (NotKept D)
     pub starts : tells → Starts started rules device
+    pub handed : OfFile device (StartsFile started rules.profile rules.clients_max)
     pub serves : ServesStarted started outcome len first last start written quiet told
 
   abbrev pub ServesBy : Result ℕ journal.Fault → Outcome → Rules → D → Input → Input → Output → Output → Output → Output → Type 0

@@ -45,8 +45,14 @@ opening_fault_of kinds.PermissionDenied = opening.Forbidden
 opening_fault_of kinds.OutOfMemory = opening.NoMemory
 opening_fault_of kind = opening.Unopened
 
+-- a sync fails for want of memory, or what was written may be lost
+abbrev pub sync_fault : journal.Fault → OpeningFault
+sync_fault disk.Memory = opening.NoMemory
+sync_fault fault = opening.SyncFailed
+
 abbrev pub opening_fault : FileFault → OpeningFault
 opening_fault file.Locked = opening.Locked
+opening_fault (file.Sync fault) = sync_fault fault
 opening_fault (file.System error) = opening_fault_of (error_kind error)
 
 abbrev pub words_fault_of : ErrorKind → Fault
@@ -104,6 +110,7 @@ fault_status (Opening opening.Locked) = 4
 fault_status (Opening opening.Missing) = 1
 fault_status (Opening opening.Forbidden) = 1
 fault_status (Opening opening.NoMemory) = 1
+fault_status (Opening opening.SyncFailed) = 9
 fault_status (Opening opening.Unopened) = 1
 fault_status Usage = 2
 fault_status (Request fault) = 2
@@ -120,12 +127,16 @@ damage_text (Record place fault) = codes "record " ++ decimal place ++ (codes ":
 damage_text (Entry fault) = codes "record " ++ decimal fault.place ++ (codes ": " ++ unfit_name fault.cause)
 damage_text (Torn at bytes) = (decimal bytes ++ codes " bytes behind byte ") ++ (decimal at ++ codes ", more than one batch can have")
 
+abbrev pub sync_text : List ℕ
+sync_text = codes "SyncFailed: restart the machine or copy the file before the next start"
+
 -- why a file was not opened; where the words may be wrong they are told
 abbrev pub opening_text : OpeningFault → List ℕ → List ℕ
 opening_text opening.Locked path = codes "Locked: another program has the file open"
 opening_text opening.Missing path = codes "Device: cannot find " ++ path
 opening_text opening.Forbidden path = codes "Device: no permission to open " ++ path
 opening_text opening.NoMemory path = codes "NoMemory"
+opening_text opening.SyncFailed path = sync_text
 opening_text opening.Unopened path = codes "Device: cannot open " ++ path
 
 -- the fault's name, and words behind it where there is more to say, of a file with this path
@@ -140,7 +151,7 @@ fault_text NoHead path = codes "NotAJournal: the first record is no ledger's hea
 fault_text (Damaged damage) path = codes "Damaged: " ++ damage_text damage
 fault_text OtherRules path = codes "OtherRules: tbd check shows those that the file was made with"
 fault_text Full path = codes "Full"
-fault_text SyncFailed path = codes "SyncFailed: restart the machine or copy the file before the next start"
+fault_text SyncFailed path = sync_text
 
 -- a line went out, or a prefix of it, where the writer failed or took nothing
 abbrev pub SaysLine : List ℕ → Output → Output → Type 0

@@ -149,13 +149,13 @@ impl Fault {
     {
         match self {
             Fault::Opening(OpeningFault::Locked) => 4,
+            Fault::Opening(OpeningFault::SyncFailed) | Fault::SyncFailed => 9,
             Fault::Device | Fault::NoMemory | Fault::Opening(_) => 1,
             Fault::Usage | Fault::Request(_) => 2,
             Fault::NotAJournal | Fault::NoHead => 5,
             Fault::Damaged(_) => 6,
             Fault::OtherRules => 7,
             Fault::Full => 8,
-            Fault::SyncFailed => 9,
         }
     }
 }

@@ -96,6 +96,10 @@ fn put_opening<E: Sink>(faults: &mut E, fault: OpeningFault, path: &str) -> Resu
         OpeningFault::Missing => put_both(faults, "Device: cannot find ", path),
         OpeningFault::Forbidden => put_both(faults, "Device: no permission to open ", path),
         OpeningFault::NoMemory => put_all(faults, b"NoMemory"),
+        OpeningFault::SyncFailed => put_all(
+            faults,
+            b"SyncFailed: restart the machine or copy the file before the next start",
+        ),
         OpeningFault::Unopened => put_both(faults, "Device: cannot open ", path),
     }
 }

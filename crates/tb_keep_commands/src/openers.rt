@@ -4,7 +4,7 @@ ghost use Rattle.tb_keep_commands.specs.declared.openers.OpeningFault.{OpeningFa
 ghost use Rattle.tb_keep_commands.specs.Statuses.{opening_fault};
 
 use std::io::ErrorKind;
-use tb_journal::{Device, FileFault};
+use tb_journal::{Device, Fault, FileFault};
 
 /// Why a device was not opened.
 #[derive(Clone, Copy, Debug, PartialEq, Eq)]
@@ -17,6 +17,8 @@ pub enum OpeningFault {
     Forbidden,
     /// There is no memory.
     NoMemory,
+    /// A sync of it failed.
+    SyncFailed,
     /// It cannot be opened.
     Unopened,
 }
@@ -27,6 +29,8 @@ pub fn opening_fault(fault: &FileFault) -> OpeningFault
 {
     match fault {
         FileFault::Locked => OpeningFault::Locked,
+        FileFault::Sync(Fault::Memory) => OpeningFault::NoMemory,
+        FileFault::Sync(_) => OpeningFault::SyncFailed,
         FileFault::System(error) => match error.kind() {
             ErrorKind::NotFound => OpeningFault::Missing,
             ErrorKind::PermissionDenied => OpeningFault::Forbidden,

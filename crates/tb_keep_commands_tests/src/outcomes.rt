@@ -135,6 +135,12 @@ const OPENINGS: &[(Words, OpeningFault, u8, Line)] = &[
     (DUMP, OpeningFault::NoMemory, 1, "tbd: NoMemory\n"),
     (
         RUN,
+        OpeningFault::SyncFailed,
+        9,
+        "tbd: SyncFailed: restart the machine or copy the file before the next start\n",
+    ),
+    (
+        RUN,
         OpeningFault::Locked,
         4,
         "tbd: Locked: another program has the file open\n",

@@ -2,7 +2,7 @@
 use crate::files::Has;
 use crate::rows::{Out, Row, WELL, run};
 use std::io::{self, ErrorKind};
-use tb_journal::FileFault;
+use tb_journal::{Fault as DiskFault, FileFault};
 use tb_keep_commands::{Fault, OpeningFault, USAGE, opening_fault, words_fault};
 
 /// Words that are no form.
@@ -93,6 +93,8 @@ fn texts_are_printed(rt: HostRuntime) {
 fn a_fault_of_the_system_is_told_as_what_it_is(rt: HostRuntime) {
     let found = |kind| opening_fault(&FileFault::System(io::Error::from(kind)));
     assert!(rt; opening_fault(&FileFault::Locked) == OpeningFault::Locked);
+    assert!(rt; opening_fault(&FileFault::Sync(DiskFault::SyncFailed)) == OpeningFault::SyncFailed);
+    assert!(rt; opening_fault(&FileFault::Sync(DiskFault::Memory)) == OpeningFault::NoMemory);
     assert!(rt; found(ErrorKind::NotFound) == OpeningFault::Missing);
     assert!(rt; found(ErrorKind::PermissionDenied) == OpeningFault::Forbidden);
     assert!(rt; found(ErrorKind::OutOfMemory) == OpeningFault::NoMemory);

@@ -8,3 +8,6 @@ returns-in-Missing g c = rw c.in-Missing.is c.put_both.ensures
 
 pub returns-in-Unopened : goal.returns-in-Unopened
 returns-in-Unopened g c = rw c.in-Unopened.is c.put_both-in-Unopened.ensures
+
+pub returns-in-SyncFailed : goal.returns-in-SyncFailed
+returns-in-SyncFailed g c = rw c.in-SyncFailed.is c.put_all-in-SyncFailed.ensures

@@ -5,6 +5,7 @@ pub returns-in-Ok : goal.returns-in-Ok
 returns-in-Ok g c = record {
   started = Ok c.in-Ok.keeper;
   starts = λ t. record { answers = c.in-Ok.ensures.started t; cause = c.in-Ok.ensures.cause t; any_moment = c.in-Ok.ensures.any_moment t };
+  handed = c.in-Ok.ensures.handed;
   serves = c.serve.ensures;
 }
 
@@ -12,5 +13,6 @@ pub returns-in-Err : goal.returns-in-Err
 returns-in-Err g c = record {
   started = Err c.in-Err.failed;
   starts = λ t. record { answers = c.in-Err.ensures.refused t; cause = c.in-Err.ensures.cause t; any_moment = c.in-Err.ensures.any_moment t };
+  handed = c.in-Err.ensures.handed;
   serves = (rw c.refused.ensures refl, refl, refl, refl);
 }
