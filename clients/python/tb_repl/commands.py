@@ -156,8 +156,22 @@ def arguments() -> argparse.ArgumentParser:
     parser.add_argument("--clients-max", metavar="N", type=int, default=64, help="1 to 64 (64)")
     parser.add_argument("--profile", metavar="N", type=int, default=1, help="1 or 2 (1)")
     parser.add_argument("--client", metavar="ID", type=int, help="the client's id (drawn)")
+    parser.add_argument(
+        "--client-range",
+        metavar="N",
+        type=int,
+        help="the upper 64 bits of the client's id, where the server gives each peer a range",
+    )
     parser.add_argument("--json", action="store_true", help="answers as JSON, a line each")
     return parser
+
+
+def drawn_client(given: argparse.Namespace) -> int:
+    """The client's id where none is given: 1 of a server of this command's own, else a random one
+    of the range."""
+    if given.client_range is not None:
+        return int(given.client_range) << 64 | (secrets.randbits(64) or 1)
+    return secrets.randbits(127) + 1 if given.connect else 1
 
 
 def main() -> int:
@@ -167,8 +181,10 @@ def main() -> int:
         parser.error("--key comes with --certificate")
     if given.client is not None and not 0 < given.client < 2**128:
         parser.error("--client is 1 to 2^128 - 1")
+    if given.client_range is not None and not 0 <= given.client_range < 2**64:
+        parser.error("--client-range is 0 to 2^64 - 1")
     tbt = Tbt(found("tbt", given.tbt, "--tbt"))
-    client = given.client or (1 if not given.connect else secrets.randbits(127) + 1)
+    client = given.client or drawn_client(given)
     lines = Lines()
 
     def tell(text: str) -> None:
