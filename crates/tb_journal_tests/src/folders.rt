@@ -7,7 +7,7 @@ use std::io::{Read, Seek, SeekFrom, Write};
 use std::os::unix::fs::symlink;
 use std::path::PathBuf;
 use std::{fs, io};
-use tb_journal::{FileFault, Real, sync_folder};
+use tb_journal::{Fault, FileFault, Real, sync_folder};
 
 /// A system that counts how often a folder is opened.
 #[derive(Drop)]
@@ -203,8 +203,18 @@ impl<'a, R: Files> Files for Folders<'a, R> {
     }
 }
 
-/// Syncs the folder of a path, which is to be this folder. Says whether that was done, and how often it was synced.
-fn synced_folder<R: Files + Alloc>(rt: &R, path: &str, folder: &str, fails: bool) -> (bool, u32) {
+/// What came of a folder that is to be synced.
+#[derive(Clone, Copy, PartialEq, Eq)]
+enum Came {
+    Synced,
+    /// The sync failed so.
+    Failed(Fault),
+    /// No folder was opened.
+    Unopened,
+}
+
+/// Syncs the folder of a path, which is to be this folder. Says what came of it, and how often it was synced.
+fn synced_folder<R: Files + Alloc>(rt: &R, path: &str, folder: &str, fails: bool) -> (Came, u32) {
     let synced = Cell::new(0);
     let done = sync_folder(
         &Folders {
@@ -215,7 +225,12 @@ fn synced_folder<R: Files + Alloc>(rt: &R, path: &str, folder: &str, fails: bool
         },
         path,
     );
-    (done.is_ok(), synced.get())
+    let came = match done {
+        Ok(()) => Came::Synced,
+        Err(FileFault::Sync(fault)) => Came::Failed(fault),
+        Err(_) => Came::Unopened,
+    };
+    (came, synced.get())
 }
 
 #[test]
@@ -227,9 +242,16 @@ fn folders_are_synced(rt: HostRuntime) {
         ("/a/ledger.tbk", "/a"),
     ];
     for (path, folder) in rows {
-        expect(&rt, synced_folder(&rt, path, folder, false) == (true, 1));
-        expect(&rt, synced_folder(&rt, path, folder, true) == (false, 0));
-        expect(&rt, synced_folder(&rt, path, "other", false) == (false, 0));
+        let failed = Came::Failed(Fault::SyncFailed);
+        expect(
+            &rt,
+            synced_folder(&rt, path, folder, false) == (Came::Synced, 1),
+        );
+        expect(&rt, synced_folder(&rt, path, folder, true) == (failed, 0));
+        expect(
+            &rt,
+            synced_folder(&rt, path, "other", false) == (Came::Unopened, 0),
+        );
     }
 }
 

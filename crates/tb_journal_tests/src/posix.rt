@@ -115,6 +115,23 @@ fn syncs_that_fail(rt: HostRuntime) {
 }
 
 #[test]
+fn a_sync_that_fails_at_the_opening(rt: HostRuntime) {
+    for (kind, want) in [
+        (ErrorKind::OutOfMemory, Fault::Memory),
+        (ErrorKind::Uncategorized, Fault::SyncFailed),
+        (ErrorKind::StorageFull, Fault::SyncFailed),
+    ] {
+        let mut odd = Odd::empty(rt.alloc());
+        odd.fails = Some((Call::Sync, kind));
+        expect(&rt, Posix::synced(odd).err() == Some(want));
+    }
+    let mut odd = odd_of(&rt, rt.alloc(), b"abc", 5, 2);
+    odd.fails = Some((Call::Write, ErrorKind::StorageFull));
+    let device = sure(&rt, Posix::synced(odd));
+    expect_bytes(&rt, &device.system().bytes, b"abc");
+}
+
+#[test]
 fn a_disk_that_is_full(rt: HostRuntime) {
     for space in 0..12usize {
         let mut odd = Odd::empty(rt.alloc());

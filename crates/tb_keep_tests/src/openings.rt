@@ -6,7 +6,7 @@ ghost use Rattle.tb_journal.specs.Ready.{IsReady};
 use crate::scripts::{bytes_of, change, created, expect, file_of, outcome, rules, same, sure};
 use std::alloc::Global;
 use std::process::Abort;
-use tb_journal::{Fault, Journal, Memory, OpenFault, Refusal};
+use tb_journal::{Device, Fault, Journal, Memory, OpenFault, Refusal};
 use tb_keep::{Keeper, Rules, StartFault, create};
 use tb_machine::{RestoreFault, Unfit};
 use tb_records::{ClientsMax, FrameFault, Profile};
@@ -267,9 +267,30 @@ fn is_kept_or_new(left: &[u8], bytes: &[u8], opened: bool) -> bool {
     same(left, bytes) || opened && is_new(left)
 }
 
+/// A file of these bytes on which a sync has failed.
+fn unsynced(rt: &impl Abort, alloc: Global, bytes: &[u8]) -> Memory {
+    let mut file = file_of(rt, alloc, bytes);
+    file.fail_at(1);
+    expect(rt, file.sync() == Err(Fault::SyncFailed));
+    file
+}
+
 /// `start` opens what is there, and creates where nothing is.
 fn expect_start(rt: &impl Abort, alloc: Global, bytes: &[u8], want: Option<StartFault>) {
     let file = file_of(rt, alloc, bytes);
+    expect_start_over(rt, alloc, file, bytes, want);
+    let file = unsynced(rt, alloc, bytes);
+    expect_start_over(rt, alloc, file, bytes, want);
+}
+
+/// The same over a file of these bytes.
+fn expect_start_over(
+    rt: &impl Abort,
+    alloc: Global,
+    file: Memory,
+    bytes: &[u8],
+    want: Option<StartFault>,
+) {
     let (found, left) = outcome(rt, alloc, Keeper::start(alloc, file, rules(rt)));
     expect(rt, found == want);
     expect(rt, is_kept_or_new(&left, bytes, want.is_none()));
