@@ -2,6 +2,7 @@ pub mod Answered
 pub mod Audits
 pub mod Completed
 pub mod Ends
+pub mod Explained
 pub mod Heads
 pub mod Forms
 pub mod Names

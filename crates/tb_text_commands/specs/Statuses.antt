@@ -48,8 +48,8 @@ fault_line TimeExhausted = line_named (codes "TimeExhausted")
 fault_line TooLong = line_named (codes "TooLong")
 fault_line (Frame fault) = line_named (fault_name fault)
 fault_line (Dump fault) = line_named (dump_fault_name fault)
-fault_line (Arguments line) = line.items
-fault_line (Text line) = line.items
+fault_line (Arguments line) = line.bytes.items
+fault_line (Text line) = line.bytes.items
 fault_line WasTold = []
 
 -- what is written of a fault: its line, or the page of usage

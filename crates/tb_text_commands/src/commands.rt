@@ -16,7 +16,8 @@ use crate::intake::Intake;
 use crate::running::{Conversation, converse};
 use crate::script_standings::ScriptStandings;
 use crate::scripts::{Replies, Script, Statements, put};
-use std::alloc::Global;
+use crate::told_lines::Lines;
+use std::alloc::{AllocError, Global};
 use std::time::Clock;
 use tb_records::{Sink, Source};
 
@@ -59,13 +60,19 @@ fn perform<C: Clock, R: Source, W: Sink, E: Sink>(
     }
 }
 
+/// The line of words that are none of the program's forms, as a terminal is shown it.
+fn usage_line(alloc: Global, word: &str, rest: &[String]) -> Result<Lines, AllocError> {
+    let line = wrong_words(alloc, word, rest)?;
+    Lines::new(alloc, line.as_bytes())
+}
+
 /// The fault of words that are none of the program's forms. Where there is no memory to name one, it is told as no
 /// words are, by the page of usage, which needs none.
 fn usage_fault(alloc: Global, words: &[String]) -> Fault {
     match words {
         [] => Fault::Usage,
-        [word, rest @ ..] => match wrong_words(alloc, word.as_str(), rest) {
-            Ok(line) => Fault::Arguments(line.into_bytes()),
+        [word, rest @ ..] => match usage_line(alloc, word.as_str(), rest) {
+            Ok(line) => Fault::Arguments(line),
             Err(_) => Fault::Usage,
         },
     }

@@ -1,17 +1,14 @@
 //! Where and why `tbs` stops in a script or a dump, in words.
 ghost use Rattle.tb_text_commands.specs.Ends.{Ended};
 
-use crate::dumps::entry_of;
 use crate::faults::Fault;
 use crate::intake::Intake;
 use crate::scripts::put;
+use crate::stops::{Cause, DumpEnd, Place, ScriptEnd, Stop, dump_end, script_end};
 use std::alloc::{AllocError, Global};
 use std::format;
-use tb_machine::{Entry, Machine, status_of};
-use tb_records::dumps::{read_head_from, read_item_from};
-use tb_records::streams::read_timed_from;
-use tb_records::{Counting, DumpFault, DumpItem, FrameFault, LAST_MOMENT, Profile, Sink, Source};
-use tb_sessions::Class;
+use tb_machine::status_of;
+use tb_records::{DumpFault, FrameFault, Sink, Source};
 
 /// The bytes of which it is said whether they look like text.
 const SAMPLE: usize = 32;
@@ -62,168 +59,81 @@ fn hint(bytes: &[u8]) -> &'static str {
     }
 }
 
-/// Where `tbs` stops: at a pair or an entry, by its number and the bytes before it.
-#[derive(Clone, Copy)]
-struct Place {
-    unit: &'static str,
-    number: u64,
-    at: usize,
-}
-
 /// What is told where `tbs` stops.
-fn stops_at(alloc: Global, place: Place, words: &str, name: &str) -> Result<String, AllocError> {
-    let Place { unit, number, at } = place;
-    format!(in alloc; "{unit} {number}, at byte {at}: {words} ({name})\n")
-}
-
-/// What is told of a pair that cannot be read, which begins with these bytes.
-fn wrong_pair(
+fn stops_at(
     alloc: Global,
+    unit: &str,
     place: Place,
-    bytes: &[u8],
-    fault: FrameFault,
+    words: &str,
+    name: &str,
 ) -> Result<String, AllocError> {
-    let mut told = stops_at(alloc, place, frame_words(fault), fault.name())?;
-    told.push_str(hint(bytes))?;
-    Ok(told)
-}
-
-/// The moment of the next pair of a script.
-fn next_moment(alloc: Global, reader: &mut Counting<&[u8]>) -> Result<Option<u64>, FrameFault> {
-    Ok(read_timed_from(alloc, reader)?.map(|(moment, _)| moment))
+    let Place { number, at } = place;
+    format!(in alloc; "{unit} {number}, at byte {at}: {words} ({name})\n")
 }
 
 /// What is told of a script.
 fn explain_script(alloc: Global, bytes: &[u8]) -> Result<String, AllocError> {
-    let total = bytes.len();
-    let mut rest = bytes;
-    for number in 1..u64::MAX {
-        let at = total.saturating_sub(rest.len());
-        let place = Place {
-            unit: "pair",
-            number,
-            at,
-        };
-        let mut reader = Counting::new(rest);
-        match next_moment(alloc, &mut reader) {
-            Ok(Some(moment)) if moment > LAST_MOMENT => {
-                return stops_at(alloc, place, LATE, "TimeExhausted");
-            }
-            Ok(Some(_)) => {}
-            Ok(None) => {
-                let pairs = number - 1;
-                return format!(in alloc;
-                    "a script, {pairs} pairs in {total} bytes: tbs reads it to its end\n"
-                );
-            }
-            Err(fault) => return wrong_pair(alloc, place, rest, fault),
+    match script_end(alloc, bytes) {
+        ScriptEnd::Whole(pairs) => {
+            let total = bytes.len();
+            format!(in alloc; "a script, {pairs} pairs in {total} bytes: tbs reads it to its end\n")
         }
-        rest = reader.into_inner();
-    }
-    format!(in alloc; "too many pairs\n")
-}
-
-/// Why an entry may not come next.
-fn why_not(alloc: Global, machine: &Machine<Global>, entry: &Entry) -> Result<String, AllocError> {
-    let next = machine.commit() + 1;
-    if entry.commit != next {
-        let commit = entry.commit;
-        return format!(in alloc; "its commit number is {commit}, and {next} comes next");
-    }
-    let class = machine.class(&entry.request);
-    if !matches!(class, Class::New) {
-        let name = status_of(class).name();
-        return format!(in alloc; "its request is not new: {name}");
-    }
-    let time = entry.time;
-    let least = machine
-        .next_time(0, entry.request.body().event_count() as u64)
-        .unwrap_or(LAST_MOMENT);
-    format!(in alloc; "its time is {time}, where {least} to 2^63 - 1 is allowed")
-}
-
-/// Enters an entry, or tells why it may not come next.
-fn follow_entry(
-    alloc: Global,
-    machine: &mut Machine<Global>,
-    entry: Entry,
-    place: Place,
-) -> Result<Option<String>, AllocError> {
-    if machine.fits(&entry) {
-        machine.enter(entry).map_err(|_| AllocError)?;
-        return Ok(None);
-    }
-    let why = why_not(alloc, machine, &entry);
-    drop(entry);
-    Ok(Some(stops_at(alloc, place, why?.as_str(), "NotLegal")?))
-}
-
-/// Enters what stands next in a dump, or tells why it may not stand there. A mark goes over to profile 2.
-fn follow(
-    alloc: Global,
-    machine: &mut Machine<Global>,
-    item: DumpItem,
-    place: Place,
-) -> Result<Option<String>, AllocError> {
-    match entry_of(item) {
-        Some(entry) => follow_entry(alloc, machine, entry, place),
-        None if machine.profile() == Profile::Two => {
-            Ok(Some(stops_at(alloc, place, "a mark under profile 2", "Mark")?))
+        ScriptEnd::Late(place) => stops_at(alloc, "pair", place, LATE, "TimeExhausted"),
+        ScriptEnd::Wrong(place, fault) => {
+            let words = frame_words(fault);
+            let mut told = stops_at(alloc, "pair", place, words, fault.name())?;
+            told.push_str(hint(bytes.get(place.at..).unwrap_or_default()))?;
+            Ok(told)
         }
-        None => {
-            machine.move_to_two();
-            Ok(None)
-        }
+        ScriptEnd::TooLong => format!(in alloc; "too many pairs\n"),
     }
 }
 
-/// What is told of the entries of a dump, which stand behind its head. They are counted without a mark.
-fn explain_entries(
-    alloc: Global,
-    machine: &mut Machine<Global>,
-    bytes: &[u8],
-    entries: &[u8],
-) -> Result<String, AllocError> {
-    let total = bytes.len();
-    let mut rest = entries;
-    for _ in 0..u64::MAX {
-        let place = Place {
-            unit: "entry",
-            number: machine.commit().saturating_add(1),
-            at: total.saturating_sub(rest.len()),
-        };
-        let mut reader = Counting::new(rest);
-        match read_item_from(alloc, &mut reader) {
-            Ok(Some(item)) => {
-                if let Some(told) = follow(alloc, machine, item, place)? {
-                    return Ok(told);
-                }
-            }
-            Ok(None) => {
-                let commit = machine.commit();
-                return format!(in alloc;
-                    "a dump, {commit} entries in {total} bytes: tbs replays it to its end\n"
-                );
-            }
-            Err(fault) => return stops_at(alloc, place, dump_words(fault), fault.name()),
+/// Why an entry may not come next, in words.
+fn cause_words(alloc: Global, cause: Cause) -> Result<String, AllocError> {
+    match cause {
+        Cause::Commit(commit, next) => format!(in alloc;
+            "its commit number is {commit}, and {next} comes next"
+        ),
+        Cause::NotNew(class) => {
+            let name = status_of(class).name();
+            format!(in alloc; "its request is not new: {name}")
         }
-        rest = reader.into_inner();
+        Cause::Time(time, least) => format!(in alloc;
+            "its time is {time}, where {least} to 2^63 - 1 is allowed"
+        ),
     }
-    format!(in alloc; "too many entries\n")
+}
+
+/// What is told of an item that is not taken.
+fn refused_at(alloc: Global, place: Place, stop: Stop) -> Result<String, AllocError> {
+    match stop {
+        Stop::Mark => stops_at(alloc, "entry", place, "a mark under profile 2", "Mark"),
+        Stop::NotLegal(cause) => {
+            let words = cause_words(alloc, cause)?;
+            stops_at(alloc, "entry", place, words.as_str(), "NotLegal")
+        }
+    }
 }
 
 /// What is told of a dump.
 fn explain_dump(alloc: Global, bytes: &[u8]) -> Result<String, AllocError> {
-    let mut reader = Counting::new(bytes);
-    match read_head_from(&mut reader) {
-        Ok(head) => {
-            let mut machine = Machine::new_in(alloc, alloc, head.profile, head.clients_max)?;
-            explain_entries(alloc, &mut machine, bytes, reader.into_inner())
-        }
-        Err(fault) => {
+    match dump_end(alloc, bytes)? {
+        DumpEnd::NoHead(fault) => {
             let (words, name) = (dump_words(fault), fault.name());
             format!(in alloc; "the head, at byte 0: {words} ({name})\n")
         }
+        DumpEnd::Whole(entries) => {
+            let total = bytes.len();
+            format!(in alloc;
+                "a dump, {entries} entries in {total} bytes: tbs replays it to its end\n"
+            )
+        }
+        DumpEnd::Wrong(place, fault) => {
+            stops_at(alloc, "entry", place, dump_words(fault), fault.name())
+        }
+        DumpEnd::Refused(place, stop) => refused_at(alloc, place, stop),
+        DumpEnd::TooLong => format!(in alloc; "too many entries\n"),
     }
 }
 

@@ -5,6 +5,7 @@ ghost use Rattle.tb_text_commands.specs.declared.faults.Fault.TheVariants.{NoMem
 ghost use Rattle.tb_text_commands.specs.Statuses.{dump_fault_of, fault_status, frame_fault_of, line_named, TellsOf};
 
 use crate::help::USAGE;
+use crate::told_lines::Lines;
 use std::alloc::{AllocError, AllocFailed, Global};
 use std::format;
 use tb_commands::{line_by, put_line};
@@ -29,9 +30,9 @@ pub enum Fault {
     /// The dump is none, from here on.
     Dump(DumpFault),
     /// The arguments are none of the program's forms: the line that says so.
-    Arguments(Vec<u8>),
+    Arguments(Lines),
     /// The text goes wrong: the lines that say where, what stands there and what could.
-    Text(Vec<u8>),
+    Text(Lines),
     /// Statements went wrong, and each was told when it came.
     WasTold,
 }
@@ -112,11 +113,11 @@ pub fn fault_lines(
     fault: TextFault,
     (line, column): (usize, usize),
     words: Option<&[u8]>,
-) -> Result<Vec<u8>, AllocError> {
+) -> Result<Lines, AllocError> {
     let mut lines = format!(in alloc; "tbt: line {line}, column {column}: ")?.into_bytes();
     let said = explain_fault(alloc, text, fault, (1, 1))?;
     put_said(&mut lines, said.as_slice(), words)?;
-    Ok(lines)
+    Lines::new(alloc, lines.as_slice())
 }
 
 impl Fault {

@@ -5,6 +5,7 @@
 //!
 //! - `arguments`: `read_form`, what the words of the command line ask for.
 //! - `help`: the page of usage.
+//! - `told_lines`: lines that may go to a terminal.
 //! - `faults`: why the program ends with a status other than 0, and its line.
 //! - `intake`: bytes that were read and wait to be taken.
 //! - `heads`: what stands before the operation of a statement.
@@ -21,7 +22,8 @@
 //! - `running`: `run`, statements served and answered as they come.
 //! - `waits`: pending transfers whose timeouts run.
 //! - `auditing`: `audit`, a dump joined with what its replay gives.
-//! - `explaining`: `explain`, where and why `tbs` stops in a script or a dump.
+//! - `stops`: how far `tbs` reads a script or replays a dump, and why no further.
+//! - `explaining`: `explain`, which tells that in words.
 //! - `commands`: `command`, each form over any reader and writer.
 //! - `host`: `serve`, a form between buffers, and the fault of words that cannot be had.
 //! - `completing_laws`: what holds of every statement that is completed, and rows of it.
@@ -51,6 +53,8 @@ mod running;
 mod script_standings;
 mod scripts;
 mod statements;
+mod stops;
+mod told_lines;
 mod waits;
 pub mod whole_laws;
 
@@ -58,3 +62,4 @@ pub use arguments::{Form, read_form};
 pub use commands::command;
 pub use faults::Fault;
 pub use host::{fault_of, refuse, serve};
+pub use told_lines::Lines;

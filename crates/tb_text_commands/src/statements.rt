@@ -8,6 +8,7 @@ use crate::completing::{Standings, completed, untold_at};
 use crate::converting::Next;
 use crate::faults::{Fault, fault_lines};
 use crate::intake::Intake;
+use crate::told_lines::Lines;
 use std::alloc::{AllocError, Global};
 use std::format;
 use tb_records::{Items, Request, Sink, Source};
@@ -28,7 +29,7 @@ fn lines_of<S: Standings>(
     text: &[u8],
     whole: &[u8],
     fault: TextFault,
-) -> Result<Vec<u8>, AllocError> {
+) -> Result<Lines, AllocError> {
     let alloc = intake.alloc;
     let added = whole.len().saturating_sub(text.len());
     let position = intake.position_at(fault.place.saturating_sub(added));

@@ -82,7 +82,7 @@ const NOT_ZERO: &str =
 
 /// Words in, answers out. A wrong statement is told by its line and column, what was right before it is served, and nothing
 /// behind it. A client is not registered for a statement that is wrong.
-const TALKS: [Row<'static>; 8] = [
+const TALKS: [Row<'static>; 11] = [
     Row {
         words: &["run", "2"],
         input: REFUSED,
@@ -131,6 +131,27 @@ const TALKS: [Row<'static>; 8] = [
         status: 2,
         output: "",
         line: "tbt: line 2, column 1: the text ends within a statement\n  \n  ^\n  expected session, request or register\n",
+    },
+    Row {
+        words: &["script"],
+        input: b"client=7 # \x1b[2J\xc2\x9b2J\xff",
+        status: 2,
+        output: "",
+        line: "tbt: line 1, column 21: the text ends within a statement\n  client=7 # ?[2J?2J\u{fffd}\n                     ^\n  expected at, session, request or register\n",
+    },
+    Row {
+        words: &["\u{1b}[2J"],
+        input: b"",
+        status: 2,
+        output: "",
+        line: "tbt: ?[2J: unknown; tbt --help shows the forms\n",
+    },
+    Row {
+        words: &["audit", "\u{9b}2J\u{7f}"],
+        input: b"",
+        status: 2,
+        output: "",
+        line: "tbt: audit ?2J?: only --account and an id may follow\n",
     },
     Row {
         words: &["run", "2"],
