@@ -67,6 +67,8 @@ const (
 	firstPause = 20 * time.Millisecond // before the addresses are called again; doubled each time
 	lastPause  = 500 * time.Millisecond
 	toldBusy   = "Busy"
+
+	toldStarting = "Starting"
 )
 
 // toldMark begins what a server says before it closes a connection: a line that is shorter than a
@@ -190,6 +192,23 @@ func (it *Socket) Exchange(ctx context.Context, frame []byte) ([]byte, error) {
 	}
 	within, cancel := context.WithTimeout(ctx, it.timeout)
 	defer cancel()
+	for pause := firstPause; ; pause = doubled(pause, lastPause) {
+		reply, err := it.once(ctx, within, frame, asked)
+		var lost *LostError
+		if !errors.As(err, &lost) || lost.Told != toldStarting {
+			return reply, err
+		}
+		if !sleep(within, pause) { // the server still reads its ledger, and takes no request
+			if ctx.Err() != nil {
+				return nil, &CancelledError{Err: ctx.Err()}
+			}
+			return nil, fmt.Errorf("%w: %v", ErrCannotConnect, err)
+		}
+	}
+}
+
+// once sends the frame once, and returns the frame of its reply.
+func (it *Socket) once(ctx, within context.Context, frame []byte, asked requestHeader) ([]byte, error) {
 	conn, err := it.connected(within)
 	switch {
 	case err == nil:

@@ -500,8 +500,8 @@ def bad_replies():
     )
 
 
-# the names of the table but Busy, whose scenarios stand apart, and two that no client knows yet
-NAMED = [row["name"] for row in TABLE["told"] if row["name"] != "Busy"]
+# the names of the table but those whose scenarios stand apart, and two that no client knows yet
+NAMED = [row["name"] for row in TABLE["told"] if row["name"] not in ("Busy", "Starting")]
 NAMED += ["Full", "NewerThanThisClient"]
 
 
@@ -526,6 +526,35 @@ def what_is_told():
         "Told ProgramEnded, the client sends the same bytes again at once.",
         sale([read(ASKED), send(told("ProgramEnded")), {"close": "c"}, *again()]),
         saved(1),
+    )
+    starting = [send(told("Starting")), {"close": "c"}]
+    yield scenario(
+        "told-Starting",
+        "Told Starting, the client calls again within one sending, after a short pause.",
+        sale(
+            [
+                read(ASKED),
+                *starting,
+                accept(not_before=0.015),
+                read(ASKED),
+                *starting,
+                accept(not_before=0.03),
+                *served(ASKED, DONE),
+            ]
+        ),
+        saved(1),
+        begin="registered-once",
+    )
+    yield scenario(
+        "told-Starting-too-long",
+        "Told Starting until the time is over: CannotConnect, since nothing was executed.",
+        {"server": [{"close": "c"}]},
+        sale(
+            [accept(), send(told("Starting")), {"close": "c"}, {"unlisten": "a"}],
+            error("CannotConnect", sent=False),
+        ),
+        saved(0),
+        begin="hurried-once",
     )
     busy = [send(told("Busy")), {"half": "c"}, {"drain": "c", "of": ASKED.hex()}]
     yield scenario(

@@ -24,6 +24,7 @@ const LAST_PAUSE = 500;
 const CLOSED = "this Socket was closed";
 // begins what a server says before it closes a connection: fewer bytes than a frame has
 const TOLD = "tb_listen: ";
+const STARTING = "Starting";
 
 /** Lets the system's news of connections come in: all that was there when this was called. */
 function news() {
@@ -268,12 +269,20 @@ class Socket {
     try {
       this.#testOpen();
       const deadline = performance.now() + this.#timeout;
-      const connection = await this.#connected(deadline, signal);
-      try {
-        return await connection.ask(request, deadline - performance.now(), signal);
-      } catch (fault) {
-        this.#lose();
-        throw fault;
+      for (let pause = FIRST_PAUSE; ; pause = Math.min(2 * pause, LAST_PAUSE)) {
+        const connection = await this.#connected(deadline, signal);
+        try {
+          return await connection.ask(request, deadline - performance.now(), signal);
+        } catch (fault) {
+          this.#lose();
+          // a server that still reads its ledger takes no request
+          if (fault.told !== STARTING) throw fault;
+          if (deadline - performance.now() <= pause) {
+            throw new CannotConnect(`${shownAddress(this.address)}: ${fault.message}`, { cause: fault });
+          }
+        }
+        await paused(pause, signal, false);
+        this.#testOpen();
       }
     } finally {
       this.#turns.give();

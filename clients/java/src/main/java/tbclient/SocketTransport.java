@@ -29,6 +29,7 @@ public final class SocketTransport implements Transport {
     private static final long FIRST_PAUSE = 20_000_000; // ns, before the servers are called again
     private static final long LAST_PAUSE = 500_000_000;
     private static final String TOLD = "tb_listen: "; // begins what is told before a closing
+    private static final String STARTING = "Starting";
 
     private final List<Address> addresses;
     private final Duration timeout;
@@ -87,11 +88,39 @@ public final class SocketTransport implements Transport {
                 throw new ClosedException("this transport was closed");
             }
             Deadline until = limit.sooner(timeout.toNanos());
-            connect(until, limit);
-            return exchanged(frame, until, limit);
+            return answered(frame, until, limit);
         } finally {
             lock.unlock();
         }
+    }
+
+    /** The reply. A server that still reads its ledger takes no request, and is called again. */
+    private byte[] answered(byte[] frame, Deadline until, Deadline limit) {
+        for (long pause = FIRST_PAUSE; ; pause = Math.min(2 * pause, LAST_PAUSE)) {
+            connect(until, limit);
+            try {
+                return exchanged(frame, until, limit);
+            } catch (ReplyLostException why) {
+                if (!why.told().equals(STARTING)) {
+                    throw why;
+                }
+                rest(pause, until, limit, why);
+            }
+        }
+    }
+
+    private void rest(long pause, Deadline until, Deadline limit, ReplyLostException why) {
+        try {
+            if (until.sleep(pause)) {
+                return;
+            }
+        } catch (InterruptedException interrupt) {
+            throw Deadline.interrupted(false);
+        }
+        if (limit.isOver()) {
+            throw Deadline.late(false);
+        }
+        throw new CannotConnectException(addresses.get(at) + ": " + why.getMessage(), why);
     }
 
     private byte[] exchanged(byte[] frame, Deadline until, Deadline limit) {

@@ -152,8 +152,12 @@ public class SocketTransportTest {
 
     @Test(timeout = 30_000)
     public void nobodyListensIsToldAsNotSent() throws IOException {
-        server.close();
-        try (SocketTransport transport = transport(SHORT)) {
+        int port; // of a socket that no thread waits at: it is gone once it is closed
+        try (ServerSocket unused = new ServerSocket(0, 1, InetAddress.getLoopbackAddress())) {
+            port = unused.getLocalPort();
+        }
+        List<Address> addresses = List.of(Address.tcp("127.0.0.1", port));
+        try (SocketTransport transport = new SocketTransport(addresses, SHORT, null)) {
             assertThrows(CannotConnectException.class, () -> registered(transport));
             CancelledException why =
                     assertThrows(
