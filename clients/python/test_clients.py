@@ -4,6 +4,7 @@ callers that do not wait; what a session that is abandoned means, logs and reprs
 import asyncio
 import os
 import pwd
+import random
 import struct
 import sys
 import tempfile
@@ -504,6 +505,46 @@ class Lost(unittest.TestCase):
                 with Running("--unix", path, folder=folder):
                     client.timeout = None
                     self.assertEqual(client.lookup_accounts([1]), [])
+
+    def test_many_threads_amid_losses_and_evictions(self):
+        for sessions in (1, 3):
+            server, draw = InProcess(clients_max=4), random.Random(sessions)
+            exchange = server.exchange
+
+            def hostile(moment, frame):
+                what = draw.random()
+                if what < 0.1:
+                    raise tb.ReplyLost("the request, on purpose")
+                if what < 0.15:
+                    raise tb.CannotConnect("on purpose")
+                reply = exchange(moment, frame)
+                if what < 0.25:
+                    raise tb.ReplyLost("the reply, on purpose")
+                if what < 0.3:
+                    for client in range(4):
+                        exchange(moment, tb.request_frame(tb.id(), 0, 0, tb.Operation.register))
+                    if what < 0.27:
+                        raise tb.ReplyLost("the reply and the session, on purpose")
+                return reply
+
+            server.exchange = hostile
+            self.storm(server, sessions)
+
+    def storm(self, server, sessions):
+        """Eight threads make 30 lists of three transfers each. Each is made once."""
+        results = []
+        with over(server, sessions=sessions) as client:
+            client.create_accounts([account(1), account(2)])
+
+            def sell(number):
+                for first in range(1000 * (number + 1), 1000 * (number + 1) + 90, 3):
+                    many = [transfer(first + it, 1, 2, 1) for it in range(3)]
+                    results.extend(it.result.name for it in client.create_transfers(many))
+                    self.assertEqual(client.lookup_transfers([first + 2, 9])[0].id, first + 2)
+
+            in_threads(8, sell)
+            self.assertEqual(client.lookup_accounts([2])[0].credits_posted, 720)
+        self.assertLessEqual(set(results), {"exists"})
 
     def test_a_server_that_is_killed(self):
         with Running() as listener, ClientSync(0, listener.path, sessions=3) as client:
