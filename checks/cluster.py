@@ -181,6 +181,7 @@ def part_trim(given):
             trims.append(cluster.part("trim", "--log", cluster.log(), seconds=120))
         case("trim: it ends with status 0", all(it[0] == 0 for it in trims), trims[-1][1].strip())
         case("trim: entries are removed", any("are removed" in it[1] for it in trims))
+        case("trim: the log is gone from its beginning", agreement.is_gone(cluster, 0))
         late_replica(cluster)
         agree("trim", cluster, traffic, trimmed=True)
 
@@ -245,7 +246,10 @@ def part_full(given):
         until(lambda: "LogFull" in "".join(it.said() for it in cluster.replicas), 240, "LogFull")
         status, said = cluster.part("status", "--log", cluster.log())
         case("full: status names it", status == 26, said.strip().splitlines()[-1])
-        time.sleep(3)
+        cluster.replicas[2].kill()
+        cluster.replicas[2].start()
+        cluster.until_listens(2)
+        case("full: a replica starts nevertheless", cluster.replicas[2].runs())
         status, said = cluster.part("trim", "--log", cluster.log(), seconds=180)
         case("full: it is trimmed", status == 0 and "still full" not in said, said.strip())
         before = traffic.made
@@ -339,9 +343,9 @@ def rows_without_a_standby(cluster, traffic):
 
 
 def part_access(given):
-    """etcd speaks TLS, and wants a certificate and a password."""
+    """etcd and the replicas speak TLS and want certificates; etcd wants a password too."""
     with cluster_of(given, kind=Closed) as cluster:
-        traffic = Traffic(cluster.tcp, 4, pause=0.05, spread=True)
+        traffic = Traffic(cluster.tcp, 4, pause=0.05, spread=True, tls=cluster.context())
         traffic.open_accounts()
         traffic.start()
         faults = Faults(cluster, given.seed)

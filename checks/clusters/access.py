@@ -1,4 +1,5 @@
 """An etcd that speaks TLS alone, and knows its users by passwords."""
+import ssl
 import subprocess
 
 from processes import Cluster
@@ -63,7 +64,15 @@ class Closed(Cluster):
         return ["--log-user", name, "--log-password-file", f"{self.folder}/{password}"]
 
     def replica_words(self, at, words, more=()):
-        return super().replica_words(at, words, [*self.files(), *self.user(), *more])
+        serves = ["--certificate", f"{self.folder}/server.crt", "--key"]
+        serves += [f"{self.folder}/server.key", "--client-ca", f"{self.folder}/ca.crt"]
+        return super().replica_words(at, words, [*self.files(), *self.user(), *serves, *more])
+
+    def context(self):
+        """What a client speaks TLS with."""
+        found = ssl.create_default_context(cafile=f"{self.folder}/ca.crt")
+        found.load_cert_chain(f"{self.folder}/client.crt", f"{self.folder}/client.key")
+        return found
 
     def channel(self, port):
         import grpc

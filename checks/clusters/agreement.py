@@ -1,4 +1,5 @@
 """What has to hold in the end: the agreed script, the replies of each replica, and the totals."""
+import asyncio
 import hashlib
 import os
 import subprocess
@@ -10,7 +11,8 @@ from processes import CLIENT, PROGRAM
 sys.path.insert(0, CLIENT)
 
 from tb_host.entries import Entry  # noqa: E402
-from tb_host.local_copy import MAGIC, Copy  # noqa: E402
+from tb_host.local_copy import records_of  # noqa: E402
+from tb_host.log import Access, LogGone, opened  # noqa: E402
 
 
 def script_of(cluster):
@@ -18,15 +20,31 @@ def script_of(cluster):
     return [Entry.from_bytes(it).pairs for it in cluster.script()]
 
 
+def is_gone(cluster, place):
+    """Whether who reads from this place on is told that the log does not have it any more."""
+
+    async def reads():
+        it = opened(cluster.log(), Access())
+        try:
+            async for _ in it.read(place):
+                pass
+        except LogGone:
+            return True
+        finally:
+            await it.close()
+
+    async def in_time():
+        return await asyncio.wait_for(reads(), 20)
+
+    try:
+        return asyncio.run(in_time())
+    except asyncio.TimeoutError:
+        return False
+
+
 def script_of_copy(folder):
     """The agreed script, as a replica's copy has it."""
-    copy = Copy.__new__(Copy)
-    copy.file = os.open(f"{folder}/log", os.O_RDONLY)
-    try:
-        length = os.fstat(copy.file).st_size
-        return [Entry.from_bytes(it.entry).pairs for it in copy.records(len(MAGIC), length)]
-    finally:
-        os.close(copy.file)
+    return [Entry.from_bytes(it.entry).pairs for it in records_of(folder)]
 
 
 def replies_to(script, clients_max):

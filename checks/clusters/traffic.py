@@ -11,6 +11,7 @@ import tb_client as tb  # noqa: E402
 from tb_client import Account, Operation, Session, Socket, Transfer  # noqa: E402
 
 PAYER, PAYEE = 1, 2
+TIMEOUT = 8.0  # seconds for which a client waits for a reply
 OK, EXISTS = 0, tb.CreateTransferResult.exists
 
 
@@ -18,10 +19,10 @@ class Client(threading.Thread):
     """A client: it registers, and makes transfers of 1 one after another, each until it has the
     reply. Where its session was evicted it registers again, and makes the same transfer again."""
 
-    def __init__(self, addresses, stop, pause=0.0, timeout=8.0, batch=1):
+    def __init__(self, addresses, stop, pause=0.0, batch=1, tls=None):
         super().__init__(daemon=True)
         self.addresses, self.stop, self.pause, self.batch = addresses, stop, pause, batch
-        self.timeout = timeout
+        self.tls = tls
         self.made = []  # the ids of transfers with a reply
         self.waits = []  # when a reply came, and how long it was waited for
         self.evictions = 0
@@ -39,7 +40,7 @@ class Client(threading.Thread):
     def _registered(self):
         while True:
             try:
-                it = Session.register(Socket(self.addresses, timeout=self.timeout), pause=0.1)
+                it = Session.register(Socket(self.addresses, TIMEOUT, self.tls), pause=0.1)
                 it.attempts = 3
                 return it
             except (tb.ReplyLost, tb.CannotConnect, tb.Evicted):
@@ -73,20 +74,20 @@ class Client(threading.Thread):
 class Traffic:
     """Clients side by side."""
 
-    def __init__(self, ports, count, pause=0.0, spread=False, batch=1):
+    def __init__(self, ports, count, pause=0.0, spread=False, batch=1, tls=None):
         addresses = [("127.0.0.1", it) for it in ports]
-        self.addresses, self.stop = addresses, threading.Event()
+        self.addresses, self.stop, self.tls = addresses, threading.Event(), tls
         turned = [
             addresses[it % len(addresses) :] + addresses[: it % len(addresses)]
             for it in range(count)
         ]
         self.clients = [
-            Client(turned[it] if spread else addresses, self.stop, pause, batch=batch)
+            Client(turned[it] if spread else addresses, self.stop, pause, batch, tls)
             for it in range(count)
         ]
 
     def open_accounts(self):
-        session = Session.register(Socket(self.addresses, timeout=30))
+        session = Session.register(Socket(self.addresses, 30, self.tls))
         tb.require_ok(
             session.create_accounts([Account(it, ledger=700, code=10) for it in (PAYER, PAYEE)])
         )
@@ -124,11 +125,11 @@ class Traffic:
         ]
 
     def posted(self):
-        return posted_at(*(port for _, port in self.addresses))
+        return posted_at(*(port for _, port in self.addresses), tls=self.tls)
 
 
-def posted_at(*ports, seconds=60):
+def posted_at(*ports, seconds=60, tls=None):
     """What the ledger has posted, as the first of these ports that answers tells."""
-    transport = Socket([("127.0.0.1", it) for it in ports], timeout=seconds)
+    transport = Socket([("127.0.0.1", it) for it in ports], seconds, tls)
     with Session.register(transport) as session:
         return session.lookup_accounts([PAYEE])[0].credits_posted

@@ -139,6 +139,9 @@ class EtcdLog:
     # the log
 
     async def head(self, wanted: bytes) -> bytes:
+        found = await self._get(self.prefix + b"head")
+        if found is not None:  # so that a replica starts where etcd is full
+            return found
         made = await self._put_once(self.prefix + b"head", wanted)
         return wanted if made.succeeded else bytes(made.responses[0].response_range.kvs[0].value)
 
