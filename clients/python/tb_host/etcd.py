@@ -237,19 +237,23 @@ class EtcdLog:
     async def trim(self, position: int, place: int) -> List[str]:
         said = []
         is_put = await self._put_trimmed(position, place)
-        for first, last in await self._numbers_up_to(place):
-            request = rpc.DeleteRangeRequest(key=first, range_end=last + b"\0")
-            await self._call("keys", "DeleteRange", request)
-        said.append(f"entries up to position {position} are removed")
-        with contextlib.suppress(NoLog, LogGone):  # it may be compacted already
-            request = rpc.CompactionRequest(revision=place, physical=True)
-            await self._call("keys", "Compact", request)
+        if place:
+            await self._remove(place)
+            said.append(f"entries up to position {position} are removed")
         for it in self.addresses:
             said.append(await _defragmented(it))
         await self._disarm()
         if not is_put and not await self._put_trimmed(position, place):
             said.append("etcd is still full: raise --quota-backend-bytes")
         return said
+
+    async def _remove(self, place: int) -> None:
+        for first, last in await self._numbers_up_to(place):
+            request = rpc.DeleteRangeRequest(key=first, range_end=last + b"\0")
+            await self._call("keys", "DeleteRange", request)
+        with contextlib.suppress(NoLog, LogGone):  # it may be compacted already
+            request = rpc.CompactionRequest(revision=place, physical=True)
+            await self._call("keys", "Compact", request)
 
     async def _put_trimmed(self, position: int, place: int) -> bool:
         value = json.dumps({"position": position, "place": place}).encode()

@@ -23,6 +23,7 @@ from .process import came, cancelled, first
 LOOK = 0.25  # seconds after which it is looked for requests that wait too long
 ELSEWHERE = 2.0  # seconds for which what was written may be read late
 REPORT = 10.0  # seconds after which a replica reports, where its position has changed
+REPORT_BYTES = 1 << 22  # bytes of its copy after which it reports before that
 SYNC = 1.0  # seconds after which the copy is synced
 PAUSE = 0.1  # seconds before an append is tried again
 ANSWERS = 2.0  # seconds for which the reports of others are waited for at the start
@@ -86,6 +87,7 @@ class Replica:
         self.is_away = False  # whether it was said that there is no log
         self.reporting = asyncio.Event()
         self.reported: Tuple[int, int] = (-1, -1)
+        self.reported_end = copy.end
         self.start = copy.position  # what the copy had
         self.served, self.closed = asyncio.Event(), asyncio.Event()
 
@@ -315,10 +317,10 @@ class Replica:
         return json.dumps(said, sort_keys=True).encode()
 
     async def report(self, fault: str = "") -> None:
-        reported = self.copy.synced
+        reported, end = self.copy.synced, self.copy.synced_end
         with contextlib.suppress(NoLog, LogFull):
             await self.log.report(self.name, self._said(fault))
-            self.reported = reported
+            self.reported, self.reported_end = reported, end
 
     async def _report(self) -> None:
         while True:
@@ -332,6 +334,8 @@ class Replica:
             await asyncio.sleep(SYNC)
             if self.copy.synced_end != self.copy.end:
                 await asyncio.to_thread(self.copy.sync, *self.copy.mark())
+            if self.copy.synced_end - self.reported_end >= REPORT_BYTES:
+                self.reporting.set()
 
     # its run
 

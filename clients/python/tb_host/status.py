@@ -73,11 +73,12 @@ async def trim(given: argparse.Namespace, log: Log) -> int:
         if not reports:
             raise Ended("no replica is listed, and nothing is trimmed", 1)
         least = min(reports.values(), key=lambda it: int(it["position"]))
-        before, _ = await log.trimmed()
-        if least["position"] <= before:
-            print(f"nothing to trim: the log is trimmed to position {before}")
+        before = await log.trimmed()
+        to = max(before, (int(least["position"]), int(least["place"])))
+        if to == before and not await log.full():
+            print(f"nothing to trim: the log is trimmed to position {before[0]}")
             return 0
-        for line in await log.trim(int(least["position"]), int(least["place"])):
+        for line in await log.trim(*to):
             print(line)
     except NoLog as none:
         raise Fault("NoLog", str(none)) from None
