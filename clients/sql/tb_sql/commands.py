@@ -4,7 +4,9 @@ from __future__ import annotations
 
 import argparse
 import gc
+import os
 import signal
+import sqlite3
 import sys
 import time
 from typing import Any, List, Optional
@@ -83,6 +85,8 @@ def load(given: argparse.Namespace) -> int:
 def read(loading: Loading, ledger: Optional[Ledger], follow: bool, progress: Progress) -> None:
     """Reads the input to its end, or until a signal where it is followed."""
     if ledger is None:
+        if sys.stdin is None:
+            raise Failed("standard input is closed")
         loading.read(lines_of(sys.stdin.fileno()), progress.tell)
         loading.ended()
     elif not follow:
@@ -110,8 +114,10 @@ class Usage(Stop):
 
 def serve(given: argparse.Namespace) -> int:
     """Serves the pages until a signal."""
-    from .pages.server import serve_pages
-
+    try:
+        from .pages.server import serve_pages
+    except ImportError as error:
+        raise Failed(f"Flask is not installed (Debian: python3-flask): {error}") from None
     return serve_pages(given.file, given.port, given.ledger)
 
 
@@ -178,14 +184,17 @@ def main(arguments: Optional[List[str]] = None) -> int:
     """Runs the command; its exit status."""
     given: Any = words().parse_args(arguments)
     try:
-        return int(given.run(given))
+        status = int(given.run(given))
+        if sys.stdout is not None:
+            sys.stdout.flush()
+        return status
     except Stop as stop:
         print(f"tb-sql: {stop}", file=sys.stderr)
         return stop.status
     except BrokenPipeError:
-        sys.stderr.close()
+        os.dup2(os.open(os.devnull, os.O_WRONLY), 1)
         return 1
-    except OSError as error:
+    except (OSError, sqlite3.Error) as error:
         print(f"tb-sql: {error}", file=sys.stderr)
         return 1
     except KeyboardInterrupt:

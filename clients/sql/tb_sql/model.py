@@ -144,10 +144,26 @@ class Changes:
         self.events = 0
 
 
+HASHED = ("commit", "time", "client", "session", "request", "operation")
+ACCOUNT_HASHED = (
+    "id debits_pending debits_posted credits_pending credits_posted user_data_128 user_data_64"
+    " user_data_32 reserved ledger code flags timestamp"
+).split()
+TRANSFER_HASHED = (
+    "id debit_account_id credit_account_id amount pending_id user_data_128 user_data_64"
+    " user_data_32 timeout ledger code flags timestamp"
+).split()
+
+
 def entry_hash(entry: Dict[str, Any]) -> str:
-    """The SHA-256 of what an entry is, whatever order and spaces its line has."""
-    names = ("commit", "time", "client", "session", "request", "operation", "events")
-    kept = json.dumps([entry[it] for it in names], sort_keys=True, separators=(",", ":"))
+    """The SHA-256 of what an entry is, whatever order, spaces and further fields its line has."""
+    operation = entry["operation"]
+    fields = ACCOUNT_HASHED if operation == "create_accounts" else TRANSFER_HASHED
+    if operation.startswith("create_"):
+        events = [[it["result"], [it["event"][name] for name in fields]] for it in entry["events"]]
+    else:
+        events = [it["id"] for it in entry["events"]]
+    kept = json.dumps([[entry[it] for it in HASHED], events], separators=(",", ":"))
     return hashlib.sha256(kept.encode()).hexdigest()
 
 

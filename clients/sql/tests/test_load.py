@@ -209,6 +209,17 @@ class GoingOn(Tables):
             self.load(audit, path)
             self.assertEqual(self.contents(path), whole, count)
 
+    def test_further_fields(self):
+        """Fields that another version of the audit may add, at the entry that is compared."""
+        audit = history()
+        self.load(audit)
+        whole = self.contents()
+        more = audit.bytes.replace(b'"time":', b'"utc":"2026-09-21","time":')
+        more = more.replace(b'"timestamp":', b'"made":"then","timestamp":')
+        self.assertNotEqual(more, audit.bytes)
+        self.assertEqual(self.load(more).entries, 0)
+        self.assertEqual(self.contents(), whole)
+
     def test_nothing_new(self):
         audit = history()
         self.load(audit)
@@ -443,6 +454,24 @@ class Words(Tables):
                 status, _, said = self.command(*words)
                 self.assertEqual((status, said.count("\n")), (wanted, 1), said)
                 self.assertTrue(said.startswith("tb-sql: "), said)
+
+    def test_streams_that_are_closed_or_full(self):
+        audit = Audit().register()
+        words = " ".join([*COMMAND, "load", self.path])
+        for end, wanted in (("<&-", 1), (">/dev/full", 1), (">&-", 0)):
+            ran = subprocess.run(
+                ["sh", "-c", f"{words} {end}"], input=audit.bytes, capture_output=True, timeout=120
+            )
+            said = ran.stderr.decode()
+            self.assertEqual((ran.returncode, said.count("\n")), (wanted, wanted), said)
+
+    def test_damaged_tables(self):
+        self.load(history())
+        data = bytearray((self.room / "ledger.sqlite").read_bytes())
+        data[4096 * 3 :] = bytes(len(data) - 4096 * 3)
+        (self.room / "ledger.sqlite").write_bytes(data)
+        status, _, said = self.command("check", self.path)
+        self.assertEqual((status, said.count("\n")), (1, 1), said)
 
     def test_summary(self):
         audit = Audit(time=START).register()

@@ -6,6 +6,7 @@ import csv
 import io
 import os
 import signal
+import sqlite3
 import sys
 import time
 from typing import Any, Callable, Dict, Iterator, List, Optional, Tuple
@@ -131,7 +132,7 @@ class Site:
             "written": int(written * SECOND),
             "written_ago": ago(max(0.0, time.time() - written)),
             "ledger": self.ledger,
-            "behind": None if behind is None else ago(behind) if behind >= 1 else "",
+            "behind": None if behind is None else ago(behind) if behind else "",
         }
 
 
@@ -387,6 +388,7 @@ def make_app(path: str, ledger: Optional[str] = None) -> Flask:
 
     app.register_error_handler(HTTPException, _http_fault)
     app.register_error_handler(Stop, _stop)
+    app.register_error_handler(sqlite3.Error, _stop)
     return app
 
 
@@ -405,7 +407,7 @@ def _http_fault(error: HTTPException) -> Tuple[str, int]:
     return render_template("fault.html", code=code, name=error.name, text=error.description), code
 
 
-def _stop(error: Stop) -> Tuple[str, int]:
+def _stop(error: Exception) -> Tuple[str, int]:
     return render_template("fault.html", code=500, name="The tables", text=str(error)), 500
 
 
