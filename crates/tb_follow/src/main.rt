@@ -1,33 +1,28 @@
 //! `tb_follow`: serves a log of entries from standard input to standard output, each reply with its place in the log.
+//!
+//! Modules:
+//!
+//! - `arguments`: what the words of the command line ask for.
 #![tactic(auto)]
 
+ghost use Rattle.std.specs.Prelude.{◌≡◌};
+ghost use Rattle.tb_follow.specs.Statuses.{fault_status};
+
+mod arguments;
+
+use arguments::{Form, read_form};
 use std::io::{self, BufReader, BufWriter, Write};
 use std::process::ExitCode;
-use tb_commands::{read_clients_max, read_profile, words};
+use tb_commands::words;
 use tb_log::{LogFault, follow};
-use tb_records::{Buffered, ClientsMax, Counting, Profile};
+use tb_records::{Buffered, Counting};
 
 /// The bytes of input and of output that are held at a time.
 const BUFFER: usize = 1 << 16;
 
-/// What the words ask for: the number of clients, and the profile, 1 where it is left out.
-fn read_form(words: &[String]) -> Option<(ClientsMax, Profile)> {
-    match words {
-        [clients_max] => Some((read_clients_max(clients_max.as_bytes())?, Profile::One)),
-        [clients_max, profile] => Some((
-            read_clients_max(clients_max.as_bytes())?,
-            read_profile(profile.as_bytes())?,
-        )),
-        _ => None,
-    }
-}
-
 /// Follows the log of standard input to standard output.
-fn follow_input(
-    rt: &HostRuntime,
-    clients_max: ClientsMax,
-    profile: Profile,
-) -> Result<u64, LogFault> {
+fn follow_input(rt: &HostRuntime, form: Form) -> Result<u64, LogFault> {
+    let Form::Follow(clients_max, profile) = form;
     let input = BufReader::with_capacity(rt.alloc(), BUFFER, rt.stdin());
     let output = BufWriter::with_capacity(rt.alloc(), BUFFER, rt.stdout());
     let (Ok(input), Ok(output)) = (input, output) else {
@@ -44,7 +39,9 @@ fn follow_input(
 }
 
 /// The exit status of a fault: 1 where a device or memory failed, 2 where the input is wrong.
-fn status_of(fault: LogFault) -> u8 {
+fn status_of(fault: LogFault) -> u8
+    ensures { result ≡ fault_status fault }
+{
     match fault {
         LogFault::Device | LogFault::NoMemory => 1,
         _ => 2,
@@ -53,11 +50,11 @@ fn status_of(fault: LogFault) -> u8 {
 
 /// Does what the words ask for, and returns the exit status.
 fn command(rt: &HostRuntime, words: &[String]) -> u8 {
-    let Some((clients_max, profile)) = read_form(words) else {
+    let Some(form) = read_form(words) else {
         let _ = usage(rt);
         return 2;
     };
-    match follow_input(rt, clients_max, profile) {
+    match follow_input(rt, form) {
         Ok(_) => 0,
         Err(fault) => {
             let _ = tell(rt, fault);

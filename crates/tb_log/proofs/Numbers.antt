@@ -7,26 +7,30 @@ use Rattle.tb_records.specs.Numbers.{le_bytes, le_at}
 use Rattle.tb_records.proofs.NumberBytes.{number_spelled}
 use Rattle.tb_journal.specs.Checksum.{remainder}
 use Rattle.tb_journal.proofs.Remainders.{remainder_append}
-use Rattle.tb_log.specs.Format.{numbers, checksum_of}
+use Rattle.tb_log.specs.Format.{number_bytes, numbers, checksum_of}
+
+same_bytes : (n x : ℕ) → number_bytes n x ≡ le_bytes n x
+unfolding number_bytes le_bytes
+same_bytes n x = refl
 
 number_is : (n : ℕ) (xs : List ℕ) → little_number n xs ≡ le_at n 0 xs
 unfolding le_at
 number_is n xs = refl
 
 -- the number that a whole buffer holds has these bytes
-pub eight_bytes : (x : ℕ) (xs : List ℕ) → length xs ≡ 8 → ((i : ℕ) → slice_index xs i < 256) → x ≡ little_number 8 xs → le_bytes 8 x ≡ xs
-eight_bytes x xs long small is = sym (number_spelled 8 0 x xs (omega arith) small (is ∙ number_is 8 xs)) ∙ take_all 8 xs (omega arith)
+pub eight_bytes : (x : ℕ) (xs : List ℕ) → length xs ≡ 8 → ((i : ℕ) → slice_index xs i < 256) → x ≡ little_number 8 xs → number_bytes 8 x ≡ xs
+eight_bytes x xs long small is = same_bytes 8 x ∙ sym (number_spelled 8 0 x xs (omega arith) small (is ∙ number_is 8 xs)) ∙ take_all 8 xs (omega arith)
 
-pub four_bytes : (x : ℕ) (xs : List ℕ) → length xs ≡ 4 → ((i : ℕ) → slice_index xs i < 256) → x ≡ little_number 4 xs → le_bytes 4 x ≡ xs
-four_bytes x xs long small is = sym (number_spelled 4 0 x xs (omega arith) small (is ∙ number_is 4 xs)) ∙ take_all 4 xs (omega arith)
+pub four_bytes : (x : ℕ) (xs : List ℕ) → length xs ≡ 4 → ((i : ℕ) → slice_index xs i < 256) → x ≡ little_number 4 xs → number_bytes 4 x ≡ xs
+four_bytes x xs long small is = same_bytes 4 x ∙ sym (number_spelled 4 0 x xs (omega arith) small (is ∙ number_is 4 xs)) ∙ take_all 4 xs (omega arith)
 
 -- the bytes that are written of a number
-pub eight_written : (x : ℕ) → to_le_bytes w64 x ≡ le_bytes 8 x
-unfolding le_bytes
+pub eight_written : (x : ℕ) → to_le_bytes w64 x ≡ number_bytes 8 x
+unfolding number_bytes
 eight_written x = refl
 
-pub four_written : (x : ℕ) → to_le_bytes w32 x ≡ le_bytes 4 x
-unfolding le_bytes
+pub four_written : (x : ℕ) → to_le_bytes w32 x ≡ number_bytes 4 x
+unfolding number_bytes
 four_written x = refl
 
 -- the checksum, part by part
@@ -36,6 +40,6 @@ sum_of_parts position content =
     ap (λ (s : ℕ). bit_xor s 0xFFFFFFFF)
     (ap (λ (s : ℕ). remainder content s)
     (ap (λ (bs : List ℕ). remainder bs (remainder (to_le_bytes w64 position) 0xFFFFFFFF)) (four_written (length content))
-    ∙ ap (λ (bs : List ℕ). remainder (le_bytes 4 (length content)) (remainder bs 0xFFFFFFFF)) (eight_written position)
-    ∙ sym (remainder_append (le_bytes 8 position) (le_bytes 4 (length content)) 0xFFFFFFFF))
+    ∙ ap (λ (bs : List ℕ). remainder (number_bytes 4 (length content)) (remainder bs 0xFFFFFFFF)) (eight_written position)
+    ∙ sym (remainder_append (number_bytes 8 position) (number_bytes 4 (length content)) 0xFFFFFFFF))
     ∙ sym (remainder_append (numbers position (length content)) content 0xFFFFFFFF))

@@ -1,6 +1,5 @@
 -- The pairs of an entry, one more at a time.
 use Rattle.std.proofs.Common.{◌≡◌, ℕ, ◌+◌, ◌≤◌, inl, inr, List, [], ◌∷◌, ◌++◌, length, fold, Some, None, Result, Ok, Err, refl, sym, ap, subst, ◌∙◌, arith, append_assoc, append-nil, length-append}
-use Rattle.tb_records.specs.Numbers.{le_bytes}
 use Rattle.tb_records.specs.ReplyFrames.{IsReply}
 use Rattle.tb_records.specs.Inputs.{TimedAnswered}
 use Rattle.tb_records.specs.Transport.{Output, Sent, CutOff}
@@ -10,7 +9,7 @@ use Rattle.tb_machine.proofs.Legal.{fold_snoc}
 use Rattle.tb_machine.proofs.Running.{sends_none, sends_then}
 use Rattle.tb_log.specs.declared.faults.LogFault.{LogFault}
 use Rattle.tb_log.specs.declared.faults.LogFault.TheVariants.{Device, NoMemory}
-use Rattle.tb_log.specs.Format.{reply_item, chained}
+use Rattle.tb_log.specs.Format.{reply_item, chained, number_bytes}
 use Rattle.tb_log.specs.Following.{Following, answer_of, with_pair, AreAnswered, replies_from}
 use Rattle.tb_log.specs.Entries.{BeginsWith}
 use Rattle.tb_log.specs.Steps.{Frames, Writes}
@@ -42,12 +41,12 @@ replies_snoc F index (q ∷ qs) p =
 
 -- what was hashed and written is the frame, and the line with it
 module _ (index : ℕ) (F G : Following) (p : Pair) (frame hashed shown line sent : List ℕ) (frames : Frames frame p F.state G.state) (position : G.position ≡ F.position) (log : G.log ≡ F.log)
-    (replies : G.replies ≡ chained F.replies hashed) (hashed_is : hashed ≡ frame) (line_is : line ≡ 1 ∷ le_bytes 8 F.position ++ le_bytes 4 index ++ shown) (shown_is : shown ≡ frame) (sent_is : sent ≡ line) where
+    (replies : G.replies ≡ chained F.replies hashed) (hashed_is : hashed ≡ frame) (line_is : line ≡ 1 ∷ number_bytes 8 F.position ++ number_bytes 4 index ++ shown) (shown_is : shown ≡ frame) (sent_is : sent ≡ line) where
   moved : G ≡ with_pair F p
   moved = λ i. record { state = frames.1 i; position = position i; log = log i; replies = (replies ∙ ap (chained F.replies) (hashed_is ∙ frames.2)) i }
 
   whole_line : sent ≡ reply_item F.position index (answer_of F p)
-  whole_line = sent_is ∙ line_is ∙ ap (λ (bs : List ℕ). 1 ∷ le_bytes 8 F.position ++ le_bytes 4 index ++ bs) (shown_is ∙ frames.2)
+  whole_line = sent_is ∙ line_is ∙ ap (λ (bs : List ℕ). 1 ∷ number_bytes 8 F.position ++ number_bytes 4 index ++ bs) (shown_is ∙ frames.2)
 
   pub answered : (r : Result (Unit {0}) LogFault) (start written : Output) → Writes r sent start written → Answers index r F G p start written
   answered (Ok done) start written writes = (frames.0, frames.3, moved, subst (λ (bs : List ℕ). Sent bs start written) whole_line writes)

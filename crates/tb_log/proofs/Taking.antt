@@ -3,12 +3,11 @@ use Rattle.std.proofs.Common.{◌≡◌, ◌⊎◌, inl, inr, ℕ, ◌+◌, ◌�
 use Rattle.std.specs.Io.KnownBytes.{Consumes}
 use Rattle.std.proofs.KnownBytes.{Consumes-trans}
 use Rattle.std.proofs.lemmas.Bool.Decides.{nat_tests}
-use Rattle.tb_records.specs.Numbers.{le_bytes}
 use Rattle.tb_records.specs.Transport.{Input, risen}
 use Rattle.tb_log.specs.declared.faults.LogFault.{LogFault}
 use Rattle.tb_log.specs.declared.faults.LogFault.TheVariants.{Device, NoMemory, Short, Damaged}
 use Rattle.tb_log.specs.declared.entries.Head.{Head}
-use Rattle.tb_log.specs.Format.{content_max, numbers, checksum_of, summed}
+use Rattle.tb_log.specs.Format.{content_max, numbers, checksum_of, summed, number_bytes}
 use Rattle.tb_log.specs.Entries.{Breaks, head_fault, ReadsEntry, IsDamaged, IsNoPairs, RefusesEntry}
 use Rattle.tb_log.specs.Steps.{Filled, Takes, head_bytes, ReadsContent, MissesContent}
 
@@ -46,10 +45,10 @@ breaks_since NoMemory a b c counted breaks = breaks ∙ counted
 breaks_since fault a b c counted breaks = absurd breaks
 
 -- the numbers of an entry
-pub takes_head : (head : Head) (a b c d : Input) → Takes (le_bytes 8 head.position) a b → Takes (le_bytes 4 head.length) b c → Takes (le_bytes 4 head.checksum) c d → Takes (head_bytes head) a d
+pub takes_head : (head : Head) (a b c d : Input) → Takes (number_bytes 8 head.position) a b → Takes (number_bytes 4 head.length) b c → Takes (number_bytes 4 head.checksum) c d → Takes (head_bytes head) a d
 takes_head head a b c d position long sum =
-    takes_then (numbers head.position head.length) (le_bytes 4 head.checksum) a c d
-    (takes_then (le_bytes 8 head.position) (le_bytes 4 head.length) a b c position long) sum
+    takes_then (numbers head.position head.length) (number_bytes 4 head.checksum) a c d
+    (takes_then (number_bytes 8 head.position) (number_bytes 4 head.length) a b c position long) sum
 
 -- numbers without a fault are those of the next entry
 pub record IsNext (last position long : ℕ) : Type 0 where
@@ -70,11 +69,11 @@ module _ (head : Head) (last : ℕ) (a b c : Input) (numbered : Takes (head_byte
   next = next_entry last head.position head.length sound
 
   whole : (content : List ℕ) → length content ≡ head.length → head_bytes head ++ content ≡ summed (last + 1) head.checksum content
-  unfolding le_bytes
+  unfolding number_bytes
   whole content long =
-      append_assoc (numbers head.position head.length) (le_bytes 4 head.checksum) content
-      ∙ ap (λ (n : ℕ). numbers head.position n ++ le_bytes 4 head.checksum ++ content) (sym long)
-      ∙ ap (λ (p : ℕ). numbers p (length content) ++ le_bytes 4 head.checksum ++ content) next.next
+      append_assoc (numbers head.position head.length) (number_bytes 4 head.checksum) content
+      ∙ ap (λ (n : ℕ). numbers head.position n ++ number_bytes 4 head.checksum ++ content) (sym long)
+      ∙ ap (λ (p : ℕ). numbers p (length content) ++ number_bytes 4 head.checksum ++ content) next.next
 
   pub entry_read : (content : List ℕ) → ReadsContent head content b c → (head.position ≡ last + 1) × ReadsEntry content last a c
   entry_read content is = (

@@ -4,14 +4,13 @@ use Rattle.std.specs.Prelude.{ℕ, ◌≡◌, ◌≢◌, ◌⊎◌, ◌+◌, ◌
 use Rattle.std.specs.Io.KnownBytes.{Consumes, IsAtEnd}
 use Rattle.tb_records.specs.declared.faults.FrameFault.{FrameFault}
 use Rattle.tb_records.specs.declared.faults.FrameFault.TheVariants as frame
-use Rattle.tb_records.specs.Numbers.{le_bytes}
 use Rattle.tb_records.specs.Ordered.{Each}
 use Rattle.tb_records.specs.Inputs.{IsTimed, TimedAnswered}
 use Rattle.tb_records.specs.Transport.{Input, Fails}
 use Rattle.tb_machine.specs.Scripts.{Pair}
 use Rattle.tb_log.specs.declared.faults.LogFault.{LogFault}
 use Rattle.tb_log.specs.declared.faults.LogFault.TheVariants.{Device, NoMemory, Short, Gap, Repeat, TooLong, Damaged, BadEntry}
-use Rattle.tb_log.specs.Format.{content_max, content_of, numbers, checksum_of, summed}
+use Rattle.tb_log.specs.Format.{content_max, content_of, numbers, checksum_of, summed, number_bytes}
 
 -- the input ended within an item, or its reader failed, or there was no memory
 abbrev pub Breaks : LogFault → Input → Input → Type 0
@@ -39,7 +38,7 @@ pub record IsWrong (fault : LogFault) (last : ℕ) (before after : Input) : Type
   pub position : ℕ
   pub long : ℕ
   pub sum : ℕ
-  pub bytes : Consumes before.left after.left (numbers position long ++ le_bytes 4 sum)
+  pub bytes : Consumes before.left after.left (numbers position long ++ number_bytes 4 sum)
   pub fault_is : head_fault last position long ≡ Some fault
   pub counted : after.failed ≡ before.failed
 

@@ -2,12 +2,16 @@
 -- Cited by public contracts of: chains.
 use Rattle.std.specs.Prelude.{ℕ, List, [], ◌∷◌, ◌++◌, length, flat_map, replicate}
 use Rattle.tb_records.specs.Messages.{Answer}
-use Rattle.tb_records.specs.Numbers.{le_bytes}
+use Rattle.byteorder.specs.Endian.{little_bytes}
 use Rattle.tb_records.specs.ReplyFrames.{reply_bytes}
 use Rattle.tb_records.specs.Inputs.{timed_bytes}
 use Rattle.tb_journal.specs.Checksum.{checksum}
 use Rattle.tb_machine.specs.Scripts.{Pair}
 use Rattle.sha2.specs.Sha256.{sha256}
+
+-- the lowest n bytes of a number, the lowest first
+unfoldable pub number_bytes : ℕ → ℕ → List ℕ
+number_bytes n x = little_bytes n x
 
 -- what is read
 
@@ -21,7 +25,7 @@ content_of ps = flat_map timed_bytes ps
 
 -- the numbers of an entry: its position, and the length of its content
 abbrev pub numbers : ℕ → ℕ → List ℕ
-numbers position long = le_bytes 8 position ++ le_bytes 4 long
+numbers position long = number_bytes 8 position ++ number_bytes 4 long
 
 -- the checksum of an entry: of its numbers and its content
 abbrev pub checksum_of : ℕ → List ℕ → ℕ
@@ -29,7 +33,7 @@ checksum_of position content = checksum (numbers position (length content) ++ co
 
 -- an entry behind its kind, with any checksum
 abbrev pub summed : ℕ → ℕ → List ℕ → List ℕ
-summed position sum content = numbers position (length content) ++ le_bytes 4 sum ++ content
+summed position sum content = numbers position (length content) ++ number_bytes 4 sum ++ content
 
 abbrev pub entry_bytes : ℕ → List ℕ → List ℕ
 entry_bytes position content = 1 ∷ summed position (checksum_of position content) content
@@ -41,11 +45,11 @@ question_bytes = 2 ∷ []
 
 -- the reply to the pair of an index in the entry at a position
 abbrev pub reply_item : ℕ → ℕ → Answer → List ℕ
-reply_item position index answer = 1 ∷ le_bytes 8 position ++ le_bytes 4 index ++ reply_bytes answer
+reply_item position index answer = 1 ∷ number_bytes 8 position ++ number_bytes 4 index ++ reply_bytes answer
 
 -- the answer to a question: the position of the last entry, the hash of the log up to it, the hash of the replies up to it
 abbrev pub standing_item : ℕ → List ℕ → List ℕ → List ℕ
-standing_item position log replies = 2 ∷ le_bytes 8 position ++ log ++ replies
+standing_item position log replies = 2 ∷ number_bytes 8 position ++ log ++ replies
 
 -- chained hashes
 

@@ -2,7 +2,6 @@
 -- Cited by private contracts alone, of: entries, followers, following, inputs.
 use Rattle.std.specs.Prelude.{ℕ, true, false, ◌≡◌, ◌≢◌, ◌⊎◌, ◌≤◌, ◌<◌, Bool, List, [], ◌∷◌, ◌++◌, length, take, Option, Some, None, Result, Ok, Err, MatchResult}
 use Rattle.std.specs.Io.KnownBytes.{Consumes, IsAtEnd}
-use Rattle.tb_records.specs.Numbers.{le_bytes}
 use Rattle.tb_records.specs.Ordered.{Each}
 use Rattle.tb_records.specs.ReplyFrames.{IsReply}
 use Rattle.tb_records.specs.Inputs.{IsTimed}
@@ -13,16 +12,12 @@ use Rattle.tb_machine.specs.Runs.{IsTimely, answer_bytes}
 use Rattle.tb_log.specs.declared.faults.LogFault.{LogFault}
 use Rattle.tb_log.specs.declared.faults.LogFault.TheVariants.{Device, NoMemory, Damaged, TimeExhausted}
 use Rattle.tb_log.specs.declared.entries.Head.{Head}
-use Rattle.tb_log.specs.Format.{content_of, numbers, checksum_of, standing_item}
+use Rattle.tb_log.specs.Format.{content_of, numbers, checksum_of, standing_item, number_bytes}
 use Rattle.tb_log.specs.Following.{Following, with_content, Item, Entry, with_item, item_bytes, given_to, IsAnswered}
 use Rattle.tb_log.specs.Entries.{Breaks, IsPairs, ReadsEntry, RefusesEntry}
 use Rattle.tb_log.specs.Follows.{IsUntimely, Serves, Stops, ItemFits, Refuses}
 
 -- reading
-
--- the lowest n bytes of a number
-abbrev pub low_bytes : ℕ → ℕ → List ℕ
-low_bytes n x = le_bytes n x
 
 -- the first n bytes of a buffer came from the reader: all of it, or all that was left
 pub record Filled (n : ℕ) (buffer : List ℕ) (before after : Input) : Type 0 where
@@ -47,7 +42,7 @@ Begins (Ok (Some kind)) before after = Takes (kind ∷ []) before after
 Begins (Err fault) before after = Breaks fault before after
 
 abbrev pub head_bytes : Head → List ℕ
-head_bytes head = numbers head.position head.length ++ le_bytes 4 head.checksum
+head_bytes head = numbers head.position head.length ++ number_bytes 4 head.checksum
 
 -- the content behind an entry's numbers, with its checksum or with another
 pub record ReadsContent (head : Head) (content : List ℕ) (before after : Input) : Type 0 where

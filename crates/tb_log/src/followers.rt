@@ -1,9 +1,9 @@
 //! A follower: a machine, the position of the last entry, and the hashes of the log and of the replies.
 ghost use Rattle.std.specs.Prelude.{◌≡◌, ◌+◌, ◌∷◌, ◌++◌, IfOk, MatchResult};
-ghost use Rattle.tb_log.specs.Format.{standing_item};
+ghost use Rattle.tb_log.specs.Format.{number_bytes, standing_item};
 ghost use Rattle.tb_log.specs.Following.{begun, with_content};
 ghost use Rattle.tb_log.specs.Follows.{Answers};
-ghost use Rattle.tb_log.specs.Steps.{low_bytes, Frames, NoFrame, TellsStanding, Writes};
+ghost use Rattle.tb_log.specs.Steps.{Frames, NoFrame, TellsStanding, Writes};
 
 use crate::chains::Chain;
 use crate::faults::LogFault;
@@ -60,7 +60,7 @@ fn frame_of<A: Allocator + Clone>(
 #[tactic(auto, using(crate::proofs::Numbers::eight_written, crate::proofs::Numbers::four_written))]
 fn numbered(global: Global, position: u64, index: u32, frame: &[u8]) -> Result<Vec<u8>, AllocError>
     ensures { IfOk result
-        (λ line. line.items ≡ 1 ∷ low_bytes 8 position ++ low_bytes 4 index ++ frame.now) }
+        (λ line. line.items ≡ 1 ∷ number_bytes 8 position ++ number_bytes 4 index ++ frame.now) }
 {
     let mut line = Vec::new(global);
     line.push(1)?;

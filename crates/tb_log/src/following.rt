@@ -87,18 +87,18 @@ fn follow_in<A: Allocator + Clone, R: Source, W: Sink>(
     let mut follower = Follower::new_in(global, alloc, profile, clients_max)?;
     for k in 0..u64::MAX {
         pass_on_before_waiting(reader, writer);
-        let more = match take_next(global, &mut follower, reader, writer) {
-            Ok(more) => more,
+        match take_next(global, &mut follower, reader, writer) {
+            Ok(true) => {}
+            Ok(false) => {
+                let position = follower.position();
+                drop(follower);
+                writer.pass_on();
+                return Ok(position);
+            }
             Err(fault) => {
                 drop(follower);
                 return Err(fault);
             }
-        };
-        if !more {
-            let position = follower.position();
-            drop(follower);
-            writer.pass_on();
-            return Ok(position);
         }
     }
     drop(follower);

@@ -1,7 +1,8 @@
 //! Bytes and numbers from a reader.
 ghost use Rattle.std.specs.Prelude.{◌≡◌, vec_len, IfOk, MatchResult};
 ghost use Rattle.tb_log.specs.Entries.{Breaks};
-ghost use Rattle.tb_log.specs.Steps.{low_bytes, Filled, Reads, Begins};
+ghost use Rattle.tb_log.specs.Format.{number_bytes};
+ghost use Rattle.tb_log.specs.Steps.{Filled, Reads, Begins};
 
 use crate::faults::LogFault;
 use byteorder::{ByteOrder, LittleEndian};
@@ -52,7 +53,7 @@ pub(crate) fn kind_from<S: Source>(source: &mut S) -> Result<Option<u8>, LogFaul
 /// A number of 8 bytes.
 #[tactic(auto, using(crate::proofs::Numbers::eight_bytes))]
 pub(crate) fn u64_from<S: Source>(source: &mut S) -> Result<u64, LogFault>
-    ensures { Reads (low_bytes 8) result (S.input source.old) (S.input source.new) }
+    ensures { Reads (number_bytes 8) result (S.input source.old) (S.input source.new) }
 {
     let mut bytes = [0; 8];
     let bytes: &mut [u8] = &mut bytes;
@@ -63,7 +64,7 @@ pub(crate) fn u64_from<S: Source>(source: &mut S) -> Result<u64, LogFault>
 /// A number of 4 bytes.
 #[tactic(auto, using(crate::proofs::Numbers::four_bytes))]
 pub(crate) fn u32_from<S: Source>(source: &mut S) -> Result<u32, LogFault>
-    ensures { Reads (low_bytes 4) result (S.input source.old) (S.input source.new) }
+    ensures { Reads (number_bytes 4) result (S.input source.old) (S.input source.new) }
 {
     let mut bytes = [0; 4];
     let bytes: &mut [u8] = &mut bytes;

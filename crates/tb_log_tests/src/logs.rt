@@ -1,164 +1,36 @@
-//! Logs by the bytes that the formats give, with checksums and hashes that were computed by Python.
+//! A log, what it is answered, and what follows it. Checksums and hashes were computed by Python.
 use std::alloc::Global;
 use std::process::Abort;
+use tb_fixtures::{account, creation, found, lookup, transfer, transfers};
 use tb_log::{LogFault, follow};
-use tb_records::{ClientsMax, Counting, Profile};
+use tb_records::{
+    Body, ClientsMax, Counting, EventResult, Items, Profile, Reply, ReplyBody, Request, Status,
+    write_reply, write_request,
+};
 
-/// Bytes as they are written in hex, 16 a line.
-type Line = u128;
+/// The checksums of the three entries.
+const CHECKSUMS: [u32; 3] = [0xc1af_36ed, 0x65a2_9348, 0x72e8_5ade];
 
-/// Three entries and two questions, behind the first and the third entry. Client 7 registers and creates accounts 1 and 2; moves
-/// 100 from 1 to 2; sends that again, and looks account 2 up. The last line is filled up with zeros.
-const LOG: [Line; 54] = [
-    0x01010000000000000070010000ed36af,
-    0xc10a0000000000000007000000000000,
-    0x00000000000000000000000000000000,
-    0x00000000000200000000000000000000,
-    0x0000000000000000000a000000000000,
-    0x00070000000000000000000000000000,
-    0x00010000000000000001000000810000,
-    0x00000100000000000000000000000000,
-    0x00010000000000000000000000000000,
-    0x00000000000000000000000000000000,
-    0x00000000000000000000000000000000,
-    0x00000000000000000000000000000000,
-    0x00000000000000000000000000000000,
-    0x00000000000000000000000000000000,
-    0x00000000000000000000000000000000,
-    0x00bc0200000a00000000000000000000,
-    0x00020000000000000000000000000000,
-    0x00000000000000000000000000000000,
-    0x00000000000000000000000000000000,
-    0x00000000000000000000000000000000,
-    0x00000000000000000000000000000000,
-    0x00000000000000000000000000000000,
-    0x00000000000000000000000000000000,
-    0x00bc0200000a00000000000000000000,
-    0x0002010200000000000000b800000048,
-    0x93a2650a000000000000000700000000,
-    0x00000000000000000000000100000000,
-    0x00000002000000820000008000000000,
-    0x00000000000000000000000b00000000,
-    0x00000000000000000000000100000000,
-    0x00000000000000000000000200000000,
-    0x00000000000000000000006400000000,
-    0x00000000000000000000000000000000,
-    0x00000000000000000000000000000000,
-    0x00000000000000000000000000000000,
-    0x0000000000000000000000bc0200000a,
-    0x00000000000000000000000103000000,
-    0x0000000000010000de5ae8720a000000,
-    0x00000000070000000000000000000000,
-    0x00000000010000000000000002000000,
-    0x82000000800000000000000000000000,
-    0x000000000b0000000000000000000000,
-    0x00000000010000000000000000000000,
-    0x00000000020000000000000000000000,
-    0x00000000640000000000000000000000,
-    0x00000000000000000000000000000000,
-    0x00000000000000000000000000000000,
-    0x00000000000000000000000000000000,
-    0x00000000bc0200000a00000000000000,
-    0x000000000a0000000000000007000000,
-    0x00000000000000000000000001000000,
-    0x00000000030000008300000010000000,
-    0x00000000000000000000000002000000,
-    0x00000000000000000000000002000000,
+/// The hash of the first entry's content, and that of the first two.
+pub const ONE: u128 = 0x8ea2c5dc60e7d021cd994545c91a7c84;
+
+pub const TWO: u128 = 0x955f28d88e1fe8e8f0a6312e4ef69144;
+
+/// The hash of the log and that of the replies behind the first entry, each in two halves.
+const FIRST_HASHES: [u128; 4] = [
+    ONE,
+    0x3b81e6f8121be135d8efd688d2f8eafa,
+    0x7778e3cfa035a56bbfda801ed7f5b703,
+    0x609938a65751c14eff2a6b9703385014,
 ];
 
-/// The bytes of the log.
-pub const LOG_BYTES: usize = 861;
-
-/// The bytes of its first entry, and where its second begins and ends.
-pub const FIRST: usize = 385;
-
-pub const SECOND: (usize, usize) = (386, 587);
-
-/// What the log is answered: three entries' replies, and two answers to questions.
-const ANSWERS: [Line; 37] = [
-    0x01010000000000000000000000070000,
-    0x00000000000000000000000000010000,
-    0x00000000000000000002000000000000,
-    0x00010000000000000000000000010100,
-    0x00000000000001000000070000000000,
-    0x00000000000000000000010000000000,
-    0x00000100000081000000000000000200,
-    0x00000000000000000000020100000000,
-    0x0000008ea2c5dc60e7d021cd994545c9,
-    0x1a7c843b81e6f8121be135d8efd688d2,
-    0xf8eafa7778e3cfa035a56bbfda801ed7,
-    0xf5b703609938a65751c14eff2a6b9703,
-    0x38501401020000000000000000000000,
-    0x07000000000000000000000000000000,
-    0x01000000000000000200000082000000,
-    0x00000000030000000000000000000000,
-    0x01030000000000000000000000070000,
-    0x00000000000000000000000000010000,
-    0x00000000000200000082000000000000,
-    0x00030000000000000000000000010300,
-    0x00000000000001000000070000000000,
-    0x00000000000000000000010000000000,
-    0x00000300000083000000800000000400,
-    0x00000000000000000000020000000000,
-    0x00000000000000000000000000000000,
-    0x00000000000000000000000000000000,
-    0x00000000000000000000000000000000,
-    0x00000000000000000000640000000000,
-    0x00000000000000000000000000000000,
-    0x00000000000000000000000000000000,
-    0x00000000000000000000bc0200000a00,
-    0x00000c00000000000000020300000000,
-    0x000000d5ad1181b2d9970a018cd86494,
-    0x87d44febab1e1e6e08552082206bd204,
-    0x86d6e46df0040aba65e6fcdd546f60d2,
-    0xaa6c9415f6a9815624f85365620e13f2,
-    0x33e3a500000000000000000000000000,
+/// The same behind the third entry.
+const THIRD_HASHES: [u128; 4] = [
+    0xd5ad1181b2d9970a018cd8649487d44f,
+    0xebab1e1e6e08552082206bd20486d6e4,
+    0x6df0040aba65e6fcdd546f60d2aa6c94,
+    0x15f6a9815624f85365620e13f233e3a5,
 ];
-
-/// The bytes of the answers.
-pub const ANSWER_BYTES: usize = 579;
-
-/// The bytes of the replies to the first entry.
-pub const FIRST_REPLIES: usize = 122;
-
-/// An entry whose second pair has client 0, and its checksum.
-const BAD: [Line; 17] = [
-    0x010100000000000000f000000042b74f,
-    0xa00a0000000000000007000000000000,
-    0x00000000000000000000000000000000,
-    0x00000000000200000000000000000000,
-    0x0000000000000000000a000000000000,
-    0x00000000000000000000000000000000,
-    0x00010000000000000001000000810000,
-    0x00800000000000000000000000000000,
-    0x00010000000000000000000000000000,
-    0x00000000000000000000000000000000,
-    0x00000000000000000000000000000000,
-    0x00000000000000000000000000000000,
-    0x00000000000000000000000000000000,
-    0x00000000000000000000000000000000,
-    0x00000000000000000000000000000000,
-    0x00bc0200000a00000000000000000000,
-    0x00000000000000000000000000000000,
-];
-
-/// Its bytes.
-const BAD_BYTES: usize = 257;
-
-/// An entry that ends within its second pair, and its checksum.
-const CUT: [Line; 8] = [
-    0x01010000000000000064000000890fcc,
-    0x1a0a0000000000000007000000000000,
-    0x00000000000000000000000000000000,
-    0x00000000000200000000000000000000,
-    0x0000000000000000000a000000000000,
-    0x00070000000000000000000000000000,
-    0x00010000000000000001000000810000,
-    0x00000100000000000000000000000000,
-];
-
-/// Its bytes.
-const CUT_BYTES: usize = 117;
 
 /// The value of a call that a test wants to succeed.
 pub fn sure<T: Drop, E: Drop>(rt: &impl Abort, answer: Result<T, E>) -> T {
@@ -175,41 +47,126 @@ pub fn same(found: &[u8], wanted: &[u8]) -> bool {
     found == wanted
 }
 
-/// So many of the bytes of lines.
-fn bytes_of(rt: &impl Abort, alloc: Global, lines: &[Line], count: usize) -> Vec<u8> {
-    let mut bytes = Vec::new(alloc);
-    for line in lines {
-        sure(rt, bytes.extend_from_slice(&line.to_be_bytes()));
-    }
-    bytes.truncate(count);
-    bytes
+/// Appends the pair of a request of client 7 at moment 10.
+fn put_pair(rt: &impl Abort, out: &mut Vec<u8>, session: u64, request: u32, body: Body) {
+    let request = sure(rt, Request::new(7, session, request, body));
+    sure(rt, out.extend_from_slice(&10u64.to_le_bytes()));
+    sure(rt, write_request(&request, out));
 }
 
-/// The log.
+/// The content of the first entry: client 7 registers, and creates accounts 1 and 2.
+pub fn first(rt: &impl Abort, alloc: Global) -> Vec<u8> {
+    let mut out = Vec::new(alloc);
+    put_pair(rt, &mut out, 0, 0, Body::Register);
+    let accounts = creation(alloc, &[account(1), account(2)]);
+    put_pair(rt, &mut out, 1, 1, sure(rt, accounts));
+    out
+}
+
+/// The content of the second entry: 100 is moved from account 1 to account 2.
+pub fn second(rt: &impl Abort, alloc: Global) -> Vec<u8> {
+    let mut out = Vec::new(alloc);
+    let moved = transfers(alloc, &[transfer(11, 1, 2, 100)]);
+    put_pair(rt, &mut out, 1, 2, sure(rt, moved));
+    out
+}
+
+/// The content of the third entry: the same transfer again, and a lookup of account 2.
+fn third(rt: &impl Abort, alloc: Global) -> Vec<u8> {
+    let mut out = second(rt, alloc);
+    put_pair(rt, &mut out, 1, 3, sure(rt, lookup(alloc, &[2])));
+    out
+}
+
+/// Appends an entry with a checksum.
+pub fn put_entry(rt: &impl Abort, out: &mut Vec<u8>, position: u64, sum: u32, content: &[u8]) {
+    let long = sure(rt, u32::try_from(content.len()));
+    sure(rt, out.push(1));
+    sure(rt, out.extend_from_slice(&position.to_le_bytes()));
+    sure(rt, out.extend_from_slice(&long.to_le_bytes()));
+    sure(rt, out.extend_from_slice(&sum.to_le_bytes()));
+    sure(rt, out.extend_from_slice(content));
+}
+
+/// An entry of the log.
+pub fn entry(rt: &impl Abort, alloc: Global, position: usize) -> Vec<u8> {
+    let content = match position {
+        1 => first(rt, alloc),
+        2 => second(rt, alloc),
+        _ => third(rt, alloc),
+    };
+    let sum = CHECKSUMS.get(position.wrapping_sub(1)).copied();
+    let mut out = Vec::new(alloc);
+    put_entry(
+        rt,
+        &mut out,
+        position as u64,
+        sum.unwrap_or_default(),
+        &content,
+    );
+    out
+}
+
+/// The log: three entries, with a question behind the first and one behind the third.
 pub fn log(rt: &impl Abort, alloc: Global) -> Vec<u8> {
-    bytes_of(rt, alloc, &LOG, LOG_BYTES)
+    let mut out = entry(rt, alloc, 1);
+    sure(rt, out.push(2));
+    sure(rt, out.extend_from_slice(&entry(rt, alloc, 2)));
+    sure(rt, out.extend_from_slice(&entry(rt, alloc, 3)));
+    sure(rt, out.push(2));
+    out
 }
 
-/// What it is answered.
-pub fn answers(rt: &impl Abort, alloc: Global) -> Vec<u8> {
-    bytes_of(rt, alloc, &ANSWERS, ANSWER_BYTES)
+/// Appends the reply to a request of client 7, with its place in the log.
+fn put_reply(
+    rt: &impl Abort,
+    out: &mut Vec<u8>,
+    place: (u64, u32),
+    numbers: (u32, u8, u64),
+    body: ReplyBody,
+) {
+    let (request, operation, commit) = numbers;
+    let reply = Reply::new(7, 1, request, operation, Status::Reply, commit, body);
+    sure(rt, out.push(1));
+    sure(rt, out.extend_from_slice(&place.0.to_le_bytes()));
+    sure(rt, out.extend_from_slice(&place.1.to_le_bytes()));
+    sure(rt, write_reply(&sure(rt, reply), out));
 }
 
-/// The entry with a bad pair.
-pub fn bad(rt: &impl Abort, alloc: Global) -> Vec<u8> {
-    bytes_of(rt, alloc, &BAD, BAD_BYTES)
+/// Results of events that are all accepted.
+fn accepted(alloc: Global) -> ReplyBody {
+    let none: Vec<EventResult> = Vec::new(alloc);
+    ReplyBody::Results(Items::new(none))
 }
 
-/// The entry with a pair that is cut.
-pub fn cut(rt: &impl Abort, alloc: Global) -> Vec<u8> {
-    bytes_of(rt, alloc, &CUT, CUT_BYTES)
-}
-
-/// Changes a byte.
-pub fn change(bytes: &mut [u8], at: usize, value: u8) {
-    if let Some(byte) = bytes.get_mut(at) {
-        *byte = value;
+/// Appends the answer to a question.
+fn put_standing(rt: &impl Abort, out: &mut Vec<u8>, position: u64, hashes: &[u128]) {
+    sure(rt, out.push(2));
+    sure(rt, out.extend_from_slice(&position.to_le_bytes()));
+    for half in hashes {
+        sure(rt, out.extend_from_slice(&half.to_be_bytes()));
     }
+}
+
+/// What the first entry is answered.
+pub fn first_answers(rt: &impl Abort, alloc: Global) -> Vec<u8> {
+    let mut out = Vec::new(alloc);
+    put_reply(rt, &mut out, (1, 0), (0, 2, 1), ReplyBody::Empty);
+    put_reply(rt, &mut out, (1, 1), (1, 129, 2), accepted(alloc));
+    out
+}
+
+/// What the log is answered.
+pub fn answers(rt: &impl Abort, alloc: Global) -> Vec<u8> {
+    let mut out = first_answers(rt, alloc);
+    put_standing(rt, &mut out, 1, &FIRST_HASHES);
+    put_reply(rt, &mut out, (2, 0), (2, 130, 3), accepted(alloc));
+    put_reply(rt, &mut out, (3, 0), (2, 130, 3), accepted(alloc));
+    let second = Vec::from_slice(alloc, &[found([0, 0, 0, 100], 12, account(2))]);
+    let accounts = ReplyBody::Accounts(Items::new(sure(rt, second)));
+    put_reply(rt, &mut out, (3, 1), (3, 131, 4), accounts);
+    put_standing(rt, &mut out, 3, &THIRD_HASHES);
+    out
 }
 
 /// What following a log answers, and the bytes that it writes. Profile 1, two clients.

@@ -10,13 +10,13 @@ returns-in_err-follower-clause-followed g c =
 pub loop-k-preserved : goal.loop-k-preserved
 loop-k-preserved g c =
     working_on _ _ _ _ _ _ _ _ (working_passed _ _ _ _ _ _ _ _ c.loop-k.invariant _ c.pass_on_before_waiting.ensures) _ _ _
-    (rw c.if-not-more.false at c.in-Ok.ensures)
+    (rw c.in-Ok-true.field-0-test at c.in-Ok-true.ensures)
 
 pub returns-in-Err-clause-followed : goal.returns-in-Err-clause-followed
 returns-in-Err-clause-followed g c =
     worked_into _ _ _ _ _ _ _ _ (working_passed _ _ _ _ _ _ _ _ c.loop-k.invariant _ c.pass_on_before_waiting.ensures) c.in-Err.fault _ _ c.in-Err.ensures
 
-pub returns-then-not-more-clause-followed : goal.returns-then-not-more-clause-followed
-returns-then-not-more-clause-followed g c =
+pub returns-in-Ok-false-clause-followed : goal.returns-in-Ok-false-clause-followed
+returns-in-Ok-false-clause-followed g c =
     worked_out _ _ _ _ _ _ _ _ _ _ _ _ _ (working_passed _ _ _ _ _ _ _ _ c.loop-k.invariant _ c.pass_on_before_waiting.ensures)
-    (rw c.if-not-more.true at c.in-Ok.ensures) c.position-position.ensures c.pass_on.ensures.sent
+    (rw c.in-Ok-false.field-0-test at c.in-Ok-false.ensures) c.position-position.ensures c.pass_on.ensures.sent
