@@ -6,8 +6,8 @@
 
 The crates come from crates.txt, the bars from docs/work/runs.csv, the other pictures from this
 file. A picture is an SVG with its own colours for light and dark. A crate that the picture of the
-crates does not place, a picture that no page shows, and a file in docs/pictures that is not drawn
-here fail too.
+crates does not place, a picture that no page shows, and an SVG in docs/pictures that is not drawn
+here fail too. Screenshots (PNG) are made by checks/books.py.
 """
 import pathlib
 import re
@@ -463,10 +463,13 @@ def main() -> int:
             quietly=True,
         )
         tried.case(f"{name} is shown by a page", name in shown, quietly=True)
-    for path in FOLDER.glob("*"):
+    for path in FOLDER.glob("*.svg"):
         tried.case(
             path.relative_to(ROOT), path.stem in PICTURES, "no picture of this script", quietly=True
         )
+    photographed = "".join(it.read_text() for it in figures.pages())
+    for path in FOLDER.glob("*.png"):
+        tried.case(path.relative_to(ROOT), path.name in photographed, "no page shows it")
     return tried.status()
 
 

@@ -26,7 +26,7 @@ APART = {
     "docs/use/READING.md",
     "docs/use/TERMINAL.md",
 }
-APART_SECTIONS = {"docs/use/CLIENTS.md": "Clients by feature"}
+APART_SECTIONS = {"docs/use/CLIENTS.md": "Clients by feature", "docs/use/FORMATS.md": "Logs"}
 PLAIN = {
     r"processor (?:time|minutes|seconds)": "CPU time",
     r"foretold": "mispredicted",
