@@ -1,7 +1,7 @@
 #!/usr/bin/env python3
 """Kills the built tbd amid its work, damages its files and lets its calls fail: nothing acknowledged is lost, and nothing happens twice.
 
-    checks/keep.py [--tbd PROGRAM] [--kills N] [--flips N] [--seed N] [--builds]
+    checks/keep.py [--tbd PROGRAM] [--kills N] [--flips N] [--cuts N] [--seed N] [--builds]
 
 A program that holds a reply back, or does not end, for 20 seconds ends the script with that case failed.
 Clients retry as docs/use/CLIENTS.md says: each sends one request at a time, and the same bytes again until it has the reply. Calls of the
@@ -415,16 +415,16 @@ def look_at(tbd, path, data):
     return told
 
 
-def cuts(tbd, folder, data, gates, entries):
-    """The file cut at each of its last 1,000 bytes."""
+def cuts(tbd, folder, data, gates, entries, count):
+    """The file cut at each of its last bytes, so many."""
     path, wrong = os.path.join(folder, "cut.tbk"), []
-    for length in range(len(data) - 1000, len(data)):
+    for length in range(len(data) - count, len(data)):
         told = look_at(tbd, path, data[:length])
         # A gate at the end, or none, ends the records; any other cut leaves a block that is not whole.
         whole = length in gates or length - 1 in gates
         if not told["same"] or told["status"] != (0 if whole else 6) or whole and told["entries"] != sum(gate < length for gate in gates[:-1]) - 1 - (length - 1 in gates[:-1]):
             wrong.append((length, told))
-    case("cut at each of the last 1,000 bytes", not wrong, wrong[:2])
+    case(f"cut at each of the last {count} bytes", not wrong, wrong[:2])
 
 
 def flips(tbd, folder, data, gates, entries, count, rng):
@@ -448,6 +448,7 @@ def main():
     parser.add_argument("--tbd", default=os.path.join(ROOT, "crates", "tbd", "out", "tbd"))
     parser.add_argument("--kills", type=int, default=1000)
     parser.add_argument("--flips", type=int, default=10000)
+    parser.add_argument("--cuts", type=int, default=1000)
     parser.add_argument("--seed", type=int, default=1)
     parser.add_argument("--builds", action="store_true", help="builds that are wrong, too")
     asked = parser.parse_args()
@@ -460,7 +461,7 @@ def main():
         if asked.builds:
             builds(asked.tbd, folder)
         data, gates, entries = sample(asked.tbd, folder)
-        cuts(asked.tbd, folder, data, gates, entries)
+        cuts(asked.tbd, folder, data, gates, entries, asked.cuts)
         flips(asked.tbd, folder, data, gates, entries, asked.flips, rng)
         faults(asked.tbd, folder, shim)
         reads(asked.tbd, folder, shim, data)
