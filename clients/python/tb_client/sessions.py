@@ -168,9 +168,9 @@ class Session(Closing):
         self._lock = threading.RLock()
 
     def __repr__(self) -> str:
-        doubt = ""
-        if self.pending is not None:
-            asked = header_of(self.pending)
+        doubt, pending = "", self.pending  # which another thread may settle meanwhile
+        if pending is not None:
+            asked = header_of(pending)
             doubt = f" in doubt: request {asked.number}, {asked.operation.name}"
         ended = ", abandoned" if self._is_abandoned else ""
         return (
