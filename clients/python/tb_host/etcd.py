@@ -98,6 +98,7 @@ class EtcdLog:
         self.prefix = name.rstrip("/").encode() + b"/"
         self.writing = self.reading = 0  # which address
         self.watch: Any = None
+        self.cursor = 0  # the revision up to which all was read
         self.is_moving = False
 
     # calls
@@ -157,11 +158,16 @@ class EtcdLog:
         return int(made.responses[0].response_range.kvs[0].create_revision)
 
     async def read(self, place: int) -> AsyncIterator[Union[Written, Report]]:
+        self.cursor = place
         while True:
             try:
-                async for it in self._watched(place):
-                    place = max(place, it.place if isinstance(it, Written) else 0)
+                async for it in self._watched():
+                    place = it.place if isinstance(it, Written) else place
                     yield it
+            except LogGone:  # from what can be watched; what is kept is listed
+                async for entry in self._listed(place):
+                    place = entry.place
+                    yield entry
             except grpc.aio.AioRpcError as error:
                 _test(self.addresses[self.reading], error)
             except asyncio.CancelledError:
@@ -171,13 +177,13 @@ class EtcdLog:
             self.reading = (self.reading + 1) % len(self.addresses)
             await asyncio.sleep(AGAIN)
 
-    async def _watched(self, place: int) -> AsyncIterator[Union[Written, Report]]:
+    async def _watched(self) -> AsyncIterator[Union[Written, Report]]:
         it = self.addresses[self.reading]
         self.watch = it.watches.Watch(metadata=await it.metadata())
         asked = rpc.WatchCreateRequest(
             key=self.prefix,
             range_end=_end_of(self.prefix),
-            start_revision=place + 1,
+            start_revision=self.cursor + 1,
             filters=[rpc.WatchCreateRequest.NODELETE],
         )
         asked.MergeFromString(FRAGMENT)
@@ -193,8 +199,36 @@ class EtcdLog:
                     found = self._item(event.kv)
                     if found is not None:
                         yield found
+                    self.cursor = event.kv.mod_revision
         finally:
             self.watch.cancel()
+
+    async def _listed(self, place: int) -> AsyncIterator[Written]:
+        """The entries behind a place, in order. They are there though their history is not, unless
+        the log was trimmed beyond the place."""
+        request = rpc.RangeRequest(
+            key=self.prefix + b"log/",
+            range_end=_end_of(self.prefix + b"log/"),
+            min_create_revision=place + 1,
+            sort_order=rpc.RangeRequest.ASCEND,
+            sort_target=rpc.RangeRequest.CREATE,
+            keys_only=True,
+        )
+        with contextlib.suppress(NoLog):  # it is tried again where the log can be reached
+            found = await self._call("keys", "Range", request)
+            position, trimmed = await self.trimmed()
+            if trimmed > place:
+                raise LogGone(f"the log begins behind position {position}")
+            for it in found.kvs:
+                yield await self._kept(it.key)
+            self.cursor = found.header.revision
+
+    async def _kept(self, key: bytes) -> Written:
+        """An entry that was listed."""
+        found = await self._call("keys", "Range", rpc.RangeRequest(key=key))
+        if not found.kvs:
+            raise LogGone("the log was trimmed while it was read")
+        return Written(int(found.kvs[0].create_revision), bytes(found.kvs[0].value))
 
     def _item(self, pair: Any) -> Union[Written, Report, None]:
         rest = pair.key[len(self.prefix) :]
@@ -248,11 +282,14 @@ class EtcdLog:
         return said
 
     async def _remove(self, place: int) -> None:
+        """Deletes the entries up to a place, and then their history: etcd keeps what is deleted
+        until the revision that deleted it is compacted."""
+        revision = place
         for first, last in await self._numbers_up_to(place):
             request = rpc.DeleteRangeRequest(key=first, range_end=last + b"\0")
-            await self._call("keys", "DeleteRange", request)
+            revision = (await self._call("keys", "DeleteRange", request)).header.revision
         with contextlib.suppress(NoLog, LogGone):  # it may be compacted already
-            request = rpc.CompactionRequest(revision=place, physical=True)
+            request = rpc.CompactionRequest(revision=revision, physical=True)
             await self._call("keys", "Compact", request)
 
     async def _put_trimmed(self, position: int, place: int) -> bool:
