@@ -182,6 +182,7 @@ def part_trim(given):
         case("trim: it ends with status 0", all(it[0] == 0 for it in trims), trims[-1][1].strip())
         case("trim: entries are removed", any("are removed" in it[1] for it in trims))
         case("trim: the log is gone from its beginning", agreement.is_gone(cluster, 0))
+        case("trim: the rest is there", agreement.is_kept(cluster, cluster.copy(0)))
         late_replica(cluster)
         agree("trim", cluster, traffic, trimmed=True)
 

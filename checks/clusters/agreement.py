@@ -12,7 +12,7 @@ sys.path.insert(0, CLIENT)
 
 from tb_host.entries import Entry  # noqa: E402
 from tb_host.local_copy import records_of  # noqa: E402
-from tb_host.log import Access, LogGone, opened  # noqa: E402
+from tb_host.log import Access, LogGone, Written, opened  # noqa: E402
 
 
 def script_of(cluster):
@@ -22,24 +22,42 @@ def script_of(cluster):
 
 def is_gone(cluster, place):
     """Whether who reads from this place on is told that the log does not have it any more."""
+    try:
+        _read(cluster, place, 1)
+    except LogGone:
+        return True
+    return False
+
+
+def is_kept(cluster, folder):
+    """Whether what the log has behind where it was trimmed is what a copy has there."""
+    script = script_of_copy(folder)
+    position, found = _read(cluster, None, 5)
+    kept = script[position : position + 5]
+    return position > 0 and found == kept and len(kept) == 5
+
+
+def _read(cluster, place, count):
+    """Reads so many entries from a place on, None for where the log was trimmed. Answers the
+    position before them, and their pairs."""
 
     async def reads():
         it = opened(cluster.log(), Access())
         try:
-            async for _ in it.read(place):
-                pass
-        except LogGone:
-            return True
+            position, trimmed = await it.trimmed()
+            found = []
+            async for item in it.read(trimmed if place is None else place):
+                if isinstance(item, Written):
+                    found.append(Entry.from_bytes(item.data).pairs)
+                if len(found) == count:
+                    return position, found
         finally:
             await it.close()
 
     async def in_time():
-        return await asyncio.wait_for(reads(), 20)
+        return await asyncio.wait_for(reads(), 30)
 
-    try:
-        return asyncio.run(in_time())
-    except asyncio.TimeoutError:
-        return False
+    return asyncio.run(in_time())
 
 
 def script_of_copy(folder):
