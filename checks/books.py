@@ -485,9 +485,20 @@ def checked_by_server(ledger, path, socket):
         before = now
     listener.send_signal(signal.SIGTERM)
     listener.wait(PATIENCE)
+    void_all(ledger, f"{path}.later")
     load(path, ledger.path)
     said = checking.communicate(timeout=PATIENCE)[0]
     return checking.returncode, said.strip()
+
+
+def void_all(ledger, path):
+    """Voids what is pending, so that balances are other ones than at the lookup's entry."""
+    load(path, ledger.path)
+    ledger.commit = reached(path)
+    pending = [it for it, row in rows(path, "transfers").items() if row["state"] == "pending"]
+    events = [Transfer((1 << 101) + it, pending_id=it, flags=8) for it in pending]
+    ledger.ask(PROBER, [(Operation.create_transfers, events[:ASKED])])
+    tried.case(f"{len(pending)} voids behind the lookup", pending, quietly=True)
 
 
 def cpu_of(words, input):

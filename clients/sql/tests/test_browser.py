@@ -9,12 +9,14 @@ import signal
 import struct
 import subprocess
 import tempfile
+import time
 import unittest
 import urllib.error
 import urllib.parse
 import urllib.request
 
 from selenium import webdriver
+from selenium.common.exceptions import WebDriverException
 from selenium.webdriver.chrome.options import Options
 from selenium.webdriver.chrome.service import Service
 from selenium.webdriver.common.by import By
@@ -114,6 +116,18 @@ class Browser(unittest.TestCase):
 
     def text(self):
         return " ".join(self.driver.find_element(By.TAG_NAME, "body").text.split())
+
+    def wait_for(self, words):
+        """Waits until a page with these words is there: a click may return before it is."""
+        deadline = time.monotonic() + 60
+        while time.monotonic() < deadline:
+            try:
+                if words in self.text():
+                    return
+            except WebDriverException:  # the page before is gone, and the next one not there yet
+                pass
+            time.sleep(0.1)
+        self.assertIn(words, self.text())
 
     def all(self, chosen):
         return self.driver.find_elements(By.CSS_SELECTOR, chosen)
@@ -215,18 +229,20 @@ class Browser(unittest.TestCase):
         """From the overview to an account, its older postings, and a transfer; then a search."""
         self.open("/")
         self.one("nav[aria-label=Pages] a[href='/accounts']").click()
+        self.wait_for("Accounts, the newest first")
         self.one(f"a[href='/account/{SALES}']").click()
-        self.assertIn("Account 2", self.text())
+        self.wait_for("Account 2")
         newest = self.all("tbody tr time")[0].text
         self.one("a[rel=next]").click()
+        self.wait_for("Postings 560 to 609 of 659")
         self.assertNotEqual(self.all("tbody tr time")[0].text, newest)
         transfer = self.one("tbody th[scope=row] a.id")
         id = transfer.text.replace("\n", "")
         transfer.click()
-        self.assertIn(f"Transfer {id}", self.text())
+        self.wait_for(f"Transfer {id}")
         field = self.one("#search-id")
         field.send_keys(str(HOLDS), Keys.ENTER)
-        self.assertIn("Account 4", self.text())
+        self.wait_for("Account 4")
 
     def test_dates(self):
         self.open(f"/account/{SALES}?from=2026-10-01&to=2026-10-02")
@@ -234,6 +250,7 @@ class Browser(unittest.TestCase):
         times = {it.get_attribute("datetime")[:10] for it in self.all("section tbody time")}
         self.assertLessEqual(times, {"2026-10-01", "2026-10-02"})
         self.one(".dates button").click()
+        self.wait_for("All dates")
         self.assertIn("from=2026-10-01&to=2026-10-02", self.driver.current_url)
 
     def test_keyboard(self):

@@ -10,7 +10,7 @@ from ..numbers import time_text
 
 HEIGHT = 200
 NARROW, WIDE = 560, 1160
-LEFT, RIGHT, TOP, BOTTOM = 76, 8, 10, 26  # around the drawing
+LEFT, RIGHT, TOP, BOTTOM = 92, 8, 10, 26  # around the drawing
 
 
 def grouped(value: int) -> str:
@@ -74,8 +74,9 @@ def axis_times(start: int, end: int) -> Tuple[str, str]:
 
 
 def drawing(name: str, title: str, description: str, parts: Sequence[str], width: int) -> Markup:
+    kind = "chart wide" if width == WIDE else "chart"
     return Markup(
-        f'<svg class="chart" viewBox="0 0 {width} {HEIGHT}" role="img"'
+        f'<svg class="{kind}" viewBox="0 0 {width} {HEIGHT}" role="img"'
         f' aria-labelledby="{name}-title {name}-description">'
         f'<title id="{name}-title">{escape(title)}</title>'
         f'<desc id="{name}-description">{escape(description)}</desc>{"".join(parts)}</svg>'
