@@ -215,9 +215,10 @@ class Worker(threading.Thread):
                     else session.retry()
                 )
                 return said, is_doubtful
-            except Evicted:
+            except Evicted as why:
                 is_doubtful, is_lost = is_doubtful or is_lost, False
                 self._leave()
+                self._pool.pause(patience.next(why), why)
             except CannotConnect as why:
                 if not is_lost and not is_doubtful:
                     raise
