@@ -415,6 +415,91 @@ def look_at(tbd, path, data):
     return told
 
 
+# Words that are none of the program's forms, and what is told of them.
+WORDS = [
+    ("run ledger.tbk 65", "run ledger.tbk 65: CLIENTS_MAX is 1 to 64"),
+    ("run ledger.tbk 65 1", "run ledger.tbk 65 1: CLIENTS_MAX is 1 to 64"),
+    ("run ledger.tbk 2 3", "run ledger.tbk 2 3: PROFILE is 1 or 2"),
+    ("run ledger.tbk", "run ledger.tbk: CLIENTS_MAX is missing, 1 to 64"),
+    ("check", "check: FILE is missing"),
+    ("dump ledger.tbk 2", "dump: too many words"),
+    ("serve", "serve: unknown; tbd --help shows the forms"),
+]
+
+
+def told_of(tbd, folder, words, data=b"", output=subprocess.PIPE, **how):
+    """The status of words, what goes to the output, and what is told."""
+    ran = subprocess.run([tbd, *words], cwd=folder, input=data, stdout=output, stderr=subprocess.PIPE, timeout=SECONDS, check=False, **how)
+    return ran.returncode, ran.stdout, ran.stderr.decode()
+
+
+def pair_of_a_register():
+    return struct.pack("<Q", 5) + request_frame(7, 0, 0, Operation.register)
+
+
+def told_of_words(tbd, folder):
+    """What is told of wrong words, of output that is lost, and of a file that this user may not read."""
+    for words, line in WORDS:
+        told = told_of(tbd, folder, words.split())
+        case(f"wrong words: {words}", told == (2, b"", f"tbd: Usage: {line}\n"), told)
+    told_of(tbd, folder, ["run", "words.tbk", "3"], pair_of_a_register())
+    for form in ("dump", "check"):
+        with open("/dev/full", "wb") as full:
+            told = told_of(tbd, folder, [form, "words.tbk"], output=full)
+        case(f"lost output of {form}", told == (1, None, "tbd: Device\n"), told)
+    if os.geteuid() == 0:
+        os.chmod(folder, 0o755)
+        copy = shutil.copy(tbd, os.path.join(folder, "copy"))
+        os.chmod(copy, 0o755)
+        told = told_of(copy, folder, ["check", "words.tbk"], user=65534)
+        case("no permission", told == (1, b"", "tbd: Device: no permission to open words.tbk\n"), told)
+
+
+def told_of_ends(tbd, folder):
+    """What is told of torn bytes that are cut off, and that nothing is written of a file that is damaged."""
+    with open(os.path.join(folder, "words.tbk"), "rb") as file:
+        data = file.read()
+    with open(os.path.join(folder, "torn.tbk"), "wb") as file:
+        file.write(data + b"\0\2\0")
+    told = check(tbd, os.path.join(folder, "torn.tbk"))
+    case("what is told of torn bytes", told["torn bytes"] == 3, told)
+    told = told_of(tbd, folder, ["run", "torn.tbk", "3"])
+    case("torn bytes are told", told == (0, b"", f"tbd: cut 3 bytes of a batch that was not committed, behind byte {len(data) - 1}\n"), told)
+    with open(os.path.join(folder, "turned.tbk"), "wb") as file:
+        file.write(data[:-2] + bytes([data[-2] ^ 1]) + data[-1:])
+    told = told_of(tbd, folder, ["dump", "turned.tbk"])
+    case("nothing is written of a damaged file", told[:2] == (6, b""), told)
+    told = told_of(tbd, folder, ["run", "turned.tbk", "3"], pair_of_a_register())
+    case("nothing is served over a damaged file", told[:2] == (6, b""), told)
+
+
+def failing_dumps(tbd, folder, shim):
+    """A read that fails, at each place in turn, ends a dump in Device; once none is left to fail, the dump is whole."""
+    path, number = os.path.join(folder, "words.tbk"), 0
+    whole = told_of(tbd, folder, ["dump", path])
+    status = 1
+    while status:
+        number += 1
+        env = {**os.environ, "LD_PRELOAD": shim, "KEEP_FILE": path, "KEEP_FAULT": f"read {number} {EIO}"}
+        told = told_of(tbd, folder, ["dump", path], env=env)
+        status = told[0]
+        case(f"read {number} of a dump fails", status == 0 or (status, told[2]) == (1, "tbd: Device\n"), told)
+    case("a dump whose reads do not fail is whole", told == whole and number > 3, (number, told))
+
+
+def told_by_check(tbd, folder):
+    """What is told of a file that is not there, and of one of each profile, with a register."""
+    absent = os.path.join(folder, "absent.tbk")
+    told = check(tbd, absent)
+    case("a file that is not there", told["status"] == 1 and absent in told["said"] and not os.path.exists(absent), told)
+    for profile in (1, 2):
+        path = os.path.join(folder, f"profile{profile}.tbk")
+        told_of(tbd, folder, ["run", path, "3", str(profile)], pair_of_a_register())
+        told = check(tbd, path)
+        wanted = {"status": 0, "said": "", "records": 2, "entries": 1, "profile": profile, "clients_max": 3, "last time": 5, "torn bytes": 0}
+        case(f"what is told of profile {profile}", told == wanted, told)
+
+
 def cuts(tbd, folder, data, gates, entries, count):
     """The file cut at each of its last bytes, so many."""
     path, wrong = os.path.join(folder, "cut.tbk"), []
@@ -457,6 +542,10 @@ def main():
     with tempfile.TemporaryDirectory() as folder:
         shim = os.path.join(folder, "shim.so")
         subprocess.run(["gcc", "-O1", "-Wall", "-Wextra", "-shared", "-fPIC", "-o", shim, os.path.join(ROOT, "checks", "keep", "shim.c")], check=True)
+        told_of_words(asked.tbd, folder)
+        told_of_ends(asked.tbd, folder)
+        told_by_check(asked.tbd, folder)
+        failing_dumps(asked.tbd, folder, shim)
         orders(asked.tbd, folder, shim)
         if asked.builds:
             builds(asked.tbd, folder)
