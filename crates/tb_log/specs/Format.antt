@@ -43,9 +43,12 @@ question_bytes = 2 ∷ []
 
 -- what is written
 
--- the reply to the pair of an index in the entry at a position
+-- a frame with its place: the position of its entry, and its index there
+abbrev pub placed : ℕ → ℕ → List ℕ → List ℕ
+placed position index frame = 1 ∷ number_bytes 8 position ++ number_bytes 4 index ++ frame
+
 abbrev pub reply_item : ℕ → ℕ → Answer → List ℕ
-reply_item position index answer = 1 ∷ number_bytes 8 position ++ number_bytes 4 index ++ reply_bytes answer
+reply_item position index answer = placed position index (reply_bytes answer)
 
 -- the answer to a question: the position of the last entry, the hash of the log up to it, the hash of the replies up to it
 abbrev pub standing_item : ℕ → List ℕ → List ℕ → List ℕ

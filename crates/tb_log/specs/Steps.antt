@@ -57,6 +57,9 @@ pub record MissesContent (head : Head) (fault : LogFault) (before after : Input)
   pub wrong : head.checksum ≢ checksum_of head.position content
   pub fault_is : fault ≡ Damaged head.position
 
+abbrev pub Loses : Head → LogFault → Input → Input → Type 0
+Loses head fault before after = Breaks fault before after ⊎ MissesContent head fault before after
+
 -- answering
 
 -- the frame of the reply to a pair
@@ -74,10 +77,13 @@ Writes (Ok done) bytes before after = Sent bytes before after
 Writes (Err Device) bytes before after = CutOff bytes before after
 Writes (Err fault) bytes before after = ⊥
 
+abbrev pub standing_of : Following → List ℕ
+standing_of F = standing_item F.position F.log F.replies
+
 -- a question was answered, or there was no memory, or the device failed
 abbrev pub TellsStanding : Result (Unit {0}) LogFault → Following → Output → Output → Type 0
-TellsStanding (Ok done) F before after = Sent (standing_item F.position F.log F.replies) before after
-TellsStanding (Err Device) F before after = CutOff (standing_item F.position F.log F.replies) before after
+TellsStanding (Ok done) F before after = Sent (standing_of F) before after
+TellsStanding (Err Device) F before after = CutOff (standing_of F) before after
 TellsStanding (Err NoMemory) F before after = after ≡ before
 TellsStanding (Err fault) F before after = ⊥
 

@@ -1,8 +1,8 @@
 //! An entry from a reader, behind its kind: its numbers are tested before its content is read, and its checksum after.
-ghost use Rattle.std.specs.Prelude.{◌≡◌, ◌≤◌, ◌+◌, ◌⊎◌, length, Ok, Err, MatchOption, MatchResult};
-ghost use Rattle.tb_log.specs.Entries.{Breaks, head_fault, pair_fault, IsPairs, IsNoPairs, ReadsEntry, RefusesEntry};
+ghost use Rattle.std.specs.Prelude.{◌≡◌, ◌≤◌, ◌+◌, length, Ok, Err, IfOk, IfErr, OnOk, MatchOption};
+ghost use Rattle.tb_log.specs.Entries.{head_fault, pair_fault, IsPairs, IsNoPairs, ReadsEntry, RefusesEntry};
 ghost use Rattle.tb_log.specs.Format.{content_max};
-ghost use Rattle.tb_log.specs.Steps.{head_bytes, Reads, ReadsContent, MissesContent};
+ghost use Rattle.tb_log.specs.Steps.{head_bytes, Reads, ReadsContent, Loses};
 
 use crate::checksums::entry_sum;
 use crate::faults::LogFault;
@@ -58,10 +58,10 @@ fn judge_head(head: &Head, last: u64) -> Result<(), LogFault>
 /// Reads the content behind the numbers, and tests its checksum.
 fn content_from<S: Source>(alloc: Global, source: &mut S, head: &Head) -> Result<Vec<u8>, LogFault>
     requires { head.now.length ≤ content_max }
-    ensures { MatchResult result
-        (λ content. ReadsContent head.now content.items (S.input source.old) (S.input source.new))
-        (λ fault. Breaks fault (S.input source.old) (S.input source.new)
-        ⊎ MissesContent head.now fault (S.input source.old) (S.input source.new)) }
+    ensures whole { IfOk result
+        (λ bytes. ReadsContent head.now bytes.items (S.input source.old) (S.input source.new)) }
+    ensures lost { IfErr result
+        (λ f. Loses head.now f (S.input source.old) (S.input source.new)) }
 {
     let content = bytes_from(alloc, source, head.length as usize)?;
     if entry_sum(head.position, &content) != head.checksum {
@@ -83,8 +83,8 @@ fn pair_fault(position: u64, fault: FrameFault) -> LogFault
 /// Tests that the content of the entry at a position is pairs, before the first of them is served.
 fn check_pairs(global: Global, position: u64, content: &[u8]) -> Result<(), LogFault>
     requires { length content.now ≤ content_max }
-    ensures { MatchResult result (λ _. IsPairs content.now)
-        (λ fault. IsNoPairs fault position content.now) }
+    ensures pairs { OnOk result (IsPairs content.now) }
+    ensures bad { IfErr result (λ fault. IsNoPairs fault position content.now) }
 {
     let mut source = Counting::new(content);
     for k in 0..0x100_0000u32 {
@@ -104,12 +104,12 @@ pub(crate) fn entry_from<S: Source>(
     source: &mut S,
     last: u64,
 ) -> Result<(u64, Vec<u8>), LogFault>
-    ensures { MatchResult result
-        (λ entry.
-        (entry.0 ≡ last + 1)
-        × ReadsEntry entry.1.items last (S.input source.old) (S.input source.new)
-        × IsPairs entry.1.items)
-        (λ fault. RefusesEntry fault last (S.input source.old) (S.input source.new)) }
+    ensures place { IfOk result (λ entry. entry.0 ≡ last + 1) }
+    ensures read { IfOk result
+        (λ entry. ReadsEntry entry.1.items last (S.input source.old) (S.input source.new)) }
+    ensures pairs { IfOk result (λ entry. IsPairs entry.1.items) }
+    ensures wrong { IfErr result
+        (λ f. RefusesEntry f last (S.input source.old) (S.input source.new)) }
 {
     let head = head_from(source)?;
     judge_head(&head, last)?;

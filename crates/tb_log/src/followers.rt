@@ -1,9 +1,9 @@
 //! A follower: a machine, the position of the last entry, and the hashes of the log and of the replies.
-ghost use Rattle.std.specs.Prelude.{◌≡◌, ◌+◌, ◌∷◌, ◌++◌, IfOk, MatchResult};
-ghost use Rattle.tb_log.specs.Format.{number_bytes, standing_item};
+ghost use Rattle.std.specs.Prelude.{◌≡◌, ◌+◌, IfOk, IfErr};
+ghost use Rattle.tb_log.specs.Format.{placed};
 ghost use Rattle.tb_log.specs.Following.{begun, with_content};
 ghost use Rattle.tb_log.specs.Follows.{Answers};
-ghost use Rattle.tb_log.specs.Steps.{Frames, NoFrame, TellsStanding, Writes};
+ghost use Rattle.tb_log.specs.Steps.{Frames, NoFrame, standing_of, TellsStanding, Writes};
 
 use crate::chains::Chain;
 use crate::faults::LogFault;
@@ -44,9 +44,9 @@ fn frame_of<A: Allocator + Clone>(
     moment: u64,
     request: Request,
 ) -> Result<Vec<u8>, LogFault>
-    ensures { MatchResult result
-        (λ frame. Frames frame.items (moment, request) machine.old machine.new)
-        (λ fault. NoFrame position fault (moment, request) machine.old) }
+    ensures frame { IfOk result
+        (λ frame. Frames frame.items (moment, request) machine.old machine.new) }
+    ensures none { IfErr result (λ f. NoFrame position f (moment, request) machine.old) }
 {
     let mut frame = Counting::new(Vec::new(global));
     match serve_pair(machine, &mut frame, moment, request) {
@@ -60,7 +60,7 @@ fn frame_of<A: Allocator + Clone>(
 #[tactic(auto, using(crate::proofs::Numbers::eight_written, crate::proofs::Numbers::four_written))]
 fn numbered(global: Global, position: u64, index: u32, frame: &[u8]) -> Result<Vec<u8>, AllocError>
     ensures { IfOk result
-        (λ line. line.items ≡ 1 ∷ number_bytes 8 position ++ number_bytes 4 index ++ frame.now) }
+        (λ line. line.items ≡ placed position index frame.now) }
 {
     let mut line = Vec::new(global);
     line.push(1)?;
@@ -126,7 +126,7 @@ impl<A: Allocator + Clone> Follower<A> {
     #[tactic(auto, using(crate::proofs::Numbers::eight_written))]
     fn standing(&self, global: Global) -> Result<Vec<u8>, AllocError>
         ensures { IfOk result
-            (λ line. line.items ≡ standing_item self.now.position self.now.log self.now.replies) }
+            (λ line. line.items ≡ standing_of self.now) }
     {
         let mut line = Vec::new(global);
         line.push(2)?;

@@ -74,11 +74,11 @@ fn take_next<A: Allocator + Clone, R: Source, W: Sink>(
 /// Follows a log, with the records of the machine in memory of `alloc`.
 fn follow_in<A: Allocator + Clone, R: Source, W: Sink>(
     global: Global,
-    profile: Profile,
-    clients_max: ClientsMax,
+    alloc: A,
     reader: &mut R,
     writer: &mut W,
-    alloc: A,
+    profile: Profile,
+    clients_max: ClientsMax,
 ) -> Result<u64, LogFault>
     ensures followed { Followed profile clients_max result (R.input reader.old) (R.input reader.new)
         (W.output writer.old) (W.output writer.new) }
@@ -140,7 +140,7 @@ pub fn follow<R: Source, W: Sink>(
     ensures passed { IfOk result (λ _. (W.output writer.new).held ≡ false) }
 {
     let pool = Bump::new(alloc);
-    let followed = follow_in(alloc, profile, clients_max, reader, writer, &pool);
+    let followed = follow_in(alloc, &pool, reader, writer, profile, clients_max);
     drop(pool);
     followed
 }

@@ -1,5 +1,5 @@
 //! Bytes and numbers from a reader.
-ghost use Rattle.std.specs.Prelude.{◌≡◌, vec_len, IfOk, MatchResult};
+ghost use Rattle.std.specs.Prelude.{◌≡◌, vec_len, IfOk, IfErr};
 ghost use Rattle.tb_log.specs.Entries.{Breaks};
 ghost use Rattle.tb_log.specs.Format.{number_bytes};
 ghost use Rattle.tb_log.specs.Steps.{Filled, Reads, Begins};
@@ -11,9 +11,9 @@ use tb_records::Source;
 
 /// Fills the buffer, and returns how many of its bytes were filled: fewer than all only at the end of the input.
 fn fill<S: Source>(source: &mut S, buffer: &mut [u8]) -> Result<usize, LogFault>
-    ensures { MatchResult result
-        (λ n. Filled n buffer.new (S.input source.old) (S.input source.new))
-        (λ f. Breaks f (S.input source.old) (S.input source.new)) }
+    ensures filled { IfOk result
+        (λ n. Filled n buffer.new (S.input source.old) (S.input source.new)) }
+    ensures lost { IfErr result (λ f. Breaks f (S.input source.old) (S.input source.new)) }
 {
     let mut filled = 0;
     while filled < buffer.len() {

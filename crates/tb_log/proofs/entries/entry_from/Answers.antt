@@ -4,15 +4,23 @@ use Rattle.tb_log.specs.Entries.{IsNoPairs}
 use Rattle.tb_log.proofs.Taking.{entry_lost, entry_read, entry_bad, sound_of}
 use Rattle.tb_log.proofs.entries.entry_from.Goals as goal
 
-pub returns-in_err-content : goal.returns-in_err-content
-returns-in_err-content g c =
+pub returns-in_err-content-clause-wrong : goal.returns-in_err-content-clause-wrong
+returns-in_err-content-clause-wrong g c =
     let p = err_from_is_err_and c.from_residual-in_err-content.result c.from_residual-in_err-content.ensures.1 in
     rw (p.1, p.2) (entry_lost c.in_ok-head.head c.args.last _ _ _ c.in_ok-head.ensures
-    (sound_of _ c.judge_head.result _ c.judge_head.ensures c.in_ok-judge_head.was) c.in_err-content.field-0.0 c.in_err-content.ensures)
+    (sound_of _ c.judge_head.result _ c.judge_head.ensures c.in_ok-judge_head.was) c.in_err-content.field-0.0 c.in_err-content.ensures.lost)
 
-pub returns-in_err-check_pairs : goal.returns-in_err-check_pairs
-returns-in_err-check_pairs g c =
+pub returns-in_err-check_pairs-clause-wrong : goal.returns-in_err-check_pairs-clause-wrong
+returns-in_err-check_pairs-clause-wrong g c =
     let p = err_from_is_err_and c.from_residual-in_err-check_pairs.result c.from_residual-in_err-check_pairs.ensures.1 in
     rw (p.1, p.2) (entry_bad c.in_err-check_pairs.field-0.0 c.in_ok-head.head.position c.args.last c.in_ok-content.content.items _ _
-    (entry_read c.in_ok-head.head c.args.last _ _ _ c.in_ok-head.ensures (sound_of _ c.judge_head.result _ c.judge_head.ensures c.in_ok-judge_head.was) c.in_ok-content.content.items c.in_ok-content.ensures)
-    (subst (λ (bs : List ℕ). IsNoPairs c.in_err-check_pairs.field-0.0 c.in_ok-head.head.position bs) c.deref.ensures.value c.in_err-check_pairs.ensures))
+    (entry_read c.in_ok-head.head c.args.last _ _ _ c.in_ok-head.ensures (sound_of _ c.judge_head.result _ c.judge_head.ensures c.in_ok-judge_head.was) c.in_ok-content.content.items c.in_ok-content.ensures.whole)
+    (subst (λ (bs : List ℕ). IsNoPairs c.in_err-check_pairs.field-0.0 c.in_ok-head.head.position bs) c.deref.ensures.value c.in_err-check_pairs.ensures.bad))
+
+pub returns-clause-place : goal.returns-clause-place
+returns-clause-place g c =
+    (entry_read c.in_ok-head.head c.args.last _ _ _ c.in_ok-head.ensures (sound_of _ c.judge_head.result _ c.judge_head.ensures c.in_ok-judge_head.was) c.in_ok-content.content.items c.in_ok-content.ensures.whole).0
+
+pub returns-clause-read : goal.returns-clause-read
+returns-clause-read g c =
+    (entry_read c.in_ok-head.head c.args.last _ _ _ c.in_ok-head.ensures (sound_of _ c.judge_head.result _ c.judge_head.ensures c.in_ok-judge_head.was) c.in_ok-content.content.items c.in_ok-content.ensures.whole).1

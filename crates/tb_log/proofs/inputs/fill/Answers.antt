@@ -19,5 +19,5 @@ loop-filled-preserved g c =
       counted = c.in-Ok.ensures.counted.counted ∙ c.loop-filled.invariant.counted;
     }
 
-pub returns-in-Err : goal.returns-in-Err
-returns-in-Err g c = breaks_since Device _ _ _ c.loop-filled.invariant.counted c.in-Err.ensures.counted
+pub returns-in-Err-clause-lost : goal.returns-in-Err-clause-lost
+returns-in-Err-clause-lost g c = breaks_since Device _ _ _ c.loop-filled.invariant.counted c.in-Err.ensures.counted
