@@ -46,7 +46,6 @@ KINDS = {
     "check",
     "edits",
     "edit",
-    "mutants",
     "form",
 }
 BLOCK = re.compile(r"(<!-- figures: (\w+) -->\n)(.*?)(<!-- end of figures -->)", re.S)
@@ -240,18 +239,6 @@ def checks() -> str:
     )
 
 
-def mutants() -> str:
-    found = of_kind("mutants")
-    if not found:
-        return "No run of mutation testing is recorded in runs.csv yet.\n"
-    lines = [
-        f"| {it['subject']} | {when(it)} | {it['passed']} caught, {it['failed']} not | "
-        f"{it['note']} |"
-        for it in found
-    ]
-    return table("| Mutants of | Run | Result | |", lines)
-
-
 def form() -> str:
     """The figures of the code's form: bounds, and what a commit had."""
     commits = list(dict.fromkeys(it["commit"] for it in of_kind("form")))
@@ -279,7 +266,6 @@ WRITERS = {
         takes,
         ports,
         checks,
-        mutants,
         form,
     )
 }
