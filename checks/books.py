@@ -11,7 +11,7 @@ kills      loads that are killed and run again are equal to one that was not
 live       `tb-sql load --follow` while `tbd run` adds to the file
 server     `tb-sql check --server` over a socket, and with a wrong balance
 speed      events a CPU second, and the time of a statement and of the pages
-tests      the tests of clients/sql
+tests      the tests of clients/sql, and its types where mypy is installed
 pages      its pages in Chromium
 postgresql the same tables in PostgreSQL
 
@@ -485,20 +485,21 @@ def checked_by_server(ledger, path, socket):
         before = now
     listener.send_signal(signal.SIGTERM)
     listener.wait(PATIENCE)
-    void_all(ledger, f"{path}.later")
+    go_on(ledger, f"{path}.later")
     load(path, ledger.path)
     said = checking.communicate(timeout=PATIENCE)[0]
     return checking.returncode, said.strip()
 
 
-def void_all(ledger, path):
-    """Voids what is pending, so that balances are other ones than at the lookup's entry."""
+def go_on(ledger, path):
+    """Moves money behind the lookup's entry, so that balances are other ones than there."""
     load(path, ledger.path)
     ledger.commit = reached(path)
-    pending = [it for it, row in rows(path, "transfers").items() if row["state"] == "pending"]
-    events = [Transfer((1 << 101) + it, pending_id=it, flags=8) for it in pending]
-    ledger.ask(PROBER, [(Operation.create_transfers, events[:ASKED])])
-    tried.case(f"{len(pending)} voids behind the lookup", pending, quietly=True)
+    plain = [it for it, row in rows(path, "accounts").items() if not row["flags"] & 0b100110]
+    debit, credit = plain[:2]
+    moved = Transfer(1 << 101, debit, credit, 5, ledger=700, code=10)
+    results = ledger.ask(PROBER, [(Operation.create_transfers, [moved])])
+    tried.case("a transfer behind the lookup", results == [[]], results, quietly=True)
 
 
 def cpu_of(words, input):
@@ -599,7 +600,19 @@ def tested(name, tests, modules=(), programs=()):
     )
 
 
+def typed():
+    """The types of the package, by mypy, where it is installed."""
+    if not shutil.which("mypy"):
+        print("passed over: types: mypy is not installed")
+        return
+    environment = {**os.environ, "MYPYPATH": str(ROOT / "clients" / "python")}
+    words = ["mypy", "--cache-dir", "/dev/null"]
+    ran = subprocess.run(words, cwd=SQL, env=environment, capture_output=True, text=True)
+    tried.case("types, by mypy --strict", ran.returncode == 0, ran.stdout.strip()[-2000:])
+
+
 def part_tests(given, room):
+    typed()
     tested("loading, views and checks", ["test_load", "test_views", "test_check"])
     tested("the pages without a browser", ["test_pages"], ["flask"])
 
