@@ -465,19 +465,14 @@ def read_rows():
 
 
 def counts(mutants, caught):
-    """The table of counts: each crate's bugs, and what catches how many of them."""
-    rows = collections.defaultdict(collections.Counter)
+    """The table of counts: how many bugs there are, and what catches how many of them."""
+    row = collections.Counter()
     for it in mutants:
         by = caught.get(it.name, "")
-        how = "script" if by.startswith("checks/") else "test" if by else "nothing"
-        rows[it.crate].update(["all", how])
-        rows["all"].update(["all", how])
-    rows["all"] = rows.pop("all", collections.Counter())
+        row.update(["all", "script" if by.startswith("checks/") else "test" if by else "nothing"])
     columns = ("all", "test", "script", "nothing")
-    lines = ["| Crate | Bugs | Caught by a test | By a script alone | By nothing |"]
-    lines.append("|---|---|---|---|---|")
-    for crate, row in rows.items():
-        lines.append(f"| {crate} | {' | '.join(str(row[it]) for it in columns)} |")
+    lines = ["| Bugs | Caught by a test | By a script alone | By nothing |", "|---|---|---|---|"]
+    lines.append(f"| {' | '.join(str(row[it]) for it in columns)} |")
     return "\n".join(lines) + "\n"
 
 
