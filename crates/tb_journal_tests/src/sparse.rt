@@ -17,6 +17,7 @@ fn bytes_behind_four_gigabytes(rt: HostRuntime) {
     let mut real = sure(&rt, Real::make(&rt, path));
     sure(&rt, real.write_at(0, b"head"));
     sure(&rt, real.cut(FAR));
+    expect(&rt, real.len() == Ok(FAR));
     sure(&rt, real.write_at(FAR, b"far away"));
     sure(&rt, real.sync());
     expect(&rt, real.len() == Ok(FAR + 8));
