@@ -12,6 +12,7 @@
 //! - `audits`: by which profile entries are judged, expiries, and events that were refused.
 //! - `explained`: what is said of scripts and dumps, beside what the server makes of them.
 //! - `devices`: readers and writers that fail.
+//! - `said`: what is said of wrong frames, statements and replies, word for word.
 #![tactic(auto)]
 
 #[cfg(test)]
@@ -32,5 +33,7 @@ mod histories;
 mod large;
 #[cfg(test)]
 mod objects;
+#[cfg(test)]
+mod said;
 #[cfg(test)]
 mod served;
