@@ -455,6 +455,17 @@ def told_of_words(tbd, folder):
         case("no permission", told == (1, b"", "tbd: Device: no permission to open words.tbk\n"), told)
 
 
+def lost_replies(tbd, folder):
+    """A `run` whose output is lost ends at the first reply, though more input may come."""
+    with open("/dev/full", "wb") as full:
+        process = subprocess.Popen([tbd, "run", "lost.tbk", "3"], cwd=folder, stdin=subprocess.PIPE, stdout=full, stderr=subprocess.PIPE)
+    process.stdin.write(pair_of_a_register())
+    process.stdin.flush()
+    told = ended(process), process.stderr.read()
+    case("lost output of run", told == (1, b"tbd: Device\n"), told)
+    process.stdin.close()
+
+
 def told_of_ends(tbd, folder):
     """What is told of torn bytes that are cut off, and that nothing is written of a file that is damaged."""
     with open(os.path.join(folder, "words.tbk"), "rb") as file:
@@ -543,6 +554,7 @@ def main():
         shim = os.path.join(folder, "shim.so")
         subprocess.run(["gcc", "-O1", "-Wall", "-Wextra", "-shared", "-fPIC", "-o", shim, os.path.join(ROOT, "checks", "keep", "shim.c")], check=True)
         told_of_words(asked.tbd, folder)
+        lost_replies(asked.tbd, folder)
         told_of_ends(asked.tbd, folder)
         told_by_check(asked.tbd, folder)
         failing_dumps(asked.tbd, folder, shim)

@@ -1,5 +1,5 @@
 #!/usr/bin/env python3
-"""Mutation testing: small bugs that no proof refuses, and which test or script catches each.
+"""Mutation testing: small bugs, and which test or script catches each. A proof may refuse one too.
 
     python3 checks/mutants.py [--list] [--texts] [--only WORD ..] [--tests-only] [--write]
                               [--jobs N] [--room FOLDER]
@@ -379,12 +379,18 @@ def failed_case(words, number, seconds):
             began.wait()
 
 
+def test_row(name):
+    """A test as rows name it."""
+    crate, _, test = name.partition("::")
+    return f"{crate}: {test.rpartition('::')[2]}"
+
+
 class Catchers:
     """The built tests and programs, and what they say of a bug."""
 
     def __init__(self, room, tests, programs, scripts):
         self.room, self.scripts = room, scripts
-        self.below = crates_below(ROOT)
+        self.below, self.rows = crates_below(ROOT), read_rows()
         self.tests = build(room, ALL_TESTS, False) if tests else None
         self.names = self.listed() if tests else []
         self.seconds = {}
@@ -400,11 +406,12 @@ class Catchers:
         )
         return re.findall(r"^(\S+): test$", said.stdout, re.M)
 
-    def tests_of(self, crate):
-        """The tests that a bug of a crate may show in, the quickest first."""
-        crates = [it for it, below in self.below.items() if it == crate or crate in below]
+    def tests_of(self, mutant):
+        """The tests that a bug may show in: the one that caught it last, then the quickest."""
+        crates = [it for it in self.below if mutant.crate in {it} | self.below[it]]
         names = [it for it in self.names if it.split("::")[0] in crates]
-        return sorted(names, key=lambda it: self.seconds.get(it, 0))
+        last = self.rows.get(mutant.name)
+        return sorted(names, key=lambda it: (test_row(it) != last, self.seconds.get(it, 0)))
 
     def scripts_of(self, crate):
         return [
@@ -426,12 +433,10 @@ class Catchers:
 
     def catch(self, mutant):
         """The first test, or else the first script, that fails with a bug on; or None."""
-        for name in self.tests_of(mutant.crate):
+        for name in self.tests_of(mutant):
             how = self.fails(mutant.number, name)
             if how:
-                crate, _, test = name.partition("::")
-                end = " (no end)" if how == "no end" else ""
-                return f"{crate}: {test.rpartition('::')[2]}{end}"
+                return test_row(name) + (" (no end)" if how == "no end" else "")
         for name in self.scripts_of(mutant.crate):
             case = self.script_fails(mutant.number, name)
             if case:
