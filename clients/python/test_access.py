@@ -198,17 +198,20 @@ class Words(unittest.TestCase):
                 self.assertEqual((status, line.startswith("tb_listen: ")), (1, True), line)
 
 
-def as_user(uid, words):
+def as_user(uid, program, words):
     """Runs a program as another user."""
     return subprocess.run(
-        [sys.executable, "-B", "-c", words],
-        capture_output=True,
-        text=True,
-        timeout=60,
-        user=uid,
-        cwd=HERE,
-        env={**os.environ, "PYTHONPATH": HERE, "PYTHONDONTWRITEBYTECODE": "1"},
+        [program, "-I", "-c", words], capture_output=True, text=True, timeout=60, user=uid, cwd="/"
     )
+
+
+def python_of(uid):
+    """A Python that another user may run: that of this test may lie in a folder of its owner's."""
+    for program in (sys.executable, "/usr/bin/python3"):
+        with contextlib.suppress(OSError, subprocess.SubprocessError):
+            if as_user(uid, program, "").returncode == 0:
+                return program
+    return None
 
 
 ASKS = """
@@ -225,10 +228,16 @@ except OSError as error:
 
 @unittest.skipUnless(os.geteuid() == 0, "only root can be another user")
 class Users(unittest.TestCase):
+    def setUp(self):
+        self.python = python_of(NOBODY)
+        if self.python is None:
+            self.skipTest("there is no Python that another user may run")
+
     def asks(self, listener, client=1):
         os.chmod(listener.folder, 0o755)
         frame = tb.request_frame(client, 0, 0, tb.Operation.register).hex()
-        return as_user(NOBODY, ASKS.format(path=listener.path, frame=frame)).stdout.strip()
+        words = ASKS.format(path=listener.path, frame=frame)
+        return as_user(NOBODY, self.python, words).stdout.strip()
 
     def test_another_user(self):
         with Running() as listener:

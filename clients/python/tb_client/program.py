@@ -4,6 +4,7 @@ from __future__ import annotations
 import contextlib
 import logging
 import os
+import re
 import selectors
 import signal
 import struct
@@ -12,7 +13,15 @@ import threading
 import time
 from typing import IO, Optional, Union, cast
 
-from .errors import CannotStart, Closed, NoMemory, ProgramEnded, ReplyLost, ScriptFull
+from .errors import (
+    CannotStart,
+    Closed,
+    InvalidValue,
+    NoMemory,
+    ProgramEnded,
+    ReplyLost,
+    ScriptFull,
+)
 from .frames import header_of, reply_length, test_reply
 from .layout import HEADER
 from .transports import Closing
@@ -25,15 +34,17 @@ LONGEST = 3600.0  # seconds of one wait for the pipes: the system takes no numbe
 
 
 class Program(Closing):
-    """`tbs run` as a process, to which requests go one by one over a pipe, and from which replies
-    come over another.
+    """`tbs run` as a process, or `tbd run` with a file, to which requests go one by one over a
+    pipe, and from which replies come over another.
 
     Replies come in the order of the requests. So the reply to the request that was sent as the nth
     is the nth, and one that comes too late is passed over. Threads may share a Program: an exchange
     is one thread's from its first byte to its last.
 
-    The program keeps its history in memory, and the history ends with the process: each exchange
-    afterwards is `ProgramEnded`. With restarts=True every request that was answered is kept in this
+    With `file` the program is `tbd`, which keeps its ledger in this file. With restarts=True one
+    that ended is started again over it. Without, the program is `tbs`: it keeps its history in
+    memory, and the history ends with the process. Each exchange afterwards is `ProgramEnded`. With
+    restarts=True every request that was answered is kept in this
     process, up to `script_max` bytes in all (`ScriptFull` is raised where the next one would not
     fit; None is no bound). A program that ended is then started anew on this script by the next
     exchange: the same script makes the same history."""
@@ -46,11 +57,17 @@ class Program(Closing):
         timeout: float = 5.0,
         restarts: bool = False,
         script_max: Optional[int] = SCRIPT_MAX,
+        file: Union[str, os.PathLike[str], None] = None,
     ) -> None:
         places, profile = whole("clients_max", clients_max, 64, 1), whole("profile", profile, 2, 1)
-        self.command = [path_of("path", path), "run", str(places), str(profile)]
+        words = [] if file is None else [_file_word(path_of("file", file))]
+        self.command = [path_of("path", path), "run", *words, str(places), str(profile)]
+        if file is None and os.path.basename(self.command[0]) == "tbd":
+            raise InvalidValue("path", "is tbd, which keeps its ledger in a file: give file=")
         self.timeout = seconds("timeout", timeout, 0.001)
         self.restarts = truth("restarts", restarts)
+        # what a program that keeps nothing is started anew on
+        self.keeps_script = self.restarts and file is None
         self.script_max = None if script_max is None else whole("script_max", script_max, U64)
         self.script: list[bytes] = []
         self.script_bytes = self.answered = 0
@@ -118,13 +135,13 @@ class Program(Closing):
 
     def _queue(self, pair: bytes) -> None:
         size = self.script_bytes + len(pair)
-        if self.restarts and self.script_max is not None and size > self.script_max:
+        if self.keeps_script and self.script_max is not None and size > self.script_max:
             raise ScriptFull(
                 f"the script for restarts would have {size} bytes, and script_max is "
                 f"{self.script_max}"
             )
         self._is_amid = True
-        if self.restarts:
+        if self.keeps_script:
             self.script.append(pair)
             self.script_bytes = size
         self.out, self.out_at = self.out[self.out_at :] + pair, 0
@@ -197,8 +214,8 @@ class Program(Closing):
         """What to raise where the program is gone: it was killed, or ended by itself and says
         why."""
         process = cast("subprocess.Popen[bytes]", self.process)
-        fault = self._last_words(self._pipes()[2]).decode(errors="replace").strip()
-        fault = fault[len("tbs: ") :] if fault.startswith("tbs: ") else fault
+        lines = self._last_words(self._pipes()[2]).decode(errors="replace").strip().splitlines()
+        fault = re.sub("^tb[sd]: ", "", lines[-1]) if lines else ""
         log.warning("%s ended: %s", self.command[0], how or fault or "without a word")
         # one that writes no more replies, and does not end, is killed
         status = _end_of(process, self.timeout)
@@ -263,6 +280,11 @@ class Program(Closing):
             for pipe in self._pipes():
                 with contextlib.suppress(BrokenPipeError):
                     pipe.close()
+
+
+def _file_word(path: str) -> str:
+    """A file as a word that is taken for no number and no option."""
+    return path if os.path.dirname(path) else os.path.join(".", path)
 
 
 def _end_of(process: subprocess.Popen[bytes], patience: float) -> int:
