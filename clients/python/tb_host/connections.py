@@ -5,7 +5,7 @@ import argparse
 import asyncio
 import contextlib
 import time
-from typing import Protocol, Set
+from typing import Dict, Protocol, Set, Tuple
 
 from tb_client.frames import reply_length, request_fault
 from tb_client.layout import HEADER, REPLY
@@ -21,6 +21,7 @@ from .process import drain
 # seconds for which a client that is told why may still send, so that it reads why and is not cut
 # off before
 LAST_READ = 1.0
+LOOK = 0.05  # seconds after which it is looked for requests that take too long
 
 
 class Asked(Protocol):
@@ -28,6 +29,24 @@ class Asked(Protocol):
 
     async def ask(self, frame: bytes) -> bytes:
         """The reply to a request. Raises `Told` where there is none."""
+
+
+class Deadlines:
+    """Cancels tasks that take too long. One look for all of them, twenty times a second, takes
+    less than a timer for each request."""
+
+    def __init__(self) -> None:
+        self.due: Dict[asyncio.Task[None], Tuple[float, str]] = {}
+        self.late: Dict[asyncio.Task[None], str] = {}  # why a task was cancelled
+
+    async def watch(self) -> None:
+        """Looks until it is cancelled."""
+        while True:
+            await asyncio.sleep(LOOK)
+            now = time.monotonic()
+            for task in [it for it, (at, _) in self.due.items() if at <= now]:
+                self.late[task] = self.due.pop(task)[1]
+                task.cancel()
 
 
 class Listener:
@@ -46,6 +65,7 @@ class Listener:
         self.open: Set[asyncio.Task[None]] = set()
         self.served: Set[asyncio.Task[None]] = set()  # those that are not told why they are closed
         self.at_rest: Set[asyncio.Task[None]] = set()  # those that wait for a request
+        self.deadlines = Deadlines()
         self.leaving = 0  # connections that were told why, and may still send
         self.why = ""  # why no more requests are taken
 
@@ -85,7 +105,7 @@ class Listener:
         except Told as told:
             return str(told)
         except asyncio.CancelledError:
-            return self.why
+            return self.deadlines.late.pop(task, self.why)
         except asyncio.IncompleteReadError as end:
             return "Short" if end.partial else ""
         except OSError:
@@ -116,8 +136,10 @@ class Listener:
     ) -> bytes:
         """The next request, whose frame was tested before it is waited for whole."""
         self.at_rest.add(task)
+        due = self.deadlines.due
+        due[task] = time.monotonic() + self.given.idle, "Idle"
         try:
-            header = await in_time(reader.readexactly(HEADER), self.given.idle, "Idle")
+            header = await reader.readexactly(HEADER)
             fault = request_fault(header)
             if fault:
                 raise Told(fault, peer.shown)
@@ -125,16 +147,16 @@ class Listener:
                 raise Told("Starting", peer.shown)
             self.access.test(peer, u128_at(header, 0))
             length = reply_length(header) - HEADER
-            return (
-                header + await in_time(reader.readexactly(length), self.given.slow, "Slow")
-                if length
-                else header
-            )
+            if length == 0:
+                return header
+            due[task] = time.monotonic() + self.given.slow, "Slow"
+            return header + await reader.readexactly(length)
         except asyncio.IncompleteReadError as end:
             if end.expected == HEADER:
                 raise
             raise Told("Short") from None
         finally:
+            due.pop(task, None)
             self.at_rest.discard(task)
 
     async def _close(

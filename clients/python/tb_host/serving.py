@@ -83,6 +83,7 @@ async def _serve_until(
 ) -> None:
     given = listener.given
     running = asyncio.ensure_future(command.run())
+    watching = asyncio.ensure_future(listener.deadlines.watch())
     taking = [asyncio.ensure_future(take_connections(it, listener)) for it in places]
     beginning = asyncio.ensure_future(_begin(places, command, listener))
     await first(running, stopping, *taking)
@@ -101,6 +102,7 @@ async def _serve_until(
         command.kill()
         await asyncio.wait([running])
     await listener.leave()
+    watching.cancel()
     faults = [it.exception() for it in taking if not it.cancelled()]
     fault = running.exception() or next((it for it in faults if it), None)
     if is_killed:
