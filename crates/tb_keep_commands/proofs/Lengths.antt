@@ -1,16 +1,28 @@
 -- Words that are so many.
 use Rattle.std.proofs.Common.{◌≡◌, ℕ, ◌<◌, ◌≤◌, ◌-◌, List, [], ◌∷◌, ◌++◌, length, take, drop, get_or, map, codes, refl, arith}
 use Rattle.std.proofs.lemmas.List.{take_all}
-use Rattle.tb_keep_commands.specs.Forms.{wrong_run, so_wrong, wrong}
+use Rattle.tb_keep_commands.specs.Forms.{wrong_clients, so_wrong, wrong}
 use Rattle.tb_keep_commands.specs.Statuses.{shown_words, usage_lines, wrong_line}
 
 module _ {X : Type 0} (bytes : X → List ℕ) where
-  pub three_said : (words : List X) → 3 ≤ length words → length words < 4 → wrong_run (map bytes words) ≡ so_wrong (map bytes words) (codes "CLIENTS_MAX is 1 to 64")
+  pub three_said : (words : List X) → 3 ≤ length words → length words < 4 → wrong_clients (map bytes words) ≡ so_wrong (map bytes words) (codes "CLIENTS_MAX is 1 to 64")
   three_said [] low high = absurd (omega (arith, low))
   three_said (a ∷ []) low high = absurd (omega (arith, low))
   three_said (a ∷ b ∷ []) low high = absurd (omega (arith, low))
   three_said (a ∷ b ∷ c ∷ []) low high = refl
   three_said (a ∷ b ∷ c ∷ d ∷ rest) low high = absurd (omega (arith, high))
+
+  -- no more words than up to the one that names the file
+  pub few_said : (words : List X) → length words < 2 → map bytes words ≡ take 2 (map bytes words)
+  few_said [] few = refl
+  few_said (a ∷ []) few = refl
+  few_said (a ∷ b ∷ rest) few = absurd (omega (arith, few))
+
+  -- the words up to the one that names the file
+  pub two_said : (words : List X) → map bytes (take 2 words) ≡ take 2 (map bytes words)
+  two_said [] = refl
+  two_said (a ∷ []) = refl
+  two_said (a ∷ b ∷ rest) = refl
 
   -- a word and those behind it
   pub shown_front : (words : List X) (word d : X) → 1 ≤ length words → word ≡ get_or words 0 d

@@ -1,6 +1,8 @@
 -- What the words of the command line ask for, and what is wrong with words that ask for nothing.
 -- Cited by public contracts of: arguments, commands.
-use Rattle.std.specs.Prelude.{ℕ, ◌≡◌, ◌||◌, nat_eq, List, [], ◌∷◌, Option, Some, None, if◌then◌else◌, codes, refl}
+use Rattle.std.specs.Prelude.{ℕ, Bool, false, ◌≡◌, ◌||◌, ◌&&◌, ◌==◌, nat_lt, nat_eq, List, [], ◌∷◌, length, take, Option, Some, None, if◌then◌else◌, codes, refl}
+use Rattle.std.specs.Char.{is_ascii_digit}
+use Rattle.std.specs.List.{list_all}
 use Rattle.std.specs.Cmp.Lexicographic.{pointwise}
 use Rattle.tb_commands.specs.Forms.{clients_of, profile_of}
 use Rattle.tb_records.specs.declared.limits.Profile.{Profile}
@@ -31,19 +33,36 @@ run_by (Some clients_max) (Some profile) = Some (form.Run clients_max profile)
 abbrev pub run_form : List ℕ → List ℕ → Option Profile → Option Form
 run_form word clients profile = if pointwise nat_eq word (codes "run") then run_by (clients_of clients) profile else None
 
-abbrev pub form_of : List (List ℕ) → Option Form
-form_of [] = None
-form_of (word ∷ []) = form_alone word
-form_of (word ∷ file ∷ []) = form_over word
-form_of (word ∷ file ∷ clients ∷ []) = run_form word clients (Some One)
-form_of (word ∷ file ∷ clients ∷ profile ∷ []) = run_form word clients (profile_of profile)
-form_of (word ∷ file ∷ clients ∷ profile ∷ more ∷ rest) = None
+-- the form, whatever the word is that names the file
+abbrev pub form_by : List (List ℕ) → Option Form
+form_by [] = None
+form_by (word ∷ []) = form_alone word
+form_by (word ∷ file ∷ []) = form_over word
+form_by (word ∷ file ∷ clients ∷ []) = run_form word clients (Some One)
+form_by (word ∷ file ∷ clients ∷ profile ∷ []) = run_form word clients (profile_of profile)
+form_by (word ∷ file ∷ clients ∷ profile ∷ more ∷ rest) = None
 
 -- the word that names the file
 abbrev pub file_word : List (List ℕ) → List ℕ
 file_word [] = []
 file_word (word ∷ []) = []
 file_word (word ∷ file ∷ rest) = file
+
+-- one digit or more, and nothing else
+abbrev pub is_number : List ℕ → Bool
+is_number word = nat_lt 0 (length word) && list_all is_ascii_digit word
+
+-- the first byte is `-`
+abbrev pub is_option : List ℕ → Bool
+is_option [] = false
+is_option (first ∷ rest) = first == 45
+
+-- a word that names no file: a number, or an option. `./64` names the file `64`
+abbrev pub is_no_file : List ℕ → Bool
+is_no_file word = is_option word || is_number word
+
+abbrev pub form_of : List (List ℕ) → Option Form
+form_of words = if is_no_file (file_word words) then None else form_by words
 
 -- what is wrong with words that are no form, and those of them that are shown before it
 pub record Wrong : Type 0 where
@@ -58,20 +77,33 @@ abbrev pub wrong_last : Option ℕ → List ℕ
 wrong_last None = codes "CLIENTS_MAX is 1 to 64"
 wrong_last (Some clients_max) = codes "PROFILE is 1 or 2"
 
+-- words that are wrong in their second one, which names no file; else what is wrong with the others
+abbrev pub wrong_file : List (List ℕ) → Wrong → Wrong
+wrong_file words other =
+    if is_no_file (file_word words) then so_wrong (take 2 words) (codes "FILE is a number or begins with -; write ./FILE") else other
+
+-- words that begin with `run`, of which the second may name a file
+abbrev pub wrong_clients : List (List ℕ) → Wrong
+wrong_clients [] = so_wrong [] (codes "no words")
+wrong_clients (word ∷ []) = so_wrong (word ∷ []) (codes "FILE and CLIENTS_MAX are missing")
+wrong_clients (word ∷ file ∷ []) = so_wrong (word ∷ file ∷ []) (codes "CLIENTS_MAX is missing, 1 to 64")
+wrong_clients (word ∷ file ∷ clients ∷ []) = so_wrong (word ∷ file ∷ clients ∷ []) (codes "CLIENTS_MAX is 1 to 64")
+wrong_clients (word ∷ file ∷ clients ∷ profile ∷ []) = so_wrong (word ∷ file ∷ clients ∷ profile ∷ []) (wrong_last (clients_of clients))
+wrong_clients (word ∷ file ∷ clients ∷ profile ∷ more ∷ rest) = so_wrong (word ∷ []) (codes "too many words")
+
 -- words that begin with `run`
 abbrev pub wrong_run : List (List ℕ) → Wrong
-wrong_run [] = so_wrong [] (codes "no words")
-wrong_run (word ∷ []) = so_wrong (word ∷ []) (codes "FILE and CLIENTS_MAX are missing")
-wrong_run (word ∷ file ∷ []) = so_wrong (word ∷ file ∷ []) (codes "CLIENTS_MAX is missing, 1 to 64")
-wrong_run (word ∷ file ∷ clients ∷ []) = so_wrong (word ∷ file ∷ clients ∷ []) (codes "CLIENTS_MAX is 1 to 64")
-wrong_run (word ∷ file ∷ clients ∷ profile ∷ []) = so_wrong (word ∷ file ∷ clients ∷ profile ∷ []) (wrong_last (clients_of clients))
-wrong_run (word ∷ file ∷ clients ∷ profile ∷ more ∷ rest) = so_wrong (word ∷ []) (codes "too many words")
+wrong_run words = wrong_file words (wrong_clients words)
+
+-- words that begin with one that takes a file, of which the second may name one
+abbrev pub wrong_count : List (List ℕ) → Wrong
+wrong_count [] = so_wrong [] (codes "no words")
+wrong_count (word ∷ []) = so_wrong (word ∷ []) (codes "FILE is missing")
+wrong_count (word ∷ file ∷ rest) = so_wrong (word ∷ []) (codes "too many words")
 
 -- words that begin with one that takes a file
 abbrev pub wrong_over : List (List ℕ) → Wrong
-wrong_over [] = so_wrong [] (codes "no words")
-wrong_over (word ∷ []) = so_wrong (word ∷ []) (codes "FILE is missing")
-wrong_over (word ∷ file ∷ rest) = so_wrong (word ∷ []) (codes "too many words")
+wrong_over words = wrong_file words (wrong_count words)
 
 -- words that begin with another: one of a form without a file, or none
 abbrev pub wrong_alone : Option Form → List ℕ → Wrong
@@ -96,3 +128,12 @@ no_profile_three = refl
 
 pub profile_is_wrong : (wrong (codes "run" ∷ codes "ledger" ∷ codes "2" ∷ codes "3" ∷ [])).what ≡ codes "PROFILE is 1 or 2"
 profile_is_wrong = refl
+
+pub a_number_is_no_file : form_of (codes "run" ∷ codes "64" ∷ codes "1" ∷ []) ≡ None
+a_number_is_no_file = refl
+
+pub a_path_of_digits_is_one : form_of (codes "check" ∷ codes "./64" ∷ []) ≡ Some form.Check
+a_path_of_digits_is_one = refl
+
+pub the_file_is_wrong : (wrong (codes "run" ∷ codes "64" ∷ codes "1" ∷ [])).what ≡ codes "FILE is a number or begins with -; write ./FILE"
+the_file_is_wrong = refl

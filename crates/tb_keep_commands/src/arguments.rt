@@ -1,6 +1,6 @@
 //! What the words of the command line ask for, and what is wrong with words that ask for nothing.
-ghost use Rattle.std.specs.Prelude.{◌≡◌, map, string_bytes};
-ghost use Rattle.tb_keep_commands.specs.Forms.{form_alone, form_of, form_over, run_form, file_word, wrong_last, wrong_run, wrong_over, wrong};
+ghost use Rattle.std.specs.Prelude.{◌≡◌, map, take, string_bytes};
+ghost use Rattle.tb_keep_commands.specs.Forms.{form_alone, form_by, form_of, form_over, run_form, file_word, is_number, is_no_file, wrong_last, wrong_clients, wrong_run, wrong_count, wrong_over, wrong};
 ghost use Rattle.tb_commands.specs.Forms.{clients_of};
 
 use tb_commands::{read_clients_max, read_profile};
@@ -53,9 +53,9 @@ fn run_form(word: &str, clients_max: &str, profile_given: Option<Profile>) -> Op
     Some(Form::Run(read_clients_max(clients_max.as_bytes())?, profile_given?))
 }
 
-/// What the words ask for, None where they are not a form of the program's arguments. The second word is the file.
-pub fn read_form(words: &[String]) -> Option<Form>
-    ensures { result ≡ form_of (map string_bytes words.now) }
+/// What the words ask for, whatever the word is that names the file.
+fn form_by(words: &[String]) -> Option<Form>
+    ensures { result ≡ form_by (map string_bytes words.now) }
 {
     match words {
         [word] => form_alone(word.as_str()),
@@ -82,6 +82,34 @@ pub fn file_word(words: &[String]) -> &str
     }
 }
 
+/// Says that a word is digits alone.
+fn is_number(word: &[u8]) -> bool
+    ensures { result ≡ is_number word.now }
+{
+    !word.is_empty() && word.iter().all(|byte| byte.is_ascii_digit())
+}
+
+/// Says that a word names no file: it is a number, or begins with `-`.
+fn is_no_file(word: &str) -> bool
+    ensures { result ≡ is_no_file word.now }
+{
+    match word.as_bytes() {
+        [b'-', ..] => true,
+        bytes => is_number(bytes),
+    }
+}
+
+/// What the words ask for, None where they are not a form of the program's arguments. The second word is the file: it may be no
+/// number, and not begin with `-`.
+pub fn read_form(words: &[String]) -> Option<Form>
+    ensures { result ≡ form_of (map string_bytes words.now) }
+{
+    if is_no_file(file_word(words)) {
+        return None;
+    }
+    form_by(words)
+}
+
 /// What is wrong with four words that begin with `run`, of which the third is to be a number of clients.
 fn wrong_last(clients_max: &str) -> &'static str
     ensures { result.now ≡ wrong_last (clients_of clients_max.now) }
@@ -92,10 +120,24 @@ fn wrong_last(clients_max: &str) -> &'static str
     }
 }
 
-/// What is wrong with words that begin with `run`, and those of them that are shown before it.
-fn wrong_run(words: &[String]) -> (&[String], &'static str)
-    ensures shown { map string_bytes result.0.now ≡ (wrong_run (map string_bytes words.now)).shown }
-    ensures what { result.1.now ≡ (wrong_run (map string_bytes words.now)).what }
+/// What is wrong with a word that names no file.
+const NO_FILE: &str = "FILE is a number or begins with -; write ./FILE";
+
+/// The words up to the one that names the file.
+fn up_to_file(words: &[String]) -> &[String]
+    ensures { map string_bytes result.now ≡ take 2 (map string_bytes words.now) }
+{
+    match words {
+        [_, _, ..] => &words[..2],
+        _ => words,
+    }
+}
+
+/// What is wrong with words that begin with `run`, of which the second may name a file, and those of them that are shown before
+/// it.
+fn wrong_clients(words: &[String]) -> (&[String], &'static str)
+    ensures shown { map string_bytes result.0.now ≡ (wrong_clients (map string_bytes words.now)).shown }
+    ensures what { result.1.now ≡ (wrong_clients (map string_bytes words.now)).what }
 {
     match words {
         [] => (words, "no words"),
@@ -107,16 +149,39 @@ fn wrong_run(words: &[String]) -> (&[String], &'static str)
     }
 }
 
-/// What is wrong with words that begin with one that takes a file, and those of them that are shown before it.
-fn wrong_over(words: &[String]) -> (&[String], &'static str)
-    ensures shown { map string_bytes result.0.now ≡ (wrong_over (map string_bytes words.now)).shown }
-    ensures what { result.1.now ≡ (wrong_over (map string_bytes words.now)).what }
+/// What is wrong with words that begin with `run`, and those of them that are shown before it.
+fn wrong_run(words: &[String]) -> (&[String], &'static str)
+    ensures shown { map string_bytes result.0.now ≡ (wrong_run (map string_bytes words.now)).shown }
+    ensures what { result.1.now ≡ (wrong_run (map string_bytes words.now)).what }
+{
+    if is_no_file(file_word(words)) {
+        return (up_to_file(words), NO_FILE);
+    }
+    wrong_clients(words)
+}
+
+/// What is wrong with words that begin with one that takes a file, of which the second may name one, and those of them that are
+/// shown before it.
+fn wrong_count(words: &[String]) -> (&[String], &'static str)
+    ensures shown { map string_bytes result.0.now ≡ (wrong_count (map string_bytes words.now)).shown }
+    ensures what { result.1.now ≡ (wrong_count (map string_bytes words.now)).what }
 {
     match words {
         [] => (words, "no words"),
         [_] => (words, "FILE is missing"),
         [_, ..] => (&words[..1], "too many words"),
     }
+}
+
+/// What is wrong with words that begin with one that takes a file, and those of them that are shown before it.
+fn wrong_over(words: &[String]) -> (&[String], &'static str)
+    ensures shown { map string_bytes result.0.now ≡ (wrong_over (map string_bytes words.now)).shown }
+    ensures what { result.1.now ≡ (wrong_over (map string_bytes words.now)).what }
+{
+    if is_no_file(file_word(words)) {
+        return (up_to_file(words), NO_FILE);
+    }
+    wrong_count(words)
 }
 
 /// What is wrong with words that are none of the program's forms, and those of them that are shown before it.

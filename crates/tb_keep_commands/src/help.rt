@@ -15,8 +15,9 @@ Keeps a ledger in a file: what was answered is in the file, whenever the program
   check FILE                      reads all of FILE and tells what is in it, or the damage
   --help, -h, --version
 
-CLIENTS_MAX is 1 to 64, PROFILE 1 or 2; a file keeps those that it was made with. No two
-programs have one file open. The exit status is 0 where all is done; else a line of standard
-error names the fault: 1 Device or NoMemory, 2 Usage or a request that is none, 4 Locked,
-5 NotAJournal, 6 Damaged, 7 OtherRules, 8 Full, 9 SyncFailed.
+CLIENTS_MAX is 1 to 64, PROFILE 1 or 2; a file keeps those that it was made with. FILE is no
+number and does not begin with -: the file 64 is ./64. No two programs have one file open. The
+exit status is 0 where all is done; else a line of standard error names the fault: 1 Device or
+NoMemory, 2 Usage or a request that is none, 4 Locked, 5 NotAJournal, 6 Damaged, 7 OtherRules,
+8 Full, 9 SyncFailed.
 ";

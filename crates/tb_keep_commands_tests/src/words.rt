@@ -57,12 +57,77 @@ const WRONG: &[(&[&str], &str)] = &[
         "tbd: Usage: check: too many words\n",
     ),
     (&["--help", "run"], "tbd: Usage: --help: too many words\n"),
+    (&["--help", "64"], "tbd: Usage: --help: too many words\n"),
+    (
+        &["serve", "64"],
+        "tbd: Usage: serve: unknown; tbd --help shows the forms\n",
+    ),
+];
+
+/// Files that are numbers or options, in each form.
+const NO_FILES: &[(&[&str], &str)] = &[
+    (
+        &["run", "64", "1"],
+        "tbd: Usage: run 64: FILE is a number or begins with -; write ./FILE\n",
+    ),
+    (
+        &["run", "0", "64", "2"],
+        "tbd: Usage: run 0: FILE is a number or begins with -; write ./FILE\n",
+    ),
+    (
+        &["run", "--help"],
+        "tbd: Usage: run --help: FILE is a number or begins with -; write ./FILE\n",
+    ),
+    (
+        &["run", "-", "64"],
+        "tbd: Usage: run -: FILE is a number or begins with -; write ./FILE\n",
+    ),
+    (
+        &["dump", "9876543210987654321098765432109876543210"],
+        "tbd: Usage: dump 9876543210987654321098765432109876543210: FILE is a number or begins with -; write ./FILE\n",
+    ),
+    (
+        &["check", "-h"],
+        "tbd: Usage: check -h: FILE is a number or begins with -; write ./FILE\n",
+    ),
+    (
+        &["check", "1", "2"],
+        "tbd: Usage: check 1: FILE is a number or begins with -; write ./FILE\n",
+    ),
+];
+
+/// A word that may name a file is looked for.
+const FILES: &[(&[&str], &str)] = &[
+    (&["run", "./64", "1"], "tbd: Device: cannot find ./64\n"),
+    (&["dump", "64."], "tbd: Device: cannot find 64.\n"),
+    (&["check", "6-4"], "tbd: Device: cannot find 6-4\n"),
+    (&["check", "0x40"], "tbd: Device: cannot find 0x40\n"),
+    (&["check", ""], "tbd: Device: cannot find \n"),
 ];
 
 #[test]
 fn words_that_are_no_form_are_told(rt: HostRuntime) {
     for (words, line) in WRONG {
         run(&rt, rt.alloc(), wrong(words, line));
+    }
+}
+
+#[test]
+fn a_number_or_an_option_names_no_file(rt: HostRuntime) {
+    for (words, line) in NO_FILES {
+        let made = run(&rt, rt.alloc(), wrong(words, line));
+        assert!(rt; made == 0);
+    }
+}
+
+#[test]
+fn what_looks_like_neither_names_a_file(rt: HostRuntime) {
+    for (words, line) in FILES {
+        let row = Row {
+            status: 1,
+            ..wrong(words, line)
+        };
+        run(&rt, rt.alloc(), row);
     }
 }
 
