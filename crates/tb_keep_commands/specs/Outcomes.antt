@@ -22,7 +22,7 @@ use Rattle.tb_keep_commands.specs.declared.help.TheConstants.{USAGE, VERSION}
 use Rattle.tb_keep_commands.specs.declared.openers.OpeningFault.{OpeningFault}
 use Rattle.tb_keep_commands.specs.declared.summaries.Found.{Found}
 use Rattle.tb_keep_commands.specs.declared.summaries.Summary.{Summary}
-use Rattle.tb_keep_commands.specs.Statuses.{disk_fault, dumped_fault, started_fault, kept_fault, fault_status, fault_line, SaysLine, TellsCut}
+use Rattle.tb_keep_commands.specs.Statuses.{disk_fault, dumped_fault, started_fault, kept_fault, fault_status, fault_line, SaysLine, TellsMade, TellsCut}
 use Rattle.tb_keep_commands.specs.Summaries.{ReadsWhole, IsSummary, summary_text}
 
 -- done, or not to its end
@@ -105,9 +105,12 @@ module _ (tells : Type 0) {D : Type 0} (disk : D → Disk) (holds : D → List �
     pub asked : IsAsked len device between
     pub checks : ChecksBy len outcome between after start written
 
-  -- what its start cut off behind the records of a file of so many bytes was told, and then a ledger was kept
-  pub record ServesKept (outcome : Outcome) (keeper : Keeping D) (len : ℕ) (first last : Input) (start written quiet told : Output) : Type 0 where
-    pub cut : TellsCut keeper.cut (len - keeper.cut - 1) quiet told
+  -- that its start made a file where there were no bytes was told, and what it cut off behind the records of one of so many bytes; then a
+  -- ledger was kept
+  pub record ServesKept (outcome : Outcome) (keeper : Keeping D) (path : List ℕ) (len : ℕ) (first last : Input) (start written quiet told : Output) : Type 0 where
+    pub noted : Output
+    pub made : TellsMade len path quiet noted
+    pub cut : TellsCut keeper.cut (len - keeper.cut - 1) noted told
     pub result : Result ℕ KeepFault
     pub after : Keeping D
     pub served : Served tells disk result keeper after first last start written
@@ -125,29 +128,29 @@ module _ (tells : Type 0) {D : Type 0} (disk : D → Disk) (holds : D → List �
     pub any_moment : (disk device).sound ≡ true → LeavesOnly (disk device) (disk (device_left result)) (MayBeStarted rules.profile rules.clients_max (disk device))
 
   -- a ledger that was started was kept; where none was nothing was read, written or told but why
-  abbrev pub ServesStarted : Result (Keeping D) (NotKept D) → Outcome → ℕ → Input → Input → Output → Output → Output → Output → Type 0
-  ServesStarted (Ok keeper) outcome len first last start written quiet told = ServesKept outcome keeper len first last start written quiet told
-  ServesStarted (Err failed) outcome len first last start written quiet told =
+  abbrev pub ServesStarted : Result (Keeping D) (NotKept D) → Outcome → List ℕ → ℕ → Input → Input → Output → Output → Output → Output → Type 0
+  ServesStarted (Ok keeper) outcome path len first last start written quiet told = ServesKept outcome keeper path len first last start written quiet told
+  ServesStarted (Err failed) outcome path len first last start written quiet told =
       (outcome ≡ Err (started_fault failed.fault)) × (last ≡ first) × (written ≡ start) × (told ≡ quiet)
 
-  pub record ServesLong (outcome : Outcome) (rules : Rules) (len : ℕ) (device : D) (first last : Input) (start written quiet told : Output) : Type 0 where
+  pub record ServesLong (outcome : Outcome) (rules : Rules) (path : List ℕ) (len : ℕ) (device : D) (first last : Input) (start written quiet told : Output) : Type 0 where
     pub started : Result (Keeping D) (NotKept D)
     pub starts : tells → Starts started rules device
     pub handed : OfFile device (StartsFile started rules.profile rules.clients_max)
-    pub serves : ServesStarted started outcome len first last start written quiet told
+    pub serves : ServesStarted started outcome path len first last start written quiet told
 
-  abbrev pub ServesBy : Result ℕ journal.Fault → Outcome → Rules → D → Input → Input → Output → Output → Output → Output → Type 0
-  ServesBy (Err fault) outcome rules device first last start written quiet told =
+  abbrev pub ServesBy : Result ℕ journal.Fault → Outcome → Rules → List ℕ → D → Input → Input → Output → Output → Output → Output → Type 0
+  ServesBy (Err fault) outcome rules path device first last start written quiet told =
       (outcome ≡ Err (disk_fault fault)) × (last ≡ first) × (written ≡ start) × (told ≡ quiet)
-  ServesBy (Ok len) outcome rules device first last start written quiet told =
-      ServesLong outcome rules len device first last start written quiet told
+  ServesBy (Ok len) outcome rules path device first last start written quiet told =
+      ServesLong outcome rules path len device first last start written quiet told
 
-  -- a file's length was asked for, and then a ledger of these rules was started over it, and kept
-  pub record ServesFile (outcome : Outcome) (rules : Rules) (device : D) (first last : Input) (start written quiet told : Output) : Type 0 where
+  -- the length of the file of this path was asked for, and then a ledger of these rules was started over it, and kept
+  pub record ServesFile (outcome : Outcome) (rules : Rules) (path : List ℕ) (device : D) (first last : Input) (start written quiet told : Output) : Type 0 where
     pub len : Result ℕ journal.Fault
     pub between : D
     pub asked : IsAsked len device between
-    pub serves : ServesBy len outcome rules between first last start written quiet told
+    pub serves : ServesBy len outcome rules path between first last start written quiet told
 
 -- an opening answered this: a device, with which that was done; or a fault, and nothing was done
 abbrev pub DoneWith : {D : Type 0} → Result D OpeningFault → Outcome → Type 0 → (D → Type 0) → Type 0
@@ -161,10 +164,10 @@ pub record Opens {D O : Type 0} (may : Result D OpeningFault → O → Type 0) (
   pub done : DoneWith answer outcome Nothing Does
 
 module _ (tells : Type 0) {D : Type 0} (disk : D → Disk) (holds : D → List ℕ → Type 0) {O : Type 0} (may : Result D OpeningFault → O → Type 0) (left : O) where
-  abbrev pub RunsOver : Outcome → Rules → Input → Input → Output → Output → Output → Output → Type 0
-  RunsOver outcome rules first last start written quiet told =
+  abbrev pub RunsOver : Outcome → Rules → List ℕ → Input → Input → Output → Output → Output → Output → Type 0
+  RunsOver outcome rules path first last start written quiet told =
       Opens may left outcome ((last ≡ first) × (written ≡ start) × (told ≡ quiet))
-      (λ device. ServesFile tells disk holds outcome rules device first last start written quiet told)
+      (λ device. ServesFile tells disk holds outcome rules path device first last start written quiet told)
 
   abbrev pub DumpsOver : Outcome → Output → Output → Type 0
   DumpsOver outcome start written =
@@ -194,7 +197,7 @@ module _ (tells : Type 0) {D : Type 0} (disk : D → Disk) (holds : D → List �
   -- there, and the other forms open none. What it tells while it goes on stands before the line of its outcome
   abbrev pub Performs : Form → Outcome → Input → Input → Output → Output → Output → Output → Type 0
   Performs (form.Run clients_max profile) outcome first last start written quiet told =
-      RunsOver tells disk holds (makes before name) left outcome (rules_of profile clients_max) first last start written quiet told
+      RunsOver tells disk holds (makes before name) left outcome (rules_of profile clients_max) name first last start written quiet told
   Performs form.Dump outcome first last start written quiet told =
       (last ≡ first) × (told ≡ quiet) × DumpsOver tells disk holds (opens before name) left outcome start written
   Performs form.Check outcome first last start written quiet told =

@@ -160,6 +160,15 @@ SaysLine line before after = commands.TellsLine line before after
 abbrev pub fault_line : Fault → List ℕ → List ℕ
 fault_line fault path = codes "tbd: " ++ (fault_text fault path ++ codes "\n")
 
+-- what a start says that made a file of this path
+abbrev pub made_line : List ℕ → List ℕ
+made_line path = codes "tbd: made " ++ (path ++ codes "\n")
+
+-- of a file of so many bytes: it was made where it had none, and else nothing is told
+abbrev pub TellsMade : ℕ → List ℕ → Output → Output → Type 0
+TellsMade zero path before after = SaysLine (made_line path) before after
+TellsMade (suc more) path before after = after ≡ before
+
 -- what a start says that cut bytes off: how many, and where the records end that stay
 abbrev pub cut_line : ℕ → ℕ → List ℕ
 cut_line bytes at =
@@ -196,6 +205,9 @@ line_of_a_name = refl
 pub line_of_a_cut : cut_line 5 182 ≡ codes "tbd: cut 5 bytes of a batch that was not committed, behind byte 182\n"
 unfolding digits
 line_of_a_cut = refl
+
+pub line_of_a_new_file : made_line (codes "ledger") ≡ codes "tbd: made ledger\n"
+line_of_a_new_file = refl
 
 pub line_of_words : usage_lines (codes "run" ∷ codes "ledger" ∷ []) ≡ codes "tbd: Usage: run ledger: CLIENTS_MAX is missing, 1 to 64\n"
 line_of_words = refl

@@ -28,11 +28,11 @@ fn run_over<O: Opener, R: Source, W: Sink, E: Sink>(
     faults: &mut E,
 ) -> Result<(), Fault>
     ensures { RunsOver O.File.tells O.File.disk O.File.holds (O.makes opener.old name.now) opener.new result
-        rules (R.input reader.old) (R.input reader.new) (W.output writer.old) (W.output writer.new)
+        rules name.now (R.input reader.old) (R.input reader.new) (W.output writer.old) (W.output writer.new)
         (E.output faults.old) (E.output faults.new) }
 {
     match opener.make(name) {
-        Ok(device) => run(alloc, device, rules, reader, writer, faults),
+        Ok(device) => run(alloc, device, rules, name, reader, writer, faults),
         Err(fault) => Err(Fault::Opening(fault)),
     }
 }
@@ -158,7 +158,7 @@ fn exit<O: Opener, R: Source, W: Outlet, E: Sink>(
 }
 
 /// Does what the words ask for, and answers the exit status: 0 done, else that of the fault, whose line goes to `faults`.
-/// With 0 nothing goes there but what a start of `run` says that cut torn bytes off. Words that are none of the program's
+/// With 0 nothing goes there but what a start of `run` says that made a file or cut torn bytes off. Words that are none of the program's
 /// forms are found before anything is opened or read.
 pub fn command<O: Opener, R: Source, W: Outlet, E: Sink>(
     alloc: Global,

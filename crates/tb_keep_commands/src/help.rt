@@ -10,7 +10,7 @@ Keeps a ledger in a file: what was answered is in the file, whenever the program
 
   run FILE CLIENTS_MAX [PROFILE]  serves standard input to standard output as tbs run does; each
                                   reply goes out when its entry is on the disk. Makes FILE if it
-                                  is not there; goes on with the history that it has if it is
+                                  is not there, and says so; goes on with its history if it is
   dump FILE                       writes the history of FILE, as tbs dump does
   check FILE                      reads all of FILE and tells what is in it, or the damage
   --help, -h, --version

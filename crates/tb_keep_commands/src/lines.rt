@@ -2,7 +2,7 @@
 ghost use Rattle.std.specs.Prelude.{◌≡◌, ◌++◌, codes, map, string_bytes};
 ghost use Rattle.std.specs.Fmt.{decimal};
 ghost use Rattle.tb_records.specs.Transport.{IsSent};
-ghost use Rattle.tb_keep_commands.specs.Statuses.{damage_text, opening_text, fault_text, fault_line, shown_words, wrong_line, usage_lines, SaysLine, TellsCut};
+ghost use Rattle.tb_keep_commands.specs.Statuses.{damage_text, opening_text, fault_text, fault_line, shown_words, wrong_line, usage_lines, SaysLine, TellsMade, TellsCut};
 ghost use Rattle.tb_keep_commands.specs.Forms.{wrong};
 
 use crate::arguments::wrong;
@@ -292,6 +292,15 @@ fn put_page<E: Sink>(faults: &mut E, page: &str) -> Result<(), FrameFault>
     put_all(faults, page.as_bytes())?;
     faults.pass_on();
     Ok(())
+}
+
+/// Tells that a file of this path was made, where it had no bytes; nothing where it had so many.
+pub(crate) fn tell_made<E: Sink>(len: usize, path: &str, faults: &mut E)
+    ensures { TellsMade len path.now (E.output faults.old) (E.output faults.new) }
+{
+    if len == 0 {
+        let _ = put_behind(faults, "tbd: made ", path);
+    }
 }
 
 /// Writes the line of words that are none of the program's forms.

@@ -5,7 +5,7 @@ ghost use Rattle.tb_keep_commands.specs.Outcomes.{ServesKept, ServesLong, Serves
 ghost use Rattle.tb_keep_commands.specs.Statuses.{started_fault};
 
 use crate::faults::{Fault, disk_fault, kept_fault, started_fault};
-use crate::lines::tell_cut;
+use crate::lines::{tell_cut, tell_made};
 use std::alloc::Global;
 use tb_journal::Device;
 use tb_keep::{Keeper, NotKept, Rules, keep};
@@ -20,11 +20,12 @@ fn refused<D: Device + Drop>(failed: NotKept<D>) -> Fault
     started_fault(fault)
 }
 
-/// Serves pairs over a ledger until they end. What its start cut off behind the records is told first: the file had so many
-/// bytes before.
+/// Serves pairs over a ledger until they end. What its start made of the file of this path is told first: where it had no bytes
+/// it was made, and else what was cut off behind the records.
 fn serve<D: Device + Drop, R: Source, W: Sink, E: Sink>(
     alloc: Global,
     keeper: Keeper<D>,
+    path: &str,
     len: usize,
     reader: &mut R,
     writer: &mut W,
@@ -32,12 +33,13 @@ fn serve<D: Device + Drop, R: Source, W: Sink, E: Sink>(
 ) -> Result<(), Fault>
     requires usable { IsUsable keeper }
     requires fresh { D.tells → IsFresh D.disk keeper }
-    ensures { ServesKept D.tells D.disk D.holds result keeper len (R.input reader.old) (R.input reader.new)
+    ensures { ServesKept D.tells D.disk D.holds result keeper path.now len (R.input reader.old) (R.input reader.new)
         (W.output writer.old) (W.output writer.new) (E.output faults.old) (E.output faults.new) }
 {
     let mut keeper = keeper;
     let cut = keeper.cut_bytes();
     let at = (len as u64).saturating_sub(cut).saturating_sub(1);
+    tell_made(len, path, faults);
     tell_cut(cut, at, faults);
     let kept = keep(alloc, &mut keeper, reader, writer);
     drop(keeper);
@@ -53,37 +55,39 @@ fn start<D: Device + Drop, R: Source, W: Sink, E: Sink>(
     alloc: Global,
     device: D,
     rules: Rules,
+    path: &str,
     len: usize,
     reader: &mut R,
     writer: &mut W,
     faults: &mut E,
 ) -> Result<(), Fault>
     requires { D.tells → (D.disk device).sound ≡ true }
-    ensures { ServesLong D.tells D.disk D.holds result rules len device (R.input reader.old) (R.input reader.new)
+    ensures { ServesLong D.tells D.disk D.holds result rules path.now len device (R.input reader.old) (R.input reader.new)
         (W.output writer.old) (W.output writer.new) (E.output faults.old) (E.output faults.new) }
 {
     match Keeper::start(alloc, device, rules) {
-        Ok(keeper) => serve(alloc, keeper, len, reader, writer, faults),
+        Ok(keeper) => serve(alloc, keeper, path, len, reader, writer, faults),
         Err(failed) => Err(refused(failed)),
     }
 }
 
-/// Serves pairs over a device, whose length is asked for first.
+/// Serves pairs over the device of a path, whose length is asked for first.
 pub(crate) fn run<D: Device + Drop, R: Source, W: Sink, E: Sink>(
     alloc: Global,
     device: D,
     rules: Rules,
+    path: &str,
     reader: &mut R,
     writer: &mut W,
     faults: &mut E,
 ) -> Result<(), Fault>
     requires { D.tells → (D.disk device).sound ≡ true }
-    ensures { ServesFile D.tells D.disk D.holds result rules device (R.input reader.old) (R.input reader.new)
+    ensures { ServesFile D.tells D.disk D.holds result rules path.now device (R.input reader.old) (R.input reader.new)
         (W.output writer.old) (W.output writer.new) (E.output faults.old) (E.output faults.new) }
 {
     let mut device = device;
     match device.len() {
-        Ok(len) => start(alloc, device, rules, len, reader, writer, faults),
+        Ok(len) => start(alloc, device, rules, path, len, reader, writer, faults),
         Err(fault) => {
             drop(device);
             Err(disk_fault(fault))

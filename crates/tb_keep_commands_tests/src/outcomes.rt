@@ -9,12 +9,13 @@ const DUMP: &[&str] = &["dump", "ledger"];
 
 const CHECK: &[&str] = &["check", "ledger"];
 
-/// A form over a file that is done.
-fn done(words: Words, has: Has, out: Out) -> Row {
+/// A form over a file that is done, and what it tells.
+fn done(words: Words, has: Has, out: Out, line: Line) -> Row {
     Row {
         words,
         has,
         out,
+        line,
         ..WELL
     }
 }
@@ -53,22 +54,29 @@ const ALL_AND_TORN: &str =
 const ALL_AND_MORE: &str =
     "records 3\nentries 2\nprofile 1\nclients_max 2\nlast time 11\ntorn bytes 4194305\n";
 
-const DONE: &[(Words, Has, Out)] = &[
-    (RUN, Has::Nothing, Out::Replies),
-    (RUN, Has::NoByte, Out::Replies),
-    (RUN, Has::NoRecord, Out::Replies),
-    (&["run", "ledger", "2", "1"], Has::NoByte, Out::Replies),
-    (DUMP, Has::Entries, Out::Dump),
-    (DUMP, Has::Torn, Out::Dump),
-    (CHECK, Has::Entries, Out::Text(ALL)),
-    (CHECK, Has::Torn, Out::Text(ALL_AND_TORN)),
-    (CHECK, Has::TornLong, Out::Text(ALL_AND_MORE)),
+const MADE: &str = "tbd: made ledger\n";
+
+const DONE: &[(Words, Has, Out, Line)] = &[
+    (RUN, Has::Nothing, Out::Replies, MADE),
+    (RUN, Has::NoByte, Out::Replies, MADE),
+    (RUN, Has::NoRecord, Out::Replies, ""),
+    (
+        &["run", "ledger", "2", "1"],
+        Has::NoByte,
+        Out::Replies,
+        MADE,
+    ),
+    (DUMP, Has::Entries, Out::Dump, ""),
+    (DUMP, Has::Torn, Out::Dump, ""),
+    (CHECK, Has::Entries, Out::Text(ALL), ""),
+    (CHECK, Has::Torn, Out::Text(ALL_AND_TORN), ""),
+    (CHECK, Has::TornLong, Out::Text(ALL_AND_MORE), ""),
 ];
 
 #[test]
 fn what_is_asked_for_is_done(rt: HostRuntime) {
-    for (words, has, out) in DONE {
-        run(&rt, rt.alloc(), done(words, *has, *out));
+    for (words, has, out, line) in DONE {
+        run(&rt, rt.alloc(), done(words, *has, *out, line));
     }
 }
 
@@ -164,7 +172,7 @@ fn an_opening_fails_in_each_way(rt: HostRuntime) {
 #[test]
 fn a_file_is_made_by_run_alone(rt: HostRuntime) {
     let alloc = rt.alloc();
-    let made = run(&rt, alloc, done(RUN, Has::Nothing, Out::Replies));
+    let made = run(&rt, alloc, done(RUN, Has::Nothing, Out::Replies, MADE));
     assert!(rt; made == 1);
     for words in [DUMP, CHECK] {
         let made = run(&rt, alloc, refused(words, Has::Nothing, 1, MISSING));
@@ -189,8 +197,19 @@ fn a_start_tells_what_it_cuts_off(rt: HostRuntime) {
     let line = "tbd: cut 5 bytes of a batch that was not committed, behind byte 182\n";
     let row = Row {
         asks: false,
-        line,
-        ..done(RUN, Has::Torn, Out::Nothing)
+        ..done(RUN, Has::Torn, Out::Nothing, line)
     };
     run(&rt, rt.alloc(), row);
+}
+
+/// A file that has a ledger is not told, with entries or without.
+#[test]
+fn a_start_tells_nothing_of_a_file_that_is_there(rt: HostRuntime) {
+    for has in [Has::NoRecord, Has::Entries] {
+        let row = Row {
+            asks: false,
+            ..done(RUN, has, Out::Nothing, "")
+        };
+        run(&rt, rt.alloc(), row);
+    }
 }

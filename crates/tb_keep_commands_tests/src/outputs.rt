@@ -6,28 +6,31 @@ type Words = &'static [&'static str];
 
 const LOST: &str = "tbd: Device\n";
 
+/// That of a file which was made before.
+const MADE: &str = "tbd: made ledger\ntbd: Device\n";
+
 /// A form whose output takes so many bytes.
-fn cut(words: Words, has: Has, room: usize, out: Out) -> Row {
+fn cut(words: Words, has: Has, room: usize, out: Out, line: &'static str) -> Row {
     Row {
         words,
         has,
         room,
         status: 1,
         out,
-        line: LOST,
+        line,
         ..WELL
     }
 }
 
 /// A form whose output takes all, and answers its flush with an error.
-fn unflushed(words: Words, has: Has, out: Out) -> Row {
+fn unflushed(words: Words, has: Has, out: Out, line: &'static str) -> Row {
     Row {
         words,
         has,
         flushes: false,
         status: 1,
         out,
-        line: LOST,
+        line,
         ..WELL
     }
 }
@@ -35,35 +38,60 @@ fn unflushed(words: Words, has: Has, out: Out) -> Row {
 const SUMMARY: &str =
     "records 3\nentries 2\nprofile 1\nclients_max 2\nlast time 11\ntorn bytes 0\n";
 
-const CUT: &[(Words, Has, usize, Out)] = &[
-    (&["run", "ledger", "2"], Has::NoByte, 0, Out::Nothing),
-    (&["run", "ledger", "2"], Has::NoByte, 95, Out::SomeReplies),
-    (&["dump", "ledger"], Has::Entries, 0, Out::Nothing),
-    (&["dump", "ledger"], Has::Entries, 159, Out::SomeDump),
-    (&["check", "ledger"], Has::Entries, 0, Out::Nothing),
-    (&["check", "ledger"], Has::Entries, 69, Out::Prefix(SUMMARY)),
-    (&["--help"], Has::Nothing, 0, Out::Nothing),
-    (&["--version"], Has::Nothing, 9, Out::Text("tbd 0.1.0")),
+const CUT: &[(Words, Has, usize, Out, &str)] = &[
+    (&["run", "ledger", "2"], Has::NoByte, 0, Out::Nothing, MADE),
+    (
+        &["run", "ledger", "2"],
+        Has::NoByte,
+        95,
+        Out::SomeReplies,
+        MADE,
+    ),
+    (
+        &["run", "ledger", "2"],
+        Has::NoRecord,
+        95,
+        Out::SomeReplies,
+        LOST,
+    ),
+    (&["dump", "ledger"], Has::Entries, 0, Out::Nothing, LOST),
+    (&["dump", "ledger"], Has::Entries, 159, Out::SomeDump, LOST),
+    (&["check", "ledger"], Has::Entries, 0, Out::Nothing, LOST),
+    (
+        &["check", "ledger"],
+        Has::Entries,
+        69,
+        Out::Prefix(SUMMARY),
+        LOST,
+    ),
+    (&["--help"], Has::Nothing, 0, Out::Nothing, LOST),
+    (
+        &["--version"],
+        Has::Nothing,
+        9,
+        Out::Text("tbd 0.1.0"),
+        LOST,
+    ),
 ];
 
 #[test]
 fn an_output_fails_at_a_byte(rt: HostRuntime) {
-    for (words, has, room, out) in CUT {
-        run(&rt, rt.alloc(), cut(words, *has, *room, *out));
+    for (words, has, room, out, line) in CUT {
+        run(&rt, rt.alloc(), cut(words, *has, *room, *out, line));
     }
 }
 
-const UNFLUSHED: &[(Words, Has, Out)] = &[
-    (&["run", "ledger", "2"], Has::NoByte, Out::Replies),
-    (&["dump", "ledger"], Has::Entries, Out::Dump),
-    (&["check", "ledger"], Has::Entries, Out::Text(SUMMARY)),
-    (&["--version"], Has::Nothing, Out::Text("tbd 0.1.0\n")),
+const UNFLUSHED: &[(Words, Has, Out, &str)] = &[
+    (&["run", "ledger", "2"], Has::NoByte, Out::Replies, MADE),
+    (&["dump", "ledger"], Has::Entries, Out::Dump, LOST),
+    (&["check", "ledger"], Has::Entries, Out::Text(SUMMARY), LOST),
+    (&["--version"], Has::Nothing, Out::Text("tbd 0.1.0\n"), LOST),
 ];
 
 #[test]
 fn an_output_fails_at_its_flush(rt: HostRuntime) {
-    for (words, has, out) in UNFLUSHED {
-        run(&rt, rt.alloc(), unflushed(words, *has, *out));
+    for (words, has, out, line) in UNFLUSHED {
+        run(&rt, rt.alloc(), unflushed(words, *has, *out, line));
     }
 }
 
@@ -87,6 +115,10 @@ fn broken(
 }
 
 const SYNC: &str = "tbd: SyncFailed: restart the machine or copy the file before the next start\n";
+
+/// That of a file which was made before.
+const MADE_SYNC: &str =
+    "tbd: made ledger\ntbd: SyncFailed: restart the machine or copy the file before the next start\n";
 
 /// The calls of a reading: a sync, and the file with its end. `run` and `check` ask for the length first, and `dump` reads twice.
 const BROKEN: &[(Words, Has, u64, u8, Out, &str)] = &[
@@ -120,6 +152,14 @@ const BROKEN: &[(Words, Has, u64, u8, Out, &str)] = &[
         9,
         Out::Nothing,
         SYNC,
+    ),
+    (
+        &["run", "ledger", "2"],
+        Has::NoByte,
+        12,
+        9,
+        Out::Nothing,
+        MADE_SYNC,
     ),
 ];
 
