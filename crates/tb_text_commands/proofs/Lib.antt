@@ -1,3 +1,4 @@
 pub mod Extents
 pub mod Taking
 pub mod Watching
+pub mod AuditSteps

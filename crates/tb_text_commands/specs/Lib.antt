@@ -1,5 +1,7 @@
 pub mod Answered
 pub mod Audits
+pub mod AuditRuns
+pub mod Audited
 pub mod Completed
 pub mod Ends
 pub mod Explained

@@ -1,5 +1,5 @@
 -- What is taken of an input part by part, of what an intake holds, and of what its reader has left: for private functions alone.
--- Cited by private contracts alone, of: converting, intake, running, scripts, statements.
+-- Cited by private contracts alone, of: auditing, converting, dumps, intake, running, scripts, statements.
 use Rattle.std.specs.Prelude.{ℕ, Bool, true, false, ◌≡◌, List, [], ◌++◌, drop, flat_map, Option, Some, None, if◌then◌else◌}
 use Rattle.std.specs.Io.KnownBytes.{prepend_known}
 use Rattle.tb_records.specs.Ordered.{Each}

@@ -1,25 +1,27 @@
 //! A dump joined with what its replay gives: who asked, what became of each event, expiries, and the balances of an account.
-ghost use Rattle.std.specs.Prelude.{◌≡◌, [], IfErr, IfOk, OnOk};
+ghost use Rattle.std.specs.Prelude.{◌≡◌, [], IfErr, IfOk, MatchResult, Ok, OnOk};
 ghost use Rattle.tb_machine.specs.Histories.{start};
 ghost use Rattle.avl_tree.specs.Map.{entries};
 ghost use Rattle.tb_text_commands.specs.Audits.{Enters, GoesOver, NoneIsDue, stored_results, waits_behind, watched_of};
-ghost use Rattle.tb_text_commands.specs.Ends.{Converts, IsOfInput, Written};
-ghost use Rattle.tb_text_commands.specs.Whole.{IsDump};
+ghost use Rattle.tb_text_commands.specs.AuditRuns.{AuditRan, AuditsEntry, AuditsItem, AuditsItems, AuditsMark, AuditsNext, Changes, HeadFails, HeadTold, RefusesEntry, TellsAccount, TellsDue, account_of, audited_from};
+ghost use Rattle.tb_text_commands.specs.Audited.{audited};
+ghost use Rattle.tb_text_commands.specs.Ends.{Converts, Ended, IsOfInput, Written};
+ghost use Rattle.tb_text_commands.specs.Taken.{TakesIf};
+ghost use Rattle.tb_text_commands.specs.Whole.{IsDump, IsItem, Parts, WasWhole};
 
-use crate::dumps::{ItemWriter, convert_items, tell_head};
+use crate::audit_lines::{JsonLines, Teller};
+use crate::dumps::next_item;
 use crate::faults::Fault;
-use crate::lines::{balance_line, expired_line, judged_line, mark_line};
 use crate::results::results_of;
-use crate::scripts::put_line;
 use crate::waits::Waits;
 use std::alloc::{AllocError, Global};
 use tb_machine::{Entry, Machine};
-use tb_records::{Account, Body, DumpFault, DumpHead, Profile, Sink, Source};
+use tb_records::dumps::read_head_from;
+use tb_records::{Account, Body, DumpFault, DumpHead, DumpItem, Profile, Sink, Source};
 
 /// A replay of a dump, and what is watched beside it.
 #[derive(Drop)]
 struct Replay {
-    alloc: Global,
     machine: Machine<Global>,
     waits: Waits,
     /// The id of the account whose balances are told.
@@ -34,9 +36,9 @@ impl Replay {
         ensures machine { IfOk result (λ replay.
             replay.machine ≡ start head.now.profile head.now.clients_max) }
         ensures waits { IfOk result (λ replay. entries replay.waits.by_end ≡ []) }
+        ensures from { IfOk result (λ replay. audited replay ≡ audited_from account head.now) }
     {
         Ok(Replay {
-            alloc,
             machine: Machine::new_in(alloc, alloc, head.profile, head.clients_max)?,
             waits: Waits::new(alloc),
             account,
@@ -47,6 +49,8 @@ impl Replay {
     /// Watches the transfers of the machine's last entry that were accepted.
     fn watch_entry(&mut self, entry: &Entry) -> Result<(), AllocError>
         ensures machine { self.new.machine ≡ self.old.machine }
+        ensures account { self.new.account ≡ self.old.account }
+        ensures told { self.new.told ≡ self.old.told }
         ensures waits { OnOk result (entries self.new.waits.by_end
             ≡ watched_of self.old.machine.books
             (stored_results self.old.machine.rows entry.now.request.client) entry.now.request.body
@@ -68,6 +72,9 @@ impl Replay {
     fn enter(&mut self, entry: &Entry) -> Result<(), Fault>
         ensures fault { IfErr result IsOfInput }
         ensures entered { Enters result self.old.machine self.new.machine entry.now }
+        ensures refused { IfErr result (λ fault. RefusesEntry fault self.old.machine entry.now) }
+        ensures account { self.new.account ≡ self.old.account }
+        ensures told { self.new.told ≡ self.old.told }
         ensures waits { OnOk result (entries self.new.waits.by_end
             ≡ waits_behind self.old.machine entry.now (entries self.old.waits.by_end)) }
     {
@@ -82,6 +89,8 @@ impl Replay {
     /// Goes over to profile 2, where that does not serve yet.
     fn go_over(&mut self) -> Result<(), Fault>
         ensures machine { GoesOver result self.old.machine self.new.machine }
+        ensures account { self.new.account ≡ self.old.account }
+        ensures told { self.new.told ≡ self.old.told }
         ensures waits { self.new.waits ≡ self.old.waits }
     {
         match self.machine.profile() {
@@ -94,21 +103,33 @@ impl Replay {
     }
 
     /// Tells the pending transfers that have expired at an entry's time, in the order in which they did.
-    fn tell_expired<W: Sink>(&mut self, writer: &mut W, time: u64) -> Result<(), Fault>
+    fn tell_expired<T: Teller, W: Sink>(
+        &mut self,
+        teller: &T,
+        writer: &mut W,
+        time: u64,
+    ) -> Result<(), Fault>
         ensures written { Written result (W.output writer.old) (W.output writer.new) }
         ensures waits { OnOk result (NoneIsDue time (entries self.new.waits.by_end)) }
+        ensures machine { self.new.machine ≡ self.old.machine }
+        ensures account { self.new.account ≡ self.old.account }
+        ensures shown { self.new.told ≡ self.old.told }
+        ensures told { TellsDue T.IsLine result time (entries self.old.waits.by_end)
+            (entries self.new.waits.by_end) (W.output writer.old) (W.output writer.new) }
     {
         for _ in 0..u64::MAX {
             let Some((end, transfer)) = self.waits.pop_due(time) else {
                 return Ok(());
             };
-            put_line(writer, expired_line(self.alloc, end, &transfer))?;
+            teller.tell_expiry(writer, end, &transfer)?;
         }
         Err(Fault::TooLong)
     }
 
     /// The account that is told, where it stands otherwise than it was told last.
-    fn changed_account(&self) -> Option<Account> {
+    fn changed_account(&self) -> Option<Account>
+        ensures { Changes (account_of self.now.account self.now.machine) self.now.told result }
+    {
         let account = self.machine.account(self.account?)?;
         if self.told == Some(account) {
             None
@@ -118,45 +139,177 @@ impl Replay {
     }
 
     /// Tells the account, where it is another than it was told.
-    fn tell_account<W: Sink>(&mut self, writer: &mut W, entry: &Entry) -> Result<(), Fault>
-        ensures { Written result (W.output writer.old) (W.output writer.new) }
+    fn tell_account<T: Teller, W: Sink>(
+        &mut self,
+        entry: &Entry,
+        teller: &T,
+        writer: &mut W,
+    ) -> Result<(), Fault>
+        ensures written { Written result (W.output writer.old) (W.output writer.new) }
+        ensures machine { self.new.machine ≡ self.old.machine }
+        ensures account { self.new.account ≡ self.old.account }
+        ensures waits { self.new.waits ≡ self.old.waits }
+        ensures told { TellsAccount T.IsLine result entry.now
+            (account_of self.old.account self.old.machine) self.old.told self.new.told
+            (W.output writer.old) (W.output writer.new) }
     {
         let Some(account) = self.changed_account() else {
             return Ok(());
         };
         self.told = Some(account);
-        put_line(writer, balance_line(self.alloc, entry, &account))
+        teller.tell_standing(writer, entry, &account)
     }
-}
 
-impl ItemWriter for Replay {
     /// Enters an entry that may come next, and tells what it did.
-    fn put_entry<W: Sink>(&mut self, writer: &mut W, entry: &Entry) -> Result<(), Fault> {
+    fn put_entry<T: Teller, W: Sink>(
+        &mut self,
+        teller: &T,
+        writer: &mut W,
+        entry: &Entry,
+    ) -> Result<(), Fault>
+        ensures written { Written result (W.output writer.old) (W.output writer.new) }
+        ensures told { AuditsEntry T.IsLine result (audited self.old) (audited self.new) entry.now
+            (W.output writer.old) (W.output writer.new) }
+    {
         self.enter(entry)?;
-        self.tell_expired(writer, entry.time)?;
-        put_line(writer, judged_line(self.alloc, &self.machine, entry))?;
-        self.tell_account(writer, entry)
+        self.tell_expired(teller, writer, entry.time)?;
+        teller.tell_entry(writer, &self.machine, entry)?;
+        self.tell_account(entry, teller, writer)
     }
 
     /// Goes over to profile 2, and tells so.
-    fn put_mark<W: Sink>(&mut self, writer: &mut W) -> Result<(), Fault> {
+    fn put_mark<T: Teller, W: Sink>(&mut self, teller: &T, writer: &mut W) -> Result<(), Fault>
+        ensures written { Written result (W.output writer.old) (W.output writer.new) }
+        ensures told { AuditsMark T.IsLine result (audited self.old) (audited self.new)
+            (W.output writer.old) (W.output writer.new) }
+    {
         self.go_over()?;
-        put_line(writer, mark_line(self.alloc))
+        teller.tell_mark(writer)
+    }
+
+    /// Takes an item, and tells what it did.
+    fn put_item<T: Teller, W: Sink>(
+        &mut self,
+        teller: &T,
+        writer: &mut W,
+        item: DumpItem,
+    ) -> Result<(), Fault>
+        ensures written { Written result (W.output writer.old) (W.output writer.new) }
+        ensures told { AuditsItem T.IsLine result (audited self.old) (audited self.new) item
+            (W.output writer.old) (W.output writer.new) }
+    {
+        match item {
+            DumpItem::Mark => self.put_mark(teller, writer),
+            DumpItem::Entry {
+                commit,
+                time,
+                request,
+            } => {
+                let entry = Entry {
+                    commit,
+                    time,
+                    request,
+                };
+                self.put_entry(teller, writer, &entry)
+            }
+        }
+    }
+
+    /// Reads the next item, takes it, and tells what it did: false where there is none.
+    fn put_next<T: Teller, R: Source, W: Sink>(
+        &mut self,
+        alloc: Global,
+        teller: &T,
+        reader: &mut R,
+        writer: &mut W,
+    ) -> Result<bool, Fault>
+        ensures ended { Ended result (R.input reader.old) (R.input reader.new)
+            (W.output writer.old) (W.output writer.new) }
+        ensures taken { IfOk result (λ more.
+            TakesIf IsItem more (R.input reader.old).left (R.input reader.new).left) }
+        ensures audits { AuditsNext T.IsLine result (audited self.old) (audited self.new)
+            (R.input reader.old) (R.input reader.new) (W.output writer.old)
+            (W.output writer.new) }
+    {
+        let Some(item) = next_item(alloc, reader, writer)? else {
+            return Ok(false);
+        };
+        self.put_item(teller, writer, item)?;
+        Ok(true)
+    }
+
+    /// Takes all items, and tells what they did.
+    fn put_all<T: Teller, R: Source, W: Sink>(
+        &mut self,
+        alloc: Global,
+        teller: &T,
+        reader: &mut R,
+        writer: &mut W,
+    ) -> Result<(), Fault>
+        ensures ended { Ended result (R.input reader.old) (R.input reader.new)
+            (W.output writer.old) (W.output writer.new) }
+        ensures whole { OnOk result (WasWhole (Parts IsItem) (R.input reader.old).left) }
+        ensures audits { AuditsItems T.IsLine result (audited self.old) (R.input reader.old)
+            (R.input reader.new) (W.output writer.old) (W.output writer.new) }
+    {
+        for _ in 0..u64::MAX {
+            if !self.put_next(alloc, teller, reader, writer)? {
+                return Ok(());
+            }
+        }
+        Err(Fault::TooLong)
     }
 }
 
-/// Writes what a dump's entries did: before each entry the pending transfers that have expired since, then the entry with
+/// Reads the head of a dump, and tells it.
+fn put_head<T: Teller, R: Source, W: Sink>(
+    teller: &T,
+    reader: &mut R,
+    writer: &mut W,
+) -> Result<DumpHead, Fault>
+    ensures ended { Ended result (R.input reader.old) (R.input reader.new) (W.output writer.old)
+        (W.output writer.new) }
+    ensures told { MatchResult result
+        (λ head. HeadTold T.IsLine (Ok tt) head (R.input reader.old) (R.input reader.new)
+        (W.output writer.old) (W.output writer.new))
+        (λ fault. HeadFails T.IsLine fault (R.input reader.old) (R.input reader.new)
+        (W.output writer.old) (W.output writer.new)) }
+{
+    let head = read_head_from(reader)?;
+    teller.tell_head(writer, &head)?;
+    Ok(head)
+}
+
+/// Tells what a dump's entries did: before each entry the pending transfers that have expired since, then the entry with
 /// what became of each event, then the account, where it changed.
+fn audit_by<T: Teller, R: Source, W: Sink>(
+    alloc: Global,
+    account: Option<u128>,
+    teller: &T,
+    reader: &mut R,
+    writer: &mut W,
+) -> Result<(), Fault>
+    ensures ran { AuditRan T.IsLine result account (R.input reader.old) (R.input reader.new)
+        (W.output writer.old) (W.output writer.new) }
+    ensures converts { Converts IsDump result (R.input reader.old) (R.input reader.new)
+        (W.output writer.old) (W.output writer.new) }
+{
+    let head = put_head(teller, reader, writer)?;
+    let mut replay = Replay::new(alloc, &head, account)?;
+    replay.put_all(alloc, teller, reader, writer)
+}
+
+/// Writes what a dump's entries did, in lines of JSON.
 pub fn audit<R: Source, W: Sink>(
     alloc: Global,
     account: Option<u128>,
     reader: &mut R,
     writer: &mut W,
 ) -> Result<(), Fault>
-    ensures { Converts IsDump result (R.input reader.old) (R.input reader.new)
+    ensures converts { Converts IsDump result (R.input reader.old) (R.input reader.new)
         (W.output writer.old) (W.output writer.new) }
+    ensures ran { AuditRan (λ told line. Unit {0}) result account (R.input reader.old)
+        (R.input reader.new) (W.output writer.old) (W.output writer.new) }
 {
-    let head = tell_head(alloc, reader, writer)?;
-    let replay = Replay::new(alloc, &head, account)?;
-    convert_items(alloc, replay, reader, writer)
+    audit_by(alloc, account, &JsonLines { alloc }, reader, writer)
 }

@@ -1,6 +1,7 @@
 //! The program's forms, over any reader and writer.
-ghost use Rattle.std.specs.Prelude.{◌≡◌, ◌<◌, false, IfOk, None, Some, map, string_bytes};
+ghost use Rattle.std.specs.Prelude.{◌≡◌, ◌<◌, false, IfOk, None, Option, Some, map, string_bytes, ℕ};
 ghost use Rattle.tb_text_commands.specs.declared.arguments.Form.{Form};
+ghost use Rattle.tb_text_commands.specs.AuditRuns.{AuditRan};
 ghost use Rattle.tb_text_commands.specs.Ends.{Converts, Exits};
 ghost use Rattle.tb_text_commands.specs.Forms.{form_of};
 ghost use Rattle.tb_text_commands.specs.Whole.{IsInputOf};
@@ -35,6 +36,9 @@ fn perform<C: Clock, R: Source, W: Sink, E: Sink>(
         (W.output writer.old) (W.output writer.new) }
     ensures quiet { IfOk result (λ _. faults.new ≡ faults.old) }
     ensures silent { talks ≡ false → faults.new ≡ faults.old }
+    ensures audited { (account : Option ℕ) → form ≡ Form.Audit account
+        → AuditRan (λ told line. Unit {0}) result account (R.input reader.old)
+        (R.input reader.new) (W.output writer.old) (W.output writer.new) }
 {
     match form {
         Form::Script => {

@@ -1,7 +1,10 @@
 //! The forms that read a dump: its lines, and the script that makes its history.
-ghost use Rattle.std.specs.Prelude.{IfOk, Ok};
+ghost use Rattle.std.specs.Prelude.{[], IfOk, Ok};
 ghost use Rattle.tb_records.specs.DumpBytes.{HeadAnswers};
+ghost use Rattle.tb_records.specs.Transport.{Sent};
+ghost use Rattle.tb_text_commands.specs.AuditRuns.{ReadsItem};
 ghost use Rattle.tb_text_commands.specs.Ends.{Converts, Ended, Written};
+ghost use Rattle.tb_text_commands.specs.Taken.{TakesNext};
 ghost use Rattle.tb_text_commands.specs.Whole.{IsDump, IsItem, Parts};
 
 use crate::converting::{Converter, Next, convert};
@@ -45,6 +48,25 @@ pub fn tell_head<R: Source, W: Sink>(
     Ok(head)
 }
 
+/// Reads the next item of a dump. What was written is passed on first, where the item may have to be waited for.
+pub fn next_item<R: Source, W: Sink>(
+    alloc: Global,
+    reader: &mut R,
+    writer: &mut W,
+) -> Next<DumpItem>
+    ensures ended { Ended result (R.input reader.old) (R.input reader.new) (W.output writer.old)
+        (W.output writer.new) }
+    ensures taken { IfOk result (λ next.
+        TakesNext IsItem next (R.input reader.old).left (R.input reader.new).left) }
+    ensures read { ReadsItem result (R.input reader.old) (R.input reader.new) }
+    ensures silent { Sent [] (W.output writer.old) (W.output writer.new) }
+{
+    if !holds_item(reader.at_hand()) {
+        writer.pass_on();
+    }
+    Ok(read_item_from(alloc, reader)?)
+}
+
 /// What writes for each item of a dump: an entry, or a mark.
 pub trait ItemWriter {
     /// Writes what an entry stands for.
@@ -71,10 +93,7 @@ impl<T: ItemWriter> Converter for DumpItems<T> {
     ghost remaining = { λ items input. input.left };
 
     fn next<R: Source, W: Sink>(&mut self, reader: &mut R, writer: &mut W) -> Next<Self::Piece> {
-        if !holds_item(reader.at_hand()) {
-            writer.pass_on();
-        }
-        Ok(read_item_from(self.alloc, reader)?)
+        next_item(self.alloc, reader, writer)
     }
 
     fn put<W: Sink>(&mut self, writer: &mut W, item: DumpItem) -> Result<(), Fault> {

@@ -21,6 +21,7 @@
 //! - `dumps`: `dump`, `pairs`, the forms that read a dump.
 //! - `running`: `run`, statements served and answered as they come.
 //! - `waits`: pending transfers whose timeouts run.
+//! - `audit_lines`: what writes the lines of an audit.
 //! - `auditing`: `audit`, a dump joined with what its replay gives.
 //! - `stops`: how far `tbs` reads a script or replays a dump, and why no further.
 //! - `explaining`: `explain`, which tells that in words.
@@ -33,6 +34,7 @@
 #![tactic(auto)]
 
 mod arguments;
+mod audit_lines;
 mod auditing;
 mod commands;
 mod completing;

@@ -1,4 +1,5 @@
 //! The forms between statements, scripts and replies.
+ghost use Rattle.tb_text_commands.specs.AuditRuns.{PutsAll, PutsLine};
 ghost use Rattle.tb_text_commands.specs.Ends.{Written};
 ghost use Rattle.tb_text_commands.specs.Taken.{waiting};
 ghost use Rattle.tb_text_commands.specs.Whole.{IsPair, IsReplyFrame, IsStatement};
@@ -18,14 +19,16 @@ use tb_text::print_request;
 
 /// Writes bytes.
 pub fn put<W: Sink>(writer: &mut W, bytes: &[u8]) -> Result<(), Fault>
-    ensures { Written result (W.output writer.old) (W.output writer.new) }
+    ensures written { Written result (W.output writer.old) (W.output writer.new) }
+    ensures put { PutsAll result bytes.now (W.output writer.old) (W.output writer.new) }
 {
     Ok(put_all(writer, bytes)?)
 }
 
 /// Writes a line, where there was memory for it.
 pub fn put_line<W: Sink>(writer: &mut W, line: Result<Vec<u8>, AllocError>) -> Result<(), Fault>
-    ensures { Written result (W.output writer.old) (W.output writer.new) }
+    ensures written { Written result (W.output writer.old) (W.output writer.new) }
+    ensures put { PutsLine result (W.output writer.old) (W.output writer.new) }
 {
     put(writer, line?.as_slice())
 }

@@ -1,0 +1,260 @@
+-- What an audit tells of a whole dump: its items are read and taken one after another, each is told by its lines, and so on
+-- until the input ends or a fault comes.
+-- Cited by private contracts alone, of: audit_lines, auditing, commands, dumps, scripts.
+use Rattle.std.specs.Prelude.{ℕ, zero, suc, Bool, true, false, ◌≡◌, ◌≢◌, ◌≤◌, ◌⊎◌, ◌-◌, ◌^◌, length, IsTrue, List, [], ◌∷◌, ◌++◌, map, Option, Some, None, Result, Ok, Err}
+use Rattle.std.specs.Option.{option_and_then}
+use Rattle.tb_records.specs.declared.dumps.DumpFault.{DumpFault}
+use Rattle.tb_records.specs.declared.dumps.DumpFault.TheVariants as dump
+use Rattle.tb_records.specs.declared.dumps.DumpHead.{DumpHead}
+use Rattle.tb_records.specs.declared.dumps.DumpItem.{DumpItem}
+use Rattle.tb_records.specs.declared.dumps.DumpItem.TheVariants as item
+use Rattle.tb_records.specs.declared.limits.Profile.TheVariants.{One, Two}
+use Rattle.tb_records.specs.declared.records.Account.{Account}
+use Rattle.tb_records.specs.declared.records.Transfer.{Transfer}
+use Rattle.tb_records.specs.DumpBytes.{HeadAnswers, HeadCounts}
+use Rattle.tb_records.specs.Ordered.{Each}
+use Rattle.tb_records.specs.Transport.{CutOff, Input, Output, Sent}
+use Rattle.tb_ledger.specs.Books.{account_now, profile_of}
+use Rattle.tb_machine.specs.declared.entries.Entry.{Entry}
+use Rattle.tb_machine.specs.Histories as histories
+use Rattle.tb_machine.specs.Histories.{State, fits, step, to_two}
+use Rattle.tb_machine.specs.Replays.{ReadsNext}
+use Rattle.tb_text_commands.specs.declared.faults.Fault.{Fault}
+use Rattle.tb_text_commands.specs.declared.faults.Fault.TheVariants.{Device, Dump, NoMemory, TooLong}
+use Rattle.tb_text_commands.specs.Audits.{NoneIsDue, Waiting, waits_behind}
+use Rattle.tb_text_commands.specs.Statuses.{dump_fault_of}
+
+-- lines
+
+-- what one line tells: a head, a pending transfer and when its timeout ran out, an entry and the state behind it, a mark, or
+-- an account as it stands behind an entry
+pub data Told : Type 0 where
+  begins : DumpHead → Told
+  expires : ℕ → Transfer → Told
+  enters : State → Entry → Told
+  moves : Told
+  stands : Entry → Account → Told
+
+-- bytes were written, or the device cut them off
+abbrev pub PutsAll : Result (Unit {0}) Fault → List ℕ → Output → Output → Type 0
+PutsAll (Ok done) bytes before after = Sent bytes before after
+PutsAll (Err Device) bytes before after = CutOff bytes before after
+PutsAll (Err fault) bytes before after = ⊥
+
+-- a line was written, or there was no memory for it, or the device cut it off
+abbrev pub PutsLine : Result (Unit {0}) Fault → Output → Output → Type 0
+PutsLine (Ok done) before after = (line : List ℕ) × Sent line before after
+PutsLine (Err fault) before after = ((fault ≡ NoMemory) × (after ≡ before)) ⊎ ((line : List ℕ) × (fault ≡ Device) × CutOff line before after)
+
+-- there was no memory for the next line, or there are too many
+abbrev pub GivesUp : Fault → List Told → Type 0
+GivesUp fault front = (fault ≡ NoMemory) ⊎ ((fault ≡ TooLong) × (2 ^ 64 - 1 ≤ length front))
+
+-- by what is a line of what is told
+module _ (IsLine : Told → List ℕ → Type 0) where
+  -- bytes are the lines of what is told, one behind the other
+  abbrev pub AreLines : List Told → List ℕ → Type 0
+  AreLines [] bytes = bytes ≡ []
+  AreLines (t ∷ ts) bytes = (line rest : List ℕ) × IsLine t line × AreLines ts rest × (bytes ≡ line ++ rest)
+
+  -- they were written, and nothing else
+  pub record Tells (told : List Told) (start written : Output) : Type 0 where
+    pub bytes : List ℕ
+    pub lines : AreLines told bytes
+    pub sent : Sent bytes start written
+
+  -- the device cut the next line off
+  pub record IsCut (fault : Fault) (rest : List Told) (made written : Output) : Type 0 where
+    pub next : Told
+    pub behind : List Told
+    pub rest_is : rest ≡ next ∷ behind
+    pub line : List ℕ
+    pub is_line : IsLine next line
+    pub device : fault ≡ Device
+    pub cut : CutOff line made written
+
+  -- the first of what is to be told was written, and then a fault came
+  pub record StopsTelling (fault : Fault) (told : List Told) (start written : Output) : Type 0 where
+    pub front : List Told
+    pub rest : List Told
+    pub told_is : told ≡ front ++ rest
+    pub made : Output
+    pub tells : Tells front start made
+    pub stops : (GivesUp fault front × (written ≡ made)) ⊎ IsCut fault rest made written
+
+  abbrev pub Telling : Result (Unit {0}) Fault → List Told → Output → Output → Type 0
+  Telling (Ok done) told start written = Tells told start written
+  Telling (Err fault) told start written = StopsTelling fault told start written
+
+-- items
+
+-- an entry is not entered, since it may not come next, or for want of memory
+abbrev pub RefusesEntry : Fault → State → Entry → Type 0
+RefusesEntry fault S e = ((fits S e ≡ false) × (fault ≡ Dump dump.NotLegal)) ⊎ (IsTrue (fits S e) × (fault ≡ NoMemory))
+
+-- what an audit has come to: its machine, the pending transfers whose timeouts run, the account that is told, and how it was
+-- told last
+pub record Audited : Type 0 where
+  pub machine : State
+  pub waiting : Waiting
+  pub account : Option ℕ
+  pub shown : Option Account
+
+-- behind the head
+abbrev pub audited_from : Option ℕ → DumpHead → Audited
+audited_from account head = record { machine = histories.start head.profile head.clients_max; waiting = []; account = account; shown = None }
+
+abbrev pub expiry_of : (ℕ × ℕ) × Transfer → Told
+expiry_of x = expires x.0.0 x.1
+
+-- the first waits are over, each by a time, and this is told of them
+pub record Goes (time : ℕ) (before : Waiting) (told : List Told) (after : Waiting) : Type 0 where
+  pub gone : Waiting
+  pub before_is : before ≡ gone ++ after
+  pub each : Each (λ x. x.0.0 ≤ time) gone
+  pub told_is : told ≡ map expiry_of gone
+
+-- the account that is told, as it stands
+abbrev pub account_of : Option ℕ → State → Option Account
+account_of account S = option_and_then (λ id. account_now S.books id) account
+
+-- it is told where it stands otherwise than it was told last
+abbrev pub Changes : Option Account → Option Account → Option Account → Type 0
+Changes None shown None = Unit {0}
+Changes None shown (Some b) = ⊥
+Changes (Some a) shown None = shown ≡ Some a
+Changes (Some a) shown (Some b) = (b ≡ a) × (shown ≢ Some a)
+
+abbrev pub standing_told : Entry → Option Account → List Told
+standing_told e None = []
+standing_told e (Some a) = stands e a ∷ []
+
+abbrev pub shown_behind : Option Account → Option Account → Option Account
+shown_behind shown None = shown
+shown_behind shown (Some a) = Some a
+
+pub record ShowsAccount (e : Entry) (is shown : Option Account) (told : List Told) (later : Option Account) : Type 0 where
+  pub changed : Option Account
+  pub changes : Changes is shown changed
+  pub told_is : told ≡ standing_told e changed
+  pub later_is : later ≡ shown_behind shown changed
+
+-- an entry that may come next is entered; what has expired by its time is told, then the entry, then the account
+pub record TakesEntry (S T : Audited) (e : Entry) (told : List Told) : Type 0 where
+  pub legal : IsTrue (fits S.machine e)
+  pub stepped : T.machine ≡ step S.machine e
+  pub same : T.account ≡ S.account
+  pub due : List Told
+  pub gone : Goes e.time (waits_behind S.machine e S.waiting) due T.waiting
+  pub none : NoneIsDue e.time T.waiting
+  pub standing : List Told
+  pub shows : ShowsAccount e (account_of S.account (step S.machine e)) S.shown standing T.shown
+  pub told_is : told ≡ due ++ enters (step S.machine e) e ∷ standing
+
+-- what is told of an entry, as far as a fault lets it: of those that have expired, up to the entry, or up to the account
+pub record MayTell (S : Audited) (e : Entry) (told : List Told) : Type 0 where
+  pub due : List Told
+  pub waiting : Waiting
+  pub gone : Goes e.time (waits_behind S.machine e S.waiting) due waiting
+  pub behind : List Told
+  pub told_is : told ≡ due ++ behind
+  pub far : (behind ≡ [])
+      ⊎ (NoneIsDue e.time waiting × (standing : List Told) × (behind ≡ enters (step S.machine e) e ∷ standing)
+      × ((standing ≡ []) ⊎ ((later : Option Account) × ShowsAccount e (account_of S.account (step S.machine e)) S.shown standing later)))
+
+module _ (IsLine : Told → List ℕ → Type 0) where
+  -- those that have expired are told, up to a fault
+  abbrev pub TellsDue : Result (Unit {0}) Fault → ℕ → Waiting → Waiting → Output → Output → Type 0
+  TellsDue result time before after start written = (told : List Told) × Goes time before told after × Telling IsLine result told start written
+
+  -- so is the account
+  abbrev pub TellsAccount : Result (Unit {0}) Fault → Entry → Option Account → Option Account → Option Account → Output → Output → Type 0
+  TellsAccount result e is shown later start written = (told : List Told) × ShowsAccount e is shown told later × Telling IsLine result told start written
+
+  abbrev pub AuditsEntry : Result (Unit {0}) Fault → Audited → Audited → Entry → Output → Output → Type 0
+  AuditsEntry (Ok done) S T e start written = (told : List Told) × TakesEntry S T e told × Tells IsLine told start written
+  AuditsEntry (Err fault) S T e start written =
+      ((fits S.machine e ≡ false) × (fault ≡ Dump dump.NotLegal) × (written ≡ start))
+      ⊎ (IsTrue (fits S.machine e) × (told : List Told) × MayTell S e told × StopsTelling IsLine fault told start written)
+
+  -- a mark leads to profile 2, where that does not serve yet
+  abbrev pub AuditsMark : Result (Unit {0}) Fault → Audited → Audited → Output → Output → Type 0
+  AuditsMark (Ok done) S T start written =
+      (profile_of S.machine.books ≡ One) × (T ≡ record S { machine = to_two S.machine }) × Tells IsLine (moves ∷ []) start written
+  AuditsMark (Err fault) S T start written =
+      ((profile_of S.machine.books ≡ Two) × (fault ≡ Dump dump.Mark) × (written ≡ start))
+      ⊎ ((profile_of S.machine.books ≡ One) × StopsTelling IsLine fault (moves ∷ []) start written)
+
+  abbrev pub AuditsItem : Result (Unit {0}) Fault → Audited → Audited → DumpItem → Output → Output → Type 0
+  AuditsItem result S T (item.Entry commit time request) start written = AuditsEntry result S T (record { commit = commit; time = time; request = request }) start written
+  AuditsItem result S T item.Mark start written = AuditsMark result S T start written
+
+-- what was answered of the next item
+abbrev pub ReadsItem : Result (Option DumpItem) Fault → Input → Input → Type 0
+ReadsItem (Ok next) before after = ReadsNext (Ok next) before after
+ReadsItem (Err fault) before after = (g : DumpFault) × (fault ≡ dump_fault_of g) × ReadsNext (Err g) before after
+
+module _ (IsLine : Told → List ℕ → Type 0) where
+  -- the next item was read, and taken
+  pub record AuditsOne (result : Result (Unit {0}) Fault) (S T : Audited) (before after : Input) (start written : Output) : Type 0 where
+    pub item : DumpItem
+    pub read : ReadsNext (Ok (Some item)) before after
+    pub passed : Output
+    pub silent : Sent [] start passed
+    pub act : AuditsItem IsLine result S T item passed written
+
+  -- it was, or there is none, or a fault came in reading it or in taking it
+  abbrev pub AuditsNext : Result Bool Fault → Audited → Audited → Input → Input → Output → Output → Type 0
+  AuditsNext (Ok true) S T before after start written = AuditsOne (Ok tt) S T before after start written
+  AuditsNext (Ok false) S T before after start written = (T ≡ S) × ReadsItem (Ok None) before after × Sent [] start written
+  AuditsNext (Err fault) S T before after start written = (ReadsItem (Err fault) before after × Sent [] start written) ⊎ AuditsOne (Err fault) S T before after start written
+
+  -- so many were, one behind the other
+  abbrev pub AuditsAll : ℕ → Audited → Audited → Input → Input → Output → Output → Type 0
+  AuditsAll zero S T before after start written = (T ≡ S) × (after ≡ before) × (written ≡ start)
+  AuditsAll (suc n) S T before after start written =
+      (U : Audited) × (middle : Input) × (made : Output) × AuditsAll n S U before middle start made × AuditsOne (Ok tt) U T middle after made written
+
+  -- what ended it: the end of the input, a fault of the next item, no memory for the machine, or too many items
+  abbrev pub AuditEnds : Result (Unit {0}) Fault → ℕ → Audited → Input → Input → Output → Output → Type 0
+  AuditEnds (Ok done) n S before after start written = ReadsItem (Ok None) before after × Sent [] start written
+  AuditEnds (Err fault) n S before after start written =
+      ((T : Audited) × AuditsNext (Err fault) S T before after start written)
+      ⊎ ((((fault ≡ NoMemory) × (n ≡ 0)) ⊎ ((fault ≡ TooLong) × (n ≡ 2 ^ 64 - 1))) × (after ≡ before) × (written ≡ start))
+
+  -- items were audited, and then the input was at its end, or a fault came
+  pub record AuditsItems (result : Result (Unit {0}) Fault) (S : Audited) (before after : Input) (start written : Output) : Type 0 where
+    pub count : ℕ
+    pub standing : Audited
+    pub middle : Input
+    pub made : Output
+    pub audits : AuditsAll count S standing before middle start made
+    pub ends : AuditEnds result count standing middle after made written
+
+  -- a whole dump
+
+  -- the head was read, and its line written
+  pub record HeadTold (result : Result (Unit {0}) Fault) (head : DumpHead) (before after : Input) (start written : Output) : Type 0 where
+    pub read : HeadAnswers (Ok head) before.left after.left
+    pub counted : after.failed ≡ before.failed
+    pub told : Telling IsLine result (begins head ∷ []) start written
+
+  -- and then the items behind it were audited
+  pub record Audits (result : Result (Unit {0}) Fault) (account : Option ℕ) (before after : Input) (start written : Output) : Type 0 where
+    pub head : DumpHead
+    pub begun : Input
+    pub first : Output
+    pub headed : HeadTold (Ok tt) head before begun start first
+    pub items : AuditsItems result (audited_from account head) begun after first written
+
+  -- no head was read
+  abbrev pub Headless : Fault → Input → Input → Output → Output → Type 0
+  Headless fault before after start written =
+      (g : DumpFault) × (fault ≡ dump_fault_of g) × HeadAnswers (Err g) before.left after.left × HeadCounts (Err g) before after × (written ≡ start)
+
+  abbrev pub HeadFails : Fault → Input → Input → Output → Output → Type 0
+  HeadFails fault before after start written = Headless fault before after start written ⊎ ((head : DumpHead) × HeadTold (Err fault) head before after start written)
+
+  abbrev pub AuditRan : Result (Unit {0}) Fault → Option ℕ → Input → Input → Output → Output → Type 0
+  AuditRan (Ok done) account before after start written = Audits (Ok done) account before after start written
+  AuditRan (Err fault) account before after start written = HeadFails fault before after start written ⊎ Audits (Err fault) account before after start written
