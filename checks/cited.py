@@ -42,7 +42,7 @@ HEADS = ("-- Cited by", "-- Public contracts reach it", "-- No contract cites it
 # Lines that public contracts reach: of most crates together (4,500, and 100 more for the laws of a
 # script on several machines and causes of faults), and of crates that came later.
 LINES_MAX = 4600
-LATER = {"tb_keep_commands": 360, "tb_log": 235}
+LATER = {"tb_keep_commands": 390, "tb_log": 235}
 # A crate that the heads of other crates' files leave out: for a comment in a low crate, all that
 # stands on it would have to be proved again. It is named there when that crate changes.
 UNNAMED = ("tb_log",)
