@@ -92,10 +92,12 @@ class Listening:
         for _ in range(100):
             self.process = subprocess.Popen(self.words, stderr=subprocess.PIPE, text=True)
             assert self.process.stderr
-            said = self.process.stderr.readline().strip()
-            if said.startswith("tb_listen: listens on "):
-                self.place = said[len("tb_listen: listens on ") :]
-                return
+            said = ""
+            for line in self.process.stderr:
+                said = line.strip()
+                if said.startswith("tb_listen: listens on "):
+                    self.place = said[len("tb_listen: listens on ") :]
+                    return
             self.process.wait()
             self.process.stderr.close()
             if not said.endswith("Locked"):

@@ -166,6 +166,7 @@ class Listener:
         if why not in (
             "",
             "Short",
+            "Starting",
             "Stopping",
             "ProgramEnded",
         ):  # who is gone amid a frame is no fault to be told here
