@@ -429,9 +429,10 @@ def full(tbd, folder, rng):
             if not run.round(process, run.some()):
                 break
         told = process.stderr.read()
+        lines = f"tbd: made {run.file}\ntbd: Full\n".encode()
         case(
             "a full file system ends in Full and status 8",
-            [] if (ended(process), told) == (8, b"tbd: Full\n") else [told],
+            [] if (ended(process), told) == (8, lines) else [told],
         )
         run.file = shutil.copy(run.file, os.path.join(folder, "more.tbk"))
     finally:
