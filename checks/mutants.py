@@ -43,6 +43,7 @@ PAGE = f"{ROOT}/docs/trust/MUTANTS.md"
 BLOCK = re.compile(r"(<!-- mutants -->\n)(.*?)(<!-- end of mutants -->)", re.S)
 SWITCH = "TB_MUTANT"
 ALL_TESTS = "tb_mutant_tests"
+NO_TEST = "no_test_has_this_name"
 # A run with a bug may take so many seconds, and so many times as long as without one.
 SECONDS, SLOWER = 60, 4
 SCRIPT_SECONDS = 1800
@@ -314,7 +315,7 @@ def build(room, crate, is_program):
     """Builds a program, or the tests of a crate. The path of the executable."""
     kept = f"{room}/kept/{crate}-{key_of(room, crate)}"
     os.makedirs(f"{room}/kept", exist_ok=True)
-    words = ["rt", "try", *(["--", "--version"] if is_program else ["--test"])]
+    words = ["rt", "try", *(["--", "--version"] if is_program else ["--test", "--", NO_TEST])]
     with tempfile.TemporaryDirectory(prefix="try-", dir=f"{room}/kept") as folder:
         with open(f"{room}/kept/{crate}.log", "wb") as log:
             if not os.path.isfile(kept):
@@ -491,10 +492,10 @@ def read_rows():
 
 
 def counts(mutants, caught):
-    """The table of counts: how many bugs there are, and what catches how many of them."""
+    """The table of counts: how many bugs were tried, and what catches how many of them."""
     row = collections.Counter()
-    for it in mutants:
-        by = caught.get(it.name, "")
+    for it in (it for it in mutants if it.name in caught):
+        by = caught[it.name]
         row.update(["all", "script" if by.startswith("checks/") else "test" if by else "nothing"])
     columns = ("all", "test", "script", "nothing")
     lines = ["| Bugs | Caught by a test | By a script alone | By nothing |", "|---|---|---|---|"]
@@ -513,8 +514,8 @@ def write_rows(caught):
     with open(ROWS, "w", encoding="utf-8", newline="") as file:
         lines = csv.writer(file, lineterminator="\n")
         lines.writerow(["crate", "bug", "what a user would see", "caught by"])
-        for it in mutants:
-            lines.writerow([it.crate, it.name, it.says, caught.get(it.name, "")])
+        for it in (it for it in mutants if it.name in caught):
+            lines.writerow([it.crate, it.name, it.says, caught[it.name]])
     page = read_page()
     if not BLOCK.search(page):
         sys.exit(f"{PAGE} has no line <!-- mutants -->")
@@ -582,8 +583,8 @@ def try_mutants(mutants, words, room):
         for mutant, by in zip(mutants, pool.map(catchers.catch, mutants)):
             caught[mutant.name] = by or ""
             print(f"{mutant.crate} {mutant.name}: {by or 'NOTHING'}", flush=True)
-            if words.write:
-                write_rows(caught)
+            if words.write and (by or not words.tests_only):
+                write_rows({mutant.name: by or ""})
     left = sum(1 for by in caught.values() if not by)
     print(f"{len(caught) - left} passed, {left} failed")
     return 1 if left else 0
