@@ -462,7 +462,7 @@ def lost_replies(tbd, folder):
     process.stdin.write(pair_of_a_register())
     process.stdin.flush()
     told = ended(process), process.stderr.read()
-    case("lost output of run", told == (1, b"tbd: Device\n"), told)
+    case("lost output of run", told == (1, b"tbd: made lost.tbk\ntbd: Device\n"), told)
     process.stdin.close()
 
 

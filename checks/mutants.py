@@ -465,10 +465,10 @@ class Catchers:
                 return f"checks/{name}: {case}"
         return None
 
-    def wrong_without(self):
-        """The tests and scripts that fail with no bug on."""
+    def wrong_without(self, mutants):
+        """The tests and scripts that these bugs may show in, and that fail with no bug on."""
         wrong = []
-        for name in self.names:
+        for name in sorted({it for mutant in mutants for it in self.tests_of(mutant)}):
             began = time.monotonic()
             if self.fails(0, name):
                 wrong.append(name)
@@ -573,7 +573,7 @@ def prepared(room, mutants, tests_only):
 def try_mutants(mutants, words, room):
     """Tries the chosen bugs, and tells what catches each; the exit status."""
     catchers = prepared(room, mutants, words.tests_only)
-    without = catchers.wrong_without()
+    without = catchers.wrong_without(mutants)
     if without:
         print("these fail with no bug on: " + ", ".join(without))
         print(f"0 passed, {len(mutants)} failed")
