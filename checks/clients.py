@@ -229,7 +229,7 @@ def told():
     with open(f"{CLIENT}/tb_client/frames.py", encoding="utf-8") as frames:
         tests = frames.read().split("def request_fault")[1].split("\ndef ")[0]
     code = ""
-    for name in ("command", "connections", "lines", "serving"):
+    for name in ("access", "command", "connections", "lines", "process", "serving"):
         with open(f"{CLIENT}/tb_host/{name}.py", encoding="utf-8") as part:
             code += part.read()
     wanted = set(re.findall(r'\("(\w+)", ', tests)) | set(
