@@ -61,7 +61,7 @@ def add_places(parser: argparse.ArgumentParser) -> None:
         help="listen on a Unix socket, which its owner alone may use",
     )
     tcp = (
-        "listen on TCP, also beside --unix (127.0.0.1:3001 where nothing is given; port 0 is any "
+        "listen on TCP, also with --unix (127.0.0.1:3001 where nothing is given; port 0 is any "
         "that is free; [::1]:3001 for IPv6)"
     )
     parser.add_argument("--tcp", metavar="HOST:PORT", type=address, help=tcp)
