@@ -28,12 +28,12 @@ import resource
 import shutil
 import signal
 import sqlite3
-import struct
 import subprocess
 import sys
 import tempfile
 import time
 
+import frames
 import tried
 
 ROOT = pathlib.Path(__file__).resolve().parent.parent
@@ -72,8 +72,7 @@ def run(words, input=None, **more):
 def pair(moment, client, session, number, operation, items=()):
     """A moment and a request's frame."""
     body = b"".join(it if isinstance(it, bytes) else it.to_bytes() for it in items)
-    head = struct.pack("<QIB3xI12x", session, number, operation, len(body))
-    return struct.pack("<Q", moment) + client.to_bytes(16, "little") + head + body
+    return frames.pair(moment, client, session, number, operation, body)
 
 
 class Script:
@@ -183,27 +182,14 @@ LOADS = {
 }
 
 
-def requests_of(script):
-    """The requests of a script, without their moments."""
-    at = 0
-    while at < len(script):
-        (length,) = struct.unpack_from("<I", script, at + 8 + 32)
-        yield script[at + 8 : at + 8 + 48 + length]
-        at += 8 + 48 + length
-
-
 def replies_of(data):
-    at = 0
-    while at < len(data):
-        end = at + tb_client.reply_length(data, at)
-        yield tb_client.Reply.from_bytes(data[at:end])
-        at = end
+    return map(tb_client.Reply.from_bytes, frames.split(data))
 
 
 def ids_of(script, operation):
     """The ids of all events of an operation, 0 and the greatest left out."""
     found = set()
-    for frame in requests_of(script):
+    for _, frame in frames.pairs(script):
         if frame[28] == operation:
             found.update(
                 int.from_bytes(frame[at : at + 16], "little") for at in range(48, len(frame), 128)
@@ -234,7 +220,7 @@ class Ledger:
 
     def look_up(self, client, operation, ids):
         parts = [ids[at : at + ASKED] for at in range(0, len(ids), ASKED)]
-        asked = [(operation, [it.to_bytes(16, "little") for it in part]) for part in parts]
+        asked = [(operation, [frames.ids(it) for it in part]) for part in parts]
         return [record for answer in self.ask(client, asked) for record in answer]
 
 

@@ -26,6 +26,7 @@ gives its numbers.
 import os
 import re
 
+import repository
 import tried
 
 TOP = os.path.dirname(os.path.dirname(os.path.abspath(__file__)))
@@ -63,10 +64,7 @@ def read(path):
 
 
 def crates():
-    names = [
-        re.match(r"(\w+)", line)[1] for line in read(f"{TOP}/crates.txt") if re.match(r"\w", line)
-    ]
-    return [it for it in names if it not in TOOLS and not it.endswith("_tests")]
+    return [it for it in repository.crates(TOP) if it not in TOOLS and not it.endswith("_tests")]
 
 
 def is_counted(line):

@@ -20,13 +20,14 @@ import os
 import re
 import shlex
 import shutil
-import struct
 import subprocess
 import sys
 import tempfile
 import textwrap
 
+import frames
 import tried
+from frames import pair
 from tried import case
 
 TOP = os.path.dirname(os.path.dirname(os.path.abspath(__file__)))
@@ -258,27 +259,16 @@ def names():
     return found - {"ReplyNumbers"}
 
 
-def pair(moment, client, session, number, operation, body=b"", length=None, reserved=0):
-    header = struct.pack(
-        "<QIB3sI12x",
-        session,
-        number,
-        operation,
-        bytes([reserved, 0, 0]),
-        len(body) if length is None else length,
-    )
-    return struct.pack("<Q", moment) + client.to_bytes(16, "little") + header + body
-
-
 def faults():
     """A way to each fault of `run` and `replay` that wrong input has."""
     first = pair(10, 7, 0, 0, 2)
-    head = b"TBSDUMP1" + struct.pack("<II", 1, 2)
+    head, register = frames.dump_head(1, 2), bytearray(first)
+    register[8 + 29] = 1
     run = {
         "Short": first[:-1],
         "ClientZero": pair(10, 0, 0, 0, 2),
         "UnknownOperation": pair(10, 7, 0, 0, 3),
-        "Reserved": pair(10, 7, 0, 0, 2, reserved=1),
+        "Reserved": bytes(register),
         "RegisterNumbers": pair(10, 7, 1, 0, 2),
         "RequestZero": pair(10, 7, 1, 0, 129),
         "BadLength": pair(10, 7, 1, 1, 129, b"1"),
@@ -287,8 +277,8 @@ def faults():
     }
     replay = {
         "Head": b"",
-        "Mark": head + struct.pack("<QQ", 0, 3),
-        "NotLegal": head + struct.pack("<Q", 2) + first,
+        "Mark": head + frames.mark(3),
+        "NotLegal": head + frames.dump_entry(2, 10, first[8:]),
     }
     return (
         [(["run", "2"], *it) for it in run.items()]

@@ -7,9 +7,9 @@ and the client with the definitions and with each other. First build the library
     (cd crates/tbs && rt run -- run 2) < examples/first.script > /dev/null
     checks/embed.py
 
-checks/embed/names.py and checks/embed/frames.py are the parts that need neither. Prints a line for
-each case, and 'N passed, M failed'. Needs cc, c++, rustc and Linux; what is not there is told and
-passed over. KIT is the toolchain's folder (else `rt doc` tells it).
+checks/embed/names.py and checks/embed/wrappers.py are the parts that need neither. Prints a line
+for each case, and 'N passed, M failed'. Needs cc, c++, rustc and Linux; what is not there is told
+and passed over. KIT is the toolchain's folder (else `rt doc` tells it).
 """
 import os
 import random
@@ -28,8 +28,8 @@ LIBRARY = f"{TOP}/crates/tb_embed/out/libtb_embed.a"
 PROGRAM = f"{TOP}/crates/tbs/out/tbs"
 sys.path[:0] = [f"{TOP}/checks/embed", f"{EMBED}/python", f"{TOP}/clients/python"]
 
-import frames  # noqa: E402
 import names  # noqa: E402
+import wrappers  # noqa: E402
 
 # What first.c, first.rs and first.py print, as docs/use/EMBEDDING.md shows it.
 FIRST = """\
@@ -457,7 +457,7 @@ def main():
     ):
         if not os.path.exists(path):
             sys.exit(f"{path} is not there: {how} builds it")
-    for part in (names.comparisons(), frames.cases()):
+    for part in (names.comparisons(), wrappers.cases()):
         for what, holds, why in part:
             case(what, holds, "" if holds else why)
     with tempfile.TemporaryDirectory() as folder:

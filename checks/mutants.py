@@ -36,6 +36,8 @@ import threading
 import time
 import zlib
 
+import repository
+
 ROOT = os.path.dirname(os.path.dirname(os.path.abspath(__file__)))
 FOLDER = f"{ROOT}/checks/mutants"
 ROWS = f"{ROOT}/docs/trust/mutants.csv"
@@ -167,29 +169,9 @@ def wrong_text(mutant):
     return None
 
 
-def crate_lines(root):
-    """The crates of a crates.txt, each with the words behind its name."""
-    lines = {}
-    with open(f"{root}/crates.txt", encoding="utf-8") as file:
-        for line in file:
-            head, colon, tail = line.partition("#")[0].partition(":")
-            if colon:
-                lines[head.split()[0]] = tail.split()
-    return lines
-
-
-def crates_below(root):
+def crates_below():
     """Each crate's own libraries, directly or not."""
-    lines = crate_lines(root)
-
-    def below(name, seen):
-        for it in lines[name]:
-            if it in lines and it not in seen:
-                seen.add(it)
-                below(it, seen)
-        return seen
-
-    return {name: below(name, set()) for name in lines}
+    return {name: set(repository.below([name])) for name in repository.crates()}
 
 
 def sources_of(crate):
@@ -221,16 +203,7 @@ def write(path, text):
 def copy_repository(room):
     for folder in ("crates", "checks", "clients", "examples"):
         shutil.rmtree(f"{room}/{folder}", ignore_errors=True)
-    listed = subprocess.run(
-        ["git", "-C", ROOT, "ls-files", "-co", "--exclude-standard"],
-        check=True,
-        capture_output=True,
-        text=True,
-    )
-    for path in listed.stdout.splitlines():
-        if os.path.isfile(f"{ROOT}/{path}"):
-            os.makedirs(os.path.dirname(f"{room}/{path}"), exist_ok=True)
-            shutil.copy2(f"{ROOT}/{path}", f"{room}/{path}")
+    repository.copied(room)
 
 
 def plant(room, mutants):
@@ -254,7 +227,7 @@ def plant(room, mutants):
 
 def join_tests(room, crates):
     """Makes one crate of the tests of several: each becomes a module."""
-    lines, root = crate_lines(room), "#![tactic(auto)]\n\n"
+    lines, root = repository.crates(room), "#![tactic(auto)]\n\n"
     for crate in crates:
         root += f"#[cfg(test)]\nmod {crate};\n"
         for short, path in sources_of(crate).items():
@@ -287,7 +260,7 @@ def executables(folder):
 def key_of(room, crate):
     """A checksum of all sources that a crate is built from."""
     told = hashlib.sha256()
-    for name in sorted({crate, *crates_below(room)[crate]}):
+    for name in sorted({crate, *repository.below([crate], room)}):
         for at, folders, names in os.walk(f"{room}/crates/{name}"):
             folders[:] = sorted(it for it in folders if it != "out")
             for it in sorted(names):
@@ -412,7 +385,7 @@ class Catchers:
 
     def __init__(self, room, tests, programs, scripts):
         self.room, self.scripts = room, scripts
-        self.below, self.rows = crates_below(ROOT), read_rows()
+        self.below, self.rows = crates_below(), read_rows()
         self.tests = build(room, ALL_TESTS, False) if tests else None
         self.names = self.listed() if tests else []
         self.seconds = {}
@@ -558,7 +531,7 @@ def try_texts(mutants):
 
 def prepared(room, mutants, tests_only):
     """The copy with all bugs, and what may catch the chosen ones."""
-    below = crates_below(ROOT)
+    below = crates_below()
     copy_repository(room)
     plant(room, all_mutants())
     changed = {it.crate for it in mutants}

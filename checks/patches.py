@@ -10,30 +10,15 @@ without a patch: all of them must pass. Ends in 'N passed, M failed'.
 """
 import os
 import re
-import shutil
 import subprocess
 import tempfile
 
+import repository
 import tried
 
-ROOT = os.path.dirname(os.path.dirname(os.path.abspath(__file__)))
-FOLDER = f"{ROOT}/checks/patches"
+FOLDER = f"{repository.ROOT}/checks/patches"
 # A test has so many seconds: one that a patch lets wait for ever is cut off.
 SECONDS = "60"
-
-
-def copied(room):
-    """Copies what git knows of, with what is not committed, to a folder."""
-    told = subprocess.run(
-        ["git", "-C", ROOT, "ls-files", "-co", "--exclude-standard"],
-        check=True,
-        capture_output=True,
-        text=True,
-    )
-    for path in told.stdout.splitlines():
-        if os.path.isfile(f"{ROOT}/{path}"):
-            os.makedirs(os.path.dirname(f"{room}/{path}"), exist_ok=True)
-            shutil.copy2(f"{ROOT}/{path}", f"{room}/{path}")
 
 
 def tests_of(room, crate):
@@ -62,7 +47,7 @@ def judge(name, whole):
         text = file.read()
     crate, test = (re.search(rf"^{word}: (\S+)$", text, re.M)[1] for word in ("crate", "test"))
     with tempfile.TemporaryDirectory(prefix="patches-") as room:
-        copied(room)
+        repository.copied(room)
         if crate not in whole:
             whole[crate] = tests_of(room, crate)
         right, wrong = whole[crate]

@@ -14,6 +14,7 @@ import re
 from html import escape
 
 import figures
+import repository
 import tried
 
 ROOT = pathlib.Path(__file__).resolve().parent.parent
@@ -82,17 +83,6 @@ def picture(width, height, title, parts) -> str:
 # The crates
 
 
-def crates_listed() -> dict[str, list[str]]:
-    """The product's crates, each with those of the repository that it names."""
-    product = (ROOT / "crates.txt").read_text().split("\n# Tools")[0]
-    rows = {}
-    for line in product.splitlines():
-        if ":" in line and not line.startswith("#"):
-            name, below = line.split(":")
-            rows[name.split()[0]] = below.split()
-    return {name: [it for it in below if it in rows] for name, below in rows.items()}
-
-
 def direct(crates: dict[str, list[str]]) -> dict[str, list[str]]:
     """Of each crate those that it names, but for those that it reaches through others."""
 
@@ -108,7 +98,7 @@ def direct(crates: dict[str, list[str]]) -> dict[str, list[str]]:
 def crates() -> str:
     """What each crate of the product is built on: levels from the bottom, an arrow to each crate
     below."""
-    below = direct(crates_listed())
+    below = direct(repository.own(product=True))
 
     def level(name: str) -> int:
         return 1 + max((level(it) for it in below[name]), default=-1)

@@ -13,12 +13,12 @@ import os
 import resource
 import select
 import signal
-import struct
 import subprocess
 import tempfile
 import time
 
 import tried
+from frames import account, dump_entry, dump_head, ids, mark, pair, reply, result, transfer
 
 TOP = os.path.dirname(os.path.dirname(os.path.abspath(__file__)))
 PROGRAM = f"{TOP}/crates/tbs/out/tbs"
@@ -37,40 +37,6 @@ PAIR_ENDS, REPLY_ENDS = [0, 56, 368, 472], [0, 48, 96, 400]
 FIRST, FIRST_REPLY = SCRIPT[:56], REPLIES[:48]
 
 
-def pair(moment, client, session, number, operation, body=b"", length=None):
-    length = len(body) if length is None else length
-    header = client.to_bytes(16, "little") + struct.pack(
-        "<QIB3xI12x", session, number, operation, length
-    )
-    return struct.pack("<Q", moment) + header + body
-
-
-def reply(client, session, number, operation, status, commit, body=b""):
-    return (
-        client.to_bytes(16, "little")
-        + struct.pack("<QIBB2xIQ4x", session, number, operation, status, len(body), commit)
-        + body
-    )
-
-
-def account(id, timestamp=0, debits_pending=0):
-    return (
-        id.to_bytes(16, "little")
-        + debits_pending.to_bytes(16, "little")
-        + bytes(64)
-        + struct.pack("<QIIIHHQ", 0, 0, 0, 700, 10, 0, timestamp)
-    )
-
-
-def transfer(id, debit, credit, amount, pending_id=0, timeout=0, flags=0):
-    ids = b"".join(it.to_bytes(16, "little") for it in (id, debit, credit, amount, pending_id, 0))
-    return ids + struct.pack("<QIIIHHQ", 0, 0, timeout, 700, 10, flags, 0)
-
-
-def ids(*numbers):
-    return b"".join(it.to_bytes(16, "little") for it in numbers)
-
-
 def changed(at, byte):
     """The script's first pair, and behind it its second with one byte of the frame changed."""
     frame = bytearray(SCRIPT[56:])
@@ -84,15 +50,7 @@ def line(fault):
 
 def ended(script, words=RUN, **how):
     """Status, output and standard error of a run on these bytes."""
-    ran = subprocess.run(
-        [PROGRAM, *words],
-        input=script,
-        stdout=how.pop("stdout", subprocess.PIPE),
-        stderr=subprocess.PIPE,
-        timeout=60,
-        **how,
-    )
-    return ran.returncode, ran.stdout or b"", ran.stderr
+    return tried.ran([PROGRAM, *words], script, seconds=60, **how)
 
 
 def with_file(script, words=RUN, **how):
@@ -302,7 +260,7 @@ def sessions():
     case("sessions that end for others", ended(b"".join(script)), (0, b"".join(answers), b""))
 
     # pending at 100 for a second: it is due at 1000000100, and code 35 is pending_transfer_expired
-    held, due = (account(1, 11, debits_pending) for debits_pending in (40, 0))
+    held, due = (account(1, timestamp=11, debits_pending=it) for it in (40, 0))
     script = [
         SCRIPT[:368],
         pair(100, 7, 1, 2, 130, transfer(60, 1, 2, 40, timeout=1, flags=2)),
@@ -315,7 +273,7 @@ def sessions():
         reply(7, 1, 2, 130, 0, 3),
         reply(7, 1, 3, 131, 0, 4, held),
         reply(7, 1, 4, 131, 0, 5, due),
-        reply(7, 1, 5, 130, 0, 6, struct.pack("<II", 0, 35)),
+        reply(7, 1, 5, 130, 0, 6, result(0, 35)),
     ]
     case(
         "a pending transfer before and at its last moment",
@@ -329,7 +287,7 @@ def sessions():
         + pair(10, 7, 1, 2, 130, transfer(70, 99, 2, 1))
         + pair(10, 7, 1, 3, 130, transfer(70, 1, 2, 1))
     )
-    failed_first = REPLIES[:96] + reply(7, 1, 2, 130, 0, 3, struct.pack("<II", 0, 21))
+    failed_first = REPLIES[:96] + reply(7, 1, 2, 130, 0, 3, result(0, 21))
     case(
         "a failed id by profile 1",
         ended(script, ["run", "2", "1"]),
@@ -338,7 +296,7 @@ def sessions():
     case(
         "a failed id by profile 2",
         ended(script, ["run", "2", "2"]),
-        (0, failed_first + reply(7, 1, 3, 130, 0, 4, struct.pack("<II", 0, 68)), b""),
+        (0, failed_first + reply(7, 1, 3, 130, 0, 4, result(0, 68)), b""),
     )
 
 
@@ -350,7 +308,7 @@ def many_items():
     lookup = pair(10, 7, 1, 2, 131, ids(*numbers))
     # the register has the time 10, so the batch has 10 + 8190, and account 1 the first timestamp
     # after 10
-    found = b"".join(account(id, 10 + id) for id in numbers)
+    found = b"".join(account(id, timestamp=10 + id) for id in numbers)
     wanted = FIRST_REPLY + reply(7, 1, 1, 129, 0, 2) + reply(7, 1, 2, 131, 0, 3, found)
     case("8190 accounts and their look-up", ended(FIRST + create + lookup), (0, wanted, b""))
     return FIRST + create + lookup
@@ -437,13 +395,12 @@ def wrong_words():
         case(f"the arguments {words}", with_file(SCRIPT, words)[0], (0, REPLIES, b""))
 
 
-HEAD = b"TBSDUMP1" + struct.pack("<II", 1, 2)
-MARK = struct.pack("<QQ", 0, 2)
+HEAD, MARK = dump_head(1, 2), mark()
 
 
 def entry(commit, time, timed):
     """An entry of a dump, of the frame of a pair."""
-    return struct.pack("<QQ", commit, time) + timed[8:]
+    return dump_entry(commit, time, timed[8:])
 
 
 # the register has the time 10, the two accounts the time 12, the lookup 13
@@ -473,8 +430,8 @@ def dumps(long_script):
         for number, debit in ((2, 99), (3, 1))
     )
     entries = [*ENTRIES[:2], entry(3, 13, failing), entry(4, 14, again)]
-    failed = REPLIES[:96] + reply(7, 1, 2, 130, 0, 3, struct.pack("<II", 0, 21))
-    right, refused = reply(7, 1, 3, 130, 0, 4), reply(7, 1, 3, 130, 0, 4, struct.pack("<II", 0, 68))
+    failed = REPLIES[:96] + reply(7, 1, 2, 130, 0, 3, result(0, 21))
+    right, refused = reply(7, 1, 3, 130, 0, 4), reply(7, 1, 3, 130, 0, 4, result(0, 68))
     for at, place, last in [
         ([], None, right),
         (["4"], None, right),
@@ -508,15 +465,15 @@ def dumps(long_script):
 
     for name, head in [
         ("another signature", b"TBSDUMP2" + HEAD[8:]),
-        ("profile 0", HEAD[:8] + struct.pack("<II", 0, 2)),
-        ("profile 3", HEAD[:8] + struct.pack("<II", 3, 2)),
-        ("no clients", HEAD[:8] + struct.pack("<II", 1, 0)),
-        ("65 clients", HEAD[:8] + struct.pack("<II", 1, 65)),
+        ("profile 0", dump_head(0, 2)),
+        ("profile 3", dump_head(3, 2)),
+        ("no clients", dump_head(1, 0)),
+        ("65 clients", dump_head(1, 65)),
     ]:
         case(f"a head with {name}", ended(head + DUMP[16:], REPLAY), (2, b"", line("Head")))
-    by_two = HEAD[:8] + struct.pack("<II", 2, 2)
+    by_two = dump_head(2, 2)
     for name, dump, replies in [
-        ("a commit 0 with the number 3", DUMP + struct.pack("<QQ", 0, 3), REPLIES),
+        ("a commit 0 with the number 3", DUMP + mark(3), REPLIES),
         ("a mark under profile 2", by_two + ENTRIES[0] + MARK, FIRST_REPLY),
         ("a second mark", HEAD + MARK + ENTRIES[0] + MARK, FIRST_REPLY),
     ]:

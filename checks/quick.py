@@ -32,7 +32,7 @@ CHECKS = {
     "edits": ["checks/edits.py", "--texts"],
     "tables": ["checks/tables.py"],
     "names": ["checks/embed/names.py"],
-    "frames": ["checks/embed/frames.py"],
+    "wrappers": ["checks/embed/wrappers.py"],
     "scenarios": ["clients/conformance/make_scenarios.py"],
     "kit": ["clients/conformance/kit.py", "--", sys.executable, "-B", RUNNER],
 }

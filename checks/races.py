@@ -18,9 +18,10 @@ import subprocess
 import sys
 import tempfile
 
+import repository
 import tried
 
-TOP = os.path.dirname(os.path.dirname(os.path.abspath(__file__)))
+TOP = repository.ROOT
 RUNS = {
     "tbs": [["storm", "2", "3"], ["storm", "16", "1000"]],
     "tb_recorded": [["4", "500", "2"], ["8", "500", "1"], ["16", "200", "3"]],
@@ -33,22 +34,6 @@ void *__tsan_memcpy(void *to, const void *from, size_t n) { return memcpy(to, fr
 void *__tsan_memmove(void *to, const void *from, size_t n) { return memmove(to, from, n); }
 void *__tsan_memset(void *to, int byte, size_t n) { return memset(to, byte, n); }
 """
-
-
-def libraries():
-    """Of each crate what it is built on, by crates.txt."""
-    with open(f"{TOP}/crates.txt", encoding="utf-8") as lines:
-        rows = [line.split("#")[0].split(":") for line in lines if ":" in line.split("#")[0]]
-    return {row[0].split()[0]: row[1].split() for row in rows}
-
-
-def below(crate, uses):
-    """All crates of the repository that a crate is built on."""
-    found = []
-    for name in uses[crate]:
-        if name in uses and name not in found:
-            found += [it for it in [*below(name, uses), name] if it not in found]
-    return found
 
 
 def module_of(crate, kit, folder):
@@ -65,7 +50,7 @@ def module_of(crate, kit, folder):
             f'#!/bin/sh\ncp module.bc {folder}/module.bc\nexec {kit}/toolchain/bin/clang "$@"\n'
         )
     os.chmod(f"{tools}/bin/clang", 0o755)
-    copy, uses = f"{folder}/{crate}", libraries()
+    copy, uses = f"{folder}/{crate}", repository.crates()
     shutil.copytree(f"{TOP}/crates/{crate}", copy)
     words = [
         f"{kit}/bin/rattle",
@@ -81,7 +66,7 @@ def module_of(crate, kit, folder):
     for name in uses[crate]:
         here = f"{TOP}/crates/{name}/out/rlib/{name}.rlib"
         words += ["--extern", f"{name}={here if name in uses else f'{kit}/rlibs/{name}.rlib'}"]
-    for name in below(crate, uses):
+    for name in repository.below([crate]):
         words += ["-L", f"dependency={TOP}/crates/{name}/out/rlib"]
     words += [
         "--antt-project",
@@ -165,10 +150,8 @@ def linked(module, name, kit, folder):
 
 def run(program, words):
     """Status, output and reports."""
-    ran = subprocess.run(
-        [program, *words], stdin=subprocess.DEVNULL, capture_output=True, timeout=1200
-    )
-    return ran.returncode, ran.stdout, ran.stderr.count(b"WARNING: ThreadSanitizer")
+    status, output, said = tried.ran([program, *words], seconds=1200)
+    return status, output, said.count(b"WARNING: ThreadSanitizer")
 
 
 def main():

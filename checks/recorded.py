@@ -12,7 +12,6 @@ have to be among them, and lookups.
 """
 import os
 import re
-import subprocess
 import time
 
 import tried
@@ -41,20 +40,12 @@ def main():
     met = {}
     while checked < answers:
         clients, start = 4 + seed * 5 % 13, time.monotonic()
-        ran = subprocess.run(
-            [PROGRAM, str(clients), str(STEPS), str(seed)],
-            stdin=subprocess.DEVNULL,
-            capture_output=True,
-            timeout=3600,
-        )
+        status, output, told = tried.ran([PROGRAM, clients, STEPS, seed], seconds=3600)
         wanted = f"clients {clients}\nseed {seed}\nanswers {clients * STEPS}\n0 wrong\n".encode()
-        if (ran.returncode, ran.stdout) != (0, wanted):
+        if (status, output) != (0, wanted):
             failed += 1
-            print(
-                f"FAILED: {clients} clients, seed {seed}: {ran.returncode}, {ran.stdout}, "
-                f"{ran.stderr}"
-            )
-        counts = counts_of(ran.stderr)
+            print(f"FAILED: {clients} clients, seed {seed}: {status}, {output}, {told}")
+        counts = counts_of(told)
         for name, number in counts.items():
             met[name] = met.get(name, 0) + number
         checked += clients * STEPS

@@ -18,7 +18,9 @@ import struct
 import subprocess
 import tempfile
 
+import frames
 import tried
+from frames import account, ids, transfer
 
 TOP = os.path.dirname(os.path.dirname(os.path.abspath(__file__)))
 PROGRAM = f"{TOP}/crates/tbs/out/tbs"
@@ -32,17 +34,6 @@ def case(name, why, told=""):
     tried.case(name, not why, why or told)
 
 
-def account(id, flags=0):
-    return (
-        id.to_bytes(16, "little") + bytes(80) + struct.pack("<QIIIHHQ", 0, 0, 0, 700, 10, flags, 0)
-    )
-
-
-def transfer(id, debit, credit, amount, pending=0, flags=0, timeout=0):
-    ids = b"".join(it.to_bytes(16, "little") for it in (id, debit, credit, amount, pending, 0))
-    return ids + struct.pack("<QIIIHHQ", 0, 0, timeout, 700, 10, flags, 0)
-
-
 class Script:
     """Pairs of a moment and a frame, and where each begins."""
 
@@ -50,10 +41,7 @@ class Script:
         self.moment, self.number, self.pairs = moment, 0, []
 
     def pair(self, client, session, number, operation, body=b""):
-        header = client.to_bytes(16, "little") + struct.pack(
-            "<QIB3xI12x", session, number, operation, len(body)
-        )
-        self.pairs.append(struct.pack("<Q", self.moment) + header + body)
+        self.pairs.append(frames.pair(self.moment, client, session, number, operation, body))
 
     def next(self, operation, *items):
         """The next request of client 7 in session 1."""
@@ -73,8 +61,10 @@ ACCOUNTS, TRANSFERS, LOOK_ACCOUNTS, LOOK_TRANSFERS = 129, 130, 131, 132
 LINKED, PENDING, POST, VOID, CLOSING = 1, 2, 4, 8, 64
 
 
-def ids(*numbers):
-    return b"".join(it.to_bytes(16, "little") for it in numbers)
+def resolving(id, pending_id, flags):
+    """A post of the whole amount, or a void."""
+    amount = frames.AMOUNT_MAX if flags & POST else 0
+    return transfer(id, 0, 0, amount, pending_id=pending_id, flags=flags)
 
 
 def rows():
@@ -107,11 +97,9 @@ def chains():
         transfer(52, 1, 2, 1),
     )
     script.next(TRANSFERS, transfer(64, 1, 2, 40, flags=PENDING))
-    script.next(
-        TRANSFERS, transfer(65, 0, 0, (1 << 128) - 1, 64, POST | LINKED), transfer(66, 99, 2, 1)
-    )
-    script.next(TRANSFERS, transfer(65, 0, 0, (1 << 128) - 1, 64, POST))
-    script.next(TRANSFERS, transfer(67, 1, 2, 7, flags=PENDING), transfer(68, 0, 0, 0, 67, VOID))
+    script.next(TRANSFERS, resolving(65, 64, POST | LINKED), transfer(66, 99, 2, 1))
+    script.next(TRANSFERS, resolving(65, 64, POST))
+    script.next(TRANSFERS, transfer(67, 1, 2, 7, flags=PENDING), resolving(68, 67, VOID))
     script.next(TRANSFERS, transfer(40, 1, 2, 0, flags=PENDING | CLOSING), transfer(41, 1, 2, 1))
     script.next(
         TRANSFERS,
@@ -348,11 +336,7 @@ def faults(script, starts, header, written):
 def dumped(script, clients):
     """The head of a script's dump, and its entries."""
     dump = right(["dump", clients], script)
-    entries, at = [], 16
-    while at < len(dump):
-        end = at + 64 + struct.unpack_from("<I", dump, at + 48)[0]
-        entries.append(dump[at:end])
-        at = end
+    entries = list(frames.split(dump[16:], 16))
     return dump[:16], entries
 
 

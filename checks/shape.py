@@ -23,6 +23,7 @@ import re
 import subprocess
 import tempfile
 
+import repository
 import tried
 
 TOP = os.path.dirname(os.path.dirname(os.path.abspath(__file__)))
@@ -152,15 +153,7 @@ def unpacked(rev, room):
 
 def crates_listed(product=False):
     """The crates of crates.txt, or those of the product alone."""
-    with open(f"{TOP}/crates.txt", encoding="utf-8") as file:
-        text = file.read()
-    if product:
-        text = text.split("\n# Tools")[0]
-    return [
-        line.split(":")[0].split()[0]
-        for line in text.splitlines()
-        if ":" in line and not line.startswith("#")
-    ]
+    return list(repository.crates(TOP, product))
 
 
 def summed(rows):

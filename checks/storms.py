@@ -9,7 +9,6 @@ TIMES (3 by default, 100 in the long form of docs/trust/TESTED.md) is how often 
 Prints a line for each storm, and 'N passed, M failed'.
 """
 import os
-import subprocess
 import time
 
 import tried
@@ -39,20 +38,11 @@ def main():
         for turn in range(times):
             tried.progress(f"storm {clients} {transfers}", turn, times)
             start = time.monotonic()
-            ran = subprocess.run(
-                [PROGRAM, "storm", str(clients), str(transfers)],
-                stdin=subprocess.DEVNULL,
-                capture_output=True,
-                timeout=600,
-            )
+            got = tried.ran([PROGRAM, "storm", clients, transfers], seconds=600)
             spent.append(time.monotonic() - start)
-            if (ran.returncode, ran.stdout, ran.stderr) == wanted:
-                right += 1
-            else:
-                print(
-                    f"FAILED: storm {clients} {transfers}: {ran.returncode}, {ran.stdout}, "
-                    f"{ran.stderr}"
-                )
+            right += got == wanted
+            if got != wanted:
+                print(f"FAILED: storm {clients} {transfers}: {got}")
         tried.progress(f"storm {clients} {transfers}", times, times)
         passed, failed = passed + right, failed + times - right
         print(

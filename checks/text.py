@@ -13,12 +13,12 @@ import pty
 import random
 import re
 import select
-import struct
 import subprocess
 import sys
 import termios
 import time
 
+import frames
 import tried
 
 TOP = os.path.dirname(os.path.dirname(os.path.abspath(__file__)))
@@ -27,8 +27,7 @@ TBS = f"{TOP}/crates/tbs/out/tbs"
 
 
 def run(program, words, data):
-    it = subprocess.run([program, *words], input=data, capture_output=True, timeout=120)
-    return it.returncode, it.stdout, it.stderr
+    return tried.ran([program, *words], data)
 
 
 def check(name, got, wanted):
@@ -40,15 +39,6 @@ def read(name):
         return it.read()
 
 
-def frame(moment, client, session, number, operation, body):
-    return struct.pack("<Q", moment) + client.to_bytes(16, "little") + struct.pack("<QIB3xI12x", session, number, operation, len(body)) + body
-
-
-def record(wide, rest):
-    """A record of numbers of 16 bytes and a rest of 8, 4, 4, 4, 2, 2 and 8 bytes."""
-    return b"".join(it.to_bytes(16, "little") for it in wide) + struct.pack("<QIIIHHQ", *rest)
-
-
 def random_pair(seed):
     def number(bits):
         return seed.choice([0, 1, seed.getrandbits(bits), 2**bits - 1])
@@ -56,13 +46,14 @@ def random_pair(seed):
     operation = seed.choice([2, 129, 130, 131, 132])
     client = seed.getrandbits(128) | 1
     if operation == 2:
-        return frame(number(64), client, 0, 0, 2, b"")
+        return frames.pair(number(64), client, 0, 0, 2)
     count = seed.randrange(4)
     if operation < 131:
-        items = [record([number(128) for _ in range(6)], [number(it) for it in (64, 32, 32, 32, 16, 16, 64)]) for _ in range(count)]
+        layout = {129: "account", 130: "transfer"}[operation]
+        items = [frames.record(layout, {it: number(bits) for it, bits in frames.widths(layout)}) for _ in range(count)]
     else:
-        items = [number(128).to_bytes(16, "little") for _ in range(count)]
-    return frame(number(64), client, number(64), seed.randrange(1, 2**32), operation, b"".join(items))
+        items = [frames.ids(number(128)) for _ in range(count)]
+    return frames.pair(number(64), client, number(64), seed.randrange(1, 2**32), operation, b"".join(items))
 
 
 SCRIPT, REPLIES, TEXT = read("first.script"), read("first.replies"), read("first.text")
@@ -272,7 +263,7 @@ TRANSFER_FIELDS = "id debit_account_id credit_account_id amount pending_id user_
 def reply_frame(operation, status, body):
     """The frame of a reply of client 7: to a request in session 5, or to its register."""
     session, request = (0, 0) if operation == 2 and status else (9, 0) if operation == 2 else (5, 6)
-    return (7).to_bytes(16, "little") + struct.pack("<QIBB2xIQ4x", session, request, operation, status, len(body), 0 if status else 9) + body
+    return frames.reply(7, session, request, operation, status, 0 if status else 9, body)
 
 
 def shown_reply(operation, status, body=b""):
@@ -298,16 +289,17 @@ wanted = [(OPERATIONS[number], STATUSES[status], []) for number, status, it in t
 check("each operation and status by its name", [(it["operation"], it["status"], it["results"]) for number, status, it in told], wanted)
 for operation, table in [(129, ACCOUNT_RESULTS), (130, TRANSFER_RESULTS)]:
     numbers = range(1, 100)
-    body = b"".join(struct.pack("<II", index, number) for index, number in enumerate(numbers))
+    body = b"".join(frames.result(index, number) for index, number in enumerate(numbers))
     wanted = [{"index": index, "result": table.get(number, str(number))} for index, number in enumerate(numbers)]
     check(f"each result of {OPERATIONS[operation]} by its name", shown_reply(operation, 0, body)["results"], wanted)
 for operation, fields, table in [(131, ACCOUNT_FIELDS, ACCOUNT_FLAGS), (132, TRANSFER_FIELDS, TRANSFER_FLAGS)]:
     records = [[201 + k for k in range(11)] + [bits, 213] for bits in [1 << k for k in range(16)] + [0, 65535]]
-    body = b"".join(record(it[:6], it[6:]) for it in records)
+    layout = {131: "account", 132: "transfer"}[operation]
+    body = b"".join(frames.record(layout, dict(zip(fields, it))) for it in records)
     check(f"each field and flag of {OPERATIONS[operation]}", shown_reply(operation, 0, body)["results"], [shown_record(fields, table, it) for it in records])
     for bit, name in table.items():
         text = f"client=7 request=1 {OPERATIONS[operation - 2]} flags={name};".encode()
-        check(f"flag {name} of {OPERATIONS[operation - 2]} is read", run(TBT, ["script"], text)[1][56 + 118 : 56 + 120], struct.pack("<H", bit))
+        check(f"flag {name} of {OPERATIONS[operation - 2]} is read", run(TBT, ["script"], text)[1][56 + 118 : 56 + 120], frames.little(bit, 16))
 talk = b"client=7 register; client=8 session=1 request=1 lookup_accounts; client=7 session=2 request=1 lookup_accounts; client=7 session=1 request=2 lookup_accounts;"
 told = [json.loads(it)["status"] for it in run(TBT, ["run", "2"], talk)[1].splitlines()]
 check("refusals by their names", told, ["reply", "no_session", "newer_session", "newer_request"])
@@ -427,14 +419,14 @@ def answers(words, parts):
 
 statements = [it + b";" for it in run(TBT, ["requests"], SCRIPT)[1].split(b";")[:-1]]
 scripts = [run(TBT, ["script"], it)[1] for it in statements]
-frames = [it[0] for it in [(run(TBS, ["run", "2"], b"".join(scripts[: k + 1]))[1],) for k in range(3)]]
-frames = [frames[0], frames[1][len(frames[0]) :], frames[2][len(frames[1]) :]]
+replied = [it[0] for it in [(run(TBS, ["run", "2"], b"".join(scripts[: k + 1]))[1],) for k in range(3)]]
+replied = [replied[0], replied[1][len(replied[0]) :], replied[2][len(replied[1]) :]]
 entries = [dumped[:16]] + [run(TBS, ["dump", "2"], b"".join(scripts[: k + 1]))[1] for k in range(3)]
 parts = [entries[0]] + [entries[k + 1][len(entries[k]) :] for k in range(3)]
 check("script at once", answers(["script"], statements), (scripts, b"", 0))
 check("requests at once", answers(["requests"], scripts), ([it.lstrip(b"\n") + b"\n" for it in statements], b"", 0))
-check("replies at once", answers(["replies"], frames), ([run(TBT, ["replies"], it)[1] for it in frames], b"", 0))
-check("run at once", answers(["run", "2"], statements), ([run(TBT, ["replies"], it)[1] for it in frames], b"", 0))
+check("replies at once", answers(["replies"], replied), ([run(TBT, ["replies"], it)[1] for it in replied], b"", 0))
+check("run at once", answers(["run", "2"], statements), ([run(TBT, ["replies"], it)[1] for it in replied], b"", 0))
 told, rest, status = answers(["dump"], parts)
 check("dump at once", (b"".join(told), rest, status), (run(TBT, ["dump"], dumped)[1], b"", 0))
 told, rest, status = answers(["audit"], parts)
@@ -464,7 +456,7 @@ def typed(words, lines):
     return shown, it.wait(timeout=10)
 
 
-first = run(TBT, ["replies"], frames[0])[1]
+first = run(TBT, ["replies"], replied[0])[1]
 fault = run(TBT, ["script"], b"at=10 clint=7")[2].replace(b"line 1", b"line 2")
 check("a terminal", typed(["run", "2"], [b"at=10 client=7 register;\n", b"at=10 clint=7\n", b"at=10 client=7 register;\n"])[0][:2], [first, fault])
 check("its status", typed(["run", "2"], [b"at=10 client=7 register;\n", b"at=10 clint=7\n"])[1], 2)

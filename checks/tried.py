@@ -1,5 +1,5 @@
 """What the scripts of checks/ share: cases that are counted and told, programs that have to be
-there, their arguments, and their ends."""
+there and their runs, the arguments of a script, and its end."""
 import argparse
 import os
 import subprocess
@@ -23,6 +23,13 @@ def built(*programs, how="build it first, as the head of this file says"):
     for program in programs:
         if not os.access(program, os.X_OK):
             sys.exit(f"{program} is not there: {how}")
+
+
+def ran(words, given=b"", seconds=120, **how):
+    """Runs a program on these bytes: its status, its output and its standard error."""
+    how = {"stdout": subprocess.PIPE, "stderr": subprocess.PIPE, **how}
+    it = subprocess.run(list(map(str, words)), input=given, timeout=seconds, **how)
+    return it.returncode, it.stdout or b"", it.stderr or b""
 
 
 def arguments(page):

@@ -6,7 +6,7 @@ docs/use/FORMATS.md say: right ones, each cut at each byte, each with changed by
 ones. The client in Python reads the same requests and replies, and takes just those that have no
 fault and nothing behind them.
 
-    checks/embed/frames.py
+    checks/embed/wrappers.py
 
 Prints a line for each case, and 'N passed, M failed'. checks/embed.py does the same among other
 things.
@@ -22,8 +22,10 @@ import tempfile
 HERE = os.path.dirname(os.path.abspath(__file__))
 TOP = os.path.dirname(os.path.dirname(HERE))
 sys.dont_write_bytecode = True
-sys.path.append(f"{TOP}/clients/python")
+sys.path[:0] = [f"{TOP}/checks", f"{TOP}/clients/python"]
 
+import frames  # noqa: E402
+import tried  # noqa: E402
 from tb_client import (  # noqa: E402
     Account,
     AccountFlags,
@@ -191,9 +193,7 @@ def asked(data):
 
 
 def header(client, session, number, operation, length):
-    return struct.pack(
-        "<QQQIB3xI12x", client % 2**64, client >> 64, session, number, operation, length
-    )
+    return frames.request(client, session, number, operation, length=length)
 
 
 def right_requests():
@@ -509,13 +509,11 @@ def difference(got, wanted):
 
 
 def main():
-    passed = failed = 0
+    tried.arguments(__doc__).parse_args()
     for what, holds, why in cases():
-        passed, failed = passed + bool(holds), failed + (not holds)
-        print(f"ok: {what}" if holds else f"FAILED: {what}: {why}", flush=True)
-    print(f"{passed} passed, {failed} failed")
-    return failed != 0
+        tried.case(what, holds, "" if holds else why)
+    return tried.status()
 
 
 if __name__ == "__main__":
-    sys.exit(main())
+    tried.main(main)
