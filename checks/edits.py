@@ -2,7 +2,8 @@
 """Tries every must-fail edit, as the gate tries those of crates/*/must-fail, side by side on all
 cores.
 
-    python3 checks/edits.py [--texts] [--jobs N] [CRATE ..]
+    checks/edits.py [--jobs N] [CRATE ..]
+    checks/edits.py --texts | --rules | --write [CRATE ..]
 
 The gate tries the edits in crates/CRATE/must-fail. This script tries those and the ones in
 crates/CRATE/must-fail-release: it copies the repository, with what is kept of earlier checks, puts
@@ -10,9 +11,15 @@ all edits of a crate into its must-fail folder there, proves the libraries below
 must-fail CRATE`, one job a crate. Run it before a release, and whenever a public clause or a
 definition changes. Ends in 'N passed, M failed': passed are the edits that the prover refused.
 
-With --texts it proves nothing: it tells each edit whose old text is not in its file exactly
-once, so that `rt must-fail` could not apply it. That takes a second, so run it on each change.
+An edit begins with two lines that `rt` does not read: `# rule:`, what its body breaks, and
+`# refused at:`, the function at whose goal it is refused, with the clause where it is known. The
+tables of docs/trust/MUTANTS.md are made of them: --write writes them, --rules prints all.
+
+--texts proves nothing, and takes a second: it tells each edit whose old text is not in its file
+exactly once, so that `rt must-fail` could not apply it, each that lacks one of the two lines, and
+whether the tables are up to date.
 """
+import collections
 import os
 import re
 import shutil
@@ -21,21 +28,14 @@ import sys
 import tempfile
 from concurrent.futures import ThreadPoolExecutor, as_completed
 
+import repository
 import tried
 
-ROOT = os.path.dirname(os.path.dirname(os.path.abspath(__file__)))
+ROOT = repository.ROOT
 FOLDERS = ("must-fail", "must-fail-release")
-
-
-def deps_of():
-    """The crates of crates.txt, each with the repository's own libraries that it names."""
-    deps = {}
-    with open(f"{ROOT}/crates.txt", encoding="utf-8") as file:
-        for line in file:
-            head, colon, tail = line.partition("#")[0].partition(":")
-            if colon:
-                deps[head.split()[0]] = tail.split()
-    return {name: [it for it in below if it in deps] for name, below in deps.items()}
+PAGE = f"{ROOT}/docs/trust/MUTANTS.md"
+BLOCK = re.compile(r"(<!-- edits: ([\w ]+) -->\n)(.*?)(<!-- end of edits -->)", re.S)
+HEADS = ("rule", "refused at", "shown")
 
 
 def edits_of(crate):
@@ -51,48 +51,68 @@ def edits_of(crate):
     return paths
 
 
+def said_of(path):
+    """What the first lines of an edit say, by their words."""
+    with open(path, encoding="utf-8") as edit:
+        lines = [re.match(r"# ([a-z ]+): (\S.*)", line) for line in edit.read().split("\n")]
+    return {it[1]: it[2] for it in lines if it and it[1] in HEADS}
+
+
+def table(edits, chosen):
+    """The rows of the edits that are chosen: a row for each rule of a crate."""
+    lines, last = ["| Crate | Rule | Edit | Refused at |", "|---|---|---|---|"], None
+    for crate, paths in edits.items():
+        rules = collections.defaultdict(list)
+        for name, path in paths.items():
+            said = said_of(path)
+            if "rule" in said and chosen(path, said):
+                rules[said["rule"]].append((name.removesuffix(".edit"), said.get("refused at", "")))
+        for rule, found in rules.items():
+            names = ", ".join(name for name, _ in found)
+            # A clause without a name is the function's only one.
+            places = (re.sub(", (its|the trait's) clause$", "", place) for _, place in found)
+            places = ", ".join(dict.fromkeys(places))
+            lines.append(f"| {crate if crate != last else ''} | {rule} | {names} | {places} |")
+            last = crate
+    return "\n".join(lines).replace("|  |", "| |") + "\n"
+
+
+def blocks(edits):
+    """The tables of the page, by their names."""
+    folders = [path.split("/")[-2] for paths in edits.values() for path in paths.values()]
+    gate, release = map(folders.count, FOLDERS)
+    return {
+        "gate": table(edits, lambda path, _: path.split("/")[-2] == FOLDERS[0]),
+        "files": table(edits, lambda _, said: said.get("shown") == "a ledger in a file"),
+        "counts": f"The gate has {gate} edits, the release {release} more.\n",
+    }
+
+
+def page_with(edits):
+    """The page as it is, and as it should be."""
+    with open(PAGE, encoding="utf-8") as file:
+        text = file.read()
+    made = blocks(edits)
+    return text, BLOCK.sub(lambda it: f"{it[1]}{made[it[2]]}{it[4]}", text)
+
+
 def copy_into(room, crates):
     """Copies what git knows of, and what is kept in out/, and puts all edits of the crates where
     `rt must-fail` looks."""
-    told = subprocess.run(
-        ["git", "-C", ROOT, "ls-files", "-co", "--exclude-standard"],
-        check=True,
-        capture_output=True,
-        text=True,
-    )
-    for path in told.stdout.splitlines():
-        if os.path.isfile(f"{ROOT}/{path}"):
-            os.makedirs(os.path.dirname(f"{room}/{path}"), exist_ok=True)
-            shutil.copy2(f"{ROOT}/{path}", f"{room}/{path}")
-    for crate in deps_of():
-        if os.path.isdir(f"{ROOT}/crates/{crate}/out"):
-            shutil.copytree(
-                f"{ROOT}/crates/{crate}/out", f"{room}/crates/{crate}/out", symlinks=True
-            )
+    repository.copied(room)
+    repository.kept(room)
     for crate, edits in crates.items():
         os.makedirs(f"{room}/crates/{crate}/must-fail", exist_ok=True)
         for name, path in edits.items():
             shutil.copy2(path, f"{room}/crates/{crate}/must-fail/{name}")
 
 
-def below(deps, crates):
-    """The libraries below the crates, each behind those that it uses."""
-    order = []
-
-    def visit(name):
-        for it in deps[name]:
-            visit(it)
-            if it not in order:
-                order.append(it)
-
-    for crate in crates:
-        visit(crate)
-    return order
-
-
 def misfit(crate, path):
-    """Why an edit cannot be applied; None where it can."""
+    """Why an edit cannot be applied, or what it does not say; None where it can."""
     file, old, texts = None, None, {}
+    missing = [f"no line '# {it}:'" for it in HEADS[:2] if it not in said_of(path)]
+    if missing:
+        return "it has " + " and ".join(missing)
     with open(path, encoding="utf-8") as edit:
         for line in edit.read().split("\n"):
             word, _, rest = line.partition(": ") if not line == "new:" else ("new", "", "")
@@ -116,15 +136,21 @@ def misfit(crate, path):
 
 
 def try_texts(edits):
-    """Tells each edit that cannot be applied, and answers how many can and how many cannot."""
-    passed = failed = 0
+    """Tells each edit that cannot be applied, and whether the tables are up to date."""
     for crate, paths in edits.items():
         for name, path in paths.items():
             why = misfit(crate, path)
-            passed, failed = passed + (why is None), failed + (why is not None)
-            if why:
-                print(f"{crate}/{name}: {why}")
-    return passed, failed
+            tried.case(f"{crate}/{name}", why is None, why, quietly=True)
+    present, made = page_with(all_edits())
+    how = "run checks/edits.py --write"
+    tried.case("the tables of MUTANTS.md", present == made, how, quietly=True)
+    return tried.status()
+
+
+def all_edits(chosen=()):
+    """The edits of these crates, or of all that have some."""
+    found = {crate: edits_of(crate) for crate in chosen or repository.crates()}
+    return {crate: paths for crate, paths in found.items() if paths}
 
 
 def try_crate(room, crate):
@@ -160,22 +186,28 @@ def main():
         help="how many crates are tried side by side (one a core)",
     )
     words.add_argument("--texts", action="store_true", help="only whether each edit can be applied")
+    words.add_argument("--rules", action="store_true", help="only print all rules as a table")
+    words.add_argument("--write", action="store_true", help="only write the tables of MUTANTS.md")
     words.add_argument("crates", nargs="*", metavar="CRATE")
     given = words.parse_args()
-    deps = deps_of()
     for crate in given.crates:
-        if crate not in deps:
+        if crate not in repository.crates():
             words.error(f"crates.txt has no crate {crate}")
-    edits = {crate: edits_of(crate) for crate in given.crates or deps}
-    edits = {crate: paths for crate, paths in edits.items() if paths}
+    edits = all_edits(given.crates)
     if given.texts:
-        passed, failed = try_texts(edits)
-        print(f"{passed} passed, {failed} failed")
-        return 1 if failed else 0
+        return try_texts(edits)
+    if given.rules:
+        print(table(edits, lambda *_: True), end="")
+        return 0
+    if given.write:
+        made = page_with(all_edits())[1]
+        with open(PAGE, "w", encoding="utf-8") as file:
+            file.write(made)
+        return 0
     passed = failed = 0
     with tempfile.TemporaryDirectory(prefix="edits-") as room:
         copy_into(room, edits)
-        for library in below(deps, edits):
+        for library in repository.below(edits):
             if subprocess.run(
                 ["rt", "lib"],
                 cwd=f"{room}/crates/{library}",

@@ -149,16 +149,14 @@ def crates() -> str:
 
 
 def edits() -> str:
-    """The must-fail edits of each crate, and what the last try of all of them gave."""
+    """What the last try of all must-fail edits gave."""
     rows = of_kind("edit")
-    lines = [f"| {it['subject']} | {it['value']} | {it['passed']} |" for it in rows]
     last, count = of_kind("edits")[0], sum(int(it["value"]) for it in rows)
     where = [sum(int(re.findall(r"[0-9]+", it["note"])[at]) for it in rows) for at in range(3)]
     return (
         f"Last tried: {when(last)}. {last['passed']} of {count} were refused "
         f"({last['note']}).\nOf those of the release {where[0]} were refused at a printed goal, "
-        f"{where[1]} inside an answer, {where[2]} where a search met a limit.\n\n"
-        + table("| Crate | Edits | In the gate |", lines)
+        f"{where[1]} inside an answer, {where[2]} where a search met a limit.\n"
     )
 
 
