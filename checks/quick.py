@@ -21,11 +21,13 @@ SECONDS_MAX = 120
 RUNNER = "clients/python/conformance_runner.py"
 CHECKS = {
     "pages": ["checks/pages.py"],
+    "hops": ["checks/hops.py"],
     "words": ["checks/words.py"],
     "figures": ["checks/figures.py"],
     "pictures": ["checks/pictures.py"],
     "blocks": ["checks/blocks.py"],
     "shape": ["checks/shape.py", "--bounds"],
+    "limits": ["checks/limits.py"],
     "heads": ["checks/cited.py", "--heads"],
     "cited": ["checks/cited.py", "--bounds"],
     "runs": ["checks/runs.py"],

@@ -37,14 +37,18 @@ def below(names, root=ROOT):
     return order
 
 
+def files(root=ROOT, *folders):
+    """The files that git knows of, with what is not committed, in all folders or in these."""
+    words = ["git", "-C", root, "ls-files", "-co", "--exclude-standard", *folders]
+    ran = subprocess.run(words, check=True, capture_output=True, text=True)
+    return [it for it in ran.stdout.splitlines() if os.path.isfile(f"{root}/{it}")]
+
+
 def copied(room, root=ROOT):
-    """Copies what git knows of, with what is not committed, to a folder."""
-    listed = ["git", "-C", root, "ls-files", "-co", "--exclude-standard"]
-    ran = subprocess.run(listed, check=True, capture_output=True, text=True)
-    for path in ran.stdout.splitlines():
-        if os.path.isfile(f"{root}/{path}"):
-            os.makedirs(os.path.dirname(f"{room}/{path}"), exist_ok=True)
-            shutil.copy2(f"{root}/{path}", f"{room}/{path}")
+    """Copies the files that git knows of to a folder."""
+    for path in files(root):
+        os.makedirs(os.path.dirname(f"{room}/{path}"), exist_ok=True)
+        shutil.copy2(f"{root}/{path}", f"{room}/{path}")
 
 
 def kept(room, root=ROOT):
