@@ -32,7 +32,7 @@ use std::sync::Wait;
 use std::thread::Threads;
 use taking::{Kind, Rounds};
 use tb_published::Opening;
-use tb_records::{ClientsMax, Profile};
+use tb_records::{CLIENTS_MAX, ClientsMax, Profile};
 use telling::wanted;
 
 /// The number that a word spells.
@@ -42,7 +42,7 @@ fn number(word: Option<&String>) -> Result<u32, Error> {
 }
 
 fn opening() -> Result<Opening, Error> {
-    let clients_max = wanted(ClientsMax::new(64), "clients_max")?;
+    let clients_max = wanted(ClientsMax::new(CLIENTS_MAX), "clients_max")?;
     Ok(Opening::new(Profile::One, clients_max))
 }
 

@@ -10,7 +10,7 @@ use std::sync::Wait;
 use std::time::{Duration, Instant};
 use tb_machine::{Entry, Machine};
 use tb_published::{Naming, Opening, Publisher, SeatCount, open};
-use tb_records::{ClientsMax, Profile, Request};
+use tb_records::{CLIENTS_MAX, ClientsMax, Profile, Request};
 
 /// What is taken.
 #[derive(Clone, Copy, PartialEq, Eq)]
@@ -202,7 +202,7 @@ fn measure_rounds<J: Naming, R: Wait + Clock + Print + Eprint>(
 
 /// Applies so many batches to a machine alone, whose memory can then be measured.
 pub fn fill_machine<R: Clock + Print>(rt: &R, alloc: Global, rounds: u32) -> Result<(), Error> {
-    let clients_max = wanted(ClientsMax::new(64), "clients_max")?;
+    let clients_max = wanted(ClientsMax::new(CLIENTS_MAX), "clients_max")?;
     let mut machine = Machine::new_in(alloc, alloc, Profile::One, clients_max)?;
     prepare(alloc, &mut machine)?;
     for k in 0..rounds {
@@ -220,7 +220,7 @@ pub fn measure<J: Naming, R: Wait + Clock + Print + Eprint>(
 ) -> Result<(), Error>
     requires { opening ≡ J.opening }
 {
-    let clients_max = wanted(ClientsMax::new(64), "clients_max")?;
+    let clients_max = wanted(ClientsMax::new(CLIENTS_MAX), "clients_max")?;
     let seats = wanted(SeatCount::new(1), "seats")?;
     let mut machine = Machine::new_in(alloc, alloc, Profile::One, clients_max)?;
     let (mut publisher, seats) = open::<J, R>(alloc, rt, opening, seats)?;

@@ -4,6 +4,7 @@ use Rattle.std.specs.Prelude.{ℕ, Bool, ◌&&◌, ◌+◌, ◌-◌, ◌*◌, �
 use Rattle.std.specs.Option.{option_and_then}
 use Rattle.std.specs.Cmp.Lexicographic.{pointwise}
 use Rattle.tb_records.specs.declared.limits.Profile.{Profile}
+use Rattle.tb_records.specs.declared.limits.TheConstants.{CLIENTS_MAX}
 use Rattle.tb_records.specs.declared.limits.Profile.TheVariants.{One, Two}
 use Rattle.tb_commands.specs.declared.arguments.Form.{Form}
 use Rattle.tb_commands.specs.declared.arguments.Form.TheVariants.{Run, Dump, Replay}
@@ -35,9 +36,9 @@ within low high (Some n) = if nat_le low n && nat_le n high then Some n else Non
 abbrev pub id_of : List ℕ → Option ℕ
 id_of word = within 0 (2 ^ 128 - 1) (number_of word)
 
--- 1 to 64 clients
+-- a number of clients that can have a session at one time
 abbrev pub clients_of : List ℕ → Option ℕ
-clients_of word = within 1 64 (number_of word)
+clients_of word = within 1 CLIENTS_MAX (number_of word)
 
 abbrev pub profile_by : Option ℕ → Option Profile
 profile_by None = None

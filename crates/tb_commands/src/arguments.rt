@@ -2,7 +2,7 @@
 ghost use Rattle.std.specs.Prelude.{◌≡◌, ◌<◌, ◌≤◌, map, string_bytes, IfSome, Some, None, if◌then◌else◌};
 ghost use Rattle.tb_commands.specs.Forms.{digit_of, number_of, with_digit, within, clients_of, profile_of, id_of, commit_of, form_alone, form_with, form_with_two, form_of};
 
-use tb_records::{ClientsMax, Profile};
+use tb_records::{CLIENTS_MAX, ClientsMax, Profile};
 
 /// What the program is asked to do.
 #[derive(Clone, Copy)]
@@ -67,11 +67,11 @@ pub fn read_id(word: &[u8]) -> Option<u128>
     number_up_to(word, u128::MAX)
 }
 
-/// The number of clients that a word spells, from 1 to 64.
+/// The number of clients that a word spells, from 1 to `CLIENTS_MAX`.
 pub fn read_clients_max(word: &[u8]) -> Option<ClientsMax>
     ensures { result ≡ clients_of word.now }
 {
-    ClientsMax::new(number(word, 1, 64)? as u32)
+    ClientsMax::new(number(word, 1, CLIENTS_MAX as u64)? as u32)
 }
 
 /// The profile that a word spells, 1 or 2.

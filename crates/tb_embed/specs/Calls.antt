@@ -5,6 +5,7 @@ use Rattle.std.specs.Option.{option_map, is_none}
 use Rattle.tb_records.specs.declared.faults.FrameFault.{FrameFault}
 use Rattle.tb_records.specs.declared.limits.Profile.{Profile}
 use Rattle.tb_records.specs.declared.limits.Profile.TheVariants.{One, Two}
+use Rattle.tb_records.specs.declared.limits.TheConstants.{CLIENTS_MAX}
 use Rattle.tb_records.specs.Messages.{Message}
 use Rattle.tb_records.specs.Frames.{Spells, request_fault}
 use Rattle.tb_records.specs.ReplyFrames.{IsReply, SpellsReply}
@@ -24,9 +25,9 @@ standing state = option_map (λ (server : Server). server.machine) state
 abbrev pub profile_of : ℕ → Profile
 profile_of n = if n == 2 then Two else One
 
--- there are two profiles, and 1 to 64 clients can have a session at one time
+-- there are two profiles, and one client or more can have a session at one time, up to the limit
 abbrev pub are_arguments : ℕ → ℕ → Bool
-are_arguments profile clients_max = (profile == 1 || profile == 2) && not (clients_max == 0) && nat_le clients_max 64
+are_arguments profile clients_max = (profile == 1 || profile == 2) && not (clients_max == 0) && nat_le clients_max CLIENTS_MAX
 
 -- a closed handle is opened at the empty history; wrong arguments and an open handle are refused; nothing else changes
 abbrev pub Opens : Outcome → ℕ → ℕ → Option State → Option State → Type 0

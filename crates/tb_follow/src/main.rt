@@ -15,7 +15,7 @@ use std::io::{self, BufReader, BufWriter, Write};
 use std::process::ExitCode;
 use tb_commands::words;
 use tb_log::{LogFault, follow};
-use tb_records::{Buffered, Counting};
+use tb_records::{Buffered, CLIENTS_MAX, Counting};
 
 /// The bytes of input and of output that are held at a time.
 const BUFFER: usize = 1 << 16;
@@ -71,7 +71,7 @@ fn tell(rt: &HostRuntime, fault: LogFault) -> io::Result<()> {
 /// Tells how the program is called.
 fn usage(rt: &HostRuntime) -> io::Result<()> {
     eprintln!(rt;
-        "tb_follow: Usage: tb_follow CLIENTS_MAX [PROFILE]: 1 to 64 clients, profile 1 or 2"
+        "tb_follow: Usage: tb_follow CLIENTS_MAX [PROFILE]: 1 to {CLIENTS_MAX} clients, profile 1 or 2"
     )
 }
 

@@ -1,16 +1,22 @@
 -- Chains and batches: a chain happens whole or not at all.
 -- Cited by public contracts of: laws, ledgers.
-use Rattle.std.specs.Prelude.{ℕ, suc, Bool, not, ◌==◌, ◌+◌, ◌-◌, List, [], ◌∷◌, ◌++◌, map, filter, length, replicate, Option, Some, None, if◌then◌else◌}
+use Rattle.std.specs.Prelude.{ℕ, suc, Bool, not, ◌==◌, ◌≡◌, ◌+◌, ◌-◌, refl, List, [], ◌∷◌, ◌++◌, map, filter, length, replicate, Option, Some, None, if◌then◌else◌}
 use Rattle.std.specs.List.{list_any, enumerate_from}
 use Rattle.std.specs.Option.{option_map}
 use Rattle.tb_records.specs.declared.records.Account.{Account}
 use Rattle.tb_records.specs.declared.records.Transfer.{Transfer}
 use Rattle.tb_records.specs.declared.records.EventResult.{EventResult}
 use Rattle.tb_records.specs.declared.transfer_results.CreateTransferResult.{CreateTransferResult}
-use Rattle.tb_records.specs.declared.transfer_results.CreateTransferResult.TheVariants.{DebitAccountNotFound, CreditAccountNotFound, PendingTransferNotFound, ExceedsCredits, ExceedsDebits, DebitAccountAlreadyClosed, CreditAccountAlreadyClosed}
+use Rattle.tb_records.specs.declared.transfer_results.CreateTransferResult.TheVariants.{LinkedEventFailed, LinkedEventChainOpen, DebitAccountNotFound, CreditAccountNotFound, PendingTransferNotFound, ExceedsCredits, ExceedsDebits, DebitAccountAlreadyClosed, CreditAccountAlreadyClosed}
+use Rattle.tb_records.specs.declared.account_flags.AccountFlag.TheVariants as account
+use Rattle.tb_records.specs.declared.transfer_flags.TransferFlag.TheVariants as transfer
+use Rattle.tb_records.specs.declared.account_results.CreateAccountResult.TheVariants as account_results
+use Rattle.tb_records.specs.AccountFlags.{account_has}
+use Rattle.tb_records.specs.AccountResults.{account_result_code}
+use Rattle.tb_records.specs.TransferFlags.{transfer_has}
 use Rattle.tb_records.specs.TransferResults.{transfer_result_code}
 use Rattle.tb_records.specs.Ordered.{put}
-use Rattle.tb_ledger.specs.Books.{Books, has}
+use Rattle.tb_ledger.specs.Books.{Books}
 use Rattle.tb_ledger.specs.Verdicts.{account_verdict, recorded_account, transfer_verdict, recorded_transfer}
 
 -- what a kind of event brings: whether it is linked to the next, its verdict, its record, and what its refusal leaves
@@ -22,7 +28,7 @@ pub record Kind (E : Type 0) : Type 0 where
 
 abbrev pub account_events : Kind Account
 account_events = record {
-  linked = λ a. has 1 a.flags;
+  linked = λ a. account_has account.Linked a;
   verdict = λ B a time. account_verdict B a;
   recorded = λ B a time. record B { accounts = put (λ a. a.id) (recorded_account a time) B.accounts };
   refused = λ B a code. B;
@@ -45,11 +51,19 @@ is_final code = list_any (λ result. transfer_result_code result == code) final_
 
 abbrev pub transfer_events : Kind Transfer
 transfer_events = record {
-  linked = λ t. has 1 t.flags;
+  linked = λ t. transfer_has transfer.Linked t;
   verdict = transfer_verdict;
   recorded = λ B t time. record B { transfers = put (λ t. t.id) (recorded_transfer B t time) B.transfers };
   refused = λ B t code. if is_final code then record B { failed = option_map (put (λ id. id) t.id) B.failed } else B;
 }
+
+-- what an event of a chain is answered where another of it failed, and where the batch ends within it: both tables of results
+-- have these codes
+abbrev pub chain_failed : ℕ
+chain_failed = transfer_result_code LinkedEventFailed
+
+abbrev pub chain_open : ℕ
+chain_open = transfer_result_code LinkedEventChainOpen
 
 -- an event with its timestamp
 abbrev pub Timed : Type 0 → Type 0
@@ -92,7 +106,7 @@ module _ {E : Type 0} (kind : Kind E) where
 
   -- an event and what comes after it in its chain: linked with nothing after it, the chain is open
   abbrev pub code_in_chain : Books → Timed E → List (Timed E) → ℕ
-  code_in_chain B x [] = if kind.linked x.0 then 2 else kind.verdict B x.0 x.1
+  code_in_chain B x [] = if kind.linked x.0 then chain_open else kind.verdict B x.0 x.1
   code_in_chain B x (y ∷ ys) = kind.verdict B x.0 x.1
 
   -- the first event that isn't accepted after those before it
@@ -110,8 +124,8 @@ module _ {E : Type 0} (kind : Kind E) where
 
   -- the code of an event that another event's failure undoes, and of all that come after
   abbrev pub undone_code : Timed E → List (Timed E) → ℕ
-  undone_code x [] = if kind.linked x.0 then 2 else 1
-  undone_code x (y ∷ ys) = 1
+  undone_code x [] = if kind.linked x.0 then chain_open else chain_failed
+  undone_code x (y ∷ ys) = chain_failed
 
   abbrev pub undone : List (Timed E) → List ℕ
   undone [] = []
@@ -121,7 +135,7 @@ module _ {E : Type 0} (kind : Kind E) where
   chain_outcome B block None = record { books = all_recorded B block; codes = replicate (length block) 0 }
   chain_outcome B block (Some f) = record {
     books = kind.refused B f.event f.code;
-    codes = replicate f.place 1 ++ f.code ∷ undone f.rest;
+    codes = replicate f.place chain_failed ++ f.code ∷ undone f.rest;
   }
 
   -- one chain: all of it, or what the failure leaves
@@ -145,3 +159,9 @@ results_from index codes = map (λ x. record { index = x.0; result = x.1 }) (fil
 
 abbrev pub results : List ℕ → List EventResult
 results codes = results_from 0 codes
+
+-- rows
+
+-- the results of accounts have these two codes too
+pub one_code_for_both : (account_result_code account_results.LinkedEventFailed ≡ chain_failed) × (account_result_code account_results.LinkedEventChainOpen ≡ chain_open)
+one_code_for_both = (refl, refl)

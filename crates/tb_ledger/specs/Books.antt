@@ -7,6 +7,11 @@ use Rattle.tb_records.specs.declared.records.Account.{Account}
 use Rattle.tb_records.specs.declared.records.Transfer.{Transfer}
 use Rattle.tb_records.specs.declared.limits.Profile.{Profile}
 use Rattle.tb_records.specs.declared.limits.Profile.TheVariants.{One, Two}
+use Rattle.tb_records.specs.declared.limits.TheConstants.{NANOSECONDS_PER_SECOND}
+use Rattle.tb_records.specs.declared.account_flags.AccountFlag.TheVariants as account
+use Rattle.tb_records.specs.declared.transfer_flags.TransferFlag.TheVariants as transfer
+use Rattle.tb_records.specs.AccountFlags.{account_has}
+use Rattle.tb_records.specs.TransferFlags.{transfer_has}
 use Rattle.tb_ledger.specs.declared.tables.transfers.State.{State}
 use Rattle.tb_ledger.specs.declared.tables.transfers.State.TheVariants.{Open, Posted, Voided, Expired}
 
@@ -40,41 +45,41 @@ abbrev pub has : ℕ → ℕ → Bool
 has mask flags = not (bit_and flags mask == 0)
 
 abbrev pub debits_limited : Account → Bool
-debits_limited a = has 2 a.flags
+debits_limited a = account_has account.DebitsMustNotExceedCredits a
 
 abbrev pub credits_limited : Account → Bool
-credits_limited a = has 4 a.flags
+credits_limited a = account_has account.CreditsMustNotExceedDebits a
 
 -- an account as it stands has this flag exactly where it is closed
 abbrev pub closed : Account → Bool
-closed a = has 32 a.flags
+closed a = account_has account.Closed a
 
 abbrev pub pending : Transfer → Bool
-pending t = has 2 t.flags
+pending t = transfer_has transfer.Pending t
 
 abbrev pub posts : Transfer → Bool
-posts t = has 4 t.flags
+posts t = transfer_has transfer.PostPendingTransfer t
 
 abbrev pub voids : Transfer → Bool
-voids t = has 8 t.flags
+voids t = transfer_has transfer.VoidPendingTransfer t
 
 abbrev pub resolves : Transfer → Bool
 resolves t = posts t || voids t
 
 abbrev pub balancing_debit : Transfer → Bool
-balancing_debit t = has 16 t.flags
+balancing_debit t = transfer_has transfer.BalancingDebit t
 
 abbrev pub balancing_credit : Transfer → Bool
-balancing_credit t = has 32 t.flags
+balancing_credit t = transfer_has transfer.BalancingCredit t
 
 abbrev pub balancing : Transfer → Bool
 balancing t = balancing_debit t || balancing_credit t
 
 abbrev pub closing_debit : Transfer → Bool
-closing_debit t = has 64 t.flags
+closing_debit t = transfer_has transfer.ClosingDebit t
 
 abbrev pub closing_credit : Transfer → Bool
-closing_credit t = has 128 t.flags
+closing_credit t = transfer_has transfer.ClosingCredit t
 
 abbrev pub closing : Transfer → Bool
 closing t = closing_debit t || closing_credit t
@@ -94,7 +99,7 @@ abbrev pub resolver : Books → Transfer → Option Transfer
 resolver B p = find (λ r. resolves r && (r.pending_id == p.id)) B.transfers
 
 abbrev pub expires_at : Transfer → ℕ
-expires_at p = p.timestamp + p.timeout * 1000000000
+expires_at p = p.timestamp + p.timeout * NANOSECONDS_PER_SECOND
 
 abbrev pub is_due : ℕ → Transfer → Bool
 is_due time p = not (p.timeout == 0) && nat_le (expires_at p) time

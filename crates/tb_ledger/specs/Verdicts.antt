@@ -10,7 +10,10 @@ use Rattle.tb_records.specs.declared.account_results.CreateAccountResult.{Create
 use Rattle.tb_records.specs.declared.account_results.CreateAccountResult.TheVariants as account
 use Rattle.tb_records.specs.declared.transfer_results.CreateTransferResult.{CreateTransferResult}
 use Rattle.tb_records.specs.declared.transfer_results.CreateTransferResult.TheVariants as transfer
+use Rattle.tb_records.specs.declared.limits.TheConstants.{AMOUNT_MAX, LAST_MOMENT, NANOSECONDS_PER_SECOND}
+use Rattle.tb_records.specs.AccountFlags.{account_flags_reserved}
 use Rattle.tb_records.specs.AccountResults.{account_result_code}
+use Rattle.tb_records.specs.TransferFlags.{transfer_flags_reserved}
 use Rattle.tb_records.specs.TransferResults.{transfer_result_code}
 use Rattle.tb_ledger.specs.declared.tables.transfers.State.{State}
 use Rattle.tb_ledger.specs.Books.{Books, has, closed, debits_limited, credits_limited, pending, posts, voids, resolves, balancing_debit, balancing_credit, balancing, closing, transfer_at, state_of, is_posted, is_voided, is_expired, account_now}
@@ -37,10 +40,10 @@ first_code (code ∷ codes) = if code == 0 then first_code codes else code
 
 -- the largest number of 128 bits: no id, and the most that an amount or a sum can be
 abbrev pub int_max : ℕ
-int_max = 340282366920938463463374607431768211455
+int_max = AMOUNT_MAX
 
 abbrev pub max_time : ℕ
-max_time = 9223372036854775807
+max_time = LAST_MOMENT
 
 abbrev pub is_not : ℕ → ℕ → Bool
 is_not x y = not (x == y)
@@ -51,7 +54,7 @@ abbrev pub account_own_tests : Account → List Test
 account_own_tests a =
     account_test account.TimestampMustBeZero (is_not a.timestamp 0)
     ∷ account_test account.ReservedField (is_not a.reserved 0)
-    ∷ account_test account.ReservedFlag (has 0xFFD0 a.flags)
+    ∷ account_test account.ReservedFlag (has account_flags_reserved a.flags)
     ∷ account_test account.IdMustNotBeZero (a.id == 0)
     ∷ account_test account.IdMustNotBeIntMax (a.id == int_max)
     ∷ []
@@ -71,7 +74,7 @@ account_exists_tests (Some e) a =
 
 abbrev pub account_new_tests : Account → List Test
 account_new_tests a =
-    account_test account.FlagsAreMutuallyExclusive (has 2 a.flags && has 4 a.flags)
+    account_test account.FlagsAreMutuallyExclusive (debits_limited a && credits_limited a)
     ∷ account_test account.DebitsPendingMustBeZero (is_not a.debits_pending 0)
     ∷ account_test account.DebitsPostedMustBeZero (is_not a.debits_posted 0)
     ∷ account_test account.CreditsPendingMustBeZero (is_not a.credits_pending 0)
@@ -96,7 +99,7 @@ recorded_account a time = record a { timestamp = time }
 abbrev pub transfer_own_tests : Transfer → List Test
 transfer_own_tests t =
     transfer_test transfer.TimestampMustBeZero (is_not t.timestamp 0)
-    ∷ transfer_test transfer.ReservedFlag (has 0xFF00 t.flags)
+    ∷ transfer_test transfer.ReservedFlag (has transfer_flags_reserved t.flags)
     ∷ transfer_test transfer.IdMustNotBeZero (t.id == 0)
     ∷ transfer_test transfer.IdMustNotBeIntMax (t.id == int_max)
     ∷ []

@@ -9,6 +9,7 @@ use Rattle.tb_records.specs.declared.dumps.DumpItem.TheVariants as item
 use Rattle.tb_records.specs.declared.faults.FrameFault.{FrameFault}
 use Rattle.tb_records.specs.declared.faults.FrameFault.TheVariants.{Short, Device}
 use Rattle.tb_records.specs.declared.limits.Profile.{Profile}
+use Rattle.tb_records.specs.declared.limits.TheConstants.{CLIENTS_MAX}
 use Rattle.tb_records.specs.declared.limits.Profile.TheVariants.{One, Two}
 use Rattle.tb_records.specs.Frames.{request_bytes, request_fault, length_at, IsRequest}
 use Rattle.tb_records.specs.Inputs.{Faulted}
@@ -29,7 +30,7 @@ unfoldable pub head_bytes : Profile → ℕ → List ℕ
 head_bytes profile clients_max = signature ++ le_bytes 4 (profile_number profile) ++ le_bytes 4 clients_max
 
 abbrev pub IsClients : ℕ → Type 0
-IsClients n = (0 < n) × (n ≤ 64)
+IsClients n = (0 < n) × (n ≤ CLIENTS_MAX)
 
 -- two numbers of 8 bytes: those of an entry, or a mark's
 unfoldable pub numbers_bytes : ℕ → ℕ → List ℕ

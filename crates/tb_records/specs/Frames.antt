@@ -5,8 +5,10 @@ use Rattle.tb_records.specs.declared.bodies.Body.{Body}
 use Rattle.tb_records.specs.declared.bodies.Body.TheVariants.{Register, CreateAccounts, CreateTransfers, LookupAccounts, LookupTransfers}
 use Rattle.tb_records.specs.declared.faults.FrameFault.{FrameFault}
 use Rattle.tb_records.specs.declared.faults.FrameFault.TheVariants.{Short, ClientZero, UnknownOperation, Reserved, BadLength, TooMany, RegisterNumbers, RequestZero}
+use Rattle.tb_records.specs.declared.operations.Operation.TheVariants as op
 use Rattle.tb_records.specs.Messages.{Message, operation, is_operation, first_fault, items_max, IsLawful}
 use Rattle.tb_records.specs.Numbers.{le_bytes, le_at}
+use Rattle.tb_records.specs.Operations.{operation_code}
 use Rattle.tb_records.specs.RecordBytes.{account_bytes, transfer_bytes, IsAccount, IsTransfer}
 
 -- the 48 bytes of a header: client, session, request, operation, 3 zero bytes, the body's length, 12 zero bytes
@@ -82,12 +84,12 @@ length_at b = le_at 4 32 b
 
 -- the size of an item in the body of a request
 abbrev pub item_size : ℕ → ℕ
-item_size operation = if operation == 129 || operation == 130 then 128 else 16
+item_size operation = if operation == operation_code op.CreateAccounts || operation == operation_code op.CreateTransfers then 128 else 16
 
 -- what the length of a body may have wrong
 abbrev pub length_tests : ℕ → ℕ → List (Bool × FrameFault)
 length_tests operation len =
-    (not ((if operation == 2 then len else len % item_size operation) == 0), BadLength)
+    (not ((if operation == operation_code op.Register then len else len % item_size operation) == 0), BadLength)
     ∷ (nat_lt items_max (len / item_size operation), TooMany)
     ∷ []
 
@@ -97,8 +99,8 @@ header_tests b =
     (client_at b == 0, ClientZero)
     ∷ (not (is_operation (operation_at b)), UnknownOperation)
     ∷ (not (le_at 3 29 b == 0 && le_at 12 36 b == 0), Reserved)
-    ∷ (operation_at b == 2 && not (session_at b == 0 && request_at b == 0), RegisterNumbers)
-    ∷ (not (operation_at b == 2) && request_at b == 0, RequestZero)
+    ∷ (operation_at b == operation_code op.Register && not (session_at b == 0 && request_at b == 0), RegisterNumbers)
+    ∷ (not (operation_at b == operation_code op.Register) && request_at b == 0, RequestZero)
     ∷ length_tests (operation_at b) (length_at b)
 
 -- the first fault of a header

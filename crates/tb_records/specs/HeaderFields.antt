@@ -6,6 +6,7 @@ use Rattle.std.specs.Io.KnownBytes.{Consumes}
 use Rattle.tb_records.specs.declared.bodies.Body.{Body}
 use Rattle.tb_records.specs.declared.faults.FrameFault.{FrameFault}
 use Rattle.tb_records.specs.declared.faults.FrameFault.TheVariants.{ClientZero, TooMany, RegisterNumbers, RequestZero}
+use Rattle.tb_records.specs.declared.operations.Operation.TheVariants as op
 use Rattle.tb_records.specs.Inputs.{Answers}
 use Rattle.tb_records.specs.Messages.{Message, operation, item_count, items_max, first_fault}
 use Rattle.tb_records.specs.Operations.{operation_code}
@@ -40,8 +41,8 @@ number_tests register session request =
 abbrev pub numbers_tests : ℕ → ℕ → ℕ → ℕ → ℕ → List (Bool × FrameFault)
 numbers_tests client session request code count =
     (client == 0, ClientZero)
-    ∷ (code == 2 && not (session == 0 && request == 0), RegisterNumbers)
-    ∷ (not (code == 2) && request == 0, RequestZero)
+    ∷ (code == operation_code op.Register && not (session == 0 && request == 0), RegisterNumbers)
+    ∷ (not (code == operation_code op.Register) && request == 0, RequestZero)
     ∷ (nat_lt items_max count, TooMany)
     ∷ []
 
@@ -54,7 +55,7 @@ pub record IsHeader (h : Header) : Type 0 where
   pub client : h.client < 2 ^ 128
   pub session : h.session < 2 ^ 64
   pub request : h.request < 2 ^ 32
-  pub empty : operation_code h.operation ≡ 2 → h.count ≡ 0
+  pub empty : operation_code h.operation ≡ operation_code op.Register → h.count ≡ 0
 
 -- the length of the body behind a header
 abbrev pub body_length : Header → ℕ

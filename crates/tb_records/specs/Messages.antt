@@ -5,10 +5,13 @@ use Rattle.tb_records.specs.declared.bodies.Body.{Body}
 use Rattle.tb_records.specs.declared.bodies.Body.TheVariants.{Register, CreateAccounts, CreateTransfers, LookupAccounts, LookupTransfers}
 use Rattle.tb_records.specs.declared.bodies.ReplyBody.{ReplyBody}
 use Rattle.tb_records.specs.declared.bodies.ReplyBody.TheVariants.{Empty, Results, Accounts, Transfers}
+use Rattle.tb_records.specs.declared.limits.TheConstants.{ITEMS_MAX}
+use Rattle.tb_records.specs.declared.operations.Operation.TheVariants as op
 use Rattle.tb_records.specs.declared.replies.Status.{Status}
 use Rattle.tb_records.specs.declared.replies.Status.TheVariants.{Reply, NoSession, SessionTooLow, NewerSession, Older, Collision, NewerRequest, NotYet}
 use Rattle.tb_records.specs.declared.faults.FrameFault.{FrameFault}
 use Rattle.tb_records.specs.declared.faults.FrameFault.TheVariants.{ClientZero, UnknownOperation, BadLength, TooMany, RegisterNumbers, RequestZero, ReplyNumbers}
+use Rattle.tb_records.specs.Operations.{operation_code}
 
 -- a request
 pub record Message : Type 0 where
@@ -29,11 +32,11 @@ pub record Answer : Type 0 where
 
 -- the number of an operation
 abbrev pub operation : Body → ℕ
-operation Register = 2
-operation (CreateAccounts events) = 129
-operation (CreateTransfers events) = 130
-operation (LookupAccounts ids) = 131
-operation (LookupTransfers ids) = 132
+operation Register = operation_code op.Register
+operation (CreateAccounts events) = operation_code op.CreateAccounts
+operation (CreateTransfers events) = operation_code op.CreateTransfers
+operation (LookupAccounts ids) = operation_code op.LookupAccounts
+operation (LookupTransfers ids) = operation_code op.LookupTransfers
 
 -- the number of items in a body
 abbrev pub item_count : Body → ℕ
@@ -52,19 +55,19 @@ count (LookupAccounts ids) = 0
 count (LookupTransfers ids) = 0
 
 abbrev pub is_register : Body → Bool
-is_register body = operation body == 2
+is_register body = operation body == operation_code op.Register
 
 -- the first test that holds names the fault
 abbrev pub first_fault : List (Bool × FrameFault) → Option FrameFault
 first_fault [] = None
 first_fault (test ∷ tests) = if test.0 then Some test.1 else first_fault tests
 
--- a body has at most 8190 items
+-- the most items that a body has
 abbrev pub items_max : ℕ
-items_max = 8190
+items_max = ITEMS_MAX
 
 -- what a request's numbers may have wrong; the first test that holds decides: the client is 0; a register has a session or a
--- request that is not 0; another operation has request 0; there are more than 8190 items
+-- request that is not 0; another operation has request 0; there are more items than a body may have
 abbrev pub number_fault : Message → Option FrameFault
 number_fault r = first_fault (
     (r.client == 0, ClientZero)
@@ -108,20 +111,25 @@ kind_of (Transfers transfers) = 3
 -- the kind that the reply to an operation has
 abbrev pub kind_for : ℕ → ℕ
 kind_for operation =
-    if operation == 2 then 0
-    else if operation == 131 then 2
-    else if operation == 132 then 3
+    if operation == operation_code op.Register then 0
+    else if operation == operation_code op.LookupAccounts then 2
+    else if operation == operation_code op.LookupTransfers then 3
     else 1
 
 abbrev pub is_operation : ℕ → Bool
-is_operation n = n == 2 || n == 129 || n == 130 || n == 131 || n == 132
+is_operation n =
+    n == operation_code op.Register
+    || n == operation_code op.CreateAccounts
+    || n == operation_code op.CreateTransfers
+    || n == operation_code op.LookupAccounts
+    || n == operation_code op.LookupTransfers
 
 -- the session and the commit number of a reply that go together: a refusal has commit 0; a reply has a session, which a
 -- register's commit is and any other's commit is above
 abbrev pub has_reply_numbers : ℕ → ℕ → ℕ → ℕ → Bool
 has_reply_numbers operation status session commit =
     if status == 0
-    then not (session == 0) && (if operation == 2 then session == commit else nat_lt session commit)
+    then not (session == 0) && (if operation == operation_code op.Register then session == commit else nat_lt session commit)
     else commit == 0
 
 -- the numbers that a register's reply has: request 0, and where it is a refusal session 0
@@ -133,8 +141,8 @@ abbrev pub answer_fault : Answer → Option FrameFault
 answer_fault r = first_fault (
     (r.client == 0, ClientZero)
     ∷ (not (is_operation r.operation), UnknownOperation)
-    ∷ (r.operation == 2 && not (has_register_numbers (status_code r.status) r.session r.request), RegisterNumbers)
-    ∷ (not (r.operation == 2) && r.request == 0, RequestZero)
+    ∷ (r.operation == operation_code op.Register && not (has_register_numbers (status_code r.status) r.session r.request), RegisterNumbers)
+    ∷ (not (r.operation == operation_code op.Register) && r.request == 0, RequestZero)
     ∷ (not (has_reply_numbers r.operation (status_code r.status) r.session r.commit), ReplyNumbers)
     ∷ (not (kind_of r.body == (if status_code r.status == 0 then kind_for r.operation else 0)), BadLength)
     ∷ (nat_lt items_max (answer_count r.body), TooMany)

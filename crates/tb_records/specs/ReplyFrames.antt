@@ -6,8 +6,10 @@ use Rattle.tb_records.specs.declared.bodies.ReplyBody.{ReplyBody}
 use Rattle.tb_records.specs.declared.bodies.ReplyBody.TheVariants.{Empty, Results, Accounts, Transfers}
 use Rattle.tb_records.specs.declared.faults.FrameFault.{FrameFault}
 use Rattle.tb_records.specs.declared.faults.FrameFault.TheVariants.{Short, ClientZero, UnknownOperation, Reserved, BadLength, TooMany, RegisterNumbers, RequestZero, NoMemory, ReplyNumbers}
+use Rattle.tb_records.specs.declared.operations.Operation.TheVariants as op
 use Rattle.tb_records.specs.Messages.{Answer, IsRight, kind_of, kind_for, status_code, first_fault, items_max, is_operation, has_register_numbers, has_reply_numbers}
 use Rattle.tb_records.specs.Numbers.{le_bytes, le_at}
+use Rattle.tb_records.specs.Operations.{operation_code}
 use Rattle.tb_records.specs.RecordBytes.{account_bytes, transfer_bytes, result_bytes, IsAccount, IsTransfer, IsResult}
 use Rattle.tb_records.specs.Frames.{client_at, session_at, request_at, operation_at, length_at}
 
@@ -81,11 +83,12 @@ commit_at b = le_at 8 36 b
 
 -- the size of one item in the reply to an operation: a record, or a result
 abbrev pub reply_item_size : ℕ → ℕ
-reply_item_size operation = if operation == 131 || operation == 132 then 128 else 8
+reply_item_size operation = if operation == operation_code op.LookupAccounts || operation == operation_code op.LookupTransfers then 128 else 8
 
 -- a length that the body of a reply may have: a refusal and the reply to a register have no body, any other whole items
 abbrev pub has_reply_length : ℕ → ℕ → ℕ → Bool
-has_reply_length operation status len = if status == 0 && not (operation == 2) then len % reply_item_size operation == 0 else len == 0
+has_reply_length operation status len =
+    if status == 0 && not (operation == operation_code op.Register) then len % reply_item_size operation == 0 else len == 0
 
 -- what the header of a reply may have wrong, in the order of the tests
 abbrev pub reply_header_tests : List ℕ → List (Bool × FrameFault)
@@ -93,8 +96,8 @@ reply_header_tests b =
     (client_at b == 0, ClientZero)
     ∷ (not (is_operation (operation_at b)), UnknownOperation)
     ∷ (not (nat_lt (status_at b) 8 && le_at 2 30 b == 0 && le_at 4 44 b == 0), Reserved)
-    ∷ (operation_at b == 2 && not (has_register_numbers (status_at b) (session_at b) (request_at b)), RegisterNumbers)
-    ∷ (not (operation_at b == 2) && request_at b == 0, RequestZero)
+    ∷ (operation_at b == operation_code op.Register && not (has_register_numbers (status_at b) (session_at b) (request_at b)), RegisterNumbers)
+    ∷ (not (operation_at b == operation_code op.Register) && request_at b == 0, RequestZero)
     ∷ (not (has_reply_numbers (operation_at b) (status_at b) (session_at b) (commit_at b)), ReplyNumbers)
     ∷ (not (has_reply_length (operation_at b) (status_at b) (length_at b)), BadLength)
     ∷ (nat_lt items_max (length_at b / reply_item_size (operation_at b)), TooMany)

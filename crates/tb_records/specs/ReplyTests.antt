@@ -5,9 +5,11 @@ use Rattle.tb_records.specs.declared.bodies.ReplyBody.{ReplyBody}
 use Rattle.tb_records.specs.declared.replies.Numbers.{Numbers}
 use Rattle.tb_records.specs.declared.faults.FrameFault.{FrameFault}
 use Rattle.tb_records.specs.declared.faults.FrameFault.TheVariants.{ClientZero, UnknownOperation, Reserved, BadLength, TooMany, RegisterNumbers, RequestZero, ReplyNumbers}
+use Rattle.tb_records.specs.declared.operations.Operation.TheVariants as op
 use Rattle.tb_records.specs.Frames.{client_at, operation_at}
 use Rattle.tb_records.specs.Messages.{Answer, answered, status_code, is_operation, items_max, has_register_numbers, has_reply_numbers}
 use Rattle.tb_records.specs.Numbers.{le_at}
+use Rattle.tb_records.specs.Operations.{operation_code}
 use Rattle.tb_records.specs.ReplyFrames.{status_at, reply_item_size, has_reply_length}
 
 -- what a field by itself may have wrong: the client, the operation, the status, the zero bytes
@@ -25,8 +27,8 @@ answer_of n body = answered n.client n.session n.request n.operation n.status n.
 -- what the numbers may have wrong, by the operation and the status
 abbrev pub reply_number_tests : ℕ → ℕ → ℕ → ℕ → ℕ → List (Bool × FrameFault)
 reply_number_tests operation status session request commit =
-    (operation == 2 && not (has_register_numbers status session request), RegisterNumbers)
-    ∷ (not (operation == 2) && request == 0, RequestZero)
+    (operation == operation_code op.Register && not (has_register_numbers status session request), RegisterNumbers)
+    ∷ (not (operation == operation_code op.Register) && request == 0, RequestZero)
     ∷ (not (has_reply_numbers operation status session commit), ReplyNumbers)
     ∷ []
 

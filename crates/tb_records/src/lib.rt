@@ -59,7 +59,9 @@ pub use bodies::{Body, ReplyBody};
 pub use devices::{Buffered, Counting, Sink, Source, put_all};
 pub use dumps::{DumpFault, DumpHead, DumpItem};
 pub use faults::FrameFault;
-pub use limits::{ClientsMax, ITEMS_MAX, LAST_MOMENT, NANOSECONDS_PER_SECOND, Profile};
+pub use limits::{
+    AMOUNT_MAX, CLIENTS_MAX, ClientsMax, ITEMS_MAX, LAST_MOMENT, NANOSECONDS_PER_SECOND, Profile,
+};
 pub use lists::Items;
 pub use operations::Operation;
 pub use reading::read_request;

@@ -3,6 +3,9 @@ ghost use Rattle.std.specs.Prelude.{◌≡◌, ◌≤◌, ◌<◌, IfSome, IsSom
 
 use std::marker::Model;
 
+/// The greatest number of clients that can have a session at one time.
+pub const CLIENTS_MAX: u32 = 64;
+
 /// The greatest number of items that a body has.
 pub const ITEMS_MAX: usize = 8190;
 
@@ -11,6 +14,9 @@ pub const NANOSECONDS_PER_SECOND: u64 = 1_000_000_000;
 
 /// The last moment of the clock, 2^63 - 1 nanoseconds: no time, timestamp or expiry is above it.
 pub const LAST_MOMENT: u64 = 9_223_372_036_854_775_807;
+
+/// The largest amount and the largest sum, 2^128 - 1. No id has this number.
+pub const AMOUNT_MAX: u128 = u128::MAX;
 
 /// The rules of the ledger.
 #[derive(Clone, Copy, Debug, PartialEq, Eq)]
@@ -21,7 +27,7 @@ pub enum Profile {
     Two,
 }
 
-/// The greatest number of clients with a session at one time, from 1 to 64.
+/// How many clients can have a session at one time, from 1 to `CLIENTS_MAX`.
 #[derive(Clone, Copy)]
 pub struct ClientsMax {
     number: u32,
@@ -29,23 +35,24 @@ pub struct ClientsMax {
 
 impl Model for ClientsMax {
     ghost use Rattle.std.specs.Prelude.{ℕ, ◌<◌, ◌≤◌};
+    ghost use Rattle.tb_records.specs.declared.limits.TheConstants.{CLIENTS_MAX};
 
     ghost Value = { ℕ };
 
     ghost view = { λ c. c.number };
 
-    ghost invariant = { λ c. (0 < c.number) × (c.number ≤ 64) };
+    ghost invariant = { λ c. (0 < c.number) × (c.number ≤ CLIENTS_MAX) };
 
     ghost inverse = { λ n. record { number = n } };
 }
 
 impl ClientsMax {
-    /// None where the number is not from 1 to 64.
+    /// None where the number is not from 1 to `CLIENTS_MAX`.
     pub fn new(number: u32) -> Option<ClientsMax>
         ensures value { IfSome result (λ c. c ≡ number) }
-        ensures range { IsSome result ↔ ((0 < number) × (number ≤ 64)) }
+        ensures range { IsSome result ↔ ((0 < number) × (number ≤ CLIENTS_MAX)) }
     {
-        if number < 1 || 64 < number {
+        if number < 1 || CLIENTS_MAX < number {
             return None;
         }
         Some(ClientsMax { number })
@@ -55,7 +62,7 @@ impl ClientsMax {
     pub fn get(self) -> u32
         ensures value { result ≡ self }
         ensures positive { 0 < self }
-        ensures at_most { self ≤ 64 }
+        ensures at_most { self ≤ CLIENTS_MAX }
     {
         self.number
     }

@@ -1,8 +1,8 @@
 //! The records that a client creates, in TigerBeetle's layout of 128 bytes, and the result of an event.
 ghost use Rattle.std.specs.Prelude.{◌≡◌, ◌||◌};
-ghost use Rattle.tb_records.specs.AccountFlags.{account_flag_bit};
-ghost use Rattle.tb_records.specs.Flags.{has_flag};
-ghost use Rattle.tb_records.specs.TransferFlags.{transfer_flag_bit};
+ghost use Rattle.tb_records.specs.AccountFlags.{account_has};
+ghost use Rattle.tb_records.specs.TransferFlags.{transfer_has};
+ghost use Rattle.tb_records.specs.declared.transfer_flags.TransferFlag.TheVariants.{Pending, PostPendingTransfer, VoidPendingTransfer, BalancingDebit, BalancingCredit, ClosingDebit, ClosingCredit};
 ghost use Rattle.tb_records.specs.RecordBytes.{account_bytes, transfer_bytes, IsAccount, IsTransfer};
 
 use crate::account_flags::AccountFlag;
@@ -40,21 +40,21 @@ pub struct Account {
 impl Account {
     /// Says that the account has a flag.
     pub fn has(&self, flag: AccountFlag) -> bool
-        ensures { result ≡ has_flag (account_flag_bit flag) self.now.flags }
+        ensures { result ≡ account_has flag self.now }
     {
         flag.is_in(self.flags)
     }
 
     /// The next event of the batch stands or falls with this one.
     pub fn is_linked(&self) -> bool
-        ensures { result ≡ has_flag 1 self.now.flags }
+        ensures { result ≡ account_has AccountFlag.Linked self.now }
     {
         self.has(AccountFlag::Linked)
     }
 
     /// No transfer enters the account but a void.
     pub fn is_closed(&self) -> bool
-        ensures { result ≡ has_flag 32 self.now.flags }
+        ensures { result ≡ account_has AccountFlag.Closed self.now }
     {
         self.has(AccountFlag::Closed)
     }
@@ -108,56 +108,56 @@ pub struct Transfer {
 impl Transfer {
     /// Says that the transfer has a flag.
     pub fn has(&self, flag: TransferFlag) -> bool
-        ensures { result ≡ has_flag (transfer_flag_bit flag) self.now.flags }
+        ensures { result ≡ transfer_has flag self.now }
     {
         flag.is_in(self.flags)
     }
 
     /// The next event of the batch stands or falls with this one.
     pub fn is_linked(&self) -> bool
-        ensures { result ≡ has_flag 1 self.now.flags }
+        ensures { result ≡ transfer_has TransferFlag.Linked self.now }
     {
         self.has(TransferFlag::Linked)
     }
 
     /// Its amount is held until it is posted or voided, or expires.
     pub fn is_pending(&self) -> bool
-        ensures { result ≡ has_flag 2 self.now.flags }
+        ensures { result ≡ transfer_has Pending self.now }
     {
         self.has(TransferFlag::Pending)
     }
 
     /// It posts the pending transfer of its pending_id.
     pub fn is_post(&self) -> bool
-        ensures { result ≡ has_flag 4 self.now.flags }
+        ensures { result ≡ transfer_has PostPendingTransfer self.now }
     {
         self.has(TransferFlag::PostPendingTransfer)
     }
 
     /// It voids the pending transfer of its pending_id.
     pub fn is_void(&self) -> bool
-        ensures { result ≡ has_flag 8 self.now.flags }
+        ensures { result ≡ transfer_has VoidPendingTransfer self.now }
     {
         self.has(TransferFlag::VoidPendingTransfer)
     }
 
     /// It posts or voids.
     pub fn is_resolving(&self) -> bool
-        ensures { result ≡ (has_flag 4 self.now.flags || has_flag 8 self.now.flags) }
+        ensures { result ≡ (transfer_has PostPendingTransfer self.now || transfer_has VoidPendingTransfer self.now) }
     {
         self.is_post() || self.is_void()
     }
 
     /// It moves at most what the debit account has left, or the credit account.
     pub fn is_balancing(&self) -> bool
-        ensures { result ≡ (has_flag 16 self.now.flags || has_flag 32 self.now.flags) }
+        ensures { result ≡ (transfer_has BalancingDebit self.now || transfer_has BalancingCredit self.now) }
     {
         self.has(TransferFlag::BalancingDebit) || self.has(TransferFlag::BalancingCredit)
     }
 
     /// It closes the debit account, or the credit account.
     pub fn is_closing(&self) -> bool
-        ensures { result ≡ (has_flag 64 self.now.flags || has_flag 128 self.now.flags) }
+        ensures { result ≡ (transfer_has ClosingDebit self.now || transfer_has ClosingCredit self.now) }
     {
         self.has(TransferFlag::ClosingDebit) || self.has(TransferFlag::ClosingCredit)
     }

@@ -115,7 +115,7 @@ fn body_from<S: Source>(
     operation: Operation,
     count: usize,
 ) -> Result<Body, FrameFault>
-    requires { operation_code operation ≡ 2 → count ≡ 0 }
+    requires { operation_code operation ≡ operation_code Operation.Register → count ≡ 0 }
     ensures bytes { MatchResult result
         (λ b.
         ReadsBody (operation_code operation) count b (S.input source.old).left

@@ -3,6 +3,7 @@ use Rattle.std.proofs.Common.{ℕ, ◌≡◌, ◌+◌, ◌≤◌, ◌*◌, List,
 use Rattle.std.proofs.lemmas.Nat.{mul-le}
 use mathlib.Core.List.{IsPrefix}
 use Rattle.tb_records.specs.declared.limits.Profile.TheVariants as profile
+use Rattle.tb_records.specs.declared.limits.TheConstants.{CLIENTS_MAX}
 use Rattle.tb_machine.specs.declared.entries.Entry.{Entry}
 use Rattle.tb_published.specs.Openings.{Opening, LegalIn}
 use Rattle.tb_published.proofs.Prefixes.{prefix_trans, prefix_whole, prefix_length}
@@ -36,7 +37,7 @@ pub in_one : (o : Opening) (clients transfers : ℕ) (history : List Entry) (tot
     → Totaled o clients transfers history totals → replies_of clients transfers ≤ totals.commits → TotaledIn o clients transfers totals
 in_one o clients transfers history totals t enough = record { history = history; whole = t; enough = enough }
 
-pub are_totals : (o : Opening) (clients transfers : ℕ) (totals : Totals) → o.profile ≡ profile.One → o.clients_max ≡ 64
+pub are_totals : (o : Opening) (clients transfers : ℕ) (totals : Totals) → o.profile ≡ profile.One → o.clients_max ≡ CLIENTS_MAX
     → TotaledIn o clients transfers totals → AreTotals clients transfers totals
 are_totals o clients transfers totals first most t =
     (o, t.history, first, most, t.whole.legal, t.whole.commits, t.enough, t.whole.found, t.whole.credited)

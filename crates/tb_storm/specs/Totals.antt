@@ -3,6 +3,7 @@
 use Rattle.std.specs.Prelude.{ℕ, zero, suc, ◌≡◌, ◌+◌, ◌*◌, ◌≤◌, List, [], ◌∷◌, ◌++◌, length}
 use Rattle.tb_records.specs.declared.records.Account.{Account}
 use Rattle.tb_records.specs.declared.limits.Profile.TheVariants as profile
+use Rattle.tb_records.specs.declared.limits.TheConstants.{CLIENTS_MAX}
 use Rattle.tb_ledger.specs.Books.{found_accounts, found_transfers}
 use Rattle.tb_machine.specs.declared.entries.Entry.{Entry}
 use Rattle.tb_published.specs.Openings.{Opening, LegalIn, after_in}
@@ -23,10 +24,10 @@ abbrev pub first_credits : List Account → ℕ
 first_credits [] = 0
 first_credits (account ∷ accounts) = account.credits_posted
 
--- Totals of a legal history by profile 1 that is open to 64 clients: the number of its entries, how many of the storm's transfers are
+-- Totals of a legal history by profile 1 that is open to as many clients as can be: the number of its entries, how many of the storm's transfers are
 -- found after it, and what account 1000 was credited with. It has as many entries as the clients saw replies, or more: each one to its
 -- register and to each of its transfers, and the first client one to its register and one to the accounts.
 abbrev pub AreTotals : ℕ → ℕ → Totals → Type 0
-AreTotals clients transfers totals = (o : Opening) × (h : List Entry) × (o.profile ≡ profile.One) × (o.clients_max ≡ 64) × LegalIn o h
+AreTotals clients transfers totals = (o : Opening) × (h : List Entry) × (o.profile ≡ profile.One) × (o.clients_max ≡ CLIENTS_MAX) × LegalIn o h
     × (totals.commits ≡ length h) × (clients * (transfers + 1) + 2 ≤ totals.commits) × (totals.transfers ≡ length (found_transfers (after_in o h).books (ids_of clients transfers)))
     × (totals.credited ≡ first_credits (found_accounts (after_in o h).books (1000 ∷ [])))

@@ -22,7 +22,7 @@ use std::marker::Brand;
 use std::sync::Wait;
 use std::thread::{self, Threads};
 use tb_published::{Naming, Opening, Publisher, Seat, SeatCount, open};
-use tb_records::{Account, ClientsMax, Profile, Sink, put_all};
+use tb_records::{Account, CLIENTS_MAX, ClientsMax, Profile, Sink, put_all};
 use tb_service::{Finished, Moments, Open, Port, PortCount, Server, service};
 
 /// Moments 1, 2, 3 and so on.
@@ -274,12 +274,12 @@ fn storm_in<J: Naming + Send + Sync, R: Threads + Wait + Sync>(
     told
 }
 
-/// The storm of profile 1 and 64 clients.
+/// The storm of profile 1 and as many clients as can have a session.
 #[tactic(auto, using(crate::proofs::Whole::are_totals))]
 fn play<R: Threads + Wait + Sync>(rt: &R, alloc: Global, scale: Scale) -> Result<Totals, StormFault>
     ensures { IfOk result (AreTotals scale.clients scale.transfers) }
 {
-    let Some(clients_max) = ClientsMax::new(64) else {
+    let Some(clients_max) = ClientsMax::new(CLIENTS_MAX) else {
         return Err(StormFault::NoPlace);
     };
     let opening = Opening::new(Profile::One, clients_max);
