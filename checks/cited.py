@@ -9,6 +9,8 @@
         also the definitions of specs/ that no public contract reaches
     checks/cited.py --heads [--write]
         each file of specs/ whose head does not say who cites it; writes these heads
+    checks/cited.py --who CRATE/FILE
+        the modules of all crates whose public contracts name a definition of this file of specs/
 
 A public contract is one of a function that the crate exports: of a `pub fn` of an exported name or
 module, of a trait for an exported type, and of what a ghost line of such an impl says, but for its
@@ -16,9 +18,9 @@ invariant, which no caller sees. What it reaches are the definitions of specs/ t
 own crate or another, and those that these name, and so on. A line counts where it is no import, no
 comment and not blank.
 
-The second line of a file of specs/ says who cites it: the modules whose public contracts name one
-of its definitions; else the files of specs/ through which public contracts reach it; else the
-modules whose private contracts alone name one.
+The second line of a file of specs/ says who cites it in its crate: the modules whose public
+contracts name one of its definitions; else the files of specs/ through which public contracts reach
+it; else the modules whose private contracts alone name one.
 
 It reads the sources alone: a name is found by the imports of its file. docs/work/ARCHITECTURE.md
 gives its numbers.
@@ -44,9 +46,6 @@ HEADS = ("-- Cited by", "-- Public contracts reach it", "-- No contract cites it
 # script on several machines and causes of faults), and of crates that came later.
 LINES_MAX = 4600
 LATER = {"tb_keep_commands": 390, "tb_log": 235}
-# A crate that the heads of other crates' files leave out: for a comment in a low crate, all that
-# stands on it would have to be proved again. It is named there when that crate changes.
-UNNAMED = ("tb_log",)
 TOOLS = (
     "tb_uses",
     "tb_bench",
@@ -203,44 +202,48 @@ def reached_from(every, left):
     return reached
 
 
-def told(crate, found):
-    """Modules by their crates, that of the file first, as a list in words."""
-    by_crate = {}
-    for owner, module in sorted(found, key=lambda it: (it[0] != crate, it)):
-        if owner == crate or owner not in UNNAMED:
-            by_crate.setdefault(owner, []).append(module)
-    return "; ".join(
-        ("" if owner == crate else f"{owner}: ") + ", ".join(modules)
-        for owner, modules in by_crate.items()
-    )
-
-
 def heads(every):
-    """What the second line of each file of specs/ says."""
-    public, private, through, left = {}, {}, {}, set()
+    """What the second line of each file of specs/ says: who cites it in its own crate. Crates above
+    are left out, since a comment in a low crate would change with them, and with it all proofs."""
     for crate in crates():
+        own = {one: it for one, it in every.items() if one[0] == crate}
+        public, private, through, left = {}, {}, {}, set()
         for module, found in contracts(crate).items():
             left |= found
             for it in found:
-                public.setdefault(it[:2], set()).add((crate, module))
+                public.setdefault(it[:2], set()).add(module)
         for module, lines in sources(crate).items():
             for it in imports(lines).values():
-                private.setdefault(it[:2], set()).add((crate, module))
-    reached = reached_from(every, left)
-    for one in reached:
-        for it in every[one][1] & reached:
-            if it[:2] != one[:2]:
-                through.setdefault(it[:2], set()).add(one[:2])
-    files = sorted({it[:2] for it in every})
-    for file in files:
-        if file in public:
-            yield file, f"-- Cited by public contracts of: {told(file[0], public[file])}."
-        elif file in through:
-            yield file, f"-- Public contracts reach it through: {told(file[0], through[file])}."
-        elif file in private:
-            yield file, f"-- Cited by private contracts alone, of: {told(file[0], private[file])}."
-        else:
-            yield file, "-- No contract cites it: its rows show what the definitions answer."
+                private.setdefault(it[:2], set()).add(module)
+        reached = reached_from(own, left)
+        for one in reached:
+            for it in own[one][1] & reached:
+                if it[:2] != one[:2]:
+                    through.setdefault(it[:2], set()).add(one[1])
+        for file in sorted({it[:2] for it in own}):
+            yield file, head_of(*(names(it.get(file, ())) for it in (public, through, private)))
+
+
+def names(found):
+    return ", ".join(sorted(found))
+
+
+def head_of(public, through, private):
+    if public:
+        return f"-- Cited by public contracts of: {public}."
+    if through:
+        return f"-- Public contracts reach it through: {through}."
+    if private:
+        return f"-- Cited by private contracts alone, of: {private}."
+    return "-- No contract of this crate cites it."
+
+
+def who(every, word):
+    """Prints the modules of all crates whose public contracts name a definition of this file."""
+    for crate in crates():
+        for module, found in sorted(contracts(crate).items()):
+            if any(f"{it[0]}/{it[1]}" == word for it in found):
+                print(f"{crate}: {module}")
 
 
 def check_heads(every, writes):
@@ -267,12 +270,15 @@ def main():
     parser.add_argument("--bounds", action="store_true", help="fail above the bound")
     parser.add_argument("--list", action="store_true", help="name what no contract reaches")
     parser.add_argument("--heads", action="store_true", help="compare the heads of specs/")
+    parser.add_argument("--who", metavar="CRATE/FILE", help="who cites a file of specs/")
     parser.add_argument("--write", action="store_true", help="with --heads: write them")
     parser.add_argument("crates", metavar="CRATE", nargs="*")
     given = parser.parse_args()
     every = {}
     for crate in crates():
         every |= definitions(crate)
+    if given.who:
+        return who(every, given.who)
     if given.heads:
         return int(check_heads(every, given.write) > 0)
     for crate in given.crates:

@@ -1,6 +1,6 @@
 -- The exit status of each outcome: 0 done, 1 a device or memory failed, 2 the input or the arguments are wrong. And the line
 -- that a fault is told by.
--- Cited by public contracts of: commands, host, lines; tb_storm: faults.
+-- Cited by public contracts of: commands, host, lines.
 use Rattle.std.specs.Prelude.{ℕ, ◌≡◌, ◌⊎◌, ◌++◌, List, Result, Ok, Err, codes}
 use Rattle.tb_records.specs.declared.faults.FrameFault.{FrameFault}
 use Rattle.tb_records.specs.declared.faults.FrameFault.TheVariants as frame

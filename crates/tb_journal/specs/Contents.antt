@@ -1,5 +1,5 @@
 -- What the bytes of a journal's file stand for.
--- Cited by public contracts of: journals, opening; tb_keep: worked_rows.
+-- Cited by public contracts of: journals, opening.
 use Rattle.std.specs.Prelude.{◌≡◌, ℕ, ◌+◌, ◌<◌, ◌^◌, ◌==◌, ◌&&◌, nat_le, nat_eq, zero, suc, List, [], ◌∷◌, ◌++◌, length, take, drop, flat_map, codes, if◌then◌else◌, refl}
 use Rattle.std.specs.Int.{w32, to_le_bytes, from_le_bytes}
 use Rattle.std.specs.List.{AllByRecursion, starts_with}

@@ -1,6 +1,7 @@
 -- What the ledger keeps of the books, and that it is what the books say.
 -- Cited by public contracts of: ledgers.
 use Rattle.std.specs.Prelude.{ℕ, Bool, true, false, not, ◌≡◌, ◌<◌, ◌≤◌, ◌+◌, ◌-◌, ◌&&◌, ◌||◌, ◌==◌, List, [], map, sum_by, if◌then◌else◌, find, IsSome, bit_or, Some, None}
+use Rattle.tb_records.specs.declared.limits.TheConstants.{NANOSECONDS_PER_SECOND}
 use Rattle.tb_records.specs.declared.records.Account.{Account}
 use Rattle.tb_records.specs.declared.records.Transfer.{Transfer}
 use Rattle.tb_records.specs.Ordered.{Each, changed}
@@ -151,7 +152,7 @@ IsKept rows = IsLedger rows.accounts.items rows.transfers.items rows.failed.item
 
 -- of a transfer with this stamp no timeout has passed yet, since the shortest one is a second
 abbrev pub PrecedesTimeouts : {A : Type 0} → Rows A → ℕ → Type 0
-PrecedesTimeouts rows stamp = rows.time < stamp + 1000000000
+PrecedesTimeouts rows stamp = rows.time < stamp + NANOSECONDS_PER_SECOND
 
 -- the changes of a side: a transfer comes, and the amount of a pending one leaves
 

@@ -1,5 +1,5 @@
 -- Limits and sums: what holds of every account and of every ledger, whatever was asked.
--- Public contracts reach it through: tb_machine: HistoryLaws, MarkedLaws.
+-- No contract of this crate cites it.
 use Rattle.std.specs.Prelude.{◌≡◌, ℕ, true, ◌==◌, ◌+◌, ◌≤◌, map, sum_by, if◌then◌else◌}
 use Rattle.tb_records.specs.declared.records.Account.{Account}
 use Rattle.tb_ledger.specs.Books.{Books, debits_limited, credits_limited, as_it_stands}

@@ -1,6 +1,6 @@
 -- The verdict on an account and on a transfer: the code of the first test of a table that holds, and 0 where none does.
 -- The groups of tests stand in the order in which an event meets them.
--- Cited by public contracts of: ledgers; tb_machine: machines.
+-- Cited by public contracts of: ledgers.
 use Rattle.std.specs.Prelude.{ℕ, Bool, true, false, not, ◌&&◌, ◌==◌, ◌+◌, ◌-◌, ◌*◌, min, nat_lt, List, [], ◌∷◌, Option, Some, None, if◌then◌else◌}
 use Rattle.std.specs.List.{list_any}
 use Rattle.std.specs.Option.{option_map_or}
@@ -254,7 +254,7 @@ amount_tests d c t amount time =
     ∷ transfer_test transfer.OverflowsCreditsPosted (nat_lt int_max (c.credits_posted + amount))
     ∷ transfer_test transfer.OverflowsDebits (nat_lt int_max (d.debits_pending + d.debits_posted + amount))
     ∷ transfer_test transfer.OverflowsCredits (nat_lt int_max (c.credits_pending + c.credits_posted + amount))
-    ∷ transfer_test transfer.OverflowsTimeout (nat_lt max_time (time + t.timeout * 1000000000))
+    ∷ transfer_test transfer.OverflowsTimeout (nat_lt max_time (time + t.timeout * NANOSECONDS_PER_SECOND))
     ∷ transfer_test transfer.ExceedsCredits (debits_limited d && nat_lt d.credits_posted (d.debits_pending + d.debits_posted + amount))
     ∷ transfer_test transfer.ExceedsDebits (credits_limited c && nat_lt c.debits_posted (c.credits_pending + c.credits_posted + amount))
     ∷ []

@@ -1,5 +1,6 @@
 //! The ledger: its books, kept in rows.
 ghost use Rattle.std.specs.Prelude.{◌≡◌, ◌+◌, ◌<◌, ◌≤◌, ◌++◌, max, length, IfOk, OnOk, OnErr, vec_len, vec_capacity};
+ghost use Rattle.tb_records.specs.declared.limits.TheConstants.{ITEMS_MAX};
 ghost use Rattle.tb_ledger.specs.Batches.{account_events, batch_after, results, transfer_events};
 ghost use Rattle.tb_ledger.specs.Books.{account_now, empty_books, found_accounts, found_transfers, moved_to_two, profile_of, transfer_at};
 ghost use Rattle.tb_ledger.specs.Capacity.{HasTransfers, capacity_of};
@@ -180,7 +181,7 @@ impl<A: Allocator + Clone> Ledger<A> {
         t: u64,
         events: &[Account],
     ) -> Result<Vec<EventResult>, AllocError>
-        requires count { length events.now ≤ 8190 }
+        requires count { length events.now ≤ ITEMS_MAX }
         requires later { self.old.time + max (length events.now) 1 ≤ t }
         requires in_range { t ≤ max_time }
         ensures books { OnOk result (self.new ≡ (batch_after account_events self.old events.now t).books) }
@@ -200,7 +201,7 @@ impl<A: Allocator + Clone> Ledger<A> {
         t: u64,
         events: &[Transfer],
     ) -> Result<Vec<EventResult>, AllocError>
-        requires count { length events.now ≤ 8190 }
+        requires count { length events.now ≤ ITEMS_MAX }
         requires later { self.old.time + max (length events.now) 1 ≤ t }
         requires in_range { t ≤ max_time }
         ensures books { OnOk result (self.new ≡ (batch_after transfer_events self.old events.now t).books) }

@@ -1,5 +1,5 @@
 -- What an answer says of the history: which entry holds a request, and that a reply is the one that was given there.
--- Public contracts reach it through: tb_published: Openings.
+-- No contract of this crate cites it.
 use Rattle.std.specs.Prelude.{ℕ, ◌≡◌, ◌≢◌, ◌+◌, List, ◌∷◌, ◌++◌, length}
 use Rattle.tb_records.specs.declared.limits.Profile.{Profile}
 use Rattle.tb_records.specs.declared.replies.Status.TheVariants as status

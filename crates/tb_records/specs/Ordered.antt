@@ -1,5 +1,5 @@
 -- Records in the order of a key: finite maps as lists by rising key.
--- Cited by public contracts of: tb_sessions: table.
+-- No contract of this crate cites it.
 use Rattle.std.specs.Prelude.{ℕ, ◌==◌, nat_lt, ◌<◌, List, [], ◌∷◌, if◌then◌else◌}
 
 -- with a record more, in its place

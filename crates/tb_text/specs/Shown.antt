@@ -1,5 +1,5 @@
 -- Text as a terminal is shown it: UTF-8 without a control character but the tab and the line end, so that no escape code gets there.
--- Cited by public contracts of: messages; tb_text_commands: told_lines.
+-- Cited by public contracts of: messages.
 use Rattle.std.specs.Prelude.{ℕ, Bool, ◌≡◌, ◌&&◌, ◌==◌, not, List, [], ◌∷◌, map, if◌then◌else◌, refl}
 use Rattle.std.specs.Char.{is_control}
 use Rattle.std.specs.Str.{IsUtf8, NoCharPasses, chars, encode_utf8_all}

@@ -1,5 +1,6 @@
 //! The undo log of a chain's changes, by which a chain that breaks is undone.
 ghost use Rattle.std.specs.Prelude.{◌≡◌, ◌*◌, ◌+◌, ◌<◌, ◌≤◌, ◌++◌, false, [], ◌∷◌, length, OnOk, IfSome, IfNone};
+ghost use Rattle.tb_records.specs.declared.limits.TheConstants.{ITEMS_MAX};
 ghost use Rattle.tb_ledger.specs.UndoLog.{chained, undone_by, unwound, CanUndo, CanUnwind, IsUndoneTo};
 ghost use Rattle.tb_ledger.specs.Noted.{with_noted, NotesPair};
 
@@ -64,10 +65,10 @@ impl<A: Allocator + Clone> UndoLog<A> {
     /// Makes capacity for the changes of so many events, where there is less: for the next power of two of them.
     ///
     /// What an arena is given back it never gives out again. So a log goes only where the next batch needs a larger one, which is
-    /// then twice as large or more, and all logs of a ledger together take at most twice the largest. That one has 4.7 MB, for 8190
-    /// events.
+    /// then twice as large or more, and all logs of a ledger together take at most twice the largest. That one has 4.7 MB, for
+    /// the events of the longest body.
     pub fn reserve(&mut self, alloc: &A, events: usize) -> Result<(), AllocError>
-        requires { events ≤ 8190 }
+        requires { events ≤ ITEMS_MAX }
         ensures { OnOk result (UNDOS_PER_EVENT * events ≤ self.new.capacity) }
     {
         if UNDOS_PER_EVENT * events <= self.capacity() {

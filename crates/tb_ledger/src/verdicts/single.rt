@@ -1,5 +1,6 @@
 //! The verdict on a transfer between two accounts: its own tests, the pair of accounts, the amount.
 ghost use Rattle.std.specs.Prelude.{◌≡◌, ◌+◌, ◌*◌, ◌-◌, nat_lt, Some, IfOk};
+ghost use Rattle.tb_records.specs.declared.limits.TheConstants.{NANOSECONDS_PER_SECOND};
 ghost use Rattle.tb_records.specs.TransferResults.{transfer_result_code};
 ghost use Rattle.tb_ledger.specs.Found.{Judges};
 ghost use Rattle.tb_ledger.specs.Kept.{row_now};
@@ -189,7 +190,7 @@ fn sum_exceeds(x: u128, y: u128, z: u128, limit: u128) -> bool
 
 /// A timeout would end after the last moment of the clock.
 fn overdue(time: u64, timeout: u32) -> bool
-    ensures { result ≡ nat_lt max_time (time + timeout * 1000000000) }
+    ensures { result ≡ nat_lt max_time (time + timeout * NANOSECONDS_PER_SECOND) }
 {
     u128::from(LAST_MOMENT)
         < u128::from(time) + u128::from(timeout) * u128::from(NANOSECONDS_PER_SECOND)
