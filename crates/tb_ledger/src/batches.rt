@@ -4,6 +4,7 @@ ghost use Rattle.tb_ledger.specs.Batches.{blocks, blocks_after, timed_from, resu
 ghost use Rattle.tb_ledger.specs.Kept.{books_in, IsKept};
 ghost use Rattle.tb_ledger.specs.Steps.{IsPreparedFor};
 
+mod ahead;
 pub(crate) mod chains;
 pub(crate) mod events;
 mod results;

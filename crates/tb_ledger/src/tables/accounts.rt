@@ -89,6 +89,10 @@ impl Keyed for AccountRow {
     fn key(&self) -> u128 {
         self.id
     }
+
+    fn mixed(&self) -> u128 {
+        self.id ^ self.credits_posted ^ u128::from(self.timestamp)
+    }
 }
 
 impl AccountRow {

@@ -17,12 +17,20 @@ pub trait Keyed: Copy + Default {
 
     fn key(&self) -> u128
         ensures { result ≡ key self.now };
+
+    /// A number made of a field in each of its cache lines, so that whoever asks for it has all of the row in the cache. Nothing
+    /// follows from its value.
+    fn mixed(&self) -> u128;
 }
 
 impl Keyed for u128 {
     ghost key = { λ id. id };
 
     fn key(&self) -> u128 {
+        *self
+    }
+
+    fn mixed(&self) -> u128 {
         *self
     }
 }
@@ -33,6 +41,9 @@ pub struct Table<V: Keyed, A: Allocator + Clone> {
     rows: Option<AvlMap<u128, V, A>>,
     /// What is known of their keys. It stays where rows are taken out.
     absent_ids: AbsentIds,
+    /// The exclusive or of what rows that were touched gave: a search whose answer goes nowhere may be left out of the program. Nothing
+    /// reads it.
+    touched: u128,
 }
 
 impl<V: Keyed, A: Allocator + Clone> Model for Table<V, A> {
@@ -48,6 +59,20 @@ impl<V: Keyed, A: Allocator + Clone> Model for Table<V, A> {
 /// So many rows no longer stand in a core's own memory, where a search for one of them hardly waits.
 const MANY_ROWS: usize = 4096;
 
+/// So many rows no longer fit the caches, where a search for a row waits for memory at most of its levels.
+const LARGE: usize = 65_536;
+
+/// Reads all cache lines of the rows that are there.
+fn read_whole<V: Keyed>(rows: &[Option<&V>; 8]) -> u128 {
+    let mut mixed = 0;
+    for row in rows {
+        if let Some(row) = row {
+            mixed ^= row.mixed();
+        }
+    }
+    mixed
+}
+
 impl<V: Keyed, A: Allocator + Clone> Table<V, A> {
     /// An empty table. No memory is taken.
     pub fn new() -> Self
@@ -56,6 +81,7 @@ impl<V: Keyed, A: Allocator + Clone> Table<V, A> {
         Table {
             rows: None,
             absent_ids: AbsentIds::new(),
+            touched: 0,
         }
     }
 
@@ -104,6 +130,22 @@ impl<V: Keyed, A: Allocator + Clone> Table<V, A> {
         let absent = unfound(ids, &self.get_many(ids));
         self.absent_ids.absent = absent;
         self.absent_ids.sought = true;
+    }
+
+    /// The rows are so many that touching those needed next saves more than it costs.
+    pub fn is_large(&self) -> bool {
+        match &self.rows {
+            Some(rows) => LARGE <= rows.len(),
+            None => false,
+        }
+    }
+
+    /// Searches for the rows with eight keys interleaved and brings them into the cache, for calls that need them next. The rows stay.
+    pub fn touch(&mut self, ids: &[u128; 8])
+        ensures { self.new ≡ self.old }
+    {
+        let mixed = read_whole(&self.get_many(ids));
+        self.touched ^= mixed;
     }
 
     /// The row with the key, and the number of nodes that the search met.

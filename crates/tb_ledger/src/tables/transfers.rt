@@ -92,6 +92,10 @@ impl Keyed for TransferRow {
     fn key(&self) -> u128 {
         self.id
     }
+
+    fn mixed(&self) -> u128 {
+        self.id ^ self.user_data_128 ^ u128::from(self.timestamp)
+    }
 }
 
 impl TransferRow {
@@ -137,6 +141,13 @@ impl TransferRow {
             flags: u16::from(self.flags),
             timestamp: self.timestamp,
         }
+    }
+
+    /// The accounts that it debits and credits.
+    pub fn accounts(&self) -> (u128, u128)
+        ensures { result ≡ (self.now.recorded.debit_account_id, self.now.recorded.credit_account_id) }
+    {
+        (self.debit_account_id, self.credit_account_id)
     }
 
     /// Where it stands, if it is pending.

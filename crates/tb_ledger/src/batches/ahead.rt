@@ -1,0 +1,89 @@
+//! What the next eight transfers need is searched for before the first of them is taken, interleaved, so that waits for memory
+//! overlap. The rows stay.
+ghost use Rattle.std.specs.Prelude.{◌≡◌};
+
+use crate::tables::rows::Rows;
+use crate::tables::transfers::TransferRow;
+use std::alloc::Allocator;
+use tb_records::Transfer;
+
+/// The accounts of a transfer: those of the pending one that it names, where that is there.
+fn accounts_of(t: &Transfer, pending: &Option<&TransferRow>) -> (u128, u128) {
+    match pending {
+        Some(p) => p.accounts(),
+        None => (t.debit_account_id, t.credit_account_id),
+    }
+}
+
+/// The accounts of four transfers.
+fn accounts_of_four(four: [(u128, u128); 4]) -> [u128; 8] {
+    let [a, b, c, d] = four;
+    [a.0, a.1, b.0, b.1, c.0, c.1, d.0, d.1]
+}
+
+/// The ids of eight transfers.
+fn ids_of(eight: &[Transfer; 8]) -> [u128; 8] {
+    let [a, b, c, d, e, f, g, h] = eight;
+    [a.id, b.id, c.id, d.id, e.id, f.id, g.id, h.id]
+}
+
+/// The pending transfers that eight transfers name.
+fn named_by(eight: &[Transfer; 8]) -> [u128; 8] {
+    let [a, b, c, d, e, f, g, h] = eight;
+    [
+        a.pending_id,
+        b.pending_id,
+        c.pending_id,
+        d.pending_id,
+        e.pending_id,
+        f.pending_id,
+        g.pending_id,
+        h.pending_id,
+    ]
+}
+
+/// The rows of the pending transfers that eight transfers name. Where none is a post or void, nothing is searched for.
+fn pending_rows<'a, A: Allocator + Clone>(
+    rows: &'a Rows<A>,
+    eight: &[Transfer; 8],
+) -> [Option<&'a TransferRow>; 8] {
+    if eight.iter().any(|t| t.is_resolving()) {
+        rows.transfers.get_many(&named_by(eight))
+    } else {
+        [None; 8]
+    }
+}
+
+/// The accounts of eight transfers, and of the pending ones that they name: of four, and of the other four.
+fn accounts_of_eight<A: Allocator + Clone>(
+    rows: &Rows<A>,
+    eight: &[Transfer; 8],
+) -> ([u128; 8], [u128; 8]) {
+    let [a, b, c, d, e, f, g, h] = eight;
+    let [pa, pb, pc, pd, pe, pf, pg, ph] = pending_rows(rows, eight);
+    let first = [
+        accounts_of(a, &pa),
+        accounts_of(b, &pb),
+        accounts_of(c, &pc),
+        accounts_of(d, &pd),
+    ];
+    let later = [
+        accounts_of(e, &pe),
+        accounts_of(f, &pf),
+        accounts_of(g, &pg),
+        accounts_of(h, &ph),
+    ];
+    (accounts_of_four(first), accounts_of_four(later))
+}
+
+/// Looks for the ids of eight transfers; where accounts are many, touches those that the transfers need.
+pub(crate) fn look_ahead_of<A: Allocator + Clone>(rows: &mut Rows<A>, eight: &[Transfer; 8])
+    ensures { rows.new ≡ rows.old }
+{
+    rows.transfers.seek(&ids_of(eight));
+    if rows.accounts.is_large() {
+        let (first, later) = accounts_of_eight(rows, eight);
+        rows.accounts.touch(&first);
+        rows.accounts.touch(&later);
+    }
+}
