@@ -335,7 +335,7 @@ TB_ASSERT(offsetof(tb_reply_header, commit_low) == 36, "tb_reply_header");
 
 TB_ASSERT(sizeof(tb_u128) == TB_ID_SIZE && offsetof(tb_u128, high) == 8, "128 bits");
 
-/* Opens a closed handle at the empty history. profile is 1 or 2; clients_max is 1 to 64. DONE, USAGE, NO_MEMORY. */
+/* Opens a closed handle at the empty history. profile is 1 or 2; clients_max is 1 to TB_CLIENTS_MAX. DONE, USAGE, NO_MEMORY. */
 uint32_t tb_embed_open(tb_server *server, uint32_t profile, uint32_t clients_max);
 
 /* Serves the frame of one request that comes at a moment, in nanoseconds, and writes the frame of its reply to the beginning

@@ -324,14 +324,12 @@ def limits(table, sources):
             most,
             lambda: r.constant(code("tb_records"), r"pub const ITEMS_MAX: usize = (\d+);"),
         ),
-        ("items_max", most, lambda: r.constant(specs("tb_records"), r"^items_max = (\d+)$")),
         (
             "clients_max",
             most,
             lambda: r.constant(
                 code("tb_records"),
-                r"pub const CLIENTS_MAX: \w+ = (\d+);",
-                r"if number < 1 \|\| (\d+) < number",
+                r"pub const CLIENTS_MAX: u32 = (\d+);",
             ),
         ),
         (
@@ -339,8 +337,11 @@ def limits(table, sources):
             most,
             lambda: r.constant(code("tb_records"), r"pub const LAST_MOMENT: u64 = ([\d_]+);"),
         ),
-        ("time_max", most, lambda: r.constant(specs("tb_ledger"), r"^max_time = (\d+)$")),
-        ("amount_max", most, lambda: r.constant(specs("tb_ledger"), r"^int_max = (\d+)$")),
+        (
+            "amount_max",
+            most,
+            lambda: r.largest(code("tb_records"), r"pub const AMOUNT_MAX: u(\d+) = u\1::MAX;"),
+        ),
         (
             "nanoseconds_per_second",
             most,

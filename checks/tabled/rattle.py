@@ -155,6 +155,11 @@ def constant(text, *names):
     raise Missing(f"no {' or '.join(names)} is found")
 
 
+def largest(text, name):
+    """The largest number of a constant's type, where the constant is that."""
+    return (1 << int(first(name, text, name)[1])) - 1
+
+
 def written(text, name):
     """The fields that a record's `write` and `read` have, with their places and sizes."""
     inside = first(rf"^impl Item for {name} \{{\n(.*?)^\}}", text, f"the layout of {name}")[1]

@@ -140,8 +140,8 @@ def _library(path: str) -> Any:
 
 
 class Server(Closing):
-    """A server by profile 1 or 2, where 1 to 64 clients can have a session at one time. Threads may
-    share it: it takes one call at a time."""
+    """A server by profile 1 or 2, where 1 to CLIENTS_MAX clients can have a session at one time.
+    Threads may share it: it takes one call at a time."""
 
     def __init__(
         self,

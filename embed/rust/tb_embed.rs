@@ -877,7 +877,7 @@ unsafe extern "C" {
 /// Why a call did not do what it is for.
 #[derive(Clone, Copy, Debug, PartialEq, Eq)]
 pub enum Refusal {
-    /// The profile is not 1 or 2, or the number of clients not 1 to 64.
+    /// The profile is not 1 or 2, or the number of clients not 1 to `CLIENTS_MAX`.
     Usage,
     /// There was no memory, and nothing changed.
     NoMemory,
@@ -951,7 +951,7 @@ pub struct Server {
 unsafe impl Send for Server {}
 
 impl Server {
-    /// A server by profile 1 or 2, where 1 to 64 clients can have a session at one time.
+    /// A server by profile 1 or 2, where 1 to `CLIENTS_MAX` clients can have a session at one time.
     pub fn open(profile: u32, clients_max: u32) -> Result<Server, Refusal> {
         let mut server = Server {
             handle: Handle {

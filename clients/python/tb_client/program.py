@@ -23,7 +23,7 @@ from .errors import (
     ScriptFull,
 )
 from .frames import header_of, reply_length, test_reply
-from .layout import HEADER
+from .layout import CLIENTS_MAX, HEADER
 from .transports import Closing
 from .values import MOMENT_MAX, U64, path_of, seconds, truth, whole
 
@@ -52,14 +52,15 @@ class Program(Closing):
     def __init__(
         self,
         path: Union[str, os.PathLike[str]],
-        clients_max: int = 64,
+        clients_max: int = CLIENTS_MAX,
         profile: int = 1,
         timeout: float = 5.0,
         restarts: bool = False,
         script_max: Optional[int] = SCRIPT_MAX,
         file: Union[str, os.PathLike[str], None] = None,
     ) -> None:
-        places, profile = whole("clients_max", clients_max, 64, 1), whole("profile", profile, 2, 1)
+        places = whole("clients_max", clients_max, CLIENTS_MAX, 1)
+        profile = whole("profile", profile, 2, 1)
         words = [] if file is None else [_file_word(path_of("file", file))]
         self.command = [path_of("path", path), "run", *words, str(places), str(profile)]
         if file is None and os.path.basename(self.command[0]) == "tbd":

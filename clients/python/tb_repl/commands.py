@@ -10,6 +10,7 @@ import sys
 from typing import Optional
 
 from tb_client import ClientError, Program, Socket, Transport
+from tb_client.layout import CLIENTS_MAX
 
 from .ledgers import Ledger, Served
 from .lines import Lines, print_pages
@@ -153,7 +154,13 @@ def arguments() -> argparse.ArgumentParser:
     parser.add_argument("--key", metavar="FILE", help="over TLS: its key")
     parser.add_argument("--program", metavar="FILE", help="the server to run (tbs on PATH)")
     parser.add_argument("--tbt", metavar="FILE", help="what reads statements (tbt on PATH)")
-    parser.add_argument("--clients-max", metavar="N", type=int, default=64, help="1 to 64 (64)")
+    parser.add_argument(
+        "--clients-max",
+        metavar="N",
+        type=int,
+        default=CLIENTS_MAX,
+        help=f"1 to {CLIENTS_MAX} ({CLIENTS_MAX})",
+    )
     parser.add_argument("--profile", metavar="N", type=int, default=1, help="1 or 2 (1)")
     parser.add_argument("--client", metavar="ID", type=int, help="the client's id (drawn)")
     parser.add_argument(
