@@ -56,12 +56,15 @@ def progress(what, done, total):
 def main(run):
     """Ends the script with the status that `run` answers. What its user can mend is told in a line
     and no traceback: a file or program that is not there, a command that failed or did not end,
-    an interrupt."""
+    an interrupt. Where nobody reads the output the script ends without a word."""
     try:
         sys.exit(run())
     except KeyboardInterrupt:
         print("interrupted", file=sys.stderr)
         sys.exit(130)
+    except BrokenPipeError:
+        os.dup2(os.open(os.devnull, os.O_WRONLY), sys.stdout.fileno())
+        sys.exit(141)
     except (FileNotFoundError, PermissionError) as why:
         sys.exit(f"{why.filename}: {why.strerror}")
     except subprocess.CalledProcessError as why:
