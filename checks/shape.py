@@ -7,11 +7,11 @@
     checks/shape.py --at REV [CRATE ..]  the same of an earlier commit
     checks/shape.py --bounds             only the figures with a bound; fails where one is above it
 
-`lines` are those of source, definitions and proofs together. `cited` are the lines of the
-definitions that public contracts cite: of the files of specs/ that Lib.antt does not list for
-private functions alone. A clause is measured joined: its lines put together with single spaces,
-without the indent, since `rt fmt` wraps long ones. `public >160` are those of functions that are
-`pub`. `casts` are result codes that become numbers by `as`.
+`lines` are those of source, definitions and proofs together, `imports` those of `use` and `ghost
+use` among them. `cited` are the lines of the definitions that public contracts cite: of the files
+of specs/ that Lib.antt does not list for private functions alone. A clause is measured joined: its
+lines put together with single spaces, without the indent, since `rt fmt` wraps long ones. `public
+>160` are those of functions that are `pub`. `casts` are result codes that become numbers by `as`.
 
 The bounds hold for the product's crates (in crates.txt before the line '# Tools'), those of bodies
 and casts for all. A bound is what the code has today; where a figure falls, lower its bound.
@@ -34,6 +34,7 @@ COLUMNS = (
     "specs",
     "cited",
     "proofs",
+    "imports",
     "functions",
     "clauses",
     ">100",
@@ -46,6 +47,9 @@ COLUMNS = (
 CLAUSES_OVER_100 = 0.193  # wanted: 0.10
 # Each figure with a bound: what it has today, and what is wanted.
 BOUNDS = {">160": (106, 0), ">8 clauses": (10, 0), ">=40 lines": (1, 0), "casts": (7, 0)}
+# Lines of imports in a file of proofs, on average: what there are today, and what tb_ledger has.
+IMPORTS_A_FILE = (6.4, 3.8)
+IMPORT = re.compile(r"\s*(?:pub(?:\([a-z]+\))? )?(?:ghost )?use ")
 CLAUSE = re.compile(r"\s+(?:requires|ensures|invariant) ?(?:\w+ )?\{")
 FUNCTION = re.compile(r"(\s*)(?:pub(?:\([a-z]+\))? )?(?:const |unsafe )*fn (\w+)")
 PRIVATE = re.compile(r"\s*--.*private")
@@ -118,6 +122,8 @@ def measured(crate, listed):
     for folder, ending in (("src", ".rt"), ("specs", ".antt"), ("proofs", ".antt")):
         row[folder] = sum(len(lines(path)) for path in files(crate, folder, ending))
         row["lines"] += row[folder]
+        for path in files(crate, folder, ending):
+            row["imports"] += sum(1 for line in lines(path) if IMPORT.match(line))
     row["cited"] = cited(crate)
     for path in files(crate, "src", ".rt"):
         short = os.path.relpath(path, TOP)
@@ -179,6 +185,11 @@ def check_bounds():
         f"{product['>100']} of {product['clauses']}, {share:.1%}; bound {CLAUSES_OVER_100:.1%}, "
         "wanted 10.0%",
     )
+    proofs = [it for crate in crates_listed() for it in files(crate, "proofs", ".antt")]
+    found = sum(1 for path in proofs for line in lines(path) if IMPORT.match(line)) / len(proofs)
+    bound, wanted = IMPORTS_A_FILE
+    said = f"{found:.2f}; bound {bound}, wanted {wanted}"
+    tried.case("lines of imports in a file of proofs", found <= bound, said)
     for figure, (bound, wanted) in BOUNDS.items():
         found = product[figure] if figure == ">160" else every[figure]
         tried.case(figure, found <= bound, f"{found}; bound {bound}, wanted {wanted}")
