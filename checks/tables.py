@@ -208,13 +208,22 @@ def changes(table):
             continue
         for place in range(len(listed)):
             yield from changed_rows(table, name, place)
-        shorter = copy.deepcopy(table)
-        del shorter[name][-1]
-        yield f"{name} without its last row", shorter
+        for what, place in ends(listed):
+            shorter = copy.deepcopy(table)
+            del shorter[name][place]
+            yield f"{name} without {what}", shorter
         if name in IN_ORDER:
             swapped = copy.deepcopy(table)
             swapped[name][3], swapped[name][4] = swapped[name][4], swapped[name][3]
             yield f"{name} in another order", swapped
+
+
+def ends(listed):
+    """The last row of a list, and the first one of each group that it has."""
+    yield "its last row", len(listed) - 1
+    groups = [row.get("group") for row in listed if isinstance(row, dict)]
+    for group in dict.fromkeys(filter(None, groups)):
+        yield f"the first row of {group}", groups.index(group)
 
 
 def changed_rows(table, name, place):
