@@ -130,6 +130,12 @@ LAYOUTS = [
 ]
 
 
+def limit(name):
+    """A limit of tb_records, by its name there."""
+    source = read("crates/tb_records/src/limits.rt")
+    return only(re.findall(rf"^pub const {name}: \w+ = ([\d_]+);$", source, re.M))
+
+
 def limits():
     """Sizes and limits, by their names in Rust; C has TB_ before them."""
     header, record, result = (
@@ -140,7 +146,7 @@ def limits():
             ("RecordBytes", "result_bytes"),
         )
     )
-    items = only(re.findall(r"^items_max = (\d+)$", spec("Messages"), re.M))
+    items = limit("ITEMS_MAX")
     return {
         "HEADER_SIZE": header,
         "RECORD_SIZE": record,
@@ -149,8 +155,8 @@ def limits():
         "ITEMS_MAX": items,
         "REQUEST_MAX": header + items * record,
         "REPLY_MAX": header + items * record,
-        "CLIENTS_MAX": only(re.findall(r"nat_le clients_max (\d+)", spec("Calls", "tb_embed"))),
-        "TIME_MAX": only(re.findall(r"^max_time = (\d+)$", spec("Verdicts", "tb_ledger"), re.M)),
+        "CLIENTS_MAX": limit("CLIENTS_MAX"),
+        "TIME_MAX": limit("LAST_MOMENT"),
     }
 
 
