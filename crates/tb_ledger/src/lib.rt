@@ -27,7 +27,7 @@
 //!   - `transfer`: a transfer of either kind; failed ids.
 //!   - `expiry`: pending transfers whose timeout has passed.
 //! - `batches`: the events of one request, chain by chain.
-//!   - `ahead`: what the next eight transfers need, searched for before the first of them is taken.
+//!   - `ahead`: the accounts that the next eight transfers need, searched for beforehand where accounts are many.
 //!   - `events`: what a batch asks of its events.
 //!   - `results`: the results of a broken chain; where a result becomes its number.
 //!   - `chains`: all of a chain, or nothing of it.

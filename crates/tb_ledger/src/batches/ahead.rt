@@ -1,5 +1,5 @@
-//! What the next eight transfers need is searched for before the first of them is taken, interleaved, so that waits for memory
-//! overlap. The rows stay.
+//! The accounts that the next eight transfers need are searched for before the first of them is taken, interleaved, so that waits for
+//! memory overlap. The rows stay.
 ghost use Rattle.std.specs.Prelude.{◌≡◌};
 
 use crate::tables::rows::Rows;
@@ -19,12 +19,6 @@ fn accounts_of(t: &Transfer, pending: &Option<&TransferRow>) -> (u128, u128) {
 fn accounts_of_four(four: [(u128, u128); 4]) -> [u128; 8] {
     let [a, b, c, d] = four;
     [a.0, a.1, b.0, b.1, c.0, c.1, d.0, d.1]
-}
-
-/// The ids of eight transfers.
-fn ids_of(eight: &[Transfer; 8]) -> [u128; 8] {
-    let [a, b, c, d, e, f, g, h] = eight;
-    [a.id, b.id, c.id, d.id, e.id, f.id, g.id, h.id]
 }
 
 /// The pending transfers that eight transfers name.
@@ -76,11 +70,10 @@ fn accounts_of_eight<A: Allocator + Clone>(
     (accounts_of_four(first), accounts_of_four(later))
 }
 
-/// Looks for the ids of eight transfers; where accounts are many, touches those that the transfers need.
-pub(crate) fn look_ahead_of<A: Allocator + Clone>(rows: &mut Rows<A>, eight: &[Transfer; 8])
+/// Brings the rows of the accounts that eight transfers need into the cache, where accounts are many.
+pub(crate) fn touch_accounts<A: Allocator + Clone>(rows: &mut Rows<A>, eight: &[Transfer; 8])
     ensures { rows.new ≡ rows.old }
 {
-    rows.transfers.seek(&ids_of(eight));
     if rows.accounts.is_large() {
         let (first, later) = accounts_of_eight(rows, eight);
         rows.accounts.touch(&first);

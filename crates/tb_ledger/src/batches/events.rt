@@ -4,7 +4,7 @@ ghost use Rattle.tb_ledger.specs.Capacity.{Capacity, capacity_of, Uses};
 ghost use Rattle.tb_ledger.specs.Kept.{books_in, IsKept};
 ghost use Rattle.tb_ledger.specs.Steps.{IsPrepared, StaysButFailed, TakesEvent};
 
-use crate::batches::ahead::look_ahead_of;
+use crate::batches::ahead::touch_accounts;
 use crate::changes::account::add_account_row;
 use crate::changes::transfer::{note_failed, take_transfer};
 use crate::tables::rows::Rows;
@@ -139,6 +139,12 @@ impl Event for Account {
     ghost open_is_new = { λ failed a. tt };
 }
 
+/// The ids of eight transfers.
+fn ids_of(eight: &[Transfer; 8]) -> [u128; 8] {
+    let [a, b, c, d, e, f, g, h] = eight;
+    [a.id, b.id, c.id, d.id, e.id, f.id, g.id, h.id]
+}
+
 impl Event for Transfer {
     ghost use Rattle.std.specs.List.{list_any};
     ghost use Rattle.std.specs.Option.{option_map_or};
@@ -179,7 +185,8 @@ impl Event for Transfer {
 
     fn look_ahead<A: Allocator + Clone>(events: &[Transfer], rows: &mut Rows<A>) {
         if let Some((eight, _)) = events.split_first_chunk::<8>() {
-            look_ahead_of(rows, eight);
+            rows.transfers.seek(&ids_of(eight));
+            touch_accounts(rows, eight);
         }
     }
 
