@@ -13,7 +13,7 @@ use tb_machine::RunFault;
 use tb_records::{Buffered, Counting, FrameFault, Sink};
 
 /// The bytes of input and of output that are held at a time.
-const BUFFER: usize = 65536;
+const BUFFER_BYTES: usize = 65536;
 
 /// The words after the program's name.
 pub fn words<R: Env + AllocGlobal>(rt: &R) -> io::Result<Vec<String>> {
@@ -33,8 +33,8 @@ pub fn serve<R: Read + Drop, W: Write + Drop, E: Sink>(
     output: W,
     faults: &mut E,
 ) -> u8 {
-    let input = BufReader::with_capacity(alloc, BUFFER, input);
-    let output = BufWriter::with_capacity(alloc, BUFFER, output);
+    let input = BufReader::with_capacity(alloc, BUFFER_BYTES, input);
+    let output = BufWriter::with_capacity(alloc, BUFFER_BYTES, output);
     let (Ok(input), Ok(output)) = (input, output) else {
         return refuse(Fault::Serving(RunFault::NoMemory), faults);
     };
