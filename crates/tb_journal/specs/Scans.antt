@@ -1,8 +1,9 @@
 -- How a journal's file is read, record by record.
--- Cited by public contracts of: scans.
+-- Cited by public contracts of: scans; tb_keep: dumps.
 use Rattle.std.specs.Prelude.{◌≡◌, ℕ, ◌<◌, ◌^◌, Bool, true, false, List, [], ◌∷◌, ◌++◌, length, take, drop, codes, refl, Result, Ok, Err}
 use Rattle.tb_journal.specs.declared.opening.OpenFault.{OpenFault}
 use Rattle.tb_journal.specs.declared.opening.OpenFault.TheVariants as open_faults
+use Rattle.tb_journal.specs.declared.reading.Refusal.TheVariants as refusals
 use Rattle.tb_journal.specs.Checksum.{byte_on, bit_on}
 use Rattle.tb_journal.specs.Contents.{NotAJournal, Damaged, Records, magic, block, contents, records_end}
 use Rattle.tb_journal.specs.Opening.{refused_as}
@@ -45,6 +46,17 @@ ReadsNext (Err (open_faults.Device fault)) records file scan = Unit {0}
 -- a record was read behind a place, and there is no end to this but the greatest length of a file
 abbrev pub GoesFurther : Place → Place → Type 0
 GoesFurther old new = (old.end < 2 ^ 62) × (old.end < new.end)
+
+-- a refusal behind records that end there: damage at that place
+abbrev pub IsAt : ℕ → OpenFault → Type 0
+IsAt end (open_faults.Refused (refusals.Damaged at)) = at ≡ end
+IsAt end (open_faults.Refused refusals.NotAJournal) = ⊥
+IsAt end (open_faults.Device fault) = Unit {0}
+
+-- before the first record no damage is told
+abbrev pub IsOfStart : OpenFault → Type 0
+IsOfStart (open_faults.Refused (refusals.Damaged at)) = ⊥
+IsOfStart fault = Unit {0}
 
 -- rows
 

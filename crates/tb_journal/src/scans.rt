@@ -1,9 +1,9 @@
 //! A journal's file, read record by record.
-ghost use Rattle.std.specs.Prelude.{◌≡◌, ◌≤◌, ◌<◌, ◌+◌, ◌^◌, true, List, ℕ, length, IfOk, OnOk};
+ghost use Rattle.std.specs.Prelude.{◌≡◌, ◌≤◌, ◌<◌, ◌+◌, ◌^◌, true, List, ℕ, length, IfOk, IfErr, OnOk};
 ghost use Rattle.tb_journal.specs.Device.{IsOnDisk, LeavesOnly, IsLookedAt, HasOwnCause};
 ghost use Rattle.tb_journal.specs.Contents.{front};
 ghost use Rattle.tb_journal.specs.Opening.{IsAsBefore, HasOpenCause};
-ghost use Rattle.tb_journal.specs.Scans.{Place, IsAhead, HasRead, Starts, ReadsNext, GoesFurther};
+ghost use Rattle.tb_journal.specs.Scans.{Place, IsAhead, HasRead, Starts, ReadsNext, GoesFurther, IsAt, IsOfStart};
 ghost use Rattle.tb_journal.specs.Reading.{HasAhead, FindsHead, LooksKept, StartsScan, TellsExtent, head_is};
 
 use crate::devices::Device;
@@ -40,6 +40,7 @@ impl Scan {
     pub fn start<D: Device>(alloc: Global, device: &mut D) -> Result<Scan, OpenFault>
         // Of any device, by the file that its reads are of.
         ensures begun { (file : List ℕ) → D.holds device.old file → Starts result file }
+        ensures refused { IfErr result IsOfStart }
         ensures same { (file : List ℕ) → D.holds device.old file → D.holds device.new file }
         // Where no sync has failed before.
         ensures kept { D.tells → (D.disk device.old).sound ≡ true → OnOk result (IsOnDisk (D.disk device.new)) }
@@ -71,6 +72,8 @@ impl Scan {
             → HasOpenCause result (D.disk device.old) (D.disk device.new) }
         // Of any device: so a loop over the records comes to an end.
         ensures further { IfOk result (λ more. more ≡ true → GoesFurther self.old self.new) }
+        // Of any device: damage is told where the records that were read end.
+        ensures place { IfErr result (IsAt self.old.end) }
     {
         if self.end >= FILE_BYTES_MAX {
             return Err(OpenFault::Device(Fault::Full));
