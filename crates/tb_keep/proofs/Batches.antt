@@ -30,7 +30,7 @@ numbers_long : (first second : ℕ) → length (numbers_bytes first second) ≡ 
 unfolding numbers_bytes
 numbers_long first second = simp (length-append, length-le_bytes)
 
-entry_short : (e : Entry) → IsRecord (dumped e) e → length (dumped e) ≤ 1048384
+pub entry_short : (e : Entry) → IsRecord (dumped e) e → length (dumped e) ≤ 1048384
 entry_short e is =
     let r : Message = e.request in
     let header = header_bytes r.client r.session r.request (operation r.body) (length (body_bytes r.body)) in

@@ -1,13 +1,11 @@
 -- What is read of a file and sent as a dump.
-use Rattle.std.proofs.Common.{rules, arith, ℕ, ◌≡◌, inr, true, false, List, [], ◌∷◌, ◌++◌, Result, Ok, Err, refl, sym, ap, ◌∙◌, subst, append_assoc, append-nil}
+use Rattle.std.proofs.Common.{rules, arith, ℕ, zero, suc, ◌≡◌, ◌≤◌, ◌<◌, ◌+◌, ◌-◌, inr, true, false, List, [], ◌∷◌, ◌++◌, length, drop, Result, Ok, Err, refl, sym, ap, ◌∙◌, subst, append_assoc, append-nil, length-append}
 use Rattle.std.proofs.lemmas.Grind.{common_steps}
 use Rattle.tb_records.specs.declared.faults.FrameFault.{FrameFault}
 use Rattle.tb_records.specs.DumpBytes.{head_bytes}
 use Rattle.tb_records.specs.Transport.{Output, Sent, IsSent}
 use Rattle.tb_records.proofs.Sendings.{sent_rest}
-use Rattle.tb_journal.specs.declared.opening.OpenFault.{OpenFault}
 use Rattle.tb_journal.specs.Contents.{Records, contents, records_of}
-use Rattle.tb_journal.specs.Opening.{RefusesFile}
 use Rattle.tb_journal.specs.Scans.{Place, BeginsWith, HasRead}
 use Rattle.tb_machine.proofs.Running.{sends_none}
 use Rattle.tb_keep.specs.declared.faults.DumpFault.{DumpFault}
@@ -17,7 +15,8 @@ use Rattle.tb_keep.specs.declared.faults.StartFault.TheVariants as start
 use Rattle.tb_keep.specs.declared.heads.Rules.{Rules}
 use Rattle.tb_keep.specs.Reading.{RulesIn, RulesAnswer, joined, behind_head, dump_with, Dumps}
 use Rattle.tb_keep.specs.Entering.{FindsRules}
-use Rattle.tb_keep.specs.Sending.{SendsNext, SendsAll, SendsBehind}
+use Rattle.tb_keep.specs.Following.{entries_above, WritesEntries, EntriesOnce}
+use Rattle.tb_keep.specs.Sending.{SendsNext, SendsAll}
 
 pub finds_rules : (result : Result Rules StartFault) (file head : List ℕ) (scan : Place) → HasRead (head ∷ []) file scan → RulesIn result head → FindsRules result file scan
 finds_rules (Ok rules) file head scan at found = subst (λ (h : List ℕ). HasRead (h ∷ []) file scan) found at
@@ -38,52 +37,89 @@ pub joined_join : (xs ys : List (List ℕ)) → joined (xs ++ ys) ≡ joined xs 
 joined_join [] ys = refl
 joined_join (x ∷ xs) ys = ap (λ (l : List ℕ). x ++ l) (joined_join xs ys) ∙ sym (append_assoc x (joined xs) (joined ys))
 
-joined_snoc : (front : List (List ℕ)) (bytes : List ℕ) → joined front ++ bytes ≡ joined (front ++ bytes ∷ [])
-joined_snoc front bytes = ap (λ (l : List ℕ). joined front ++ l) (sym (append-nil bytes)) ∙ sym (joined_join front (bytes ∷ []))
+pub drop_none : (n : ℕ) → drop {A = List ℕ} n [] ≡ []
+drop_none zero = refl
+drop_none (suc n) = refl
+
+drop_join : (n : ℕ) (xs ys : List (List ℕ)) → drop n (xs ++ ys) ≡ drop n xs ++ drop (n - length xs) ys
+drop_join n [] ys = let e : n ≡ n - 0 = omega arith in ap (λ (k : ℕ). drop k ys) e ∙ ap (λ (l : List (List ℕ)). l ++ drop (n - 0) ys) (sym (drop_none n))
+drop_join zero (x ∷ xs) ys = let e : 0 ≡ 0 - suc (length xs) = omega arith in ap (λ (k : ℕ). (x ∷ xs) ++ drop k ys) e
+drop_join (suc n) (x ∷ xs) ys = let e : n - length xs ≡ suc n - suc (length xs) = omega arith in drop_join n xs ys ∙ ap (λ (k : ℕ). drop n xs ++ drop k ys) e
+
+-- what is written of some records, and of those behind them
+pub entries_once : EntriesOnce
+entries_once after read more later =
+    let n : ℕ = after + 1 - length read in
+    let e : after + 1 - length (read ++ more) ≡ n - length more = omega (arith, length-append read more) in
+    ap (λ (k : ℕ). joined (drop n more) ++ joined (drop k later)) e
+    ∙ sym (joined_join (drop n more) (drop (n - length more) later))
+    ∙ ap joined (sym (drop_join n more later))
+
+-- one record: it is passed over, or sent
+
+passed_over : (n : ℕ) (bytes : List ℕ) → 1 ≤ n → joined (drop n (bytes ∷ [])) ≡ []
+passed_over zero bytes some = absurd (omega (arith, some))
+passed_over (suc n) bytes some = ap joined (drop_none n)
+
+pub none_above : (commit after : ℕ) (bytes : List ℕ) (old : Output) → commit ≤ after → Sent (joined (drop (after + 1 - commit) (bytes ∷ []))) old old
+none_above commit after bytes old early = subst (λ (l : List ℕ). Sent l old old) (sym (passed_over (after + 1 - commit) bytes (omega (arith, early)))) (sends_none old)
+
+pub one_above : (commit after : ℕ) (bytes : List ℕ) (old new : Output) (result : Result (Unit {0}) FrameFault) → after < commit → IsSent result bytes old new
+    → IsSent result (joined (drop (after + 1 - commit) (bytes ∷ []))) old new
+one_above commit after bytes old new result late sent =
+    let none : 0 ≡ after + 1 - commit = omega (arith, late) in
+    subst (λ (l : List ℕ). IsSent result l old new) (sym (append-nil bytes) ∙ ap (λ (n : ℕ). joined (drop n (bytes ∷ []))) none) sent
 
 -- one more record was sent, or a prefix of it
-send_one : (front : List (List ℕ)) (bytes : List ℕ) (old mid new : Output) → Sent (joined front) old mid → (result : Result (Unit {0}) FrameFault) → IsSent result bytes mid new
-    → IsSent result (joined (front ++ bytes ∷ [])) old new
-send_one front bytes old mid new sent result more = sent_rest (joined front) bytes old mid new (joined (front ++ bytes ∷ [])) (joined_snoc front bytes) sent result more
+send_one : (after : ℕ) (read front : List (List ℕ)) (bytes : List ℕ) (old mid new : Output) → Sent (entries_above after read front) old mid → (result : Result (Unit {0}) FrameFault)
+    → IsSent result (entries_above after (read ++ front) (bytes ∷ [])) mid new → IsSent result (entries_above after read (front ++ bytes ∷ [])) old new
+send_one after read front bytes old mid new sent result more =
+    sent_rest (entries_above after read front) (entries_above after (read ++ front) (bytes ∷ [])) old mid new (entries_above after read (front ++ bytes ∷ []))
+    (entries_once after read front (bytes ∷ [])) sent result more
 
 -- so far these were sent
-abbrev pub Sending : List (List ℕ) → List ℕ → Place → Output → Output → Type 0
-Sending read file scan old new = (records : List (List ℕ)) × HasRead (read ++ records) file scan × Sent (joined records) old new
+abbrev pub Sending : ℕ → List (List ℕ) → List ℕ → Place → Output → Output → Type 0
+Sending after read file scan old new = (records : List (List ℕ)) × HasRead (read ++ records) file scan × Sent (entries_above after read records) old new
 
-module _ (read records : List (List ℕ)) (file : List ℕ) (scan : Place) (old mid new : Output) (sent : Sent (joined records) old mid) where
-  pub sending_more : SendsNext (Ok true) (read ++ records) file scan mid new → Sending read file scan old new
+pub sending_none : (after : ℕ) (read : List (List ℕ)) (file : List ℕ) (scan : Place) (old : Output) → HasRead read file scan → Sending after read file scan old old
+sending_none after read file scan old has = (
+  [],
+  subst (λ (r : List (List ℕ)). HasRead r file scan) (sym (append-nil read)) has,
+  subst (λ (l : List ℕ). Sent l old old) (sym (ap joined (drop_none (after + 1 - length read)))) (sends_none old),
+)
+
+module _ (after : ℕ) (read records : List (List ℕ)) (file : List ℕ) (scan : Place) (old mid new : Output) (sent : Sent (entries_above after read records) old mid) where
+  pub sending_more : SendsNext (Ok true) after (read ++ records) file scan mid new → Sending after read file scan old new
   sending_more (bytes, at, one) = (
     records ++ bytes ∷ [],
     subst (λ (r : List (List ℕ)). HasRead r file scan) (append_assoc read records (bytes ∷ [])) at,
-    send_one records bytes old mid new sent (Ok tt) one,
+    send_one after read records bytes old mid new sent (Ok tt) one,
   )
 
-  pub sending_done : SendsNext (Ok false) (read ++ records) file scan mid new → SendsAll (Ok tt) read file old new
-  sending_done (reads, silent) = (records, reads, subst (λ (o : Output). Sent (joined records) old o) (sym silent) sent)
+  pub sending_done : SendsNext (Ok false) after (read ++ records) file scan mid new → SendsAll (Ok tt) after read file scan old new
+  sending_done (reads, at, silent) = (records, reads, at, subst (λ (o : Output). Sent (entries_above after read records) old o) (sym silent) sent)
 
-  pub sending_not : (fault : DumpFault) → SendsNext (Err fault) (read ++ records) file scan mid new → SendsAll (Err fault) read file old new
-  sending_not (dump.Journal f) (stops, begins, silent) = (stops, (records, begins, subst (λ (o : Output). Sent (joined records) old o) (sym silent) sent))
+  pub sending_not : (fault : DumpFault) → SendsNext (Err fault) after (read ++ records) file scan mid new → SendsAll (Err fault) after read file scan old new
+  sending_not (dump.Journal f) (stops, begins, silent) = (stops, (records, begins, subst (λ (o : Output). Sent (entries_above after read records) old o) (sym silent) sent))
   sending_not (dump.Writer f) (is, (bytes, begins, cut)) = (
     is,
     (
       records ++ bytes ∷ [],
       subst (λ (r : List (List ℕ)). BeginsWith r file) (append_assoc read records (bytes ∷ [])) begins,
-      (send_one records bytes old mid new sent (Err f) (is, cut)).1,
+      (send_one after read records bytes old mid new sent (Err f) (is, cut)).1,
     ),
   )
 
--- behind the first record
+-- how many they are
 
-pub sends_behind : (result : Result (Unit {0}) DumpFault) (file first : List ℕ) (old new : Output) → SendsAll result (first ∷ []) file old new → SendsBehind result file old new
-sends_behind (Ok done) file first old new (records, reads, sent) = (first ∷ records, reads, sent)
-sends_behind (Err (dump.Journal f)) file first old new (stops, (records, begins, sent)) = (stops, (first ∷ records, begins, sent))
-sends_behind (Err (dump.Writer f)) file first old new (is, (records, begins, cut)) = (is, (first ∷ records, begins, cut))
+pub writes_not : (fault : DumpFault) (after : ℕ) (read : List (List ℕ)) (file : List ℕ) (scan : Place) (old new : Output)
+    → SendsAll (Err fault) after read file scan old new → WritesEntries (Err fault) after read file scan old new
+writes_not (dump.Journal f) after read file scan old new sends = sends
+writes_not (dump.Writer f) after read file scan old new sends = sends
 
-pub sends_nothing : (file : List ℕ) (old : Output) → contents file ≡ Records [] → SendsBehind (Ok tt) file old old
-sends_nothing file old reads = ([], reads, sends_none old)
-
-pub sends_unread : (fault : OpenFault) (file : List ℕ) (old : Output) → BeginsWith [] file → RefusesFile fault file → SendsBehind (Err (dump.Journal fault)) file old old
-sends_unread fault file old begins stops = (stops, ([], begins, sends_none old))
+pub wrote_entries : (count after : ℕ) (read : List (List ℕ)) (file : List ℕ) (scan : Place) (old new : Output) → count ≡ scan.count - 1
+    → SendsAll (Ok tt) after read file scan old new → WritesEntries (Ok count) after read file scan old new
+wrote_entries count after read file scan old new is (more, reads, at, sent) = (more, reads, at, is ∙ ap (λ (n : ℕ). n - 1) at.count, sent)
 
 -- a head and records behind it
 
@@ -91,13 +127,19 @@ module _ (rules : Rules) (file : List ℕ) (old mid new : Output) where
   abbrev head : List ℕ
   head = head_bytes rules.profile rules.clients_max
 
-  pub dumps_behind : (result : Result (Unit {0}) DumpFault) → Sent head old mid → SendsBehind result file mid new → Dumps result rules file old new
-  dumps_behind (Ok done) sent (records, reads, more) =
+  of_all : (records : List (List ℕ)) → entries_above 0 [] records ≡ joined (behind_head records)
+  of_all [] = refl
+  of_all (r ∷ records) = refl
+
+  sends_rest : (result : Result (Unit {0}) FrameFault) (records : List (List ℕ)) → Sent head old mid → IsSent result (entries_above 0 [] records) mid new → IsSent result (dump_with rules records) old new
+  sends_rest result records sent more =
+      sent_rest head (entries_above 0 [] records) old mid new (dump_with rules records) (ap (λ (l : List ℕ). head ++ l) (of_all records)) sent result more
+
+  pub dumps_behind : (result : Result (Unit {0}) DumpFault) (scan : Place) → Sent head old mid → SendsAll result 0 [] file scan mid new → Dumps result rules file old new
+  dumps_behind (Ok done) scan sent (records, reads, at, more) =
       let found = ap records_of reads in (
         reads ∙ ap Records (sym found),
-        sent_rest head (joined (behind_head records)) old mid new (dump_with rules (records_of (contents file))) (ap (dump_with rules) (sym found)) sent (Ok tt) more,
+        subst (λ (r : List (List ℕ)). Sent (dump_with rules r) old new) (sym found) (sends_rest (Ok tt) records sent more),
       )
-  dumps_behind (Err (dump.Journal f)) sent (stops, (records, begins, more)) =
-      (stops, inr (records, begins, sent_rest head (joined (behind_head records)) old mid new (dump_with rules records) refl sent (Ok tt) more))
-  dumps_behind (Err (dump.Writer f)) sent (is, (records, begins, cut)) =
-      (is, (records, begins, (sent_rest head (joined (behind_head records)) old mid new (dump_with rules records) refl sent (Err f) (is, cut)).1))
+  dumps_behind (Err (dump.Journal f)) scan sent (stops, (records, begins, more)) = (stops, inr (records, begins, sends_rest (Ok tt) records sent more))
+  dumps_behind (Err (dump.Writer f)) scan sent (is, (records, begins, cut)) = (is, (records, begins, (sends_rest (Err f) records sent (is, cut)).1))

@@ -35,6 +35,13 @@ stays_looked before after now looks = record {
   sound = looks.sound;
 }
 
+pub stays_none : (disk : Disk) → Latest disk → StaysKept disk disk
+stays_none disk now = record {
+  untouched = record { seen = refl; any_moment = started disk (IsAsBefore disk) (λ c left. inl (now c left)) };
+  kept = λ kept. kept;
+  sound = refl;
+}
+
 pub stays_then : (before mid after : Disk) → Counts mid → StaysKept before mid → StaysKept mid after → StaysKept before after
 stays_then before mid after counts first second = record {
   untouched = untouched_then before mid after counts first.untouched second.untouched;

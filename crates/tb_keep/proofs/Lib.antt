@@ -10,6 +10,10 @@ pub mod Sources
 pub mod Causes
 pub mod Entered
 pub mod Dumping
+pub mod Taking
+pub mod Salvages
+pub mod Behind
+pub mod Above
 pub mod Crashes
 pub mod Again
 pub mod Spelled

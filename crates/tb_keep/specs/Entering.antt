@@ -1,5 +1,5 @@
 -- The records of a file as they are read and entered: for private functions alone.
--- Cited by private contracts alone, of: dumps, opening, restoring.
+-- Cited by private contracts alone, of: dumps, opening, restoring, salvaging.
 use Rattle.std.specs.Prelude.{ℕ, Bool, true, false, ◌≡◌, List, [], ◌∷◌, ◌++◌, Result, Ok, Err}
 use Rattle.tb_records.specs.declared.limits.Profile.{Profile}
 use Rattle.tb_journal.specs.declared.reading.Extent.{Extent}

@@ -8,6 +8,8 @@ use Rattle.tb_keep.specs.declared.faults.DumpFault.{DumpFault}
 use Rattle.tb_keep.specs.declared.faults.DumpFault.TheVariants as dump
 use Rattle.tb_keep.specs.declared.faults.KeepFault.{KeepFault}
 use Rattle.tb_keep.specs.declared.faults.KeepFault.TheVariants as keep
+use Rattle.tb_keep.specs.declared.faults.SalvageFault.{SalvageFault}
+use Rattle.tb_keep.specs.declared.faults.SalvageFault.TheVariants as salvage
 use Rattle.tb_keep.specs.declared.faults.StartFault.{StartFault}
 use Rattle.tb_keep.specs.declared.faults.StartFault.TheVariants as start
 
@@ -42,3 +44,7 @@ start_fault_name (start.TornTooLong at bytes) = codes "TornTooLong"
 abbrev pub dump_fault_name : DumpFault → List ℕ
 dump_fault_name (dump.Journal fault) = codes "Journal"
 dump_fault_name (dump.Writer fault) = frame_faults.fault_name fault
+
+abbrev pub salvage_fault_name : SalvageFault → List ℕ
+salvage_fault_name (salvage.Old fault) = start_fault_name fault
+salvage_fault_name (salvage.New fault) = start_fault_name fault

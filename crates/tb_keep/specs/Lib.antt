@@ -4,6 +4,8 @@ pub mod Keeping
 pub mod Restoration
 pub mod Opening
 pub mod Reading
+pub mod Following
+pub mod Salvaging
 pub mod Rounds
 pub mod Moments
 pub mod Again
@@ -11,5 +13,6 @@ pub mod Again
 pub mod Sources
 pub mod Entering
 pub mod Sending
+pub mod Taking
 pub mod Headed
 pub mod Steps

@@ -1,5 +1,5 @@
 -- What the restoring of a machine from the records of a file makes.
--- Cited by public contracts of: dumps, laws, opening, restoring, worked_rows.
+-- Cited by public contracts of: dumps, laws, opening, restoring, salvaging, worked_rows.
 use Rattle.std.specs.Prelude.{ℕ, ◌≡◌, ◌⊎◌, ◌+◌, ◌-◌, ◌^◌, ◌<◌, ◌≤◌, IsTrue, List, [], ◌∷◌, ◌++◌, map, fold, length, refl, Some, Result, Ok, Err, OnOk, IfErr}
 use Rattle.tb_records.specs.declared.limits.Profile.{Profile}
 use Rattle.tb_journal.specs.declared.opening.OpenFault.TheVariants as open_faults

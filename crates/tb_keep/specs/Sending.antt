@@ -8,28 +8,22 @@ use Rattle.tb_journal.specs.Opening.{RefusesFile}
 use Rattle.tb_journal.specs.Scans.{BeginsWith, HasRead, Place}
 use Rattle.tb_keep.specs.declared.faults.DumpFault.{DumpFault}
 use Rattle.tb_keep.specs.declared.faults.DumpFault.TheVariants as dump
-use Rattle.tb_keep.specs.Reading.{joined, behind_head}
+use Rattle.tb_keep.specs.Following.{entries_above}
 
--- behind the records that were read one more was read and sent, or there is none
-abbrev pub SendsNext : Result Bool DumpFault → List (List ℕ) → List ℕ → Place → Output → Output → Type 0
-SendsNext (Ok true) read file after old new = (bytes : List ℕ) × HasRead (read ++ bytes ∷ []) file after × Sent bytes old new
-SendsNext (Ok false) read file after old new = (contents file ≡ Records read) × (new ≡ old)
-SendsNext (Err (dump.Journal fault)) read file after old new = RefusesFile fault file × BeginsWith read file × (new ≡ old)
-SendsNext (Err (dump.Writer fault)) read file after old new =
-    (fault ≡ Device) × ((bytes : List ℕ) × BeginsWith (read ++ bytes ∷ []) file × CutOff bytes old new)
+-- behind the records that were read one more was read, and sent if its number is above `after`; or there is none
+abbrev pub SendsNext : Result Bool DumpFault → ℕ → List (List ℕ) → List ℕ → Place → Output → Output → Type 0
+SendsNext (Ok true) after read file scan old new =
+    (bytes : List ℕ) × HasRead (read ++ bytes ∷ []) file scan × Sent (entries_above after read (bytes ∷ [])) old new
+SendsNext (Ok false) after read file scan old new = (contents file ≡ Records read) × HasRead read file scan × (new ≡ old)
+SendsNext (Err (dump.Journal fault)) after read file scan old new = RefusesFile fault file × BeginsWith read file × (new ≡ old)
+SendsNext (Err (dump.Writer fault)) after read file scan old new =
+    (fault ≡ Device) × ((bytes : List ℕ) × BeginsWith (read ++ bytes ∷ []) file × CutOff (entries_above after read (bytes ∷ [])) old new)
 
 -- all records behind those that were read, or some of them
-abbrev pub SendsAll : Result (Unit {0}) DumpFault → List (List ℕ) → List ℕ → Output → Output → Type 0
-SendsAll (Ok done) read file old new = (records : List (List ℕ)) × (contents file ≡ Records (read ++ records)) × Sent (joined records) old new
-SendsAll (Err (dump.Journal fault)) read file old new =
-    RefusesFile fault file × ((records : List (List ℕ)) × BeginsWith (read ++ records) file × Sent (joined records) old new)
-SendsAll (Err (dump.Writer fault)) read file old new =
-    (fault ≡ Device) × ((records : List (List ℕ)) × BeginsWith (read ++ records) file × CutOff (joined records) old new)
-
--- the same behind the first record of a file
-abbrev pub SendsBehind : Result (Unit {0}) DumpFault → List ℕ → Output → Output → Type 0
-SendsBehind (Ok done) file old new = (records : List (List ℕ)) × (contents file ≡ Records records) × Sent (joined (behind_head records)) old new
-SendsBehind (Err (dump.Journal fault)) file old new =
-    RefusesFile fault file × ((records : List (List ℕ)) × BeginsWith records file × Sent (joined (behind_head records)) old new)
-SendsBehind (Err (dump.Writer fault)) file old new =
-    (fault ≡ Device) × ((records : List (List ℕ)) × BeginsWith records file × CutOff (joined (behind_head records)) old new)
+abbrev pub SendsAll : Result (Unit {0}) DumpFault → ℕ → List (List ℕ) → List ℕ → Place → Output → Output → Type 0
+SendsAll (Ok done) after read file scan old new =
+    (more : List (List ℕ)) × (contents file ≡ Records (read ++ more)) × HasRead (read ++ more) file scan × Sent (entries_above after read more) old new
+SendsAll (Err (dump.Journal fault)) after read file scan old new =
+    RefusesFile fault file × ((more : List (List ℕ)) × BeginsWith (read ++ more) file × Sent (entries_above after read more) old new)
+SendsAll (Err (dump.Writer fault)) after read file scan old new =
+    (fault ≡ Device) × ((more : List (List ℕ)) × BeginsWith (read ++ more) file × CutOff (entries_above after read more) old new)

@@ -1,21 +1,24 @@
 //! The history of a kept file, read without a write.
-ghost use Rattle.std.specs.Prelude.{◌≡◌, ℕ, true, List, [], ◌∷◌, IfOk};
+ghost use Rattle.std.specs.Prelude.{◌≡◌, ℕ, ◌+◌, ◌-◌, true, List, [], ◌∷◌, drop, IfOk, IfErr};
+ghost use Rattle.tb_records.specs.Transport.{IsSent};
 ghost use Rattle.tb_journal.specs.Scans.{HasRead, GoesFurther};
 ghost use Rattle.tb_keep.specs.Keeping.{head_record};
 ghost use Rattle.tb_keep.specs.Entering.{StaysKept, FindsRules};
 ghost use Rattle.tb_keep.specs.Opening.{IsUntouched};
 ghost use Rattle.tb_keep.specs.Restoration.{HasStartCause};
-ghost use Rattle.tb_keep.specs.Reading.{RulesAnswer, RulesIn, FindsHistory, Dumps, HasDumpCause};
-ghost use Rattle.tb_keep.specs.Sending.{SendsNext, SendsAll, SendsBehind};
+ghost use Rattle.tb_keep.specs.Reading.{RulesAnswer, RulesIn, FindsHistory, Dumps, HasDumpCause, joined};
+ghost use Rattle.tb_keep.specs.Following.{WritesEntries};
+ghost use Rattle.tb_keep.specs.Salvaging.{IsUnsalvaged};
+ghost use Rattle.tb_keep.specs.Sending.{SendsNext, SendsAll};
 
-use crate::faults::{DumpFault, StartFault};
+use crate::faults::{DumpFault, SalvageFault, StartFault};
 use crate::heads::{Rules, read_head};
 use crate::restoring::{entered_behind, read_record};
 use std::alloc::Global;
 use tb_journal::{Device, Extent, Scan};
 use tb_machine::Machine;
 use tb_records::dumps::send_head;
-use tb_records::{DumpHead, Sink, put_all};
+use tb_records::{DumpHead, FrameFault, Sink, put_all};
 
 /// The rules that a head names.
 fn rules_in(head: &[u8]) -> Result<Rules, StartFault>
@@ -31,13 +34,15 @@ fn rules_in(head: &[u8]) -> Result<Rules, StartFault>
 }
 
 /// Reads the first record of a file of which nothing was read, and answers the rules that it names.
-fn first_rules<D: Device>(scan: &mut Scan, device: &mut D) -> Result<Rules, StartFault>
+pub(crate) fn first_rules<D: Device>(scan: &mut Scan, device: &mut D) -> Result<Rules, StartFault>
     ensures rules { (file : List ℕ) → D.holds device.old file → HasRead [] file scan.old
         → FindsRules result file scan.new }
     ensures same { (file : List ℕ) → D.holds device.old file → D.holds device.new file }
     ensures stays { D.tells → StaysKept (D.disk device.old) (D.disk device.new) }
     ensures cause { D.tells → HasRead [] (D.disk device.old).seen scan.old
         → HasStartCause result (D.disk device.old) (D.disk device.new) }
+    ensures unsalvaged { (file : List ℕ) → D.holds device.old file → HasRead [] file scan.old
+        → IfErr result (λ fault. IsUnsalvaged (SalvageFault.Old fault) file) }
 {
     match read_record(scan, device) {
         Ok(true) => rules_in(scan.record()),
@@ -117,22 +122,41 @@ fn history_behind<D: Device>(
     }
 }
 
-/// Reads the next record and writes it: false where there is none.
+/// Writes the record of an entry of this commit number, if that is above `after`.
+fn send_above<W: Sink>(
+    commit: u64,
+    after: u64,
+    bytes: &[u8],
+    writer: &mut W,
+) -> Result<(), FrameFault>
+    ensures { IsSent result (joined (drop (after + 1 - commit) (bytes.now ∷ []))) (W.output writer.old)
+        (W.output writer.new) }
+{
+    if commit <= after {
+        return Ok(());
+    }
+    put_all(writer, bytes)
+}
+
+/// Reads the next record, and writes it if its entry's commit number is above `after`: false where there is none. The head is
+/// record 0, so that each record behind it has the number that its entry has.
 fn send_next<D: Device, W: Sink>(
     scan: &mut Scan,
     device: &mut D,
+    after: u64,
     writer: &mut W,
 ) -> Result<bool, DumpFault>
     ensures sends { (file : List ℕ) (read : List (List ℕ)) → D.holds device.old file → HasRead read file scan.old
-        → SendsNext result read file scan.new (W.output writer.old) (W.output writer.new) }
+        → SendsNext result after read file scan.new (W.output writer.old) (W.output writer.new) }
     ensures same { (file : List ℕ) → D.holds device.old file → D.holds device.new file }
     ensures stays { D.tells → StaysKept (D.disk device.old) (D.disk device.new) }
     ensures cause { D.tells → (read : List (List ℕ)) → HasRead read (D.disk device.old).seen scan.old
         → HasDumpCause result (D.disk device.old) (D.disk device.new) }
     ensures further { IfOk result (λ more. more ≡ true → GoesFurther scan.old scan.new) }
 {
+    let commit = scan.extent().count as u64;
     match read_record(scan, device) {
-        Ok(true) => match put_all(writer, scan.record()) {
+        Ok(true) => match send_above(commit, after, scan.record(), writer) {
             Ok(()) => Ok(true),
             Err(fault) => Err(DumpFault::Writer(fault)),
         },
@@ -141,21 +165,22 @@ fn send_next<D: Device, W: Sink>(
     }
 }
 
-/// Writes the records that are left, one behind another.
+/// Writes the entries that are left and have a commit number above `after`, one behind another.
 fn send_records<D: Device, W: Sink>(
     scan: &mut Scan,
     device: &mut D,
+    after: u64,
     writer: &mut W,
 ) -> Result<(), DumpFault>
     ensures sends { (file : List ℕ) (read : List (List ℕ)) → D.holds device.old file → HasRead read file scan.old
-        → SendsAll result read file (W.output writer.old) (W.output writer.new) }
+        → SendsAll result after read file scan.new (W.output writer.old) (W.output writer.new) }
     ensures same { (file : List ℕ) → D.holds device.old file → D.holds device.new file }
     ensures stays { D.tells → StaysKept (D.disk device.old) (D.disk device.new) }
     ensures cause { D.tells → (read : List (List ℕ)) → HasRead read (D.disk device.old).seen scan.old
         → HasDumpCause result (D.disk device.old) (D.disk device.new) }
 {
     loop {
-        match send_next(scan, device, writer) {
+        match send_next(scan, device, after, writer) {
             Ok(true) => {}
             Ok(false) => return Ok(()),
             Err(fault) => return Err(fault),
@@ -163,23 +188,30 @@ fn send_records<D: Device, W: Sink>(
     }
 }
 
-/// Writes the records behind the first of a file of which nothing was read.
-fn send_behind_first<D: Device, W: Sink>(
+/// Writes the entries of a file that were not read yet and have a commit number above `after`, one behind another and without a
+/// head, as a dump has them. Returns how many entries were read of the file so far: the commit number of the last. Where that is not
+/// above `after`, nothing is written, which is no fault.
+///
+/// A scan of which nothing was read passes over the head. A scan that came to the end goes on where the file has more records, and
+/// each is read and written once. Writer, with the fault Device, where the writer answers an error, or takes nothing of what is left;
+/// Journal where the file is not read to its end: then a prefix went out.
+pub fn write_entries<D: Device, W: Sink>(
     scan: &mut Scan,
     device: &mut D,
     writer: &mut W,
-) -> Result<(), DumpFault>
-    ensures sends { (file : List ℕ) → D.holds device.old file → HasRead [] file scan.old
-        → SendsBehind result file (W.output writer.old) (W.output writer.new) }
+    after: u64,
+) -> Result<u64, DumpFault>
+    // Of any device, by the file that its reads are of.
+    ensures writes { (file : List ℕ) (read : List (List ℕ)) → D.holds device.old file → HasRead read file scan.old
+        → WritesEntries result after read file scan.new (W.output writer.old) (W.output writer.new) }
     ensures same { (file : List ℕ) → D.holds device.old file → D.holds device.new file }
-    ensures stays { D.tells → StaysKept (D.disk device.old) (D.disk device.new) }
-    ensures cause { D.tells → HasRead [] (D.disk device.old).seen scan.old
+    ensures untouched { D.tells → IsUntouched (D.disk device.old) (D.disk device.new) }
+    ensures cause { D.tells → (read : List (List ℕ)) → HasRead read (D.disk device.old).seen scan.old
         → HasDumpCause result (D.disk device.old) (D.disk device.new) }
 {
-    match read_record(scan, device) {
-        Ok(true) => send_records(scan, device, writer),
-        Ok(false) => Ok(()),
-        Err(fault) => Err(DumpFault::Journal(fault)),
+    match send_records(scan, device, after, writer) {
+        Ok(()) => Ok((scan.extent().count as u64).saturating_sub(1)),
+        Err(fault) => Err(fault),
     }
 }
 
@@ -202,7 +234,7 @@ fn dump_by<D: Device, W: Sink>(
         clients_max: rules.clients_max,
     };
     match send_head(writer, head) {
-        Ok(()) => send_behind_first(scan, device, writer),
+        Ok(()) => send_records(scan, device, 0, writer),
         Err(fault) => Err(DumpFault::Writer(fault)),
     }
 }

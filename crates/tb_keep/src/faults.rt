@@ -1,6 +1,6 @@
 //! Why a kept ledger does not go on.
 ghost use Rattle.std.specs.Prelude.{◌≡◌};
-ghost use Rattle.tb_keep.specs.Faults.{keep_fault_number, keep_fault_name, start_fault_number, start_fault_name, dump_fault_name};
+ghost use Rattle.tb_keep.specs.Faults.{keep_fault_number, keep_fault_name, start_fault_number, start_fault_name, dump_fault_name, salvage_fault_name};
 
 use std::fmt;
 use tb_journal::{Fault, OpenFault};
@@ -160,6 +160,37 @@ impl fmt::Display for DumpFault {
     ghost use Rattle.tb_keep.specs.Faults.{dump_fault_name};
 
     ghost output = { λ fault. Some (dump_fault_name fault) };
+
+    fn fmt<W: fmt::Write>(&self, f: &mut fmt::Formatter<W>) -> fmt::Result {
+        f.write_str(self.name())
+    }
+}
+
+/// Why the entries of a file are not taken over into a new one.
+#[derive(Clone, Copy, Debug, PartialEq, Eq, Error)]
+pub enum SalvageFault {
+    /// The old file is no ledger, or it is not read on: the fault of a start.
+    Old(StartFault),
+    /// The new file is not made, or not written to.
+    New(StartFault),
+}
+
+impl SalvageFault {
+    /// The fault's name, as a message shows it: that of the fault of a start.
+    pub fn name(self) -> &'static str
+        ensures { result.now ≡ salvage_fault_name self }
+    {
+        match self {
+            SalvageFault::Old(fault) | SalvageFault::New(fault) => fault.name(),
+        }
+    }
+}
+
+impl fmt::Display for SalvageFault {
+    ghost use Rattle.std.specs.Prelude.{Some};
+    ghost use Rattle.tb_keep.specs.Faults.{salvage_fault_name};
+
+    ghost output = { λ fault. Some (salvage_fault_name fault) };
 
     fn fmt<W: fmt::Write>(&self, f: &mut fmt::Formatter<W>) -> fmt::Result {
         f.write_str(self.name())

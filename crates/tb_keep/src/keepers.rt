@@ -66,6 +66,19 @@ impl<D: Device> Keeper<D> {
         self.cut
     }
 
+    /// The device, given back. The machine and what waits are dropped.
+    pub fn into_device(self) -> D
+        ensures { result ≡ self.journal.device }
+    {
+        let Keeper {
+            journal,
+            machine,
+            ..
+        } = self;
+        drop(machine);
+        journal.into_device()
+    }
+
     /// The machine, as it stands after all entries.
     pub fn machine(&self) -> &Machine<Global>
         ensures { result.now ≡ self.now.state }

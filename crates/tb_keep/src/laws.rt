@@ -3,6 +3,7 @@ ghost use Rattle.std.specs.Prelude.{List};
 ghost use Rattle.tb_machine.specs.Scripts.{Pair};
 ghost use Rattle.tb_records.specs.Transport.{Sent};
 ghost use Rattle.tb_keep.specs.Again.{OneHistory, OneLedger, GoesOnAfter, AnyCrash, AfterKill};
+ghost use Rattle.tb_keep.specs.Following.{EntriesAreAbove, EntriesOnce};
 ghost use Rattle.tb_keep.specs.Reading.{DumpIsOfHistory, WholeRules, WholeNoHead, WholeDumps};
 ghost use Rattle.tb_keep.specs.Restoration.{OnlyMemory, FileOnlyMemory, WholeStops};
 ghost use Rattle.tb_keep.specs.Moments.{WhileCommitting, WhileTelling, Lasts, RoundsAreServed};
@@ -61,6 +62,13 @@ pub fn whole_files()
     ensures rules { WholeRules }
     ensures no_head { WholeNoHead }
     ensures dumps { WholeDumps }
+{}
+
+/// What `write_entries` writes of a file that stands for a history are its entries above the commit number, as a dump has them; and
+/// what it writes of a file, and then of what came behind, is what it would have written of all at once.
+pub fn entries_above()
+    ensures above { EntriesAreAbove }
+    ensures once { EntriesOnce }
 {}
 
 /// What `write_dump` writes of a file spells the history that the file stands for.

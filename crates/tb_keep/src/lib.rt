@@ -9,7 +9,8 @@
 //! - `opening`: `create`, `Keeper::open` and `Keeper::start`.
 //! - `replies`: replies held in memory until the entries that they rest on are on the disk.
 //! - `serving`: `keep`, pairs served, entries committed, and then replies told.
-//! - `dumps`: the rules, the history and the dump of a file, read without a write.
+//! - `dumps`: the rules, the history, the dump and the later entries of a file, read without a write.
+//! - `salvaging`: the entries of a file taken over into a new one.
 //! - `laws`: what holds of every kept ledger: functions that do nothing.
 //! - `worked_rows`: small files, and what the definitions make of them.
 //!
@@ -26,13 +27,15 @@ pub mod laws;
 mod opening;
 mod replies;
 mod restoring;
+mod salvaging;
 mod serving;
 pub mod worked_rows;
 
-pub use dumps::{read_history, read_rules, write_dump};
-pub use faults::{DumpFault, KeepFault, StartFault};
+pub use dumps::{read_history, read_rules, write_dump, write_entries};
+pub use faults::{DumpFault, KeepFault, SalvageFault, StartFault};
 pub use heads::{Rules, read_head, write_head};
 pub use keepers::Keeper;
 pub use opening::{NotKept, create};
 pub use restoring::restored;
+pub use salvaging::{NotSalvaged, Salvaged, backup, salvage};
 pub use serving::{BATCH_BYTES_MAX, HELD_BYTES_MAX, keep};

@@ -212,7 +212,7 @@ fn open_restored<D: Device>(
 }
 
 /// The number of torn bytes of a file that was read to this extent: those behind its records and the latch there.
-fn torn_behind<D: Device>(device: &mut D, extent: Extent) -> Result<u64, Fault>
+pub(crate) fn torn_behind<D: Device>(device: &mut D, extent: Extent) -> Result<u64, Fault>
     ensures torn { (file : List ℕ) → D.holds device.old file → extent_of (contents file) ≡ Ok extent
         → IfOk result (λ torn. torn ≡ torn_bytes file) }
     ensures same { (file : List ℕ) → D.holds device.old file → D.holds device.new file }

@@ -4,7 +4,7 @@ ghost use Rattle.tb_journal.specs.Device.{IsOnDisk};
 ghost use Rattle.tb_journal.specs.Contents.{Records, contents};
 ghost use Rattle.tb_journal.specs.Opening.{HasOpenCause};
 ghost use Rattle.tb_journal.specs.Reading.{extent_of};
-ghost use Rattle.tb_journal.specs.Scans.{BeginsWith, HasRead, GoesFurther};
+ghost use Rattle.tb_journal.specs.Scans.{BeginsWith, HasRead, GoesFurther, IsAt};
 ghost use Rattle.tb_machine.specs.Recording.{IsRecord};
 ghost use Rattle.tb_keep.specs.Keeping.{head_record};
 ghost use Rattle.tb_keep.specs.Restoration.{ReadsRecord, RestoresRecord, Restores, HasStartCause};
@@ -46,7 +46,7 @@ fn restore_next(machine: &mut Machine<Global>, bytes: &[u8], entry: Entry) -> Re
 }
 
 /// Enters the entry of a record into a machine. On a fault the machine is as it was.
-fn restore_record(
+pub(crate) fn restore_record(
     global: Global,
     machine: &mut Machine<Global>,
     bytes: &[u8],
@@ -68,6 +68,7 @@ pub(crate) fn read_record<D: Device>(scan: &mut Scan, device: &mut D) -> Result<
     ensures cause { D.tells → (read : List (List ℕ)) → HasRead read (D.disk device.old).seen scan.old
         → HasOpenCause result (D.disk device.old) (D.disk device.new) }
     ensures further { IfOk result (λ more. more ≡ true → GoesFurther scan.old scan.new) }
+    ensures place { IfErr result (IsAt scan.old.end) }
 {
     scan.next(device)
 }

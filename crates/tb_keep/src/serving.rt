@@ -26,7 +26,7 @@ pub const HELD_BYTES_MAX: usize = 1 << 20;
 pub const BATCH_BYTES_MAX: usize = 1 << 22;
 
 /// The greatest block of an entry: 8 bytes, two numbers of 8 bytes, and the frame of a request of 8,190 records.
-const BLOCK_BYTES_MAX: usize = 8 + 16 + 48 + 8190 * 128;
+pub(crate) const BLOCK_BYTES_MAX: usize = 8 + 16 + 48 + 8190 * 128;
 
 /// Lets the record of an entry wait for the next commit. The buffer is the caller's, so that each record needs no new one.
 fn append_entry<D: Device>(

@@ -1,6 +1,7 @@
 use Rattle.std.proofs.Common.{inl, []}
 use Rattle.tb_keep.proofs.Causes.{rules_cause}
 use Rattle.tb_keep.proofs.Dumping.{finds_rules}
+use Rattle.tb_keep.proofs.Salvages.{rules_unsalvaged, first_unsalvaged}
 use Rattle.tb_keep.proofs.Sources.{stops_by_read}
 use Rattle.tb_keep.proofs.dumps.first_rules.Goals as goal
 
@@ -27,3 +28,17 @@ returns-in-Ok-false-clause-cause g c t has = record { ok = tt; cause = (c.in-Ok-
 
 pub returns-in-Err-clause-cause : goal.returns-in-Err-clause-cause
 returns-in-Err-clause-cause g c t has = record { ok = tt; cause = (c.in-Err.ensures.cause t [] has).cause }
+
+pub returns-in-Ok-true-clause-unsalvaged : goal.returns-in-Ok-true-clause-unsalvaged
+returns-in-Ok-true-clause-unsalvaged g c file holds has =
+    let new = c.read_record.new.scan in
+    let next = (rw c.in-Ok-true.field-0-test at c.in-Ok-true.ensures.reads) file [] holds has in
+    rules_unsalvaged c.rules_in.result file new.last new next.reads (rw c.record.ensures at c.rules_in.ensures)
+
+pub returns-in-Ok-false-clause-unsalvaged : goal.returns-in-Ok-false-clause-unsalvaged
+returns-in-Ok-false-clause-unsalvaged g c file holds has =
+    inl ((rw c.in-Ok-false.field-0-test at c.in-Ok-false.ensures.reads) file [] holds has).reads.0
+
+pub returns-in-Err-clause-unsalvaged : goal.returns-in-Err-clause-unsalvaged
+returns-in-Err-clause-unsalvaged g c file holds has =
+    first_unsalvaged c.in-Err.fault file c.args.scan.now c.read_record.new.scan has c.in-Err.ensures.place (c.in-Err.ensures.reads file [] holds has).reads

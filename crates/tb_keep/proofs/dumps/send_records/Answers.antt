@@ -1,10 +1,18 @@
 use Rattle.std.proofs.Common.{◌++◌, List, ℕ, sym, subst}
 use Rattle.tb_journal.specs.Scans.{HasRead}
-use Rattle.tb_journal.proofs.Causes.{none_since}
+use Rattle.tb_journal.proofs.Causes.{none_at_once, none_since}
 use Rattle.tb_keep.proofs.Causes.{has_dump_then}
-use Rattle.tb_keep.proofs.Entered.{stays_then}
-use Rattle.tb_keep.proofs.Dumping.{sending_more, sending_done, sending_not}
+use Rattle.tb_keep.proofs.Entered.{stays_none, stays_then}
+use Rattle.tb_keep.proofs.Dumping.{sending_none, sending_more, sending_done, sending_not}
 use Rattle.tb_keep.proofs.dumps.send_records.Goals as goal
+
+pub loop-fault-init : goal.loop-fault-init
+loop-fault-init g c = record {
+  same = λ file holds. holds;
+  stays = λ t. stays_none (g.D.Device.disk c.args.device.now) (g.met.D.Device.only_now c.args.device.now);
+  none = λ t read has. none_at_once (g.D.Device.disk c.args.device.now);
+  sending = λ file read holds has. sending_none c.args.after read file c.args.scan.now (g.W.Sink.output c.args.writer.now) has;
+}
 
 pub loop-fault-preserved : goal.loop-fault-preserved
 loop-fault-preserved g c = record {
@@ -19,14 +27,14 @@ loop-fault-preserved g c = record {
       none_since old now (g.D.Device.disk c.send_next.new.device) (c.loop-fault.invariant.none t read has) (c.in-Ok-true.ensures.cause t (read ++ records) here).ok;
   sending = λ file read holds has.
       let (records, at, sent) = c.loop-fault.invariant.sending file read holds has in
-      sending_more read records file c.send_next.new.scan (g.W.Sink.output c.args.writer.now) (g.W.Sink.output c.loop-fault.writer) (g.W.Sink.output c.send_next.new.writer) sent
+      sending_more c.args.after read records file c.send_next.new.scan (g.W.Sink.output c.args.writer.now) (g.W.Sink.output c.loop-fault.writer) (g.W.Sink.output c.send_next.new.writer) sent
       ((rw c.in-Ok-true.field-0-test at c.in-Ok-true.ensures.sends) file (read ++ records) (c.loop-fault.invariant.same file holds) at);
 }
 
 pub returns-in-Ok-false-clause-sends : goal.returns-in-Ok-false-clause-sends
 returns-in-Ok-false-clause-sends g c file read holds has =
     let (records, at, sent) = c.loop-fault.invariant.sending file read holds has in
-    sending_done read records file c.send_next.new.scan (g.W.Sink.output c.args.writer.now) (g.W.Sink.output c.loop-fault.writer) (g.W.Sink.output c.send_next.new.writer) sent
+    sending_done c.args.after read records file c.send_next.new.scan (g.W.Sink.output c.args.writer.now) (g.W.Sink.output c.loop-fault.writer) (g.W.Sink.output c.send_next.new.writer) sent
     ((rw c.in-Ok-false.field-0-test at c.in-Ok-false.ensures.sends) file (read ++ records) (c.loop-fault.invariant.same file holds) at)
 
 pub returns-in-Ok-false-clause-cause : goal.returns-in-Ok-false-clause-cause
@@ -40,7 +48,7 @@ returns-in-Ok-false-clause-cause g c t read has =
 pub returns-in-Err-clause-sends : goal.returns-in-Err-clause-sends
 returns-in-Err-clause-sends g c file read holds has =
     let (records, at, sent) = c.loop-fault.invariant.sending file read holds has in
-    sending_not read records file c.send_next.new.scan (g.W.Sink.output c.args.writer.now) (g.W.Sink.output c.loop-fault.writer) (g.W.Sink.output c.send_next.new.writer) sent c.in-Err.fault
+    sending_not c.args.after read records file c.send_next.new.scan (g.W.Sink.output c.args.writer.now) (g.W.Sink.output c.loop-fault.writer) (g.W.Sink.output c.send_next.new.writer) sent c.in-Err.fault
     (c.in-Err.ensures.sends file (read ++ records) (c.loop-fault.invariant.same file holds) at)
 
 pub returns-in-Err-clause-stays : goal.returns-in-Err-clause-stays

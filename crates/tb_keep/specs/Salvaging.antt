@@ -1,0 +1,133 @@
+-- What is taken over of a file into a new one, and what a crash may leave of that meanwhile.
+-- Cited by public contracts of: salvaging.
+use Rattle.std.specs.Prelude.{ℕ, true, ◌≡◌, ◌⊎◌, ◌≤◌, ◌^◌, List, [], ◌∷◌, ◌++◌, Option, None, Some, Result, Ok, Err, OnOk, IfErr}
+use Rattle.tb_journal.specs.declared.faults.Fault.{Fault}
+use Rattle.tb_journal.specs.declared.faults.Fault.TheVariants.{Memory, Full, NotEmpty}
+use Rattle.tb_journal.specs.declared.opening.OpenFault.TheVariants as open_faults
+use Rattle.tb_journal.specs.declared.reading.Refusal.TheVariants as refusals
+use Rattle.tb_journal.specs.Device.{Disk, FailsNone, HasFailed}
+use Rattle.tb_journal.specs.Contents.{NotAJournal, Damaged, Records, contents, records_end}
+use Rattle.tb_journal.specs.Creating.{is_blank, IsUnborn, IsCreateCause}
+use Rattle.tb_journal.specs.Opening.{IsAsBefore}
+use Rattle.tb_journal.specs.Scans.{BeginsWith}
+use Rattle.tb_machine.specs.Histories.{State}
+use Rattle.tb_keep.specs.declared.faults.SalvageFault.{SalvageFault}
+use Rattle.tb_keep.specs.declared.faults.SalvageFault.TheVariants.{Old, New}
+use Rattle.tb_keep.specs.declared.faults.StartFault.{StartFault}
+use Rattle.tb_keep.specs.declared.faults.StartFault.TheVariants as start
+use Rattle.tb_keep.specs.declared.salvaging.NotSalvaged.{NotSalvaged}
+use Rattle.tb_keep.specs.declared.salvaging.Salvaged.{Salvaged}
+use Rattle.tb_keep.specs.Keeping.{History, state_of, records_of, Keeping, Keeps, IsKeepable, IsLedger}
+use Rattle.tb_keep.specs.Opening.{IsUntouched}
+use Rattle.tb_keep.specs.Reading.{HasNoHead, IsNoHistory}
+use Rattle.tb_keep.specs.Restoration.{StopsAt, IsTornTooLong, torn_bytes}
+
+-- a fault of the file that is read, or of the new one; the other has none
+abbrev pub old_part : SalvageFault → Result (Unit {0}) StartFault
+old_part (Old fault) = Err fault
+old_part (New fault) = Ok tt
+
+abbrev pub new_part : SalvageFault → Result (Unit {0}) StartFault
+new_part (Old fault) = Ok tt
+new_part (New fault) = Err fault
+
+abbrev pub why_old : {T N : Type 0} → Result T (NotSalvaged N) → Result (Unit {0}) StartFault
+why_old (Ok value) = Ok tt
+why_old (Err failed) = old_part failed.fault
+
+abbrev pub why_new : {T N : Type 0} → Result T (NotSalvaged N) → Result (Unit {0}) StartFault
+why_new (Ok value) = Ok tt
+why_new (Err failed) = new_part failed.fault
+
+-- the device of the new file
+abbrev pub salvaged_device : {N : Type 0} → Result (Salvaged N) (NotSalvaged N) → N
+salvaged_device (Ok salvaged) = salvaged.keeper.journal.device
+salvaged_device (Err failed) = failed.device
+
+abbrev pub backup_device : {N : Type 0} → Result (Keeping N) (NotSalvaged N) → N
+backup_device (Ok keeper) = keeper.journal.device
+backup_device (Err failed) = failed.device
+
+-- why no more is taken of a file behind these records, by which a machine was led to a state. The file ends there, with few torn bytes
+-- behind it; or it is the fault for which a start refuses it: too many of them, damage, or one more record that is none of the next
+-- entry
+abbrev pub StopsBehind : Option StartFault → List (List ℕ) → State → List ℕ → Type 0
+StopsBehind None records S file = (contents file ≡ Records records) × (torn_bytes file ≤ 2 ^ 22)
+StopsBehind (Some (start.TornTooLong at bytes)) records S file = (contents file ≡ Records records) × IsTornTooLong at bytes file
+StopsBehind (Some (start.Journal (open_faults.Refused (refusals.Damaged at)))) records S file = (contents file ≡ Damaged at) × (at ≡ records_end records)
+StopsBehind (Some (start.Record place fault)) records S file =
+    (bytes : List ℕ) × BeginsWith (records ++ bytes ∷ []) file × StopsAt (start.Record place fault) S bytes
+StopsBehind (Some (start.Entry fault)) records S file = (bytes : List ℕ) × BeginsWith (records ++ bytes ∷ []) file × StopsAt (start.Entry fault) S bytes
+StopsBehind stop records S file = ⊥
+
+-- a history was taken of a file: the file begins with its records, behind which no more can be taken
+pub record IsTaken (h : History) (end : ℕ) (stop : Option StartFault) (file : List ℕ) : Type 0 where
+  pub begins : BeginsWith (records_of h) file
+  pub end_is : end ≡ records_end (records_of h)
+  pub stops : StopsBehind stop (records_of h) (state_of h) file
+
+-- a history that a keeper of the new file keeps
+pub record IsNewKeeper (tells : Type 0) {N : Type 0} (disk : N → Disk) (h : History) (keeper : Keeping N) : Type 0 where
+  pub keepable : IsKeepable h
+  pub state : keeper.state ≡ state_of h
+  pub kept : tells → Keeps disk h keeper
+  pub usable : keeper.journal.usable ≡ true
+
+-- the new file has the history that was taken of the one that is read
+pub record IsSalvaged (tells : Type 0) {N : Type 0} (disk : N → Disk) (holds : List ℕ → Type 0) (salvaged : Salvaged N) : Type 0 where
+  pub history : History
+  pub keeper : IsNewKeeper tells disk history salvaged.keeper
+  pub taken : (file : List ℕ) → holds file → IsTaken history salvaged.end salvaged.stop file
+
+-- the new file has the history that the one that is read stands for, with few torn bytes behind it
+pub record IsBackedUp (tells : Type 0) {N : Type 0} (disk : N → Disk) (holds : List ℕ → Type 0) (keeper : Keeping N) : Type 0 where
+  pub history : History
+  pub kept : IsNewKeeper tells disk history keeper
+  pub whole : (file : List ℕ) → holds file → IsLedger history file × (torn_bytes file ≤ 2 ^ 22)
+
+-- why nothing is taken of a file: it is no journal, its first block is damaged, or its first record is no head. For any other fault it is
+-- not the reason
+abbrev pub IsUnsalvaged : SalvageFault → List ℕ → Type 0
+IsUnsalvaged (Old start.Head) file = HasNoHead file
+IsUnsalvaged (Old (start.Journal (open_faults.Refused refusals.NotAJournal))) file = contents file ≡ NotAJournal
+IsUnsalvaged (Old (start.Journal (open_faults.Refused (refusals.Damaged at)))) file = (contents file ≡ Damaged at) × (at ≡ 8)
+IsUnsalvaged (Old (start.Journal (open_faults.Device fault))) file = Unit {0}
+IsUnsalvaged (Old start.NoMemory) file = Unit {0}
+IsUnsalvaged (Old fault) file = ⊥
+IsUnsalvaged (New fault) file = Unit {0}
+
+-- why a file is not backed up: it stands for no history, or too many torn bytes are behind it
+abbrev pub IsNotBackedUp : SalvageFault → List ℕ → Type 0
+IsNotBackedUp (Old (start.TornTooLong at bytes)) file = IsTornTooLong at bytes file
+IsNotBackedUp (Old start.NoMemory) file = Unit {0}
+IsNotBackedUp (Old fault) file = IsNoHistory fault file
+IsNotBackedUp (New fault) file = Unit {0}
+
+-- the cause of a fault of the new file: that of its creation; or a call has failed so; or none has, and there is no memory, or the file
+-- would be too long
+abbrev pub IsWriteCause : Disk → Disk → Fault → Type 0
+IsWriteCause before after fault = HasFailed before after fault ⊎ (((fault ≡ Memory) ⊎ (fault ≡ Full)) × FailsNone before after)
+
+abbrev pub IsNewCause : Disk → Disk → StartFault → Type 0
+IsNewCause before after (start.Journal (open_faults.Device fault)) =
+    IsCreateCause before after (open_faults.Device fault) ⊎ IsWriteCause before after fault
+IsNewCause before after start.NoMemory = FailsNone before after
+IsNewCause before after fault = ⊥
+
+-- where something stands in the place of the new file, that is as it was
+abbrev pub IsLeftAlone : Disk → Disk → StartFault → Type 0
+IsLeftAlone before after (start.Journal (open_faults.Device NotEmpty)) = IsUntouched before after
+IsLeftAlone before after fault = Unit {0}
+
+pub record HasNewCause {T : Type 0} (result : Result T StartFault) (before after : Disk) : Type 0 where
+  pub ok : OnOk result (FailsNone before after)
+  pub cause : IfErr result (IsNewCause before after)
+  pub alone : IfErr result (IsLeftAlone before after)
+
+-- what a crash may leave of the new file: what was there before, or, if that was blank, no record, or a history with whose records the
+-- file that is read begins
+abbrev pub MayBeSalvaged : (List ℕ → Type 0) → Disk → List ℕ → Type 0
+MayBeSalvaged holds before c =
+    IsAsBefore before c
+    ⊎ ((is_blank before.seen ≡ true)
+    × (IsUnborn c ⊎ ((contents c ≡ Records []) ⊎ ((h : History) × IsLedger h c × ((file : List ℕ) → holds file → BeginsWith (records_of h) file)))))

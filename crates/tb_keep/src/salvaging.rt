@@ -1,0 +1,414 @@
+//! The entries of a file taken over into a new one: of a file that is damaged, and of one that is whole.
+ghost use Rattle.std.specs.Prelude.{◌≡◌, ◌<◌, ◌^◌, ℕ, true, List, [], ◌∷◌, length, Ok, IfOk, IfErr, OnOk, OnErr};
+ghost use Rattle.tb_journal.specs.Contents.{contents};
+ghost use Rattle.tb_journal.specs.Device.{LeavesOnly};
+ghost use Rattle.tb_journal.specs.Ready.{IsReady};
+ghost use Rattle.tb_journal.specs.Reading.{extent_of};
+ghost use Rattle.tb_journal.specs.Scans.{HasRead, GoesFurther};
+ghost use Rattle.tb_keep.specs.Keeping.{head_record};
+ghost use Rattle.tb_keep.specs.Entering.{StaysKept};
+ghost use Rattle.tb_keep.specs.Opening.{IsUntouched};
+ghost use Rattle.tb_keep.specs.Restoration.{HasStartCause};
+ghost use Rattle.tb_keep.specs.Salvaging.{IsSalvaged, IsUnsalvaged, IsBackedUp, IsNotBackedUp, MayBeSalvaged, HasNewCause, salvaged_device, backup_device, why_old, why_new};
+ghost use Rattle.tb_keep.specs.Taking.{HoldsRead, IsOldDevice, IsTornStop, StopsBy, Puts, TakesRecord, TakesNext, TakesAll, CommitsTaken, TakesBehind, fault_old, stop_of};
+
+use crate::dumps::first_rules;
+use crate::faults::{SalvageFault, StartFault};
+use crate::heads::Rules;
+use crate::keepers::Keeper;
+use crate::opening::{create, torn_behind};
+use crate::restoring::{read_record, restore_record};
+use crate::serving::{BATCH_BYTES_MAX, BLOCK_BYTES_MAX};
+use std::alloc::Global;
+use tb_journal::{Device, Extent, Fault, Journal, OpenFault, Scan};
+
+/// A new file with the entries that were taken over.
+#[derive(Drop)]
+pub struct Salvaged<N: Device> {
+    /// The keeper of the new file: its machine stands after these entries, of which the last has the machine's commit number.
+    pub keeper: Keeper<N>,
+    /// Where they end in the old file, in bytes: what is behind was not taken.
+    pub end: u64,
+    /// Why no more was taken: the fault for which a start refuses the old file. None where that is whole.
+    pub stop: Option<StartFault>,
+}
+
+/// A new file that was not made, or not to its end, and why.
+#[derive(Drop)]
+pub struct NotSalvaged<N: Device> {
+    pub device: N,
+    pub fault: SalvageFault,
+}
+
+/// A journal's fault, as one of the new file.
+fn new_fault(fault: Fault) -> SalvageFault
+    ensures { result ≡ SalvageFault.New (StartFault.Journal (OpenFault.Device fault)) }
+{
+    SalvageFault::New(StartFault::Journal(OpenFault::Device(fault)))
+}
+
+/// Commits what waits where it may have no room for one more record.
+#[tactic(auto, using(crate::proofs::Taking::puts_commit))]
+fn make_room<N: Device>(journal: &mut Journal<N>) -> Result<(), Fault>
+    requires usable { journal.old.usable ≡ true }
+    requires ready { N.tells → IsReady N.disk journal.old }
+    ensures { Puts N.disk N.tells result [] journal.old journal.new }
+{
+    if journal.waiting_bytes() <= BATCH_BYTES_MAX - BLOCK_BYTES_MAX {
+        return Ok(());
+    }
+    journal.commit()
+}
+
+/// Lets a record wait for the next commit.
+fn append_one<N: Device>(journal: &mut Journal<N>, bytes: &[u8]) -> Result<(), Fault>
+    requires usable { journal.old.usable ≡ true }
+    requires ready { N.tells → IsReady N.disk journal.old }
+    requires short { length bytes.now < 2 ^ 24 }
+    ensures { Puts N.disk N.tells result (bytes.now ∷ []) journal.old journal.new }
+{
+    journal.append(bytes)
+}
+
+/// Lets a record wait for the next commit, in a batch that is short enough.
+#[tactic(auto, using(crate::proofs::Taking::puts_then))]
+fn append_short<N: Device>(journal: &mut Journal<N>, bytes: &[u8]) -> Result<(), Fault>
+    requires usable { journal.old.usable ≡ true }
+    requires ready { N.tells → IsReady N.disk journal.old }
+    requires short { length bytes.now < 2 ^ 24 }
+    ensures { Puts N.disk N.tells result (bytes.now ∷ []) journal.old journal.new }
+{
+    match make_room(journal) {
+        Ok(()) => append_one(journal, bytes),
+        Err(fault) => Err(fault),
+    }
+}
+
+/// Enters the entry of a record that stands behind those of a keeper, and lets it wait for the next commit. Where it is none of the
+/// next entry, nothing has changed.
+#[tactic(auto, using(crate::proofs::Taking::takes_not))]
+fn take_record<N: Device>(
+    global: Global,
+    keeper: &mut Keeper<N>,
+    bytes: &[u8],
+) -> Result<(), SalvageFault>
+    requires usable { keeper.old.journal.usable ≡ true }
+    requires ready { N.tells → IsReady N.disk keeper.old.journal }
+    ensures { TakesRecord N.disk N.tells result bytes.now keeper.old keeper.new }
+{
+    match restore_record(global, &mut keeper.machine, bytes) {
+        Ok(()) => match append_short(&mut keeper.journal, bytes) {
+            Ok(()) => Ok(()),
+            Err(fault) => Err(new_fault(fault)),
+        },
+        Err(fault) => Err(SalvageFault::Old(fault)),
+    }
+}
+
+/// Takes over the next record of a file: false where there is none.
+fn take_next<D: Device, N: Device>(
+    global: Global,
+    keeper: &mut Keeper<N>,
+    scan: &mut Scan,
+    from: &mut D,
+) -> Result<bool, SalvageFault>
+    requires usable { keeper.old.journal.usable ≡ true }
+    requires ready { N.tells → IsReady N.disk keeper.old.journal }
+    ensures takes { TakesNext N.disk N.tells (D.holds from.old) result scan.old scan.new keeper.old keeper.new }
+    ensures same { (file : List ℕ) → D.holds from.old file → D.holds from.new file }
+    ensures stays { D.tells → StaysKept (D.disk from.old) (D.disk from.new) }
+    ensures cause { D.tells → (read : List (List ℕ)) → HasRead read (D.disk from.old).seen scan.old
+        → HasStartCause (fault_old result) (D.disk from.old) (D.disk from.new) }
+    ensures further { IfOk result (λ more. more ≡ true → GoesFurther scan.old scan.new) }
+{
+    match read_record(scan, from) {
+        Ok(true) => match take_record(global, keeper, scan.record()) {
+            Ok(()) => Ok(true),
+            Err(fault) => Err(fault),
+        },
+        Ok(false) => Ok(false),
+        Err(fault) => Err(SalvageFault::Old(StartFault::Journal(fault))),
+    }
+}
+
+/// Takes over the records that are left, up to the first one that is damaged or none of the next entry. Returns where those that were
+/// taken end, and why no more were.
+fn take_all<D: Device, N: Device>(
+    global: Global,
+    keeper: &mut Keeper<N>,
+    scan: &mut Scan,
+    from: &mut D,
+) -> (Extent, Result<(), SalvageFault>)
+    requires usable { keeper.old.journal.usable ≡ true }
+    requires ready { N.tells → IsReady N.disk keeper.old.journal }
+    ensures takes { TakesAll N.disk N.tells (D.holds from.old) result.0 result.1 scan.old keeper.old keeper.new }
+    ensures same { (file : List ℕ) → D.holds from.old file → D.holds from.new file }
+    ensures stays { D.tells → StaysKept (D.disk from.old) (D.disk from.new) }
+    ensures cause { D.tells → (read : List (List ℕ)) → HasRead read (D.disk from.old).seen scan.old
+        → HasStartCause (fault_old result.1) (D.disk from.old) (D.disk from.new) }
+{
+    loop {
+        let extent = scan.extent();
+        match take_next(global, keeper, scan, from) {
+            Ok(true) => {}
+            Ok(false) => return (extent, Ok(())),
+            Err(fault) => return (extent, Err(fault)),
+        }
+    }
+}
+
+/// The fault for which a start refuses a file each time: where it is damaged, or a record is none of the next entry. None of any other.
+fn stop_of(fault: SalvageFault) -> Option<StartFault>
+    ensures { result ≡ stop_of fault }
+{
+    match fault {
+        SalvageFault::Old(StartFault::Journal(OpenFault::Refused(why))) => {
+            Some(StartFault::Journal(OpenFault::Refused(why)))
+        }
+        SalvageFault::Old(StartFault::Record { place, fault }) => {
+            Some(StartFault::Record { place, fault })
+        }
+        SalvageFault::Old(StartFault::Entry(fault)) => Some(StartFault::Entry(fault)),
+        _ => None,
+    }
+}
+
+/// The fault for which a start refuses a file that was read to its end: too many torn bytes. None where they are few.
+fn torn_stop<D: Device>(from: &mut D, extent: Extent) -> Result<Option<StartFault>, SalvageFault>
+    ensures torn { (file : List ℕ) → D.holds from.old file → extent_of (contents file) ≡ Ok extent
+        → IfOk result (λ stop. IsTornStop stop file) }
+    ensures same { (file : List ℕ) → D.holds from.old file → D.holds from.new file }
+    ensures stays { D.tells → StaysKept (D.disk from.old) (D.disk from.new) }
+    ensures fault { IfErr result IsOldDevice }
+    ensures cause { D.tells → HasStartCause (fault_old result) (D.disk from.old) (D.disk from.new) }
+{
+    match torn_behind(from, extent) {
+        Ok(torn) => {
+            if torn > BATCH_BYTES_MAX as u64 {
+                return Ok(Some(StartFault::TornTooLong {
+                    at: extent.end as u64,
+                    bytes: torn,
+                }));
+            }
+            Ok(None)
+        }
+        Err(fault) => Err(SalvageFault::Old(StartFault::Journal(OpenFault::Device(fault)))),
+    }
+}
+
+/// Commits what waits.
+#[tactic(auto, using(crate::proofs::Taking::puts_commit))]
+fn commit_waiting<N: Device>(journal: &mut Journal<N>) -> Result<(), Fault>
+    requires usable { journal.old.usable ≡ true }
+    requires ready { N.tells → IsReady N.disk journal.old }
+    ensures puts { Puts N.disk N.tells result [] journal.old journal.new }
+    ensures emptied { OnOk result (journal.new.waiting ≡ []) }
+{
+    journal.commit()
+}
+
+/// Commits what waits in the journal of a new file.
+#[tactic(auto, using(crate::proofs::Taking::commits_not))]
+fn commit_taken<N: Device>(keeper: &mut Keeper<N>) -> Result<(), SalvageFault>
+    requires usable { keeper.old.journal.usable ≡ true }
+    requires ready { N.tells → IsReady N.disk keeper.old.journal }
+    ensures { CommitsTaken N.disk N.tells result keeper.old keeper.new }
+{
+    match commit_waiting(&mut keeper.journal) {
+        Ok(()) => Ok(()),
+        Err(fault) => Err(new_fault(fault)),
+    }
+}
+
+/// Why no more was taken, by what ended it.
+fn stopped_by<D: Device>(
+    taken: Result<(), SalvageFault>,
+    from: &mut D,
+    extent: Extent,
+) -> Result<Option<StartFault>, SalvageFault>
+    ensures stops { StopsBy result taken (D.holds from.old) extent }
+    ensures same { (file : List ℕ) → D.holds from.old file → D.holds from.new file }
+    ensures stays { D.tells → StaysKept (D.disk from.old) (D.disk from.new) }
+    ensures cause { D.tells → OnOk taken (HasStartCause (fault_old result) (D.disk from.old) (D.disk from.new)) }
+    ensures unread { OnErr taken (from.new ≡ from.old) }
+{
+    match taken {
+        Ok(()) => torn_stop(from, extent),
+        Err(fault) => match stop_of(fault) {
+            Some(stop) => Ok(Some(stop)),
+            None => Err(fault),
+        },
+    }
+}
+
+/// Takes over the records that are left and commits them. Returns where they end in the file, and why no more were taken.
+fn take_behind<D: Device, N: Device>(
+    global: Global,
+    keeper: &mut Keeper<N>,
+    scan: &mut Scan,
+    from: &mut D,
+) -> Result<(Extent, Option<StartFault>), SalvageFault>
+    requires usable { keeper.old.journal.usable ≡ true }
+    requires ready { N.tells → IsReady N.disk keeper.old.journal }
+    ensures takes { TakesBehind N.disk N.tells (D.holds from.old) result scan.old keeper.old keeper.new }
+    ensures same { (file : List ℕ) → D.holds from.old file → D.holds from.new file }
+    ensures stays { D.tells → StaysKept (D.disk from.old) (D.disk from.new) }
+    ensures cause { D.tells → (read : List (List ℕ)) → HasRead read (D.disk from.old).seen scan.old
+        → HasStartCause (fault_old result) (D.disk from.old) (D.disk from.new) }
+{
+    let (extent, taken) = take_all(global, keeper, scan, from);
+    match stopped_by(taken, from, extent) {
+        Ok(stop) => match commit_taken(keeper) {
+            Ok(()) => Ok((extent, stop)),
+            Err(fault) => Err(fault),
+        },
+        Err(fault) => Err(fault),
+    }
+}
+
+/// Takes over a file of these rules of which the head was read.
+fn salvage_behind<D: Device, N: Device>(
+    global: Global,
+    rules: Rules,
+    scan: &mut Scan,
+    from: &mut D,
+    into: N,
+) -> Result<Salvaged<N>, NotSalvaged<N>>
+    requires sound { N.tells → (N.disk into).sound ≡ true }
+    ensures salvaged { IfOk result
+        (IsSalvaged N.tells N.disk
+        (HoldsRead (D.holds from.old) (head_record rules.profile rules.clients_max ∷ []) scan.old)) }
+    ensures unsalvaged { (file : List ℕ)
+        → HoldsRead (D.holds from.old) (head_record rules.profile rules.clients_max ∷ []) scan.old file
+        → IfErr result (λ failed. IsUnsalvaged failed.fault file) }
+    ensures any_moment { N.tells
+        → LeavesOnly (N.disk into) (N.disk (salvaged_device result))
+        (MayBeSalvaged
+        (HoldsRead (D.holds from.old) (head_record rules.profile rules.clients_max ∷ []) scan.old)
+        (N.disk into)) }
+    ensures cause_new { N.tells → HasNewCause (why_new result) (N.disk into) (N.disk (salvaged_device result)) }
+    ensures same { (file : List ℕ) → D.holds from.old file → D.holds from.new file }
+    ensures stays { D.tells → StaysKept (D.disk from.old) (D.disk from.new) }
+    ensures cause_old { D.tells
+        → HasRead (head_record rules.profile rules.clients_max ∷ []) (D.disk from.old).seen scan.old
+        → HasStartCause (why_old result) (D.disk from.old) (D.disk from.new) }
+{
+    let _clients = rules.clients_max.get();
+    let mut keeper = match create(global, into, rules) {
+        Ok(keeper) => keeper,
+        Err(failed) => {
+            return Err(NotSalvaged {
+                device: failed.device,
+                fault: SalvageFault::New(failed.fault),
+            });
+        }
+    };
+    match take_behind(global, &mut keeper, scan, from) {
+        Ok((extent, stop)) => Ok(Salvaged {
+            keeper,
+            end: extent.end as u64,
+            stop,
+        }),
+        Err(fault) => Err(NotSalvaged {
+            device: keeper.into_device(),
+            fault,
+        }),
+    }
+}
+
+/// Takes over a file of which nothing was read.
+fn salvage_by<D: Device, N: Device>(
+    global: Global,
+    scan: &mut Scan,
+    from: &mut D,
+    into: N,
+) -> Result<Salvaged<N>, NotSalvaged<N>>
+    requires sound { N.tells → (N.disk into).sound ≡ true }
+    ensures salvaged { IfOk result (IsSalvaged N.tells N.disk (HoldsRead (D.holds from.old) [] scan.old)) }
+    ensures unsalvaged { (file : List ℕ) → HoldsRead (D.holds from.old) [] scan.old file
+        → IfErr result (λ failed. IsUnsalvaged failed.fault file) }
+    ensures any_moment { N.tells
+        → LeavesOnly (N.disk into) (N.disk (salvaged_device result))
+        (MayBeSalvaged (HoldsRead (D.holds from.old) [] scan.old) (N.disk into)) }
+    ensures cause_new { N.tells → HasNewCause (why_new result) (N.disk into) (N.disk (salvaged_device result)) }
+    ensures same { (file : List ℕ) → D.holds from.old file → D.holds from.new file }
+    ensures stays { D.tells → StaysKept (D.disk from.old) (D.disk from.new) }
+    ensures cause_old { D.tells → HasRead [] (D.disk from.old).seen scan.old
+        → HasStartCause (why_old result) (D.disk from.old) (D.disk from.new) }
+{
+    match first_rules(scan, from) {
+        Ok(rules) => salvage_behind(global, rules, scan, from, into),
+        Err(fault) => Err(NotSalvaged {
+            device: into,
+            fault: SalvageFault::Old(fault),
+        }),
+    }
+}
+
+/// Takes the entries of a file over into a new one: all that stand before the first damage, and before the first record that is none of
+/// the next entry. The old file is read once, and not written to. The new one is a kept ledger of the same rules; what was taken is
+/// durable. Nothing is made where the old file has no head, or is no journal.
+///
+/// An error is Old, with the fault of a start, where the old file is no ledger or is not read on, and New where the new one is not made or
+/// not written to, as where something is there already (NotEmpty). The new file then has nothing, or some first entries.
+pub fn salvage<D: Device, N: Device>(
+    global: Global,
+    from: &mut D,
+    into: N,
+) -> Result<Salvaged<N>, NotSalvaged<N>>
+    // No sync has failed on the new file's device before.
+    requires sound { N.tells → (N.disk into).sound ≡ true }
+    // Of any device, by the file that the reads of the old one are of.
+    ensures salvaged { IfOk result (IsSalvaged N.tells N.disk (D.holds from.old)) }
+    ensures unsalvaged { (file : List ℕ) → D.holds from.old file
+        → IfErr result (λ failed. IsUnsalvaged failed.fault file) }
+    // A crash at any moment of the call leaves no entry, or some first ones, in the new file.
+    ensures any_moment { N.tells
+        → LeavesOnly (N.disk into) (N.disk (salvaged_device result))
+        (MayBeSalvaged (D.holds from.old) (N.disk into)) }
+    ensures cause_new { N.tells → HasNewCause (why_new result) (N.disk into) (N.disk (salvaged_device result)) }
+    ensures same { (file : List ℕ) → D.holds from.old file → D.holds from.new file }
+    ensures untouched { D.tells → IsUntouched (D.disk from.old) (D.disk from.new) }
+    ensures cause_old { D.tells → HasStartCause (why_old result) (D.disk from.old) (D.disk from.new) }
+{
+    match Scan::start(global, from) {
+        Ok(mut scan) => salvage_by(global, &mut scan, from, into),
+        Err(fault) => Err(NotSalvaged {
+            device: into,
+            fault: SalvageFault::Old(StartFault::Journal(fault)),
+        }),
+    }
+}
+
+/// Copies a file into a new one, as [`salvage`] does, where it is whole: where a start would refuse it, its fault is returned (Old).
+pub fn backup<D: Device, N: Device>(
+    global: Global,
+    from: &mut D,
+    into: N,
+) -> Result<Keeper<N>, NotSalvaged<N>>
+    // No sync has failed on the new file's device before.
+    requires sound { N.tells → (N.disk into).sound ≡ true }
+    // Of any device, by the file that the reads of the old one are of.
+    ensures backed_up { IfOk result (IsBackedUp N.tells N.disk (D.holds from.old)) }
+    ensures not_backed_up { (file : List ℕ) → D.holds from.old file
+        → IfErr result (λ failed. IsNotBackedUp failed.fault file) }
+    // A crash at any moment of the call leaves no entry, or some first ones, in the new file.
+    ensures any_moment { N.tells
+        → LeavesOnly (N.disk into) (N.disk (backup_device result))
+        (MayBeSalvaged (D.holds from.old) (N.disk into)) }
+    ensures cause_new { N.tells → HasNewCause (why_new result) (N.disk into) (N.disk (backup_device result)) }
+    ensures same { (file : List ℕ) → D.holds from.old file → D.holds from.new file }
+    ensures untouched { D.tells → IsUntouched (D.disk from.old) (D.disk from.new) }
+    ensures cause_old { D.tells → HasStartCause (why_old result) (D.disk from.old) (D.disk from.new) }
+{
+    match salvage(global, from, into) {
+        Ok(salvaged) => match salvaged.stop {
+            None => Ok(salvaged.keeper),
+            Some(fault) => Err(NotSalvaged {
+                device: salvaged.keeper.into_device(),
+                fault: SalvageFault::Old(fault),
+            }),
+        },
+        Err(failed) => Err(failed),
+    }
+}
