@@ -5,10 +5,12 @@
 //! - `scripts`: scripts by the bytes of the formats.
 //! - `openings`: files opened, created or refused.
 //! - `dumps`: the history of a file, read without a write.
+//! - `entries`: the entries of a file above a commit number.
 //! - `crashes`: crashes at each moment, and each call that fails.
 //! - `serving`: what is served over a file.
 //! - `pieces`: files longer than a piece.
 //! - `torn`: torn bytes that are cut off, or refused.
+//! - `salvaging`: files that are salvaged or backed up.
 //! - `conversations`: replies that leave before the next pair is waited for.
 #![tactic(auto)]
 
@@ -19,9 +21,13 @@ mod crashes;
 #[cfg(test)]
 mod dumps;
 #[cfg(test)]
+mod entries;
+#[cfg(test)]
 mod openings;
 #[cfg(test)]
 mod pieces;
+#[cfg(test)]
+mod salvaging;
 #[cfg(test)]
 mod scripts;
 #[cfg(test)]
