@@ -13,6 +13,7 @@ pub mod Dumping
 pub mod Taking
 pub mod Salvages
 pub mod Behind
+pub mod Longest
 pub mod Above
 pub mod Crashes
 pub mod Again

@@ -27,7 +27,7 @@ use Rattle.tb_keep.specs.declared.salvaging.NotSalvaged.{NotSalvaged}
 use Rattle.tb_keep.specs.declared.salvaging.Salvaged.{Salvaged}
 use Rattle.tb_keep.specs.Keeping.{History, state_of, records_of, head_record, Keeping, Keeps, IsKeepable, IsLedger}
 use Rattle.tb_keep.specs.Opening.{history_of, MayBeCreated, IsCreateRefused, IsCreateStartCause}
-use Rattle.tb_keep.specs.Restoration.{RecordsLead, StopsAt, StopsBeginning, IsNotOfFile, IsStartCause}
+use Rattle.tb_keep.specs.Restoration.{RecordsLead, StopsAt, StopsBeginning, StopsFile, IsNotOfFile, IsStartCause}
 use Rattle.tb_keep.specs.Salvaging.{StopsBehind, IsTaken, IsSalvaged, IsBackedUp, IsUnsalvaged, IsNotBackedUp, IsWriteCause, IsNewCause, HasNewCause, MayBeSalvaged, IsLeftAlone}
 use Rattle.tb_keep.specs.Taking.{HoldsRead, IsBetween, line, Taken, TakesBehind, fault_new}
 use Rattle.tb_keep.specs.Reading.{HasRules, RulesIn, rules_of}
@@ -194,6 +194,11 @@ module _ (h : History) (keepable : IsKeepable h) (end : ℕ) (file : List ℕ) w
   leads : RecordsLead (start_state h.profile h.clients_max) (map dumped h.entries) (state_of h)
   leads = record { entries = h.entries; legal = keepable.legal; state = refl; recorded_are = keepable.recorded_are; spelled = refl }
 
+  pub stops_longer_history : (fault : StartFault) (bytes : List ℕ) (more : List (List ℕ)) → StopsAt fault (state_of h) bytes → StopsFile fault h.profile h.clients_max (records_of h ++ bytes ∷ more)
+  stops_longer_history fault bytes more stops =
+      stops_file fault h.profile h.clients_max (records_of h ++ bytes ∷ more) (head_record h.profile h.clients_max) (map dumped h.entries ++ bytes ∷ more) refl
+      (inr (state_of h, (map dumped h.entries, bytes, more, refl, leads, stops)))
+
   stopped : (fault : StartFault) (bytes : List ℕ) → BeginsWith (records_of h ++ bytes ∷ []) file → StopsAt fault (state_of h) bytes
       → (rules : Rules) × HasRules rules file × StopsBeginning fault rules.profile rules.clients_max file
   stopped fault bytes begins stops = (
@@ -202,8 +207,7 @@ module _ (h : History) (keepable : IsKeepable h) (end : ℕ) (file : List ℕ) w
     record {
       records = records_of h ++ bytes ∷ [];
       begins = begins;
-      stops = stops_file fault h.profile h.clients_max (records_of h ++ bytes ∷ []) (head_record h.profile h.clients_max) (map dumped h.entries ++ bytes ∷ []) refl
-          (inr (state_of h, (map dumped h.entries, bytes, [], refl, leads, stops)));
+      stops = stops_longer_history fault bytes [] stops;
     },
   )
 

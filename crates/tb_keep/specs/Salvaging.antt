@@ -1,5 +1,5 @@
 -- What is taken over of a file into a new one, and what a crash may leave of that meanwhile.
--- Cited by public contracts of: salvaging.
+-- Cited by public contracts of: laws, salvaging.
 use Rattle.std.specs.Prelude.{ℕ, true, ◌≡◌, ◌⊎◌, ◌≤◌, ◌^◌, List, [], ◌∷◌, ◌++◌, Option, None, Some, Result, Ok, Err, OnOk, IfErr}
 use Rattle.tb_journal.specs.declared.faults.Fault.{Fault}
 use Rattle.tb_journal.specs.declared.faults.Fault.TheVariants.{Memory, Full, NotEmpty}
@@ -131,3 +131,8 @@ MayBeSalvaged holds before c =
     IsAsBefore before c
     ⊎ ((is_blank before.seen ≡ true)
     × (IsUnborn c ⊎ ((contents c ≡ Records []) ⊎ ((h : History) × IsLedger h c × ((file : List ℕ) → holds file → BeginsWith (records_of h) file)))))
+
+-- no legal history with whose records the file begins has more of them than the one that is taken
+abbrev pub IsLongest : Type 0
+IsLongest = (h k : History) (end : ℕ) (stop : Option StartFault) (file : List ℕ) → IsKeepable h → IsKeepable k → IsTaken h end stop file → BeginsWith (records_of k) file
+    → (rest : List (List ℕ)) × (records_of h ≡ records_of k ++ rest)

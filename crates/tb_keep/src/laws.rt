@@ -6,6 +6,7 @@ ghost use Rattle.tb_keep.specs.Again.{OneHistory, OneLedger, GoesOnAfter, AnyCra
 ghost use Rattle.tb_keep.specs.Following.{EntriesAreAbove, EntriesOnce};
 ghost use Rattle.tb_keep.specs.Reading.{DumpIsOfHistory, WholeRules, WholeNoHead, WholeDumps};
 ghost use Rattle.tb_keep.specs.Restoration.{OnlyMemory, FileOnlyMemory, WholeStops};
+ghost use Rattle.tb_keep.specs.Salvaging.{IsLongest};
 ghost use Rattle.tb_keep.specs.Moments.{WhileCommitting, WhileTelling, Lasts, RoundsAreServed};
 ghost use Rattle.tb_keep.specs.Rounds.{Standing, Rounds, pairs_of, told_from};
 
@@ -69,6 +70,11 @@ pub fn whole_files()
 pub fn entries_above()
     ensures above { EntriesAreAbove }
     ensures once { EntriesOnce }
+{}
+
+/// What `salvage` takes of a file is the longest legal history with whose records the file begins: each other begins so.
+pub fn salvages_most()
+    ensures { IsLongest }
 {}
 
 /// What `write_dump` writes of a file spells the history that the file stands for.
