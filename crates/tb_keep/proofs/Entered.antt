@@ -2,6 +2,7 @@
 use Rattle.std.proofs.Common.{arith, ℕ, ◌≡◌, ◌⊎◌, inl, inr, true, false, List, [], ◌∷◌, ◌++◌, refl, sym, ap, ◌∙◌, subst, append_assoc, Ok, Err, ◌<◌, ◌≤◌}
 use Rattle.std.proofs.lemmas.Grind.{common_steps}
 use Rattle.tb_records.specs.declared.limits.Profile.{Profile}
+use Rattle.tb_records.specs.declared.limits.TheConstants.{CLIENTS_MAX}
 use Rattle.tb_journal.specs.declared.reading.Extent.{Extent}
 use Rattle.tb_journal.specs.Device.{Disk, IsLookedAt}
 use Rattle.tb_journal.specs.Contents.{Records, contents, records_of}
@@ -110,7 +111,7 @@ extent_found file records scan extent reads has end count = grind (arith, common
 
 -- a whole file
 
-module _ (profile : Profile) (clients_max : ℕ) (some_client : 0 < clients_max) (clients : clients_max ≤ 64) where
+module _ (profile : Profile) (clients_max : ℕ) (some_client : 0 < clients_max) (clients : clients_max ≤ CLIENTS_MAX) where
   of_history : (records : List (List ℕ)) (T : State) → RecordsLead (start_state profile clients_max) records T → IsRestored profile clients_max (head_record profile clients_max ∷ records) T
   of_history records T leads = record {
     entries = leads.entries;

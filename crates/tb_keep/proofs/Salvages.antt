@@ -2,6 +2,7 @@
 use Rattle.std.proofs.Common.{arith, ℕ, ◌≡◌, ◌⊎◌, ◌<◌, ◌≤◌, inl, inr, true, List, [], ◌∷◌, ◌++◌, map, Result, Ok, Err, IfOk, IfErr, Some, None, Option, refl, sym, ap, ◌∙◌, subst, append-nil}
 use Rattle.std.proofs.lemmas.Grind.{common_steps}
 use Rattle.tb_records.specs.declared.limits.Profile.{Profile}
+use Rattle.tb_records.specs.declared.limits.TheConstants.{CLIENTS_MAX}
 use Rattle.tb_journal.specs.declared.faults.Fault.{Fault}
 use Rattle.tb_journal.specs.declared.faults.Fault.TheVariants as faults
 use Rattle.tb_journal.specs.declared.opening.OpenFault.{OpenFault}
@@ -37,7 +38,7 @@ use Rattle.tb_keep.proofs.Taking.{leads_first, breaks_then, write_cause_since}
 
 -- the history of records behind a head
 
-module _ (rules : Rules) (some_client : 0 < rules.clients_max) (clients : rules.clients_max ≤ 64) where
+module _ (rules : Rules) (some_client : 0 < rules.clients_max) (clients : rules.clients_max ≤ CLIENTS_MAX) where
   abbrev head : List ℕ
   head = head_record rules.profile rules.clients_max
 
@@ -247,7 +248,7 @@ unsalvaged_not_whole (New f) file is = tt
 
 -- a file of which the head was read, and a new one that has the head alone
 
-module _ (rules : Rules) (some_client : 0 < rules.clients_max) (clients : rules.clients_max ≤ 64) {N : Type 0} (disk : N → Disk) (tells : Type 0) (holds : List ℕ → Type 0) (first : Place)
+module _ (rules : Rules) (some_client : 0 < rules.clients_max) (clients : rules.clients_max ≤ CLIENTS_MAX) {N : Type 0} (disk : N → Disk) (tells : Type 0) (holds : List ℕ → Type 0) (first : Place)
     (created last : Keeping N) (kept : tells → Keeps disk (history_of rules.profile rules.clients_max []) created) (empty : created.state ≡ start_state rules.profile rules.clients_max) where
   abbrev top : List ℕ
   top = head_record rules.profile rules.clients_max
@@ -349,7 +350,7 @@ module _ (rules : Rules) (some_client : 0 < rules.clients_max) (clients : rules.
             (written_alone before (disk middle.journal.device) (disk last.journal.device) f (breaks t).cause);
       }
 
-module _ (rules : Rules) (some_client : 0 < rules.clients_max) (clients : rules.clients_max ≤ 64) (holds : List ℕ → Type 0) (first : Place) (before after : Disk) where
+module _ (rules : Rules) (some_client : 0 < rules.clients_max) (clients : rules.clients_max ≤ CLIENTS_MAX) (holds : List ℕ → Type 0) (first : Place) (before after : Disk) where
   pub moments_not_made : LeavesOnly before after (MayBeCreated rules.profile rules.clients_max before) → LeavesOnly before after (MayBeSalvaged (HoldsRead holds (head_record rules.profile rules.clients_max ∷ []) first) before)
   moments_not_made leaves =
       moments_of_none rules.profile rules.clients_max (HoldsRead holds (head_record rules.profile rules.clients_max ∷ []) first) before after leaves

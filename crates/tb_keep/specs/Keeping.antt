@@ -2,6 +2,7 @@
 -- Cited by public contracts of: heads, keepers, opening, serving, worked_rows.
 use Rattle.std.specs.Prelude.{ℕ, ◌≡◌, ◌<◌, ◌≤◌, Bool, true, List, [], ◌∷◌, ◌++◌, map, codes, refl}
 use Rattle.tb_records.specs.declared.limits.Profile.{Profile}
+use Rattle.tb_records.specs.declared.limits.TheConstants.{CLIENTS_MAX}
 use Rattle.tb_records.specs.declared.limits.Profile.TheVariants.{Two}
 use Rattle.tb_records.specs.Ordered.{Each}
 use Rattle.tb_records.specs.DumpBytes.{profile_number}
@@ -41,7 +42,7 @@ AreRecorded entries = Each (λ (e : Entry). IsRecord (dumped e) e) entries
 -- a history that a file can stand for
 pub record IsKeepable (h : History) : Type 0 where
   pub some_client : 0 < h.clients_max
-  pub clients : h.clients_max ≤ 64
+  pub clients : h.clients_max ≤ CLIENTS_MAX
   pub legal : IsLegal h.profile h.clients_max h.entries
   pub recorded_are : AreRecorded h.entries
 

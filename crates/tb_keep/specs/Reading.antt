@@ -3,6 +3,7 @@
 use Rattle.std.specs.Prelude.{ℕ, ◌≡◌, ◌⊎◌, ◌<◌, ◌≤◌, List, [], ◌∷◌, ◌++◌, Result, Ok, Err, OnOk, IfErr, None}
 use Rattle.tb_records.specs.declared.faults.FrameFault.TheVariants.{Device}
 use Rattle.tb_records.specs.declared.limits.Profile.{Profile}
+use Rattle.tb_records.specs.declared.limits.TheConstants.{CLIENTS_MAX}
 use Rattle.tb_records.specs.DumpBytes.{head_bytes}
 use Rattle.tb_records.specs.Transport.{Output, Sent, CutOff}
 use Rattle.tb_journal.specs.declared.reading.Extent.{Extent}
@@ -27,7 +28,7 @@ rules_of profile clients_max = record { profile = profile; clients_max = clients
 -- a record is no head
 abbrev pub IsNoHead : List ℕ → Type 0
 IsNoHead head =
-    (profile : Profile) (clients_max : ℕ) → 0 < clients_max → clients_max ≤ 64 → head ≡ head_record profile clients_max → ⊥
+    (profile : Profile) (clients_max : ℕ) → 0 < clients_max → clients_max ≤ CLIENTS_MAX → head ≡ head_record profile clients_max → ⊥
 
 -- the first record of a file is the head of a ledger of these rules
 abbrev pub HasRules : Rules → List ℕ → Type 0
