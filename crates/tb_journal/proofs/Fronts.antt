@@ -25,7 +25,7 @@ gate_same : (closed : Bool) (size : List ℕ) (sum k : ℕ) (rest : List ℕ) �
     → (if closed then Ends else behind_gate size sum (take k rest)) ≡ (if closed then Ends else behind_gate size sum rest)
 gate_same closed size sum k rest le = grind (arith, common_steps, behind_same)
 
-at_least : (closed : Bool) (n : ℕ) → 8 ≤ (if closed then 8 else 8 + n)
+pub at_least : (closed : Bool) (n : ℕ) → 8 ≤ (if closed then 8 else 8 + n)
 at_least closed n = grind (arith, common_steps)
 
 behind_open : (closed : Bool) (n m : ℕ) → (if closed then 8 else 8 + n) ≤ m → closed ≡ false → n ≤ m - 8
@@ -35,7 +35,7 @@ short : (m : ℕ) (l : List ℕ) → length l ≤ m → front (take m l) ≡ fro
 short m l le = ap front (take_all m l le)
 
 -- so many bytes as are asked for
-front_told : (m : ℕ) (l : List ℕ) → asked l ≤ m → front (take m l) ≡ front l
+pub front_told : (m : ℕ) (l : List ℕ) → asked l ≤ m → front (take m l) ≡ front l
 front_told m [] le = short m [] (omega arith)
 front_told m (g ∷ []) le = short m (g ∷ []) (omega (arith, le))
 front_told m (g ∷ a ∷ []) le = short m (g ∷ a ∷ []) (omega (arith, le))
@@ -52,7 +52,7 @@ front_told m (g ∷ a ∷ b ∷ c ∷ s ∷ t ∷ u ∷ v ∷ rest) le =
     ∙ gate_same (g == 0) (a ∷ b ∷ c ∷ []) (from_le_bytes w32 (s ∷ t ∷ u ∷ v ∷ [])) k rest (behind_open (g == 0) n m le)
 
 -- and four bytes tell how many
-asked_told : (m : ℕ) (l : List ℕ) → 4 ≤ m → asked (take m l) ≡ asked l
+pub asked_told : (m : ℕ) (l : List ℕ) → 4 ≤ m → asked (take m l) ≡ asked l
 asked_told m [] le = ap asked (take_all m [] (omega arith))
 asked_told m (g ∷ []) le = ap asked (take_all m (g ∷ []) (omega (arith, le)))
 asked_told m (g ∷ a ∷ []) le = ap asked (take_all m (g ∷ a ∷ []) (omega (arith, le)))

@@ -22,3 +22,8 @@ pub mod Scanning
 pub mod Between
 pub mod Retried
 pub mod WholeCalls
+pub mod Growths
+pub mod Following
+pub mod Showing
+pub mod Finding
+pub mod Closing

@@ -41,19 +41,19 @@ module _ (records : List (List ℕ)) (file : List ℕ) (begins : BeginsWith reco
   first_whole : take end (take end file) ≡ take end file
   first_whole = take_all end (take end file) (omega (arith, length-take end file))
 
-  goes_on : (others : List ℕ) → contents (take end file ++ others) ≡ with_records records (walk 0 end others)
+  pub goes_on : (others : List ℕ) → contents (take end file ++ others) ≡ with_records records (walk 0 end others)
   goes_on others = ap (λ (l : List ℕ). contents (l ++ others)) (sym first_whole) ∙ parts.goes_on others
 
-  all : contents file ≡ with_records records (walk 0 end (drop end file))
+  pub all : contents file ≡ with_records records (walk 0 end (drop end file))
   all = ap contents (sym (take-append-drop end file)) ∙ goes_on (drop end file)
 
-  next_none : front (drop end file) ≡ Ends → contents file ≡ Records records
+  pub next_none : front (drop end file) ≡ Ends → contents file ≡ Records records
   next_none is = all ∙ ended records end (drop end file) is
 
-  next_damaged : front (drop end file) ≡ Spoiled → contents file ≡ Damaged end
+  pub next_damaged : front (drop end file) ≡ Spoiled → contents file ≡ Damaged end
   next_damaged is = all ∙ ap (with_records records) (walk-spoiled (drop end file) end is) ∙ with_records-Damaged records end
 
-  one_more : (r : List ℕ) → front (drop end file) ≡ Whole r → BeginsWith (records ++ r ∷ []) file
+  pub one_more : (r : List ℕ) → front (drop end file) ≡ Whole r → BeginsWith (records ++ r ∷ []) file
   one_more r is =
       let n = 8 + length r in
       let rest = take n (drop end file) in
@@ -67,7 +67,7 @@ module _ (records : List (List ℕ)) (file : List ℕ) (begins : BeginsWith reco
 
 -- what is ahead behind a block
 
-ahead_behind : (k at next : ℕ) (file ahead : List ℕ) → k ≤ length ahead → next ≡ at + k → IsAhead at file ahead → IsAhead next file (drop k ahead)
+pub ahead_behind : (k at next : ℕ) (file ahead : List ℕ) → k ≤ length ahead → next ≡ at + k → IsAhead at file ahead → IsAhead next file (drop k ahead)
 ahead_behind k at next file ahead le is same =
     let m = length (drop k ahead) in
     let long : m ≡ length ahead - k = length-drop k ahead in

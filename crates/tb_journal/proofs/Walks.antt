@@ -68,7 +68,7 @@ pub record StaysBehind (size : List ℕ) (sum : ℕ) (rest record_bytes : List �
   pub is : take (length record_bytes) rest ≡ record_bytes
   pub stays : (others : List ℕ) → behind_gate size sum (take (length record_bytes) rest ++ others) ≡ Whole record_bytes
 
-stays_behind : (size : List ℕ) (sum : ℕ) (rest record_bytes : List ℕ) → behind_gate size sum rest ≡ Whole record_bytes → StaysBehind size sum rest record_bytes
+pub stays_behind : (size : List ℕ) (sum : ℕ) (rest record_bytes : List ℕ) → behind_gate size sum rest ≡ Whole record_bytes → StaysBehind size sum rest record_bytes
 stays_behind size sum rest r is =
     search (rules, whole_choice, both_true, length-take-le, take_at, room_for, length-append, choice_true, both)
   where
@@ -109,7 +109,7 @@ pub record IsSplit (file : List ℕ) (records : List (List ℕ)) : Type 0 where
   pub goes_on : (at : ℕ) (others : List ℕ) → walk 0 at (take (blocks_length records) file ++ others) ≡ with_records records (walk 0 (at + blocks_length records) others)
   pub ends : front (drop (blocks_length records) file) ≡ Ends
 
-unjoined : (r : List ℕ) (others : Contents) (records : List (List ℕ)) → with_record r others ≡ Records records → (rest : List (List ℕ)) × (others ≡ Records rest) × (records ≡ r ∷ rest)
+pub unjoined : (r : List ℕ) (others : Contents) (records : List (List ℕ)) → with_record r others ≡ Records records → (rest : List (List ℕ)) × (others ≡ Records rest) × (records ≡ r ∷ rest)
 unjoined r others records is = grind (arith, common_steps)
 
 split_first : (file r : List ℕ) (records : List (List ℕ)) → front file ≡ Whole r → IsSplit (drop (8 + length r) file) records → IsSplit file (r ∷ records)

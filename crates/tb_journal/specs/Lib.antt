@@ -15,6 +15,10 @@ pub mod Creating
 pub mod Reading
 pub mod Real
 pub mod System
+pub mod Growing
+pub mod Snapshots
+pub mod GrowingLaws
 -- what private contracts alone cite
 pub mod Batches
+pub mod Hops
 pub mod Posix

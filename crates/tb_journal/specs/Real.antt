@@ -1,5 +1,5 @@
 -- A file of which nothing is told.
--- Cited by public contracts of: real.
+-- Cited by public contracts of: real, snapshots.
 use Rattle.std.specs.Prelude.{[], true}
 use Rattle.tb_journal.specs.Device.{Disk}
 

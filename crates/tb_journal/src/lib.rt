@@ -15,6 +15,10 @@
 //! - `journals`: `Journal`, with `append` and `commit`.
 //! - `reading`: what stands at the head of some bytes: the end, a whole block, or damage.
 //! - `windows`: the part of a file that was read ahead, a piece of 64 KiB or one whole block.
+//! - `growing`: `Growing`, a file that another process appends to while it is read.
+//! - `hops`: the blocks in a piece of it, followed by their lengths.
+//! - `snapshots`: `Snapshot`, such a file as it was at one moment, as a device.
+//! - `laws`: what holds of every file that grows.
 //! - `scans`: `Scan`, a file read record by record; `read_journal`, to its end.
 //! - `opening`: `Journal::open` and `recover`, which cut off what stands behind the records.
 //! - `creating`: `create`, a journal in an empty file.
@@ -29,13 +33,17 @@ mod checksums;
 mod creating;
 mod devices;
 mod faults;
+mod growing;
+mod hops;
 mod journals;
+pub mod laws;
 mod memory;
 mod opening;
 mod posix;
 mod reading;
 mod real;
 mod scans;
+mod snapshots;
 mod systems;
 mod tables;
 mod windows;
@@ -43,6 +51,7 @@ mod windows;
 pub use creating::create;
 pub use devices::Device;
 pub use faults::Fault;
+pub use growing::Growing;
 pub use journals::{FILE_BYTES_MAX, Journal, RECORD_BYTES_MAX};
 pub use memory::Memory;
 pub use opening::{NotOpened, OpenFault, recover};
@@ -50,4 +59,5 @@ pub use posix::Posix;
 pub use reading::{Extent, Refusal};
 pub use real::{FileFault, HostFile, Real, sync_folder};
 pub use scans::{Scan, read_journal};
+pub use snapshots::Snapshot;
 pub use systems::System;

@@ -6,6 +6,7 @@ ghost use Rattle.tb_journal.specs.Torn.{Adds, shown_after};
 
 use crate::devices::Device;
 use crate::faults::Fault;
+use crate::growing::Growing;
 use std::alloc::{AllocError, Global};
 
 // A call that was made, with what it may have left. One that failed is not shown. A sync keeps the whole file.
@@ -263,6 +264,20 @@ impl Device for Memory {
                 Err(self.failures.count(Fault::Memory))
             }
         }
+    }
+}
+
+impl Growing for Memory {
+    ghost use Rattle.tb_journal.specs.Memory.{memory_holds};
+
+    ghost grows = { memory_holds };
+
+    fn read_at(&mut self, at: usize, into: &mut [u8]) -> Result<usize, Fault> {
+        <Self as Device>::read_at(self, at, into)
+    }
+
+    fn len(&mut self) -> Result<usize, Fault> {
+        <Self as Device>::len(self)
     }
 }
 

@@ -6,6 +6,7 @@ ghost use Rattle.tb_journal.specs.Posix.{ReadsSome, WritesSome};
 
 use crate::devices::Device;
 use crate::faults::Fault;
+use crate::growing::Growing;
 use crate::systems::System;
 use std::io::ErrorKind;
 
@@ -94,6 +95,19 @@ impl<S: System> Device for Posix<S> {
 
     fn sync(&mut self) -> Result<(), Fault> {
         sync_once(&mut self.system)
+    }
+}
+
+impl<S: System> Growing for Posix<S> {
+    // By the system's calls nobody else writes.
+    ghost grows = { λ file bytes. S.tells × (bytes ≡ (S.disk file.system).seen) };
+
+    fn read_at(&mut self, at: usize, into: &mut [u8]) -> Result<usize, Fault> {
+        <Self as Device>::read_at(self, at, into)
+    }
+
+    fn len(&mut self) -> Result<usize, Fault> {
+        <Self as Device>::len(self)
     }
 }
 

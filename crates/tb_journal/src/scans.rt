@@ -1,7 +1,8 @@
 //! A journal's file, read record by record.
-ghost use Rattle.std.specs.Prelude.{◌≡◌, ◌≤◌, ◌<◌, ◌+◌, ◌^◌, true, List, ℕ, length, IfOk, IfErr, OnOk};
+ghost use Rattle.std.specs.Prelude.{◌≡◌, ◌≤◌, ◌<◌, ◌+◌, ◌^◌, true, List, [], ℕ, length, IfOk, IfErr, OnOk};
 ghost use Rattle.tb_journal.specs.Device.{IsOnDisk, LeavesOnly, IsLookedAt, HasOwnCause};
 ghost use Rattle.tb_journal.specs.Contents.{front};
+ghost use Rattle.tb_journal.specs.Growing.{Later};
 ghost use Rattle.tb_journal.specs.Opening.{IsAsBefore, HasOpenCause};
 ghost use Rattle.tb_journal.specs.Scans.{Place, IsAhead, HasRead, Starts, ReadsNext, GoesFurther, IsAt, IsOfStart};
 ghost use Rattle.tb_journal.specs.Reading.{HasAhead, FindsHead, LooksKept, StartsScan, TellsExtent, head_is};
@@ -90,6 +91,16 @@ impl Scan {
             }
             Err(fault) => Err(OpenFault::Device(fault)),
         }
+    }
+
+    /// Drops what was read ahead, so that a scan that came to the end of a file goes on in a later one: in a snapshot that
+    /// was refreshed.
+    pub fn go_on(&mut self)
+        ensures ahead { self.new ≡ record self.old { ahead = [] } }
+        ensures reads { (records : List (List ℕ)) (file later : List ℕ) → Later file later
+            → HasRead records file self.old → HasRead records later self.new }
+    {
+        self.window.drop_ahead();
     }
 
     /// The record that the last call of `next` read.

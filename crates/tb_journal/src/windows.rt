@@ -1,5 +1,5 @@
 //! The part of a file that was read ahead.
-ghost use Rattle.std.specs.Prelude.{◌≡◌, ◌≤◌, ◌<◌, ◌+◌, ◌-◌, ◌^◌, ℕ, List, length, take, drop, vec_len, slice_range, IfOk, OnOk, OnErr};
+ghost use Rattle.std.specs.Prelude.{◌≡◌, ◌≤◌, ◌<◌, ◌+◌, ◌-◌, ◌^◌, ℕ, List, [], length, take, drop, vec_len, slice_range, IfOk, OnOk, OnErr};
 ghost use Rattle.tb_journal.specs.Device.{IsLookedAt, HasCause, HasOwnCause, ReadsAt};
 ghost use Rattle.tb_journal.specs.Scans.{IsAhead};
 ghost use Rattle.tb_journal.specs.Reading.{ReadAhead, HasAhead};
@@ -69,6 +69,13 @@ impl Window {
     {
         self.from = self.used;
         self.used += n;
+    }
+
+    // Drops the bytes that were read ahead.
+    pub fn drop_ahead(&mut self)
+        ensures { self.new ≡ record self.old { ahead = [] } }
+    {
+        self.filled = self.used;
     }
 
     // Reads on where fewer bytes are ahead than these: then so many are there, or all that the file has left. The bytes

@@ -1,0 +1,177 @@
+-- What a snapshot shows, and what it shows later.
+use Rattle.std.proofs.Common.{◌≡◌, ◌≢◌, ◌⊎◌, inl, inr, ⊎_elim, ℕ, ◌+◌, ◌-◌, ◌≤◌, ◌<◌, ◌==◌, min, Bool, true, false, List, [], ◌∷◌, ◌++◌, length, take, drop, refl, sym, ◌∙◌, ap, subst, arith, length-take, length-drop, length-append, Result, Ok, Err, IfOk}
+use Rattle.std.proofs.lemmas.Grind.{common_steps}
+use Rattle.std.proofs.lemmas.List.{append-nil, take-take, take_at, take_all, drop_all, drop-take, length-take-le}
+use Rattle.std.proofs.lemmas.Bool.{cases_lt}
+use Rattle.std.specs.Int.{w32, from_le_bytes}
+use Rattle.tb_journal.specs.declared.faults.Fault.{Fault}
+use Rattle.tb_journal.specs.Device.{ReadsAt}
+use Rattle.tb_journal.specs.Contents.{Ends, Spoiled, front, Contents, NotAJournal, Damaged, Records, contents, records_end}
+use Rattle.tb_journal.specs.Scans.{BeginsWith, IsAhead}
+use Rattle.tb_journal.specs.Reading.{HasAhead, asked}
+use Rattle.tb_journal.specs.Growing.{Extends, Later, Grown}
+use Rattle.tb_journal.specs.Snapshots.{Snapped, EndsAt, HasDamageBefore, LeadsTo, IsFinal, ShowsBlocks, ShowsAll, ShowsOf, Shows, IsHeld, Takes, Refreshes}
+use Rattle.tb_journal.proofs.Walks.{drop_parts, ended}
+use Rattle.tb_journal.proofs.Committing.{blocks_length-append}
+use Rattle.tb_journal.proofs.Nexts.{goes_on, next_none, next_damaged}
+use Rattle.tb_journal.proofs.Fronts.{at_least, asked_told, front_told}
+use Rattle.tb_journal.proofs.Growths.{extends_later, later_extends, final_later, damage_final, later_same, later_then, begins_part, leads_within, leads_kept, leads_later}
+
+-- what stands at the head of bytes is told by as many as are asked for
+
+asked_least : (l : List ℕ) → 8 ≤ asked l
+asked_least [] = omega arith
+asked_least (g ∷ []) = omega arith
+asked_least (g ∷ a ∷ []) = omega arith
+asked_least (g ∷ a ∷ b ∷ []) = omega arith
+asked_least (g ∷ a ∷ b ∷ c ∷ rest) = at_least (g == 0) (from_le_bytes w32 (a ∷ b ∷ c ∷ 0 ∷ []))
+
+front_same : (m : ℕ) (l k : List ℕ) → take m k ≡ take m l → asked l ≤ m → front k ≡ front l
+front_same m l k same le =
+    let four : 4 ≤ m = omega (arith, le, asked_least l) in
+    let asks : asked k ≡ asked l = sym (asked_told m k four) ∙ ap asked same ∙ asked_told m l four in
+    sym (front_told m k (omega (arith, asks, le))) ∙ ap front same ∙ front_told m l le
+
+-- the blocks that are shown
+
+module _ (end : ℕ) (file shown : List ℕ) (shows : ShowsBlocks end file shown) where
+  within : end ≤ length file
+  within = leads_within end file shows.leads
+
+  long : length (take end file) ≡ end
+  long = length-take-le end file within
+
+  pub shown_length : length shown ≡ end + 1
+  shown_length = omega (arith, ap length shows.is, length-append (take end file) (0 ∷ []), long)
+
+  pub shown_blocks : take end shown ≡ take end file
+  shown_blocks = ap (take end) shows.is ∙ take_at (take end file) (0 ∷ []) end long
+
+  of_records : EndsAt end file → contents shown ≡ contents file
+  of_records ends =
+      let rs = ends.records in
+      let here : front (drop (records_end rs) file) ≡ Ends = subst (λ (k : ℕ). front (drop k file) ≡ Ends) ends.is shows.closed in
+      let cut : shown ≡ take (records_end rs) file ++ 0 ∷ [] = subst (λ (k : ℕ). shown ≡ take k file ++ 0 ∷ []) ends.is shows.is in
+      ap contents cut ∙ goes_on rs file ends.begins (0 ∷ []) ∙ ended rs (records_end rs) (0 ∷ []) refl ∙ sym (next_none rs file ends.begins here)
+
+  of_damage : HasDamageBefore end file → contents shown ≡ contents file
+  of_damage past =
+      let rs = past.records in
+      let d = records_end rs in
+      let m = end - d in
+      let far : end ≡ d + m = omega (arith, past.before) in
+      let same : take (d + m) shown ≡ take (d + m) file = subst (λ (k : ℕ). take k shown ≡ take k file) far shown_blocks in
+      let behind : take m (drop d shown) ≡ take m (drop d file) = sym (drop-take d m shown) ∙ ap (drop d) same ∙ drop-take d m file in
+      let before : take d shown ≡ take d file =
+      sym (take-take d end shown (omega (arith, past.before))) ∙ ap (take d) shown_blocks ∙ take-take d end file (omega (arith, past.before)) in
+      let begins : BeginsWith rs shown = ap contents before ∙ past.begins in
+      let bad : front (drop d shown) ≡ Spoiled = front_same m (drop d file) (drop d shown) behind (omega (arith, past.before)) ∙ past.damaged in
+      next_damaged rs shown begins bad ∙ sym (next_damaged rs file past.begins past.damaged)
+
+  pub blocks_contents : contents shown ≡ contents file
+  blocks_contents = ⊎_elim of_records of_damage shows.leads
+
+pub shown_contents : (closed : Bool) (end : ℕ) (file shown : List ℕ) → ShowsOf closed end file shown → contents shown ≡ contents file
+shown_contents true end file shown shows = blocks_contents end file shown shows
+shown_contents false end file shown shows = ap contents shows.is
+
+-- what is shown begins every later file
+
+blocks_prefix : (end : ℕ) (met shown last : List ℕ) (records : List (List ℕ)) → ShowsBlocks end met shown → Later met last → contents met ≡ Records records
+    → take (records_end records) last ≡ take (records_end records) shown
+blocks_prefix end met shown last records shows after is = ⊎_elim of_ends of_past shows.leads
+  where
+    of_ends : EndsAt end met → take (records_end records) last ≡ take (records_end records) shown
+    of_ends ends =
+        let here : front (drop (records_end ends.records) met) ≡ Ends = subst (λ (k : ℕ). front (drop k met) ≡ Ends) ends.is shows.closed in
+        let e : Records ends.records ≡ Records records = sym (next_none ends.records met ends.begins here) ∙ is in
+        let same : ends.records ≡ records = cc in
+        subst (λ (k : ℕ). take k last ≡ take k shown) (ends.is ∙ ap records_end same)
+        (leads_kept end met last shows.leads after ∙ sym (shown_blocks end met shown shows))
+
+    of_past : HasDamageBefore end met → take (records_end records) last ≡ take (records_end records) shown
+    of_past past = let clash : Records records ≡ Damaged (records_end past.records) = sym is ∙ next_damaged past.records met past.begins past.damaged in absurd (cc)
+
+pub shown_prefix : (closed : Bool) (end : ℕ) (met shown last : List ℕ) (records : List (List ℕ)) → ShowsOf closed end met shown → Later met last
+    → contents shown ≡ Records records → Extends records shown last
+shown_prefix true end met shown last records shows after is =
+    let was : contents met ≡ Records records = sym (blocks_contents end met shown shows) ∙ is in
+    let grown = extends_later records met last was after in
+    record { more = grown.more; reads = grown.reads; same = blocks_prefix end met shown last records shows after was }
+shown_prefix false end met shown last records shows after is =
+    absurd (subst IsFinal (ap contents (sym shows.is) ∙ is) shows.final)
+
+-- a later end
+
+module _ (end : ℕ) (met shown now : List ℕ) (shows : ShowsBlocks end met shown) (after : Later met now) where
+  -- where the latch is closed still
+  pub shows_still : front (drop end now) ≡ Ends → ShowsBlocks end now shown
+  shows_still closed = record {
+    leads = leads_later end met now shows.leads after;
+    closed = closed;
+    is = shows.is ∙ ap (λ (l : List ℕ). l ++ 0 ∷ []) (sym (leads_kept end met now shows.leads after));
+  }
+
+  module _ (opened : front (drop end now) ≢ Ends) (next : Bool) (last : ℕ) (later again : List ℕ) (since : Later now later) (more : ShowsOf next last later again) where
+    -- the earlier blocks are records, since blocks came behind them
+    past_damage : HasDamageBefore end met → Later shown again
+    past_damage past =
+        let same : now ≡ met = final_later met now (damage_final end met past) after in
+        absurd (opened (subst (λ (l : List ℕ). front (drop end l) ≡ Ends) (sym same) shows.closed))
+
+    past_records : (ends : EndsAt end met) → Later shown again
+    past_records ends =
+        let rs = ends.records in
+        let here : front (drop (records_end rs) met) ≡ Ends = subst (λ (k : ℕ). front (drop k met) ≡ Ends) ends.is shows.closed in
+        let was : contents met ≡ Records rs = next_none rs met ends.begins here in
+        let grown = extends_later rs met later was (later_then met now later after since) in
+        let reads : contents again ≡ Records (rs ++ grown.more) = shown_contents next last later again more ∙ grown.reads in
+        let fewer : end ≤ records_end (rs ++ grown.more) = omega (arith, ends.is, blocks_length-append rs grown.more) in
+        later_extends rs shown again (blocks_contents end met shown shows ∙ was) (record {
+          more = grown.more;
+          reads = reads;
+          same = subst (λ (k : ℕ). take k again ≡ take k shown) ends.is
+              (front_of next more (rs ++ grown.more) grown.reads fewer ∙ leads_kept end met later shows.leads (later_then met now later after since) ∙ sym (shown_blocks end met shown shows));
+        })
+      where
+        by_leads : (whole : List (List ℕ)) → contents later ≡ Records whole → end ≤ records_end whole → (blocks : ShowsBlocks last later again) → EndsAt last later → end ≤ last
+        by_leads whole is le blocks ends =
+            let there : front (drop (records_end ends.records) later) ≡ Ends = subst (λ (k : ℕ). front (drop k later) ≡ Ends) ends.is blocks.closed in
+            let e : Records ends.records ≡ Records whole = sym (next_none ends.records later ends.begins there) ∙ is in
+            let same : ends.records ≡ whole = cc in
+            omega (arith, ends.is, ap records_end same, le)
+
+        front_of : (next : Bool) → ShowsOf next last later again → (whole : List (List ℕ)) → contents later ≡ Records whole → end ≤ records_end whole → take end again ≡ take end later
+        front_of false all whole is le = ap (take end) all.is
+        front_of true blocks whole is le =
+            let behind : end ≤ last = ⊎_elim (by_leads whole is le blocks)
+            (λ past. let clash : Records whole ≡ Damaged (records_end past.records) = sym is ∙ next_damaged past.records later past.begins past.damaged in absurd (cc)) blocks.leads in
+            sym (take-take end last again behind) ∙ ap (take end) (shown_blocks last later again blocks) ∙ take-take end last later behind
+
+    pub shows_more : Later shown again
+    shows_more = ⊎_elim past_records past_damage shows.leads
+
+-- a snapshot whose file has grown
+
+module _ {G : Type 0} (grows : G → List ℕ → Type 0) (old : Snapped G) (now : G) (shown : List ℕ) (held : IsHeld grows old shown) where
+  pub held_grown : {P : List ℕ → Type 0} → Grown (grows now) held.file P → IsHeld grows (record { file = now; end = old.end; closed = old.closed }) shown
+  held_grown grown = record {
+    file = grown.later;
+    now = grown.now;
+    shows = record { met = held.shows.met; since = later_then held.shows.met held.file grown.later held.shows.since grown.after; shows = held.shows.shows };
+  }
+
+-- reads of it
+
+pub reads_ahead : (count at : ℕ) (file into : List ℕ) → 8 ≤ length into → ReadsAt count at file into → HasAhead 8 at file (take count into)
+reads_ahead count at file into some reads =
+    let long : length (take count into) ≡ count = length-take-le count into (omega (arith, reads.counts)) in
+    record {
+      same = reads.bytes ∙ ap (λ (k : ℕ). take k (drop at file)) (sym long);
+      enough = ⊎_elim
+          (λ less. inr (reads.bytes ∙ take_all count (drop at file) (omega (arith, reads.counts, less, some))))
+          (λ le. inl (omega (arith, le, long))) (cases_lt count 8);
+    }
+
+pub reads_none : (at : ℕ) (shown into : List ℕ) → length shown ≤ at → ReadsAt 0 at shown into
+reads_none at shown into le = record { counts = omega (arith, le, length-drop at shown); bytes = refl }

@@ -1,0 +1,43 @@
+-- A journal's file that another process appends to by commits while it is read.
+-- Cited by public contracts of: growing, scans, snapshots.
+use Rattle.std.specs.Prelude.{◌≡◌, ℕ, List, [], ◌∷◌, ◌++◌, take, codes, refl}
+use Rattle.tb_journal.specs.Checksum.{byte_on, bit_on}
+use Rattle.tb_journal.specs.Contents.{block, Contents, NotAJournal, Damaged, Records, contents, records_end}
+
+-- commits went on: the records are there byte for byte, and maybe others behind them. Bytes behind the closed latch say nothing
+pub record Extends (records : List (List ℕ)) (file later : List ℕ) : Type 0 where
+  pub more : List (List ℕ)
+  pub reads : contents later ≡ Records (records ++ more)
+  pub same : take (records_end records) later ≡ take (records_end records) file
+
+-- by what the earlier file stands for: nobody appends to a file that is damaged or no journal
+abbrev pub LaterThan : Contents → List ℕ → List ℕ → Type 0
+LaterThan (Records records) file later = Extends records file later
+LaterThan (Damaged at) file later = later ≡ file
+LaterThan NotAJournal file later = later ≡ file
+
+-- the same file at a later moment, unless the machine lost power meanwhile
+abbrev pub Later : List ℕ → List ℕ → Type 0
+Later file later = LaterThan (contents file) file later
+
+-- a file that has grown meanwhile, to bytes that have P
+pub record Grown (grows : List ℕ → Type 0) (file : List ℕ) (P : List ℕ → Type 0) : Type 0 where
+  pub later : List ℕ
+  pub after : Later file later
+  pub now : grows later
+  pub has : P later
+
+-- examples
+
+-- a batch is written behind the closed latch, and then its latch is opened
+pub writes_behind_the_latch : Later (codes "TBJRNL01" ++ 0 ∷ []) (codes "TBJRNL01" ++ 0 ∷ 2 ∷ 0 ∷ [])
+writes_behind_the_latch = record { more = []; reads = refl; same = refl }
+
+pub opens_the_latch : Later (codes "TBJRNL01" ++ 0 ∷ 2 ∷ 0 ∷ []) (codes "TBJRNL01" ++ (block (codes "ab") ++ 0 ∷ []))
+unfolding byte_on bit_on
+opens_the_latch = record { more = codes "ab" ∷ []; reads = refl; same = refl }
+
+-- no record is lost
+pub keeps_its_records : Later (codes "TBJRNL01" ++ (block [] ++ 0 ∷ [])) (codes "TBJRNL01" ++ 0 ∷ []) → ⊥
+unfolding byte_on bit_on
+keeps_its_records later = let e : Records [] ≡ Records ([] ∷ later.more) = later.reads in absurd (cc)

@@ -1,0 +1,19 @@
+-- Laws of files that grow while they are read.
+-- Cited by public contracts of: laws.
+use Rattle.std.specs.Prelude.{◌≡◌, ℕ, Bool, List}
+use Rattle.tb_journal.specs.Contents.{Records, contents}
+use Rattle.tb_journal.specs.Growing.{Extends, Later}
+use Rattle.tb_journal.specs.Snapshots.{ShowsOf}
+
+-- a file is later than itself
+abbrev pub EachMomentIsLater : Type 0
+EachMomentIsLater = (file : List ℕ) → Later file file
+
+-- moments follow one another
+abbrev pub LaterMomentsFollow : Type 0
+LaterMomentsFollow = (first next last : List ℕ) → Later first next → Later next last → Later first last
+
+-- a snapshot that met its end at one moment of a file shows records that begin those of every later moment
+abbrev pub ShownIsAPrefix : Type 0
+ShownIsAPrefix = (closed : Bool) (end : ℕ) (met shown last : List ℕ) (records : List (List ℕ)) → ShowsOf closed end met shown → Later met last
+    → contents shown ≡ Records records → Extends records shown last

@@ -1,0 +1,78 @@
+-- What a snapshot of a file shows that grows while it is read.
+-- Cited by public contracts of: snapshots.
+use Rattle.std.specs.Prelude.{◌≡◌, ◌⊎◌, ℕ, ◌+◌, ◌≤◌, Bool, true, false, List, [], ◌∷◌, ◌++◌, length, take, drop}
+use Rattle.tb_journal.specs.Contents.{Ends, Spoiled, front, Contents, NotAJournal, Damaged, Records, contents, records_end}
+use Rattle.tb_journal.specs.Scans.{BeginsWith}
+use Rattle.tb_journal.specs.Reading.{asked}
+use Rattle.tb_journal.specs.Growing.{Later}
+
+-- a file, the offset at which a snapshot of it ends, and whether a closed latch was met there
+pub record Snapped (G : Type 0) : Type 0 where
+  pub file : G
+  pub end : ℕ
+  pub closed : Bool
+
+-- the records that a file begins with end there
+pub record EndsAt (end : ℕ) (file : List ℕ) : Type 0 where
+  pub records : List (List ℕ)
+  pub begins : BeginsWith records file
+  pub is : end ≡ records_end records
+
+-- a block before that offset has all of its bytes but another checksum
+pub record HasDamageBefore (end : ℕ) (file : List ℕ) : Type 0 where
+  pub records : List (List ℕ)
+  pub begins : BeginsWith records file
+  pub damaged : front (drop (records_end records) file) ≡ Spoiled
+  pub before : records_end records + asked (drop (records_end records) file) ≤ end
+  pub within : end ≤ length file
+
+-- the blocks of a file lead to this offset by their lengths
+abbrev pub LeadsTo : ℕ → List ℕ → Type 0
+LeadsTo end file = EndsAt end file ⊎ HasDamageBefore end file
+
+-- damaged or no journal: nobody appends to it
+abbrev pub IsFinal : Contents → Type 0
+IsFinal NotAJournal = Unit {0}
+IsFinal (Damaged at) = Unit {0}
+IsFinal (Records records) = ⊥
+
+-- the blocks up to the closed latch that was met, with that latch
+pub record ShowsBlocks (end : ℕ) (file shown : List ℕ) : Type 0 where
+  pub leads : LeadsTo end file
+  pub closed : front (drop end file) ≡ Ends
+  pub is : shown ≡ take end file ++ 0 ∷ []
+
+-- a file that no longer grows, whole
+pub record ShowsAll (file shown : List ℕ) : Type 0 where
+  pub final : IsFinal (contents file)
+  pub is : shown ≡ file
+
+-- what a snapshot shows of a file with these bytes at the moment when its end was met
+abbrev pub ShowsOf : Bool → ℕ → List ℕ → List ℕ → Type 0
+ShowsOf true end file shown = ShowsBlocks end file shown
+ShowsOf false end file shown = ShowsAll file shown
+
+-- and since: the file may have grown
+pub record Shows {G : Type 0} (snapshot : Snapped G) (file shown : List ℕ) : Type 0 where
+  pub met : List ℕ
+  pub since : Later met file
+  pub shows : ShowsOf snapshot.closed snapshot.end met shown
+
+-- a snapshot holds these bytes, whatever its file is by now
+pub record IsHeld {G : Type 0} (grows : G → List ℕ → Type 0) (snapshot : Snapped G) (shown : List ℕ) : Type 0 where
+  pub file : List ℕ
+  pub now : grows snapshot.file file
+  pub shows : Shows snapshot file shown
+
+-- a snapshot of a file stands for what the file stood for at some moment of the call
+pub record Takes {G : Type 0} (grows : G → List ℕ → Type 0) (file : List ℕ) (snapshot : Snapped G) : Type 0 where
+  pub later : List ℕ
+  pub after : Later file later
+  pub shown : List ℕ
+  pub held : IsHeld grows snapshot shown
+  pub same : contents shown ≡ contents later
+
+-- the same of one that showed something before: its bytes are those, and what was committed since
+pub record Refreshes {G : Type 0} (grows : G → List ℕ → Type 0) (file shown : List ℕ) (snapshot : Snapped G) : Type 0 where
+  pub takes : Takes grows file snapshot
+  pub goes_on : Later shown takes.shown

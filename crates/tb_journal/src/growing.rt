@@ -1,0 +1,27 @@
+//! A file that grows while it is read.
+ghost use Rattle.std.specs.Prelude.{◌≡◌, ◌≤◌, ℕ, List, length, IfOk, IfErr};
+ghost use Rattle.tb_journal.specs.Device.{ReadsAt, IsOfCall};
+ghost use Rattle.tb_journal.specs.Growing.{Grown};
+
+use crate::faults::Fault;
+
+/// A file that another process appends to by commits while it is read. It is read alone, with no lock and no sync: what is
+/// read may not be durable yet, and a power loss may take it away.
+pub trait Growing {
+    /// These are the bytes of the file at this moment. None are, of a file that does not say which.
+    ghost grows: { Self → List ℕ → Type 0 } = { λ file bytes. ⊥ };
+
+    /// Some of the bytes from an offset on, all of one moment: as many as there is room for, or all that are left.
+    fn read_at(&mut self, at: usize, into: &mut [u8]) -> Result<usize, Fault>
+        // Of any file, so that no reader trusts a count that is too large.
+        ensures within { IfOk result (λ count. count ≤ length into.new) }
+        ensures bytes { (file : List ℕ) → grows self.old file
+            → Grown (grows self.new) file (λ later. IfOk result (λ count. ReadsAt count at later into.new)) }
+        ensures names { IfErr result IsOfCall };
+
+    /// The number of bytes, those behind the closed latch too.
+    fn len(&mut self) -> Result<usize, Fault>
+        ensures bytes { (file : List ℕ) → grows self.old file
+            → Grown (grows self.new) file (λ later. IfOk result (λ len. len ≡ length later)) }
+        ensures names { IfErr result IsOfCall };
+}

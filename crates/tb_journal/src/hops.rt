@@ -1,0 +1,69 @@
+//! The blocks in a piece of a file, followed by their lengths.
+ghost use Rattle.std.specs.Prelude.{◌≡◌, ◌<◌, ◌^◌, List, ℕ, drop};
+ghost use Rattle.tb_journal.specs.declared.hops.Hop.TheVariants as variants;
+ghost use Rattle.tb_journal.specs.Contents.{front};
+ghost use Rattle.tb_journal.specs.Reading.{HasAhead};
+ghost use Rattle.tb_journal.specs.Hops.{HopsTo, FollowsPiece, TellsLatch, IsNear};
+
+use crate::reading::asked;
+
+// Gate, length and checksum of a block.
+const FIXED: usize = 8;
+
+// Where the blocks of a piece lead.
+#[derive(Clone, Copy)]
+pub enum Hop {
+    // To a closed latch, or the end of the file, at this offset.
+    Closed(usize),
+    // To this offset, which is not in the piece.
+    Further(usize),
+    // To a block that is not whole.
+    Broken,
+}
+
+#[tactic(auto, using(crate::proofs::Following::followed_first, crate::proofs::Following::followed_next, crate::proofs::Following::leads_on, crate::proofs::Following::leads_from))]
+// Over the blocks of a piece that begins at this offset with one.
+pub fn follow(piece: &[u8], at: usize, len: usize) -> Hop
+    requires near { at < 2 ^ 62 }
+    ensures leads { FollowsPiece result at piece.now len }
+    ensures further { (next : ℕ) → result ≡ variants.Further next → at < next }
+    ensures near { (end : ℕ) → result ≡ variants.Closed end → IsNear end }
+{
+    let mut end = at;
+    let mut rest = piece;
+    loop {
+        match step(rest, end, len) {
+            Hop::Further(next) => {
+                if rest.len() < FIXED || next - end > rest.len() - FIXED {
+                    return Hop::Further(next);
+                }
+                let (_, behind) = rest.split_at(next - end);
+                rest = behind;
+                end = next;
+            }
+            stop => return stop,
+        }
+    }
+}
+
+// Over one block.
+fn step(rest: &[u8], at: usize, len: usize) -> Hop
+    ensures hops { (file : List ℕ) → HasAhead 8 at file rest.now → HopsTo result at file len }
+    ensures further { (next : ℕ) → result ≡ variants.Further next → at < next }
+    ensures closed { (end : ℕ) → result ≡ variants.Closed end → end ≡ at }
+{
+    if let [] | [_] | [0, ..] = rest {
+        return Hop::Closed(at);
+    }
+    match at.checked_add(asked(rest)) {
+        Some(next) if rest.len() >= FIXED && next <= len => Hop::Further(next),
+        _ => Hop::Broken,
+    }
+}
+
+// Says whether these bytes begin with a closed latch, or are the last of a file that ends there.
+pub fn is_end(rest: &[u8]) -> bool
+    ensures { (at : ℕ) (file : List ℕ) → HasAhead 8 at file rest.now → TellsLatch result (front (drop at file)) }
+{
+    matches!(rest, [] | [_] | [0, ..])
+}

@@ -1,0 +1,267 @@
+//! A growing file as it was at one moment.
+ghost use Rattle.std.specs.Prelude.{◌≡◌, ◌≤◌, ◌<◌, ◌^◌, List, ℕ, length, Ok, IfOk, OnOk, OnErr, IfErr};
+ghost use Rattle.tb_journal.specs.Device.{IsOfCall};
+ghost use Rattle.tb_journal.specs.Real.{untold};
+ghost use Rattle.tb_journal.specs.declared.hops.Hop.TheVariants as variants;
+ghost use Rattle.tb_journal.specs.Reading.{HasAhead};
+ghost use Rattle.tb_journal.specs.Growing.{Grown};
+ghost use Rattle.tb_journal.specs.Snapshots.{Snapped, IsHeld, Takes, Refreshes};
+ghost use Rattle.tb_journal.specs.Hops.{IsFound, StartsAs, Grows, HopsFrom, Finds, FindsMore, TellsEnd, TellsStart, ReadsBlocks, Closes, IsNear};
+
+use crate::batches::CLOSED;
+use crate::devices::Device;
+use crate::faults::Fault;
+use crate::growing::Growing;
+use crate::hops::{Hop, follow, is_end};
+use crate::journals::FILE_BYTES_MAX;
+use crate::reading::MAGIC;
+use std::alloc::Global;
+use std::marker::Model;
+
+// A piece of a file, which is read at once.
+const PIECE: usize = 1 << 16;
+
+// Where its blocks begin.
+const START: usize = MAGIC.len();
+
+// Where a file ends, and whether by a closed latch.
+#[derive(Clone, Copy)]
+pub struct Found {
+    pub end: usize,
+    pub closed: bool,
+}
+
+/// A file that grows, as a device that holds the bytes of one moment: the blocks up to the closed latch that was met, and
+/// that latch. A file that is damaged or no journal is shown whole, since nobody appends to it.
+///
+/// It is read alone: a write or a cut fails, and a sync does nothing, so what it holds may be lost at a power loss.
+#[derive(Drop)]
+pub struct Snapshot<G: Growing> {
+    file: G,
+    piece: Vec<u8>,
+    found: Found,
+}
+
+impl<G: Growing> Model for Snapshot<G> {
+    ghost Value = { Snapped G };
+
+    ghost view = { λ s. record { file = s.file; end = s.found.end; closed = s.found.closed } };
+
+    ghost invariant = { λ s. IsNear s.found.end × (8 ≤ length s.piece.items) };
+}
+
+impl<G: Growing + Drop> Snapshot<G> {
+    /// Follows the blocks of a file to the closed latch, and keeps that end. No checksum is looked at: a scan does that.
+    pub fn new(alloc: Global, file: G) -> Result<Snapshot<G>, Fault>
+        ensures taken { (bytes : List ℕ) → G.grows file bytes → IfOk result (Takes G.grows bytes) }
+    {
+        let mut file = file;
+        let mut piece = vec![in alloc; 0u8; PIECE]?;
+        match find(&mut file, &mut piece) {
+            Ok(found) => Ok(Snapshot { file, piece, found }),
+            Err(fault) => Err(fault),
+        }
+    }
+
+    /// Goes on from the end that was met to the one that is there now. At an `Err` it holds what it held.
+    pub fn refresh(&mut self) -> Result<(), Fault>
+        ensures ok { (shown : List ℕ) → (held : IsHeld G.grows self.old shown) → OnOk result (Refreshes G.grows held.file shown self.new) }
+        ensures err { (shown : List ℕ) → IsHeld G.grows self.old shown → OnErr result (IsHeld G.grows self.new shown) }
+    {
+        if !self.found.closed {
+            return Ok(());
+        }
+        match find_more(&mut self.file, &mut self.piece, self.found.end) {
+            Ok(found) => {
+                self.found = found;
+                Ok(())
+            }
+            Err(fault) => Err(fault),
+        }
+    }
+
+    /// The number of bytes of the file now, those behind the end of the snapshot too.
+    pub fn file_len(&mut self) -> Result<usize, Fault>
+        ensures same { (shown : List ℕ) → IsHeld G.grows self.old shown → IsHeld G.grows self.new shown }
+        ensures len { (bytes : List ℕ) → G.grows self.old.file bytes
+            → Grown (G.grows self.new.file) bytes (λ later. IfOk result (λ len. len ≡ length later)) }
+        ensures names { IfErr result IsOfCall }
+    {
+        self.file.len()
+    }
+}
+
+impl<G: Growing> Device for Snapshot<G> {
+    ghost tells = { ⊥ };
+
+    ghost disk = { λ _. untold };
+
+    ghost holds = { λ snapshot shown. IsHeld G.grows snapshot shown };
+
+    ghost holds_seen = { λ _ told. absurd told };
+
+    ghost stays = { λ _ told. absurd told };
+
+    ghost counts_now = { λ _ t c le now. now };
+
+    ghost only_now = { λ _ c left. left };
+
+    fn read_at(&mut self, at: usize, into: &mut [u8]) -> Result<usize, Fault> {
+        if !self.found.closed {
+            return self.file.read_at(at, into);
+        }
+        if at > self.found.end {
+            return Ok(0);
+        }
+        read_closed(&mut self.file, self.found.end, at, into)
+    }
+
+    fn len(&mut self) -> Result<usize, Fault> {
+        if !self.found.closed {
+            return self.file.len();
+        }
+        Ok(self.found.end + 1)
+    }
+
+    fn write_at(&mut self, _at: usize, _bytes: &[u8]) -> Result<(), Fault> {
+        Err(Fault::Failed)
+    }
+
+    fn cut(&mut self, _len: usize) -> Result<(), Fault> {
+        Err(Fault::Failed)
+    }
+
+    fn sync(&mut self) -> Result<(), Fault> {
+        Ok(())
+    }
+}
+
+// Reads of the blocks up to this offset, and of a closed latch behind them. Fails where the file no longer has them.
+fn read_closed<G: Growing>(
+    file: &mut G,
+    end: usize,
+    at: usize,
+    into: &mut [u8],
+) -> Result<usize, Fault>
+    requires within { at ≤ end }
+    ensures within { IfOk result (λ count. count ≤ length into.new) }
+    ensures bytes { ReadsBlocks (G.grows file.old) (G.grows file.new) end at into.new result }
+    ensures names { IfErr result IsOfCall }
+{
+    let count = file.read_at(at, into)?;
+    close(into, count, end - at)
+}
+
+// Puts a closed latch behind so many bytes of those that were read, where there is room for it. Says how many they are then:
+// fails where the file has fewer.
+fn close(into: &mut [u8], count: usize, left: usize) -> Result<usize, Fault>
+    requires { count ≤ length into.old }
+    ensures within { IfOk result (λ told. told ≤ length into.new) }
+    ensures closes { IfOk result (Closes count left into.old into.new) }
+    ensures names { IfErr result IsOfCall }
+{
+    if left >= into.len() {
+        return Ok(count);
+    }
+    if count < left {
+        return Err(Fault::Failed);
+    }
+    into[left] = CLOSED;
+    Ok(left + 1)
+}
+
+// Where a file ends, from its first bytes on.
+fn find<G: Growing>(file: &mut G, piece: &mut [u8]) -> Result<Found, Fault>
+    requires { 8 ≤ length piece.old }
+    ensures found { (bytes : List ℕ) → G.grows file.old bytes → IfOk result (IsFound (G.grows file.new) bytes) }
+    ensures near { IfOk result (λ found. IsNear found.end) }
+{
+    match begins(file, piece) {
+        Ok(true) => find_end(file, piece, START),
+        Ok(false) => Ok(Found {
+            end: 0,
+            closed: false,
+        }),
+        Err(fault) => Err(fault),
+    }
+}
+
+// Says whether a file begins as a journal does.
+fn begins<G: Growing>(file: &mut G, piece: &mut [u8]) -> Result<bool, Fault>
+    requires { 8 ≤ length piece.old }
+    ensures { TellsStart (G.grows file.old) (G.grows file.new) result }
+{
+    let count = file.read_at(0, piece)?;
+    Ok(is_journal(&piece[..count]))
+}
+
+fn is_journal(bytes: &[u8]) -> bool
+    ensures { (file : List ℕ) → HasAhead 8 0 file bytes.now → StartsAs result file }
+{
+    bytes.starts_with(&MAGIC)
+}
+
+// Where it ends now, of which a closed latch was met at this offset. Most often that latch is closed still.
+fn find_more<G: Growing>(file: &mut G, piece: &mut [u8], end: usize) -> Result<Found, Fault>
+    requires near { IsNear end }
+    requires some { 8 ≤ length piece.old }
+    ensures found { FindsMore (G.grows file.old) (G.grows file.new) end result }
+    ensures same { Grows (G.grows file.old) (G.grows file.new) }
+    ensures near { IfOk result (λ found. IsNear found.end) }
+{
+    match still_closed(file, piece, end) {
+        Ok(true) => Ok(Found { end, closed: true }),
+        Ok(false) => find_end(file, piece, end),
+        Err(fault) => Err(fault),
+    }
+}
+
+// Says whether the latch at this offset is closed, or the file ends there. Fails where the file is shorter.
+fn still_closed<G: Growing>(file: &mut G, piece: &mut [u8], end: usize) -> Result<bool, Fault>
+    requires { 8 ≤ length piece.old }
+    ensures { TellsEnd (G.grows file.old) (G.grows file.new) end result }
+{
+    if file.len()? < end {
+        return Err(Fault::Failed);
+    }
+    match file.read_at(end, piece) {
+        Ok(count) => Ok(is_end(&piece[..count])),
+        Err(fault) => Err(fault),
+    }
+}
+
+// Where a file ends whose blocks lead to this offset.
+fn find_end<G: Growing>(file: &mut G, piece: &mut [u8], from: usize) -> Result<Found, Fault>
+    requires { 8 ≤ length piece.old }
+    ensures found { Finds (G.grows file.old) (G.grows file.new) from result }
+    ensures same { Grows (G.grows file.old) (G.grows file.new) }
+    ensures near { IfOk result (λ found. IsNear found.end) }
+{
+    let mut end = from;
+    while end < FILE_BYTES_MAX {
+        match hop_from(file, piece, end) {
+            Ok(Hop::Further(next)) => end = next,
+            Ok(Hop::Closed(end)) => return Ok(Found { end, closed: true }),
+            Ok(Hop::Broken) => return Ok(Found {
+                end: 0,
+                closed: false,
+            }),
+            Err(fault) => return Err(fault),
+        }
+    }
+    Err(Fault::Full)
+}
+
+// Over the blocks of the piece at this offset.
+fn hop_from<G: Growing>(file: &mut G, piece: &mut [u8], at: usize) -> Result<Hop, Fault>
+    requires some { 8 ≤ length piece.old }
+    requires near { at < 2 ^ 62 }
+    ensures leads { HopsFrom (G.grows file.old) (G.grows file.new) at result }
+    ensures same { Grows (G.grows file.old) (G.grows file.new) }
+    ensures further { (next : ℕ) → result ≡ Ok (variants.Further next) → at < next }
+    ensures near { (end : ℕ) → result ≡ Ok (variants.Closed end) → IsNear end }
+{
+    let count = file.read_at(at, piece)?;
+    let len = file.len()?;
+    Ok(follow(&piece[..count], at, len))
+}
