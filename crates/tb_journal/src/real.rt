@@ -6,7 +6,7 @@ use crate::posix::{Posix, sync_fault_of};
 use crate::systems::System;
 use std::fs::{File, Files, OpenFile, TryLockError};
 use std::io::ErrorKind;
-use std::os::unix::fs::FileExt;
+use std::os::unix::fs::{FileExt, OpenOptionsExt};
 use std::{fs, io};
 
 /// Why a file was not opened.
@@ -18,6 +18,12 @@ pub enum FileFault {
     Sync(Fault),
     /// The system's answer to any other call.
     System(io::Error),
+    /// It is no regular file: a folder, a FIFO or a device.
+    NotAFile,
+    /// There is something of this name, where a new file was to be made.
+    Exists,
+    /// It is a symbolic link to nothing.
+    Dangling,
 }
 
 impl From<io::Error> for FileFault {
@@ -87,12 +93,75 @@ impl Posix<HostFile> {
         locked(File::options().read(true).write(true).open(rt, path)?)
     }
 
-    /// Opens a file, and makes it where it is not there; then its name is on the disk.
+    /// Opens a file, and makes it where it is not there, for its owner alone; then its name is on the disk. A symbolic link
+    /// to nothing is refused.
     pub fn make<R: Files<File = File> + Alloc>(rt: &R, path: &str) -> Result<Real, FileFault> {
-        let mut how = File::options();
-        let real = locked(how.read(true).write(true).create(true).open(rt, path)?)?;
-        sync_folder(rt, path)?;
-        Ok(real)
+        match opened_or_made(rt, path) {
+            Ok(file) => {
+                let real = locked(file)?;
+                sync_folder(rt, path)?;
+                Ok(real)
+            }
+            Err(fault) => Err(fault),
+        }
+    }
+
+    /// Makes a file that is not there, for its owner alone; then its name is on the disk.
+    pub fn make_new<R: Files<File = File> + Alloc>(rt: &R, path: &str) -> Result<Real, FileFault> {
+        match made(rt, path) {
+            Ok(file) => {
+                let real = locked(file)?;
+                sync_folder(rt, path)?;
+                Ok(real)
+            }
+            Err(fault) => Err(fault),
+        }
+    }
+
+    /// Opens a file that is there for reading alone: it needs no write permission and takes no lock, so another process may
+    /// append to it meanwhile. A write or a cut of it fails.
+    pub fn look<R: Files<File = File>>(rt: &R, path: &str) -> Result<Real, FileFault> {
+        // A FIFO is not opened: that would wait for a writer.
+        if !fs::metadata(rt, path)?.is_file() {
+            return Err(FileFault::NotAFile);
+        }
+        let file = File::open(rt, path)?;
+        if !file.metadata()?.is_file() {
+            return Err(FileFault::NotAFile);
+        }
+        Ok(Posix::new(HostFile { file }))
+    }
+}
+
+// A file that is there, or one that is made. Between the two looks another process may make it.
+fn opened_or_made<R: Files<File = File>>(rt: &R, path: &str) -> Result<File, FileFault> {
+    match made(rt, path) {
+        Err(FileFault::Exists) => match File::options().read(true).write(true).open(rt, path) {
+            Ok(file) => Ok(file),
+            Err(error) => Err(of_link(rt, path, error)),
+        },
+        answer => answer,
+    }
+}
+
+// A file that was not there, which its owner alone may read and write.
+fn made<R: Files<File = File>>(rt: &R, path: &str) -> Result<File, FileFault> {
+    let mut how = File::options();
+    let how = how.read(true).write(true).create_new(true).mode(0o600);
+    match how.open(rt, path) {
+        Ok(file) => Ok(file),
+        Err(error) => match error.kind() {
+            ErrorKind::AlreadyExists => Err(FileFault::Exists),
+            _ => Err(FileFault::System(error)),
+        },
+    }
+}
+
+// Why a file is not opened of whose name there is something.
+fn of_link<R: Files<File = File>>(rt: &R, path: &str, error: io::Error) -> FileFault {
+    match (error.kind(), fs::symlink_metadata(rt, path)) {
+        (ErrorKind::NotFound, Ok(found)) if found.is_symlink() => FileFault::Dangling,
+        _ => FileFault::System(error),
     }
 }
 
