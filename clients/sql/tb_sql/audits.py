@@ -59,6 +59,7 @@ class Loading:
         self._before = store.position()
         self._books = Books(store, _copy(self._before)) if self._before else None
         self._expired: List[Dict[str, Any]] = []
+        self._batch: Optional[Dict[str, Any]] = None  # the entry whose events come next
         self._is_met = not self._before or self._before.commit_number == 0
         self._has_begun = False
 
@@ -96,6 +97,8 @@ class Loading:
         self.write()
         if is_cut:
             raise Refused(f"the input ends within line {self.line + 1}")
+        if self._batch and not self.is_done:
+            raise Refused(f"the input ends within entry {self._batch['commit']}")
 
     def ended(self) -> None:
         """Refuses a whole history that ends before the kept entries do."""
@@ -109,7 +112,7 @@ class Loading:
 
     def again(self) -> None:
         """Says that the next line is the first one of a history that was read before."""
-        self._has_begun, self._expired = False, []
+        self._has_begun, self._expired, self._batch = False, [], None
         self.line = 0
         self._is_met = self.commit_number == 0
 
@@ -132,17 +135,20 @@ class Loading:
 
     def take(self, line: bytes) -> None:
         """Enters a line, or the part of an entry that it is."""
-        if line.startswith(ENTRY):
-            commit = self._commit_of(line)
-            if commit < self.commit_number and not self._is_met:
-                self._has_begun, self._expired = True, []
+        if not self._is_met and line.startswith(ENTRY):
+            if self._commit_of(line) < self.commit_number:
+                self._has_begun, self._expired, self._batch = True, [], None
                 return
         shown = self._parsed(line)
         try:
-            if "profile" in shown:
+            if self._batch:
+                self._take_event(self._batch, shown)
+            elif "profile" in shown:
                 self._take_head(shown)
             elif "expired" in shown:
                 self._expired.append(shown)
+            elif "count" in shown:
+                self._begin(shown)
             elif "events" in shown:
                 self._take_entry(shown)
             elif "account" not in shown:
@@ -185,6 +191,26 @@ class Loading:
         if self._books is None:
             raise Refused("the input has no head: it is no audit of a dump")
         self._books.position.profile = int(shown["profile"])
+
+    def _begin(self, entry: Dict[str, Any]) -> None:
+        """Takes the line of a batch; its events come in lines of their own."""
+        entry["events"] = []
+        if entry["count"]:
+            self._batch = entry
+        else:
+            self._take_entry(entry)
+
+    def _take_event(self, entry: Dict[str, Any], shown: Dict[str, Any]) -> None:
+        events, commit = entry["events"], entry["commit"]
+        if shown.get("place") != len(events) or shown["commit"] != commit:
+            raise Refused(
+                f"line {self.line}: event {len(events)} of entry {commit} is missing: the audit"
+                " has options, or lacks lines"
+            )
+        events.append({"result": shown["result"], "event": shown["event"]})
+        if len(events) == entry["count"]:
+            self._batch = None
+            self._take_entry(entry)
 
     def _take_entry(self, entry: Dict[str, Any]) -> None:
         books, commit = self._books, int(entry["commit"])

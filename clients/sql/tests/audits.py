@@ -10,7 +10,8 @@ NAMES = {"accounts": "create_accounts", "transfers": "create_transfers"}
 
 
 class Audit:
-    """Lines of an audit, with times and timestamps that rise."""
+    """Lines of an audit, with times and timestamps that rise: those of an entry and of its events
+    are one item of `lines`."""
 
     def __init__(self, profile=1, clients_max=2, client=7, time=START):
         self.lines = []
@@ -18,10 +19,11 @@ class Audit:
         self.session, self.request = 0, 0
         self.put({"profile": profile, "clients_max": clients_max})
 
-    def put(self, line):
-        self.lines.append(json.dumps(line, separators=(",", ":")))
+    def put(self, *lines):
+        self.lines.append("\n".join(json.dumps(it, separators=(",", ":")) for it in lines))
 
-    def entry(self, operation, events, **more):
+    def entry(self, operation, judged=None):
+        """An entry, with the events of a batch; a register or a lookup has none here."""
         self.commit += 1
         line = {
             "commit": str(self.commit),
@@ -30,9 +32,13 @@ class Audit:
             "session": str(self.session),
             "request": self.request,
             "operation": operation,
-            "events": events,
         }
-        self.put({**line, **more})
+        if judged is None:
+            self.put({**line, "events": []})
+            return
+        of = {"commit": line["commit"], "time": line["time"]}
+        events = ({**of, "place": place, **it} for place, it in enumerate(judged))
+        self.put({**line, "count": len(judged)}, *events)
 
     def later(self, nanoseconds):
         self.time += nanoseconds
@@ -41,7 +47,7 @@ class Audit:
     def register(self, client=None):
         self.client = client or self.client
         self.session, self.request, self.time = 0, 0, self.time + 1
-        self.entry("register", [])
+        self.entry("register")
         self.session = self.commit
         return self
 

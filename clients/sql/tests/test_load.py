@@ -165,7 +165,7 @@ class Events(Tables):
     def test_mark_and_lookups(self):
         audit = Audit().register()
         audit.put({"profile": 2})
-        audit.batch("lookup_accounts", [])
+        audit.later(1).entry("lookup_accounts")
         self.load(audit)
         self.assertEqual(self.row("SELECT profile, commit_number FROM position"), (2, 2))
 
@@ -245,16 +245,39 @@ class GoingOn(Tables):
         status, _, said = self.command("load", self.path, "--quiet", input=cut)
         self.assertEqual(status, 2)
         self.assertIn("ends within line", said)
-        self.assertEqual(self.row("SELECT commit_number FROM position"), (cut.count(b"\n") - 1,))
+        whole, rest = -1, cut.decode()
+        for entry in audit.lines:
+            if not rest.startswith(entry + "\n"):
+                break
+            whole, rest = whole + 1, rest[len(entry) + 1 :]
+        self.assertEqual(self.row("SELECT commit_number FROM position"), (whole,))
         self.load(audit)
         other = str(self.room / "other.sqlite")
         self.load(audit, other)
         self.assertEqual(self.contents(), self.contents(other))
 
+    def test_cut_entry(self):
+        """An entry of which only some events came is not in the tables."""
+        audit = history()
+        cut = "".join(f"{it}\n" for it in audit.lines[:10])
+        cut += audit.lines[10][: audit.lines[10].rindex("\n") + 1]
+        status, _, said = self.command("load", self.path, "--quiet", input=cut.encode())
+        self.assertEqual(status, 2)
+        self.assertIn("ends within entry 10", said)
+        self.assertEqual(self.row("SELECT commit_number FROM position"), (9,))
+
+    def test_lacking_event(self):
+        audit = Audit().register().accounts(account(1), account(2), account(3))
+        lines = audit.bytes.splitlines(keepends=True)
+        del lines[4]
+        with self.assertRaises(Refused) as raised:
+            self.load(b"".join(lines))
+        self.assertIn("event 1 of entry 2 is missing", str(raised.exception))
+
     def test_what_waits_is_written(self):
         """Lines that come slowly are in the tables while more are awaited."""
         audit = history()
-        lines = audit.bytes.splitlines(keepends=True)
+        lines = [f"{it}\n".encode() for it in audit.lines]
         process = subprocess.Popen([*COMMAND, "load", self.path, "--quiet"], stdin=subprocess.PIPE)
         try:
             for count in (3, 10):
