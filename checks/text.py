@@ -430,7 +430,7 @@ check("run at once", answers(["run", "2"], statements), ([run(TBT, ["replies"], 
 told, rest, status = answers(["dump"], parts)
 check("dump at once", (b"".join(told), rest, status), (run(TBT, ["dump"], dumped)[1], b"", 0))
 told, rest, status = answers(["audit"], parts)
-check("audit at once", ([it.count(b"\n") for it in told], rest, status), ([1] * 4, b"", 0))
+check("audit at once", ([it.count(b"\n") for it in told], rest, status), ([1, 1, 3, 1], b"", 0))
 
 # a terminal
 
@@ -510,7 +510,12 @@ for turn in range(5):
     check(f"pairs of history {turn}", run(TBS, ["dump", "3"], run(TBT, ["pairs"], history)[1]), (0, history, b""))
     status, lines, line = run(TBT, ["audit"], history)
     check(f"audit of history {turn}", (status, line), (0, b""))
-    entries = [it for it in map(json.loads, lines.splitlines()) if "operation" in it]
+    audited = [json.loads(it) for it in lines.splitlines()]
+    entries = [it for it in audited if "operation" in it]
+    for entry in entries:
+        if "count" in entry:
+            entry["events"] = [it for it in audited if "place" in it and it["commit"] == entry["commit"]]
+            check(f"places of entry {entry['commit']} of {turn}", [it["place"] for it in entry["events"]], list(range(entry["count"])))
     plain = [json.loads(it) for it in run(TBT, ["dump"], history)[1].splitlines()][1:]
     check(f"its entries {turn}", [(it["commit"], it["time"], it["client"], len(it["events"])) for it in entries], [(it["commit"], it["time"], it["client"], len(it["events"])) for it in plain])
     replies = [it for it in map(json.loads, run(TBT, ["replies"], run(TBS, ["replay"], history)[1])[1].splitlines())]

@@ -10,7 +10,9 @@ use Rattle.tb_sessions.specs.declared.rows.Row.{Row}
 use Rattle.tb_machine.specs.declared.entries.Entry.{Entry}
 use Rattle.tb_machine.specs.Histories.{State, body_at, step}
 use Rattle.tb_machine.proofs.DumpReading.{entry_stored}
-use Rattle.tb_text_commands.specs.Audits.{NoneIsDue, TakesDue, Waiting, results_in, stored_results, waits_behind, watched_from, watched_of, watched_one}
+use Rattle.tb_text_commands.specs.Audits.{NoneIsDue, TakesDue, Waiting, waits_behind, watched_from, watched_of, watched_one}
+use Rattle.tb_text_commands.specs.AuditRuns.{entry_told, next_told}
+use Rattle.tb_text_commands.specs.Results.{results_in, stored_results}
 
 -- the row of an entry's client keeps the results of its batch
 stored_after : (S : State) (e : Entry) → stored_results (step S e).rows e.request.client ≡ results_in (body_at S e)
@@ -21,6 +23,12 @@ entry_watched S T e w v stepped told =
     told
     ∙ (ap (λ (U : State). watched_of U.books (stored_results U.rows e.request.client) e.request.body w) stepped
     ∙ ap (λ (results : List EventResult). watched_of (step S e).books results e.request.body w) (stored_after S e))
+
+-- what is told of an entry that was entered is what is told of the next one
+pub entry_judged : (S T : State) (e : Entry) → T ≡ step S e → entry_told T (stored_results T.rows e.request.client) e ≡ next_told S e
+entry_judged S T e stepped =
+    ap (λ (U : State). entry_told U (stored_results U.rows e.request.client) e) stepped
+    ∙ ap (λ (results : List EventResult). entry_told (step S e) results e) (stored_after S e)
 
 drop-next : (ts : List Transfer) (i : ℕ) (d : Transfer) → i < length ts → drop i ts ≡ get_or ts i d ∷ drop (i + 1) ts
 drop-next ts i d below = drop-cons ts i d below ∙ ap (λ (n : ℕ). get_or ts i d ∷ drop n ts) (sym (add-one i))

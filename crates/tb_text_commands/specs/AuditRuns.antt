@@ -1,8 +1,11 @@
 -- What an audit tells of a whole dump: its items are read and taken one after another, each is told by its lines, and so on
 -- until the input ends or a fault comes.
--- Cited by private contracts alone, of: audit_lines, auditing, commands, dumps, scripts.
-use Rattle.std.specs.Prelude.{ℕ, zero, suc, Bool, true, false, ◌≡◌, ◌≢◌, ◌≤◌, ◌⊎◌, ◌-◌, ◌^◌, length, IsTrue, List, [], ◌∷◌, ◌++◌, map, Option, Some, None, Result, Ok, Err}
+-- Cited by public contracts of: commands.
+use Rattle.std.specs.Prelude.{ℕ, zero, suc, Bool, true, false, ◌≡◌, ◌≢◌, ◌≤◌, ◌⊎◌, ◌+◌, ◌-◌, ◌^◌, length, IsSome, IsTrue, List, [], ◌∷◌, ◌++◌, map, Option, Some, None, Result, Ok, Err}
+use Rattle.std.specs.List.{filter}
 use Rattle.std.specs.Option.{option_and_then}
+use Rattle.tb_records.specs.declared.bodies.Body.{Body}
+use Rattle.tb_records.specs.declared.bodies.Body.TheVariants as body
 use Rattle.tb_records.specs.declared.dumps.DumpFault.{DumpFault}
 use Rattle.tb_records.specs.declared.dumps.DumpFault.TheVariants as dump
 use Rattle.tb_records.specs.declared.dumps.DumpHead.{DumpHead}
@@ -10,6 +13,7 @@ use Rattle.tb_records.specs.declared.dumps.DumpItem.{DumpItem}
 use Rattle.tb_records.specs.declared.dumps.DumpItem.TheVariants as item
 use Rattle.tb_records.specs.declared.limits.Profile.TheVariants.{One, Two}
 use Rattle.tb_records.specs.declared.records.Account.{Account}
+use Rattle.tb_records.specs.declared.records.EventResult.{EventResult}
 use Rattle.tb_records.specs.declared.records.Transfer.{Transfer}
 use Rattle.tb_records.specs.DumpBytes.{HeadAnswers, HeadCounts}
 use Rattle.tb_records.specs.Ordered.{Each}
@@ -17,23 +21,18 @@ use Rattle.tb_records.specs.Transport.{CutOff, Input, Output, Sent}
 use Rattle.tb_ledger.specs.Books.{account_now, profile_of}
 use Rattle.tb_machine.specs.declared.entries.Entry.{Entry}
 use Rattle.tb_machine.specs.Histories as histories
-use Rattle.tb_machine.specs.Histories.{State, fits, step, to_two}
+use Rattle.tb_machine.specs.Histories.{State, body_at, fits, step, to_two}
 use Rattle.tb_machine.specs.Replays.{ReadsNext}
 use Rattle.tb_text_commands.specs.declared.faults.Fault.{Fault}
-use Rattle.tb_text_commands.specs.declared.faults.Fault.TheVariants.{Device, Dump, NoMemory, TooLong}
+use Rattle.tb_text_commands.specs.declared.faults.Fault.TheVariants.{Arguments, Device, Dump, NoMemory, TooLong}
 use Rattle.tb_text_commands.specs.Audits.{NoneIsDue, Waiting, waits_behind}
+use Rattle.tb_text_commands.specs.Ends.{outcome_status}
+use Rattle.tb_text_commands.specs.Results.{result_at, results_in}
 use Rattle.tb_text_commands.specs.Statuses.{dump_fault_of}
+use Rattle.tb_text_commands.specs.Wanted.{Told, begins, enters, expires, is_wanted, moves, opening_of, settling_of, stands}
+use Rattle.tb_text_commands.specs.declared.wanted.Wanted.{Wanted}
 
 -- lines
-
--- what one line tells: a head, a pending transfer and when its timeout ran out, an entry and the state behind it, a mark, or
--- an account as it stands behind an entry
-pub data Told : Type 0 where
-  begins : DumpHead → Told
-  expires : ℕ → Transfer → Told
-  enters : State → Entry → Told
-  moves : Told
-  stands : Entry → Account → Told
 
 -- bytes were written, or the device cut them off
 abbrev pub PutsAll : Result (Unit {0}) Fault → List ℕ → Output → Output → Type 0
@@ -50,17 +49,17 @@ PutsLine (Err fault) before after = ((fault ≡ NoMemory) × (after ≡ before))
 abbrev pub GivesUp : Fault → List Told → Type 0
 GivesUp fault front = (fault ≡ NoMemory) ⊎ ((fault ≡ TooLong) × (2 ^ 64 - 1 ≤ length front))
 
--- by what is a line of what is told
-module _ (IsLine : Told → List ℕ → Type 0) where
+-- by what is a line of what is told, and what of it is wanted
+module _ (IsLine : Told → List ℕ → Type 0) (wants : Told → Bool) where
   -- bytes are the lines of what is told, one behind the other
   abbrev pub AreLines : List Told → List ℕ → Type 0
   AreLines [] bytes = bytes ≡ []
   AreLines (t ∷ ts) bytes = (line rest : List ℕ) × IsLine t line × AreLines ts rest × (bytes ≡ line ++ rest)
 
-  -- they were written, and nothing else
+  -- those of what is wanted were written, and nothing else
   pub record Tells (told : List Told) (start written : Output) : Type 0 where
     pub bytes : List ℕ
-    pub lines : AreLines told bytes
+    pub lines : AreLines (filter wants told) bytes
     pub sent : Sent bytes start written
 
   -- the device cut the next line off
@@ -68,6 +67,7 @@ module _ (IsLine : Told → List ℕ → Type 0) where
     pub next : Told
     pub behind : List Told
     pub rest_is : rest ≡ next ∷ behind
+    pub wanted : IsTrue (wants next)
     pub line : List ℕ
     pub is_line : IsLine next line
     pub device : fault ≡ Device
@@ -104,15 +104,34 @@ pub record Audited : Type 0 where
 abbrev pub audited_from : Option ℕ → DumpHead → Audited
 audited_from account head = record { machine = histories.start head.profile head.clients_max; waiting = []; account = account; shown = None }
 
-abbrev pub expiry_of : (ℕ × ℕ) × Transfer → Told
-expiry_of x = expires x.0.0 x.1
+abbrev pub expiry_of : Entry → (ℕ × ℕ) × Transfer → Told
+expiry_of e x = expires e x.0.0 x.1
 
--- the first waits are over, each by a time, and this is told of them
-pub record Goes (time : ℕ) (before : Waiting) (told : List Told) (after : Waiting) : Type 0 where
+-- the first waits are over, each by an entry's time, and this is told of them
+pub record Goes (e : Entry) (before : Waiting) (told : List Told) (after : Waiting) : Type 0 where
   pub gone : Waiting
   pub before_is : before ≡ gone ++ after
-  pub each : Each (λ x. x.0.0 ≤ time) gone
-  pub told_is : told ≡ map expiry_of gone
+  pub each : Each (λ x. x.0.0 ≤ e.time) gone
+  pub told_is : told ≡ map (expiry_of e) gone
+
+-- what is told of the events of a batch, from a place on, by their results
+abbrev pub events_told : {X : Type 0} → (ℕ → Option EventResult → X → Told) → List EventResult → ℕ → List X → List Told
+events_told tell results place [] = []
+events_told tell results place (x ∷ xs) = tell place (result_at results place) x ∷ events_told tell results (place + 1) xs
+
+-- what is told of those of an entry, by the state behind it
+abbrev pub batch_told : State → List EventResult → Entry → Body → List Told
+batch_told S results e (body.CreateAccounts events) = events_told (opening_of S e) results 0 events
+batch_told S results e (body.CreateTransfers events) = events_told (settling_of S e) results 0 events
+batch_told S results e other = []
+
+-- first the entry is told, and then its events
+abbrev pub entry_told : State → List EventResult → Entry → List Told
+entry_told S results e = enters e ∷ batch_told S results e e.request.body
+
+-- of an entry that comes next after a state
+abbrev pub next_told : State → Entry → List Told
+next_told S e = entry_told (step S e) (results_in (body_at S e)) e
 
 -- the account that is told, as it stands
 abbrev pub account_of : Option ℕ → State → Option Account
@@ -139,51 +158,59 @@ pub record ShowsAccount (e : Entry) (is shown : Option Account) (told : List Tol
   pub told_is : told ≡ standing_told e changed
   pub later_is : later ≡ shown_behind shown changed
 
--- an entry that may come next is entered; what has expired by its time is told, then the entry, then the account
+-- an entry that may come next is entered; what has expired by its time is told, then the entry and its events, then the
+-- account
 pub record TakesEntry (S T : Audited) (e : Entry) (told : List Told) : Type 0 where
   pub legal : IsTrue (fits S.machine e)
   pub stepped : T.machine ≡ step S.machine e
   pub same : T.account ≡ S.account
   pub due : List Told
-  pub gone : Goes e.time (waits_behind S.machine e S.waiting) due T.waiting
+  pub gone : Goes e (waits_behind S.machine e S.waiting) due T.waiting
   pub none : NoneIsDue e.time T.waiting
   pub standing : List Told
   pub shows : ShowsAccount e (account_of S.account (step S.machine e)) S.shown standing T.shown
-  pub told_is : told ≡ due ++ enters (step S.machine e) e ∷ standing
+  pub told_is : told ≡ due ++ (next_told S.machine e ++ standing)
 
 -- what is told of an entry, as far as a fault lets it: of those that have expired, up to the entry, or up to the account
 pub record MayTell (S : Audited) (e : Entry) (told : List Told) : Type 0 where
   pub due : List Told
   pub waiting : Waiting
-  pub gone : Goes e.time (waits_behind S.machine e S.waiting) due waiting
+  pub gone : Goes e (waits_behind S.machine e S.waiting) due waiting
   pub behind : List Told
   pub told_is : told ≡ due ++ behind
   pub far : (behind ≡ [])
-      ⊎ (NoneIsDue e.time waiting × (standing : List Told) × (behind ≡ enters (step S.machine e) e ∷ standing)
+      ⊎ (NoneIsDue e.time waiting × (standing : List Told) × (behind ≡ next_told S.machine e ++ standing)
       × ((standing ≡ []) ⊎ ((later : Option Account) × ShowsAccount e (account_of S.account (step S.machine e)) S.shown standing later)))
 
-module _ (IsLine : Told → List ℕ → Type 0) where
+-- an account whose lines are wanted is there, or a fault says that there is none
+abbrev pub Finds : Result (Unit {0}) Fault → Audited → Type 0
+Finds (Ok done) S = (id : ℕ) → S.account ≡ Some id → IsSome (account_now S.machine.books id)
+Finds (Err (Arguments line)) S = (id : ℕ) × (S.account ≡ Some id) × (account_now S.machine.books id ≡ None)
+Finds (Err NoMemory) S = (id : ℕ) × (S.account ≡ Some id) × (account_now S.machine.books id ≡ None)
+Finds (Err fault) S = ⊥
+
+module _ (IsLine : Told → List ℕ → Type 0) (wants : Told → Bool) where
   -- those that have expired are told, up to a fault
-  abbrev pub TellsDue : Result (Unit {0}) Fault → ℕ → Waiting → Waiting → Output → Output → Type 0
-  TellsDue result time before after start written = (told : List Told) × Goes time before told after × Telling IsLine result told start written
+  abbrev pub TellsDue : Result (Unit {0}) Fault → Entry → Waiting → Waiting → Output → Output → Type 0
+  TellsDue result e before after start written = (told : List Told) × Goes e before told after × Telling IsLine wants result told start written
 
   -- so is the account
   abbrev pub TellsAccount : Result (Unit {0}) Fault → Entry → Option Account → Option Account → Option Account → Output → Output → Type 0
-  TellsAccount result e is shown later start written = (told : List Told) × ShowsAccount e is shown told later × Telling IsLine result told start written
+  TellsAccount result e is shown later start written = (told : List Told) × ShowsAccount e is shown told later × Telling IsLine wants result told start written
 
   abbrev pub AuditsEntry : Result (Unit {0}) Fault → Audited → Audited → Entry → Output → Output → Type 0
-  AuditsEntry (Ok done) S T e start written = (told : List Told) × TakesEntry S T e told × Tells IsLine told start written
+  AuditsEntry (Ok done) S T e start written = (told : List Told) × TakesEntry S T e told × Tells IsLine wants told start written
   AuditsEntry (Err fault) S T e start written =
       ((fits S.machine e ≡ false) × (fault ≡ Dump dump.NotLegal) × (written ≡ start))
-      ⊎ (IsTrue (fits S.machine e) × (told : List Told) × MayTell S e told × StopsTelling IsLine fault told start written)
+      ⊎ (IsTrue (fits S.machine e) × (told : List Told) × MayTell S e told × StopsTelling IsLine wants fault told start written)
 
   -- a mark leads to profile 2, where that does not serve yet
   abbrev pub AuditsMark : Result (Unit {0}) Fault → Audited → Audited → Output → Output → Type 0
   AuditsMark (Ok done) S T start written =
-      (profile_of S.machine.books ≡ One) × (T ≡ record S { machine = to_two S.machine }) × Tells IsLine (moves ∷ []) start written
+      (profile_of S.machine.books ≡ One) × (T ≡ record S { machine = to_two S.machine }) × Tells IsLine wants (moves ∷ []) start written
   AuditsMark (Err fault) S T start written =
       ((profile_of S.machine.books ≡ Two) × (fault ≡ Dump dump.Mark) × (written ≡ start))
-      ⊎ ((profile_of S.machine.books ≡ One) × StopsTelling IsLine fault (moves ∷ []) start written)
+      ⊎ ((profile_of S.machine.books ≡ One) × StopsTelling IsLine wants fault (moves ∷ []) start written)
 
   abbrev pub AuditsItem : Result (Unit {0}) Fault → Audited → Audited → DumpItem → Output → Output → Type 0
   AuditsItem result S T (item.Entry commit time request) start written = AuditsEntry result S T (record { commit = commit; time = time; request = request }) start written
@@ -194,14 +221,14 @@ abbrev pub ReadsItem : Result (Option DumpItem) Fault → Input → Input → Ty
 ReadsItem (Ok next) before after = ReadsNext (Ok next) before after
 ReadsItem (Err fault) before after = (g : DumpFault) × (fault ≡ dump_fault_of g) × ReadsNext (Err g) before after
 
-module _ (IsLine : Told → List ℕ → Type 0) where
+module _ (IsLine : Told → List ℕ → Type 0) (wants : Told → Bool) where
   -- the next item was read, and taken
   pub record AuditsOne (result : Result (Unit {0}) Fault) (S T : Audited) (before after : Input) (start written : Output) : Type 0 where
     pub item : DumpItem
     pub read : ReadsNext (Ok (Some item)) before after
     pub passed : Output
     pub silent : Sent [] start passed
-    pub act : AuditsItem IsLine result S T item passed written
+    pub act : AuditsItem IsLine wants result S T item passed written
 
   -- it was, or there is none, or a fault came in reading it or in taking it
   abbrev pub AuditsNext : Result Bool Fault → Audited → Audited → Input → Input → Output → Output → Type 0
@@ -215,12 +242,14 @@ module _ (IsLine : Told → List ℕ → Type 0) where
   AuditsAll (suc n) S T before after start written =
       (U : Audited) × (middle : Input) × (made : Output) × AuditsAll n S U before middle start made × AuditsOne (Ok tt) U T middle after made written
 
-  -- what ended it: the end of the input, a fault of the next item, no memory for the machine, or too many items
+  -- what ended it: the end of the input, where an account whose lines are wanted was looked for; a fault of the next item, no
+  -- memory for the machine, or too many items
   abbrev pub AuditEnds : Result (Unit {0}) Fault → ℕ → Audited → Input → Input → Output → Output → Type 0
-  AuditEnds (Ok done) n S before after start written = ReadsItem (Ok None) before after × Sent [] start written
+  AuditEnds (Ok done) n S before after start written = ReadsItem (Ok None) before after × Sent [] start written × Finds (Ok tt) S
   AuditEnds (Err fault) n S before after start written =
       ((T : Audited) × AuditsNext (Err fault) S T before after start written)
-      ⊎ ((((fault ≡ NoMemory) × (n ≡ 0)) ⊎ ((fault ≡ TooLong) × (n ≡ 2 ^ 64 - 1))) × (after ≡ before) × (written ≡ start))
+      ⊎ ((ReadsItem (Ok None) before after × Sent [] start written × Finds (Err fault) S)
+      ⊎ ((((fault ≡ NoMemory) × (n ≡ 0)) ⊎ ((fault ≡ TooLong) × (n ≡ 2 ^ 64 - 1))) × (after ≡ before) × (written ≡ start)))
 
   -- items were audited, and then the input was at its end, or a fault came
   pub record AuditsItems (result : Result (Unit {0}) Fault) (S : Audited) (before after : Input) (start written : Output) : Type 0 where
@@ -237,7 +266,7 @@ module _ (IsLine : Told → List ℕ → Type 0) where
   pub record HeadTold (result : Result (Unit {0}) Fault) (head : DumpHead) (before after : Input) (start written : Output) : Type 0 where
     pub read : HeadAnswers (Ok head) before.left after.left
     pub counted : after.failed ≡ before.failed
-    pub told : Telling IsLine result (begins head ∷ []) start written
+    pub told : Telling IsLine wants result (begins head ∷ []) start written
 
   -- and then the items behind it were audited
   pub record Audits (result : Result (Unit {0}) Fault) (account : Option ℕ) (before after : Input) (start written : Output) : Type 0 where
@@ -258,3 +287,9 @@ module _ (IsLine : Told → List ℕ → Type 0) where
   abbrev pub AuditRan : Result (Unit {0}) Fault → Option ℕ → Input → Input → Output → Output → Type 0
   AuditRan (Ok done) account before after start written = Audits (Ok done) account before after start written
   AuditRan (Err fault) account before after start written = HeadFails fault before after start written ⊎ Audits (Err fault) account before after start written
+
+-- an audit of what is wanted ended with the status of its outcome, whatever its lines say of what they tell
+pub record AuditedBy (wanted : Wanted) (status : ℕ) (before after : Input) (start written : Output) : Type 0 where
+  pub outcome : Result (Unit {0}) Fault
+  pub status_is : status ≡ outcome_status outcome
+  pub ran : AuditRan (λ told line. Unit {0}) (is_wanted wanted) outcome wanted.account before after start written

@@ -1,45 +1,23 @@
 -- What an audit makes of each item of a dump: how its machine goes on, and which pending transfers wait for their timeouts.
--- Cited by private contracts alone, of: auditing, lists, results, waits.
-use Rattle.std.specs.Prelude.{ℕ, Bool, false, not, ◌&&◌, ◌==◌, ◌+◌, ◌≡◌, ◌≤◌, ◌<◌, IsTrue, List, [], ◌∷◌, Option, Some, None, Result, Ok, Err, unwrap_or, if◌then◌else◌}
+-- Public contracts reach it through: AuditRuns.
+use Rattle.std.specs.Prelude.{ℕ, false, not, ◌&&◌, ◌==◌, ◌+◌, ◌≡◌, ◌≤◌, ◌<◌, IsTrue, List, [], ◌∷◌, Option, Some, None, Result, Ok, Err, unwrap_or, if◌then◌else◌}
 use Rattle.std.specs.BTreeMap.{insert_entry, is_at}
-use Rattle.std.specs.List.{find}
 use Rattle.std.specs.Map.{lookup, remove_entry}
-use Rattle.std.specs.Option.{is_none, is_some, option_map_or}
+use Rattle.std.specs.Option.{is_some, option_map_or}
 use Rattle.std.specs.Ordering.{nat_cmp, ordering_then}
 use Rattle.std.specs.declared.cmp.Ordering.{Ordering}
 use Rattle.tb_records.specs.declared.bodies.Body.{Body}
 use Rattle.tb_records.specs.declared.bodies.Body.TheVariants as body
-use Rattle.tb_records.specs.declared.bodies.ReplyBody.{ReplyBody}
-use Rattle.tb_records.specs.declared.bodies.ReplyBody.TheVariants.{Results}
 use Rattle.tb_records.specs.declared.dumps.DumpFault.TheVariants as dump
 use Rattle.tb_records.specs.declared.limits.Profile.TheVariants.{One, Two}
 use Rattle.tb_records.specs.declared.records.EventResult.{EventResult}
 use Rattle.tb_records.specs.declared.records.Transfer.{Transfer}
 use Rattle.tb_ledger.specs.Books.{Books, expires_at, pending, profile_of, resolves, transfer_at}
-use Rattle.tb_sessions.specs.declared.rows.Row.{Row}
-use Rattle.tb_sessions.specs.Judged.{row_of}
 use Rattle.tb_machine.specs.declared.entries.Entry.{Entry}
 use Rattle.tb_machine.specs.Histories.{State, body_at, fits, step, to_two}
+use Rattle.tb_text_commands.specs.Results.{is_accepted, results_in}
 use Rattle.tb_text_commands.specs.declared.faults.Fault.{Fault}
 use Rattle.tb_text_commands.specs.declared.faults.Fault.TheVariants.{Dump, NoMemory}
-
--- results
-
--- the result of the event of an index, where it was not accepted
-abbrev pub result_at : List EventResult → ℕ → Option EventResult
-result_at results index = find (λ r. r.index == index) results
-
-abbrev pub is_accepted : List EventResult → ℕ → Bool
-is_accepted results index = is_none (result_at results index)
-
--- the results that a reply has
-abbrev pub results_in : ReplyBody → List EventResult
-results_in (Results results) = results
-results_in found = []
-
--- those of the reply that a client's row keeps
-abbrev pub stored_results : List Row → ℕ → List EventResult
-stored_results rows client = option_map_or (λ row. results_in row.reply.body) (row_of rows client) []
 
 -- pending transfers whose timeouts run
 
@@ -62,23 +40,19 @@ began p w = if is_some (lookup (is_at (by_end (wait_key p))) w) then w else inse
 abbrev pub ended : Transfer → Waiting → Waiting
 ended p w = remove_entry (is_at (by_end (wait_key p))) w
 
--- behind a transfer that was recorded: a post or void, of any amount, ends the wait of the transfer that it names, and a
--- pending one with a timeout begins its own
+-- behind an event that was accepted: a post or void, of any amount, ends the wait of the transfer that it names, and a
+-- pending one with a timeout begins its own, by the time at which it was recorded
 abbrev pub waits_with : Books → Transfer → Waiting → Waiting
 waits_with B t w =
     if resolves t then option_map_or (λ p. ended p w) (transfer_at B t.pending_id) w
-    else if pending t && not (t.timeout == 0) then began t w
+    else if pending t && not (t.timeout == 0) then began (unwrap_or (transfer_at B t.id) t) w
     else w
 
--- the transfer that an accepted event made
-abbrev pub recorded_at : Books → Transfer → Transfer
-recorded_at B t = unwrap_or (transfer_at B t.id) t
-
--- behind the event of an index: one that was accepted stands in the books
+-- behind the event of a place
 abbrev pub watched_one : Books → List EventResult → ℕ → Transfer → Waiting → Waiting
-watched_one B results index t w = if is_accepted results index then waits_with B (recorded_at B t) w else w
+watched_one B results index t w = if is_accepted results index then waits_with B t w else w
 
--- behind the events from an index on
+-- behind the events from a place on
 abbrev pub watched_from : Books → List EventResult → ℕ → List Transfer → Waiting → Waiting
 watched_from B results index [] w = w
 watched_from B results index (t ∷ ts) w = watched_from B results (index + 1) ts (watched_one B results index t w)

@@ -8,6 +8,9 @@ pub mod Explained
 pub mod Heads
 pub mod Forms
 pub mod Names
+pub mod Options
+pub mod Results
 pub mod Statuses
 pub mod Taken
+pub mod Wanted
 pub mod Whole

@@ -1,10 +1,12 @@
 //! What the words of the command line ask for.
 ghost use Rattle.std.specs.Prelude.{◌≡◌, map, string_bytes};
-ghost use Rattle.tb_text_commands.specs.Forms.{form_alone, form_of, form_with, form_with_two};
+ghost use Rattle.tb_text_commands.specs.Forms.{form_alone, form_of, form_with, form_with_two, plain_form};
 
+use crate::audit_options::{read_wanted, wrong_audit};
+use crate::wanted::Wanted;
 use std::alloc::{AllocError, Global};
 use std::format;
-use tb_commands::{read_clients_max, read_id, read_profile};
+use tb_commands::{read_clients_max, read_profile};
 use tb_records::{ClientsMax, Profile};
 
 /// What the program is asked to do.
@@ -20,8 +22,8 @@ pub enum Form {
     Dump,
     /// A dump in, a script out that makes its history.
     Pairs,
-    /// A dump in, its history as JSON objects out, with what became of each event; of one account also how it stands.
-    Audit(Option<u128>),
+    /// A dump in, its history as JSON objects out, with what became of each event: those that are wanted.
+    Audit(Wanted),
     /// A script or a dump in, and where and why `tbs` stops in it out.
     Explain,
     /// Statements in, the reply to each as a JSON object out.
@@ -42,7 +44,6 @@ fn form_alone(word: &str) -> Option<Form>
         "replies" => Some(Form::Replies),
         "dump" => Some(Form::Dump),
         "pairs" => Some(Form::Pairs),
-        "audit" => Some(Form::Audit(None)),
         "explain" => Some(Form::Explain),
         "--help" | "-h" => Some(Form::Help),
         "--version" => Some(Form::Version),
@@ -65,12 +66,21 @@ fn form_with(word: &str, clients_max: &str) -> Option<Form>
 fn form_with_two(word: &str, second: &str, last: &str) -> Option<Form>
     ensures { result ≡ form_with_two word.now second.now last.now }
 {
-    match (word, second) {
-        ("run", clients_max) => {
-            let clients_max = read_clients_max(clients_max.as_bytes())?;
-            Some(Form::Run(clients_max, read_profile(last.as_bytes())?))
-        }
-        ("audit", "--account") => Some(Form::Audit(Some(read_id(last.as_bytes())?))),
+    if word != "run" {
+        return None;
+    }
+    let clients_max = read_clients_max(second.as_bytes())?;
+    Some(Form::Run(clients_max, read_profile(last.as_bytes())?))
+}
+
+/// What a word and those behind it ask for, but `audit`.
+fn plain_form(word: &str, rest: &[String]) -> Option<Form>
+    ensures { result ≡ plain_form word.now (map string_bytes rest.now) }
+{
+    match rest {
+        [] => form_alone(word),
+        [clients_max] => form_with(word, clients_max.as_str()),
+        [second, last] => form_with_two(word, second.as_str(), last.as_str()),
         _ => None,
     }
 }
@@ -80,10 +90,11 @@ pub fn read_form(words: &[String]) -> Option<Form>
     ensures { result ≡ form_of (map string_bytes words.now) }
 {
     match words {
-        [word] => form_alone(word.as_str()),
-        [run, clients_max] => form_with(run.as_str(), clients_max.as_str()),
-        [word, second, last] => form_with_two(word.as_str(), second.as_str(), last.as_str()),
-        _ => None,
+        [] => None,
+        [audit, options @ ..] if audit.as_str() == "audit" => {
+            Some(Form::Audit(read_wanted(Wanted::ALL, options)?))
+        }
+        [word, rest @ ..] => plain_form(word.as_str(), rest),
     }
 }
 
@@ -106,12 +117,7 @@ pub fn wrong_words(alloc: Global, word: &str, rest: &[String]) -> Result<String,
     match (word, rest) {
         ("run", []) => format!(in alloc; "tbt: run: CLIENTS_MAX is missing, 1 to 64\n"),
         ("run", [clients_max, rest @ ..]) => wrong_run(alloc, clients_max.as_str(), rest),
-        ("audit", [option, id]) if option.as_str() == "--account" => format!(in alloc;
-            "tbt: audit --account {id}: an account's id is 0 to 2^128 - 1, in decimal digits\n"
-        ),
-        ("audit", [option, ..]) => format!(in alloc;
-            "tbt: audit {option}: only --account and an id may follow\n"
-        ),
+        ("audit", options) => wrong_audit(alloc, options),
         (word, [more, ..]) if form_alone(word).is_some() => format!(in alloc;
             "tbt: {word} {more}: too many words\n"
         ),

@@ -1,52 +1,85 @@
 //! What writes the lines of an audit.
-ghost use Rattle.std.specs.Prelude.{[], ◌∷◌, List, ℕ};
-ghost use Rattle.tb_text_commands.specs.AuditRuns.{Told, begins, enters, expires, moves, stands, Telling};
+ghost use Rattle.std.specs.Prelude.{[], ◌∷◌, Bool, List, ℕ};
+ghost use Rattle.tb_text_commands.specs.AuditRuns.{Telling};
 ghost use Rattle.tb_text_commands.specs.Ends.{Written};
+ghost use Rattle.tb_text_commands.specs.Wanted.{Told, begins, enters, expires, is_wanted, moves, opens, resolved_by, settles, stands};
 
+use crate::audit_json::Times;
 use crate::faults::Fault;
-use crate::lines::{balance_line, expired_line, head_line, judged_line, mark_line};
+use crate::lines::{head_line, mark_line};
 use crate::scripts::put_line;
+use crate::wanted::Wanted;
 use std::alloc::Global;
 use tb_machine::{Entry, Machine};
-use tb_records::{Account, DumpHead, Sink, Transfer};
+use tb_records::{Account, DumpHead, EventResult, Sink, Transfer};
 
-/// What writes a line for each thing that an audit tells.
+/// What writes a line for each thing that an audit tells, where it is wanted.
 pub trait Teller {
     // The line of what is told.
     ghost IsLine: { Told → List ℕ → Type 0 };
 
+    // What is wanted of what is told.
+    ghost wants: { Self → Told → Bool };
+
     /// Tells the head of a dump.
     fn tell_head<W: Sink>(&self, writer: &mut W, head: &DumpHead) -> Result<(), Fault>
         ensures written { Written result (W.output writer.old) (W.output writer.new) }
-        ensures told { Telling IsLine result (begins head.now ∷ []) (W.output writer.old)
-            (W.output writer.new) };
+        ensures told { Telling IsLine (wants self.now) result (begins head.now ∷ [])
+            (W.output writer.old) (W.output writer.new) };
 
-    /// Tells a pending transfer, and when its timeout ran out.
+    /// Tells a pending transfer whose timeout ran out before an entry, and when it did.
     fn tell_expiry<W: Sink>(
         &self,
         writer: &mut W,
+        entry: &Entry,
         end: u128,
         transfer: &Transfer,
     ) -> Result<(), Fault>
         ensures written { Written result (W.output writer.old) (W.output writer.new) }
-        ensures told { Telling IsLine result (expires end transfer.now ∷ []) (W.output writer.old)
+        ensures told { Telling IsLine (wants self.now) result
+            (expires entry.now end transfer.now ∷ []) (W.output writer.old)
             (W.output writer.new) };
 
-    /// Tells the last entry of a machine.
-    fn tell_entry<W: Sink>(
+    /// Tells an entry: who asked for it.
+    fn tell_entry<W: Sink>(&self, writer: &mut W, entry: &Entry) -> Result<(), Fault>
+        ensures written { Written result (W.output writer.old) (W.output writer.new) }
+        ensures told { Telling IsLine (wants self.now) result (enters entry.now ∷ [])
+            (W.output writer.old) (W.output writer.new) };
+
+    /// Tells what became of an account that the event of a place asks for.
+    fn tell_opening<W: Sink>(
+        &self,
+        writer: &mut W,
+        entry: &Entry,
+        place: usize,
+        outcome: Option<EventResult>,
+        account: &Account,
+    ) -> Result<(), Fault>
+        ensures written { Written result (W.output writer.old) (W.output writer.new) }
+        ensures told { Telling IsLine (wants self.now) result
+            (opens entry.now place outcome account.now ∷ []) (W.output writer.old)
+            (W.output writer.new) };
+
+    /// Tells what became of a transfer that the event of a place asks for, by the machine behind the entry.
+    fn tell_transfer<W: Sink>(
         &self,
         writer: &mut W,
         machine: &Machine<Global>,
         entry: &Entry,
+        place: usize,
+        outcome: Option<EventResult>,
+        transfer: &Transfer,
     ) -> Result<(), Fault>
         ensures written { Written result (W.output writer.old) (W.output writer.new) }
-        ensures told { Telling IsLine result (enters machine.now entry.now ∷ [])
-            (W.output writer.old) (W.output writer.new) };
+        ensures told { Telling IsLine (wants self.now) result
+            (settles entry.now place outcome transfer.now
+            (resolved_by machine.now.books transfer.now) ∷ []) (W.output writer.old)
+            (W.output writer.new) };
 
     /// Tells a mark.
     fn tell_mark<W: Sink>(&self, writer: &mut W) -> Result<(), Fault>
         ensures written { Written result (W.output writer.old) (W.output writer.new) }
-        ensures told { Telling IsLine result (moves ∷ []) (W.output writer.old)
+        ensures told { Telling IsLine (wants self.now) result (moves ∷ []) (W.output writer.old)
             (W.output writer.new) };
 
     /// Tells an account as it stands behind an entry.
@@ -57,43 +90,99 @@ pub trait Teller {
         account: &Account,
     ) -> Result<(), Fault>
         ensures written { Written result (W.output writer.old) (W.output writer.new) }
-        ensures told { Telling IsLine result (stands entry.now account.now ∷ [])
+        ensures told { Telling IsLine (wants self.now) result (stands entry.now account.now ∷ [])
             (W.output writer.old) (W.output writer.new) };
 }
 
-/// Lines of JSON.
+/// Lines of JSON, of what is wanted.
 #[derive(Drop)]
 pub struct JsonLines {
     pub alloc: Global,
+    pub wanted: Wanted,
+}
+
+impl JsonLines {
+    /// How times are shown.
+    fn times(&self) -> Times {
+        Times {
+            alloc: self.alloc,
+            is_utc: self.wanted.is_utc,
+        }
+    }
 }
 
 impl Teller for JsonLines {
     // What stands in a line of JSON is not said.
     ghost IsLine = { λ told line. Unit {0} };
 
+    ghost wants = { λ lines told. is_wanted lines.wanted told };
+
     fn tell_head<W: Sink>(&self, writer: &mut W, head: &DumpHead) -> Result<(), Fault> {
+        if !self.wanted.takes_heads() {
+            return Ok(());
+        }
         put_line(writer, head_line(self.alloc, head))
     }
 
     fn tell_expiry<W: Sink>(
         &self,
         writer: &mut W,
+        entry: &Entry,
         end: u128,
         transfer: &Transfer,
     ) -> Result<(), Fault> {
-        put_line(writer, expired_line(self.alloc, end, transfer))
+        if !self.wanted.takes_expiry(entry, transfer) {
+            return Ok(());
+        }
+        put_line(writer, self.times().expiry_line(end, transfer))
     }
 
-    fn tell_entry<W: Sink>(
+    fn tell_entry<W: Sink>(&self, writer: &mut W, entry: &Entry) -> Result<(), Fault> {
+        if !self.wanted.takes_entry(entry) {
+            return Ok(());
+        }
+        put_line(writer, self.times().entry_line(entry))
+    }
+
+    fn tell_opening<W: Sink>(
+        &self,
+        writer: &mut W,
+        entry: &Entry,
+        place: usize,
+        outcome: Option<EventResult>,
+        account: &Account,
+    ) -> Result<(), Fault> {
+        if !self.wanted.takes_account(entry, account) {
+            return Ok(());
+        }
+        put_line(
+            writer,
+            self.times().event_line(entry, place, outcome, account),
+        )
+    }
+
+    fn tell_transfer<W: Sink>(
         &self,
         writer: &mut W,
         machine: &Machine<Global>,
         entry: &Entry,
+        place: usize,
+        outcome: Option<EventResult>,
+        transfer: &Transfer,
     ) -> Result<(), Fault> {
-        put_line(writer, judged_line(self.alloc, machine, entry))
+        if !self.wanted.takes_transfer(machine, entry, transfer) {
+            return Ok(());
+        }
+        put_line(
+            writer,
+            self.times().event_line(entry, place, outcome, transfer),
+        )
     }
 
     fn tell_mark<W: Sink>(&self, writer: &mut W) -> Result<(), Fault> {
+        if !self.wanted.takes_heads() {
+            return Ok(());
+        }
         put_line(writer, mark_line(self.alloc))
     }
 
@@ -103,6 +192,9 @@ impl Teller for JsonLines {
         entry: &Entry,
         account: &Account,
     ) -> Result<(), Fault> {
-        put_line(writer, balance_line(self.alloc, entry, account))
+        if !self.wanted.takes_account(entry, account) {
+            return Ok(());
+        }
+        put_line(writer, self.times().balance_line(entry, account))
     }
 }

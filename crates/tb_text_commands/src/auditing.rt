@@ -2,19 +2,25 @@
 ghost use Rattle.std.specs.Prelude.{◌≡◌, [], IfErr, IfOk, MatchResult, Ok, OnOk};
 ghost use Rattle.tb_machine.specs.Histories.{start};
 ghost use Rattle.avl_tree.specs.Map.{entries};
-ghost use Rattle.tb_text_commands.specs.Audits.{Enters, GoesOver, NoneIsDue, stored_results, waits_behind, watched_of};
-ghost use Rattle.tb_text_commands.specs.AuditRuns.{AuditRan, AuditsEntry, AuditsItem, AuditsItems, AuditsMark, AuditsNext, Changes, HeadFails, HeadTold, RefusesEntry, TellsAccount, TellsDue, account_of, audited_from};
+ghost use Rattle.tb_text_commands.specs.Audits.{Enters, GoesOver, NoneIsDue, waits_behind, watched_of};
+ghost use Rattle.tb_text_commands.specs.Results.{stored_results};
+ghost use Rattle.tb_text_commands.specs.AuditRuns.{AuditRan, AuditsEntry, AuditsItem, AuditsItems, AuditsMark, AuditsNext, Changes, Finds, HeadFails, HeadTold, RefusesEntry, Telling, TellsAccount, TellsDue, account_of, audited_from, batch_told, entry_told, events_told};
 ghost use Rattle.tb_text_commands.specs.Audited.{audited};
 ghost use Rattle.tb_text_commands.specs.Ends.{Converts, Ended, IsOfInput, Written};
 ghost use Rattle.tb_text_commands.specs.Taken.{TakesIf};
+ghost use Rattle.tb_text_commands.specs.Wanted.{is_wanted};
 ghost use Rattle.tb_text_commands.specs.Whole.{IsDump, IsItem, Parts, WasWhole};
 
 use crate::audit_lines::{JsonLines, Teller};
 use crate::dumps::next_item;
 use crate::faults::Fault;
-use crate::results::results_of;
+use crate::judged::Judged;
+use crate::results::{Outcomes, results_of};
+use crate::told_lines::Lines;
 use crate::waits::Waits;
+use crate::wanted::Wanted;
 use std::alloc::{AllocError, Global};
+use std::format;
 use tb_machine::{Entry, Machine};
 use tb_records::dumps::read_head_from;
 use tb_records::{Account, Body, DumpFault, DumpHead, DumpItem, Profile, Sink, Source};
@@ -22,6 +28,7 @@ use tb_records::{Account, Body, DumpFault, DumpHead, DumpItem, Profile, Sink, So
 /// A replay of a dump, and what is watched beside it.
 #[derive(Drop)]
 struct Replay {
+    alloc: Global,
     machine: Machine<Global>,
     waits: Waits,
     /// The id of the account whose balances are told.
@@ -39,6 +46,7 @@ impl Replay {
         ensures from { IfOk result (λ replay. audited replay ≡ audited_from account head.now) }
     {
         Ok(Replay {
+            alloc,
             machine: Machine::new_in(alloc, alloc, head.profile, head.clients_max)?,
             waits: Waits::new(alloc),
             account,
@@ -59,7 +67,9 @@ impl Replay {
         match entry.request.body() {
             Body::CreateTransfers(events) => {
                 let results = results_of(&self.machine, entry.request.client());
-                self.waits.watch(&self.machine, events.as_slice(), results)
+                let outcomes = Outcomes::new(self.alloc, results)?;
+                self.waits
+                    .watch(&self.machine, events.as_slice(), &outcomes)
             }
             Body::Register => Ok(()),
             Body::CreateAccounts(_) => Ok(()),
@@ -105,25 +115,89 @@ impl Replay {
     /// Tells the pending transfers that have expired at an entry's time, in the order in which they did.
     fn tell_expired<T: Teller, W: Sink>(
         &mut self,
+        entry: &Entry,
         teller: &T,
         writer: &mut W,
-        time: u64,
     ) -> Result<(), Fault>
         ensures written { Written result (W.output writer.old) (W.output writer.new) }
-        ensures waits { OnOk result (NoneIsDue time (entries self.new.waits.by_end)) }
+        ensures waits { OnOk result (NoneIsDue entry.now.time (entries self.new.waits.by_end)) }
         ensures machine { self.new.machine ≡ self.old.machine }
         ensures account { self.new.account ≡ self.old.account }
         ensures shown { self.new.told ≡ self.old.told }
-        ensures told { TellsDue T.IsLine result time (entries self.old.waits.by_end)
-            (entries self.new.waits.by_end) (W.output writer.old) (W.output writer.new) }
+        ensures told { TellsDue T.IsLine (T.wants teller.now) result entry.now
+            (entries self.old.waits.by_end) (entries self.new.waits.by_end)
+            (W.output writer.old) (W.output writer.new) }
     {
         for _ in 0..u64::MAX {
-            let Some((end, transfer)) = self.waits.pop_due(time) else {
+            let Some((end, transfer)) = self.waits.pop_due(entry.time) else {
                 return Ok(());
             };
-            teller.tell_expiry(writer, end, &transfer)?;
+            teller.tell_expiry(writer, entry, end, &transfer)?;
         }
         Err(Fault::TooLong)
+    }
+
+    /// Tells what became of the events of the machine's last entry, one by one.
+    fn tell_events<E: Judged, T: Teller, W: Sink>(
+        &self,
+        entry: &Entry,
+        events: &[E],
+        teller: &T,
+        writer: &mut W,
+    ) -> Result<(), Fault>
+        ensures written { Written result (W.output writer.old) (W.output writer.new) }
+        ensures told { Telling T.IsLine (T.wants teller.now) result
+            (events_told (E.told self.now.machine entry.now) (stored_results self.now.machine.rows entry.now.request.client) 0 events.now)
+            (W.output writer.old) (W.output writer.new) }
+    {
+        let results = results_of(&self.machine, entry.request.client());
+        let outcomes = Outcomes::new(self.alloc, results)?;
+        for (place, event) in events.iter().enumerate() {
+            let outcome = outcomes.at(place);
+            event.tell(teller, writer, &self.machine, entry, place, outcome)?;
+        }
+        Ok(())
+    }
+
+    /// Tells what became of the events of the machine's last entry, if it is a batch.
+    fn tell_batch<T: Teller, W: Sink>(
+        &self,
+        entry: &Entry,
+        teller: &T,
+        writer: &mut W,
+    ) -> Result<(), Fault>
+        ensures written { Written result (W.output writer.old) (W.output writer.new) }
+        ensures told { Telling T.IsLine (T.wants teller.now) result
+            (batch_told self.now.machine (stored_results self.now.machine.rows entry.now.request.client) entry.now entry.now.request.body)
+            (W.output writer.old) (W.output writer.new) }
+    {
+        match entry.request.body() {
+            Body::CreateAccounts(events) => {
+                self.tell_events(entry, events.as_slice(), teller, writer)
+            }
+            Body::CreateTransfers(events) => {
+                self.tell_events(entry, events.as_slice(), teller, writer)
+            }
+            Body::Register => Ok(()),
+            Body::LookupAccounts(_) => Ok(()),
+            Body::LookupTransfers(_) => Ok(()),
+        }
+    }
+
+    /// Tells the machine's last entry, and what became of its events.
+    fn tell_entry<T: Teller, W: Sink>(
+        &self,
+        entry: &Entry,
+        teller: &T,
+        writer: &mut W,
+    ) -> Result<(), Fault>
+        ensures written { Written result (W.output writer.old) (W.output writer.new) }
+        ensures told { Telling T.IsLine (T.wants teller.now) result
+            (entry_told self.now.machine (stored_results self.now.machine.rows entry.now.request.client) entry.now)
+            (W.output writer.old) (W.output writer.new) }
+    {
+        teller.tell_entry(writer, entry)?;
+        self.tell_batch(entry, teller, writer)
     }
 
     /// The account that is told, where it stands otherwise than it was told last.
@@ -149,7 +223,7 @@ impl Replay {
         ensures machine { self.new.machine ≡ self.old.machine }
         ensures account { self.new.account ≡ self.old.account }
         ensures waits { self.new.waits ≡ self.old.waits }
-        ensures told { TellsAccount T.IsLine result entry.now
+        ensures told { TellsAccount T.IsLine (T.wants teller.now) result entry.now
             (account_of self.old.account self.old.machine) self.old.told self.new.told
             (W.output writer.old) (W.output writer.new) }
     {
@@ -168,19 +242,19 @@ impl Replay {
         entry: &Entry,
     ) -> Result<(), Fault>
         ensures written { Written result (W.output writer.old) (W.output writer.new) }
-        ensures told { AuditsEntry T.IsLine result (audited self.old) (audited self.new) entry.now
+        ensures told { AuditsEntry T.IsLine (T.wants teller.now) result (audited self.old) (audited self.new) entry.now
             (W.output writer.old) (W.output writer.new) }
     {
         self.enter(entry)?;
-        self.tell_expired(teller, writer, entry.time)?;
-        teller.tell_entry(writer, &self.machine, entry)?;
+        self.tell_expired(entry, teller, writer)?;
+        self.tell_entry(entry, teller, writer)?;
         self.tell_account(entry, teller, writer)
     }
 
     /// Goes over to profile 2, and tells so.
     fn put_mark<T: Teller, W: Sink>(&mut self, teller: &T, writer: &mut W) -> Result<(), Fault>
         ensures written { Written result (W.output writer.old) (W.output writer.new) }
-        ensures told { AuditsMark T.IsLine result (audited self.old) (audited self.new)
+        ensures told { AuditsMark T.IsLine (T.wants teller.now) result (audited self.old) (audited self.new)
             (W.output writer.old) (W.output writer.new) }
     {
         self.go_over()?;
@@ -195,7 +269,7 @@ impl Replay {
         item: DumpItem,
     ) -> Result<(), Fault>
         ensures written { Written result (W.output writer.old) (W.output writer.new) }
-        ensures told { AuditsItem T.IsLine result (audited self.old) (audited self.new) item
+        ensures told { AuditsItem T.IsLine (T.wants teller.now) result (audited self.old) (audited self.new) item
             (W.output writer.old) (W.output writer.new) }
     {
         match item {
@@ -227,7 +301,7 @@ impl Replay {
             (W.output writer.old) (W.output writer.new) }
         ensures taken { IfOk result (λ more.
             TakesIf IsItem more (R.input reader.old).left (R.input reader.new).left) }
-        ensures audits { AuditsNext T.IsLine result (audited self.old) (audited self.new)
+        ensures audits { AuditsNext T.IsLine (T.wants teller.now) result (audited self.old) (audited self.new)
             (R.input reader.old) (R.input reader.new) (W.output writer.old)
             (W.output writer.new) }
     {
@@ -238,7 +312,7 @@ impl Replay {
         Ok(true)
     }
 
-    /// Takes all items, and tells what they did.
+    /// Takes all items, and tells what they did. Then the account whose lines are wanted has to be there.
     fn put_all<T: Teller, R: Source, W: Sink>(
         &mut self,
         alloc: Global,
@@ -249,16 +323,38 @@ impl Replay {
         ensures ended { Ended result (R.input reader.old) (R.input reader.new)
             (W.output writer.old) (W.output writer.new) }
         ensures whole { OnOk result (WasWhole (Parts IsItem) (R.input reader.old).left) }
-        ensures audits { AuditsItems T.IsLine result (audited self.old) (R.input reader.old)
+        ensures audits { AuditsItems T.IsLine (T.wants teller.now) result (audited self.old) (R.input reader.old)
             (R.input reader.new) (W.output writer.old) (W.output writer.new) }
     {
         for _ in 0..u64::MAX {
             if !self.put_next(alloc, teller, reader, writer)? {
-                return Ok(());
+                return self.find_account();
             }
         }
         Err(Fault::TooLong)
     }
+    /// The fault where there is no account of the id whose lines are wanted.
+    fn find_account(&self) -> Result<(), Fault>
+        ensures fault { IfErr result IsOfInput }
+        ensures found { Finds result (audited self.now) }
+    {
+        let Some(id) = self.account else {
+            return Ok(());
+        };
+        if self.machine.account(id).is_some() {
+            Ok(())
+        } else {
+            Err(Fault::Arguments(no_account(self.alloc, id)?))
+        }
+    }
+}
+
+/// The line that says that a dump has no account of an id.
+fn no_account(alloc: Global, id: u128) -> Result<Lines, AllocError> {
+    let line = format!(in alloc;
+        "tbt: audit --account {id}: the dump has no account of this id\n"
+    )?;
+    Lines::new(alloc, line.as_bytes())
 }
 
 /// Reads the head of a dump, and tells it.
@@ -270,9 +366,9 @@ fn put_head<T: Teller, R: Source, W: Sink>(
     ensures ended { Ended result (R.input reader.old) (R.input reader.new) (W.output writer.old)
         (W.output writer.new) }
     ensures told { MatchResult result
-        (λ head. HeadTold T.IsLine (Ok tt) head (R.input reader.old) (R.input reader.new)
+        (λ head. HeadTold T.IsLine (T.wants teller.now) (Ok tt) head (R.input reader.old) (R.input reader.new)
         (W.output writer.old) (W.output writer.new))
-        (λ fault. HeadFails T.IsLine fault (R.input reader.old) (R.input reader.new)
+        (λ fault. HeadFails T.IsLine (T.wants teller.now) fault (R.input reader.old) (R.input reader.new)
         (W.output writer.old) (W.output writer.new)) }
 {
     let head = read_head_from(reader)?;
@@ -280,7 +376,7 @@ fn put_head<T: Teller, R: Source, W: Sink>(
     Ok(head)
 }
 
-/// Tells what a dump's entries did: before each entry the pending transfers that have expired since, then the entry with
+/// Tells what a dump's entries did: before each entry the pending transfers that have expired since, then the entry and
 /// what became of each event, then the account, where it changed.
 fn audit_by<T: Teller, R: Source, W: Sink>(
     alloc: Global,
@@ -289,8 +385,8 @@ fn audit_by<T: Teller, R: Source, W: Sink>(
     reader: &mut R,
     writer: &mut W,
 ) -> Result<(), Fault>
-    ensures ran { AuditRan T.IsLine result account (R.input reader.old) (R.input reader.new)
-        (W.output writer.old) (W.output writer.new) }
+    ensures ran { AuditRan T.IsLine (T.wants teller.now) result account (R.input reader.old)
+        (R.input reader.new) (W.output writer.old) (W.output writer.new) }
     ensures converts { Converts IsDump result (R.input reader.old) (R.input reader.new)
         (W.output writer.old) (W.output writer.new) }
 {
@@ -299,17 +395,19 @@ fn audit_by<T: Teller, R: Source, W: Sink>(
     replay.put_all(alloc, teller, reader, writer)
 }
 
-/// Writes what a dump's entries did, in lines of JSON.
+/// Writes what a dump's entries did, as far as it is wanted, in lines of JSON. Where an account's lines are wanted and the
+/// dump has no such account, the fault comes behind the last entry.
 pub fn audit<R: Source, W: Sink>(
     alloc: Global,
-    account: Option<u128>,
+    wanted: Wanted,
     reader: &mut R,
     writer: &mut W,
 ) -> Result<(), Fault>
     ensures converts { Converts IsDump result (R.input reader.old) (R.input reader.new)
         (W.output writer.old) (W.output writer.new) }
-    ensures ran { AuditRan (λ told line. Unit {0}) result account (R.input reader.old)
-        (R.input reader.new) (W.output writer.old) (W.output writer.new) }
+    ensures ran { AuditRan (λ told line. Unit {0}) (is_wanted wanted) result wanted.account
+        (R.input reader.old) (R.input reader.new) (W.output writer.old) (W.output writer.new) }
 {
-    audit_by(alloc, account, &JsonLines { alloc }, reader, writer)
+    let account = wanted.account;
+    audit_by(alloc, account, &JsonLines { alloc, wanted }, reader, writer)
 }

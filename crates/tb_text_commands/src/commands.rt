@@ -1,9 +1,11 @@
 //! The program's forms, over any reader and writer.
 ghost use Rattle.std.specs.Prelude.{◌≡◌, ◌<◌, false, IfOk, None, Option, Some, map, string_bytes, ℕ};
 ghost use Rattle.tb_text_commands.specs.declared.arguments.Form.{Form};
-ghost use Rattle.tb_text_commands.specs.AuditRuns.{AuditRan};
+ghost use Rattle.tb_text_commands.specs.declared.wanted.Wanted.{Wanted};
+ghost use Rattle.tb_text_commands.specs.AuditRuns.{AuditRan, AuditedBy};
 ghost use Rattle.tb_text_commands.specs.Ends.{Converts, Exits};
 ghost use Rattle.tb_text_commands.specs.Forms.{form_of};
+ghost use Rattle.tb_text_commands.specs.Wanted.{is_wanted};
 ghost use Rattle.tb_text_commands.specs.Whole.{IsInputOf};
 
 use crate::arguments::{Form, read_form, wrong_words};
@@ -36,9 +38,9 @@ fn perform<C: Clock, R: Source, W: Sink, E: Sink>(
         (W.output writer.old) (W.output writer.new) }
     ensures quiet { IfOk result (λ _. faults.new ≡ faults.old) }
     ensures silent { talks ≡ false → faults.new ≡ faults.old }
-    ensures audited { (account : Option ℕ) → form ≡ Form.Audit account
-        → AuditRan (λ told line. Unit {0}) result account (R.input reader.old)
-        (R.input reader.new) (W.output writer.old) (W.output writer.new) }
+    ensures audited { (wanted : Wanted) → form ≡ Form.Audit wanted
+        → AuditRan (λ told line. Unit {0}) (is_wanted wanted) result wanted.account
+        (R.input reader.old) (R.input reader.new) (W.output writer.old) (W.output writer.new) }
 {
     match form {
         Form::Script => {
@@ -52,7 +54,7 @@ fn perform<C: Clock, R: Source, W: Sink, E: Sink>(
         }
         Form::Dump => dump(alloc, reader, writer),
         Form::Pairs => pairs(alloc, reader, writer),
-        Form::Audit(account) => audit(alloc, account, reader, writer),
+        Form::Audit(wanted) => audit(alloc, wanted, reader, writer),
         Form::Explain => explain(alloc, reader, writer),
         Form::Run(clients_max, profile) => {
             let rules = (clients_max, profile);
@@ -102,6 +104,9 @@ pub fn command<C: Clock, R: Source, W: Sink, E: Sink>(
     ensures ended { (form : Form) → form_of (map string_bytes words.now) ≡ Some form
         → Exits form talks result (R.input reader.old) (R.input reader.new) (W.output writer.old)
         (W.output writer.new) (E.output faults.old) (E.output faults.new) }
+    ensures audited { (wanted : Wanted) → form_of (map string_bytes words.now) ≡ Some (Form.Audit wanted)
+        → AuditedBy wanted result (R.input reader.old) (R.input reader.new) (W.output writer.old)
+        (W.output writer.new) }
 {
     let Some(form) = read_form(words) else {
         usage_fault(alloc, words).tell(faults);

@@ -14,7 +14,12 @@ Reads standard input, writes standard output.
   replies                    the replies of tbs in, a line of JSON each out
   dump                       a dump of tbs in, a line of JSON for each entry out
   pairs                      a dump in, a script that makes its history out
-  audit [--account ID]       a dump in, what became of each event, expiries, the account's balances out
+  audit [OPTIONS]            a dump in, what became of each event, and expiries, a line of JSON each out
+    --account ID             the lines of that account alone, and its balances where they change
+    --after COMMIT           those of entries behind that one
+    --from TIME, --to TIME   those of entries in that time: 2026-11-26T10:00:00Z, or nanoseconds
+    --utc                    each time as UTC too
+    --follow                 the input may stay open
   explain                    a script or a dump in, where and why tbs stops in it out
   --help, -h, --version
 

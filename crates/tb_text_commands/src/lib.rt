@@ -3,6 +3,8 @@
 //!
 //! Modules, each over those before it:
 //!
+//! - `wanted`: which lines of an audit are wanted.
+//! - `audit_options`: the options of `audit`.
 //! - `arguments`: `read_form`, what the words of the command line ask for.
 //! - `help`: the page of usage.
 //! - `told_lines`: lines that may go to a terminal.
@@ -21,7 +23,9 @@
 //! - `dumps`: `dump`, `pairs`, the forms that read a dump.
 //! - `running`: `run`, statements served and answered as they come.
 //! - `waits`: pending transfers whose timeouts run.
+//! - `audit_json`: the lines of an audit as JSON.
 //! - `audit_lines`: what writes the lines of an audit.
+//! - `judged`: the events of a batch, and what an audit tells of each.
 //! - `auditing`: `audit`, a dump joined with what its replay gives.
 //! - `stops`: how far `tbs` reads a script or replays a dump, and why no further.
 //! - `explaining`: `explain`, which tells that in words.
@@ -34,7 +38,9 @@
 #![tactic(auto)]
 
 mod arguments;
+mod audit_json;
 mod audit_lines;
+mod audit_options;
 mod auditing;
 mod commands;
 mod completing;
@@ -47,6 +53,7 @@ mod heads;
 mod help;
 mod host;
 mod intake;
+mod judged;
 mod lines;
 mod lists;
 mod objects;
@@ -58,6 +65,7 @@ mod statements;
 mod stops;
 mod told_lines;
 mod waits;
+mod wanted;
 pub mod whole_laws;
 
 pub use arguments::{Form, read_form};
@@ -65,3 +73,4 @@ pub use commands::command;
 pub use faults::Fault;
 pub use host::{fault_of, refuse, serve};
 pub use told_lines::Lines;
+pub use wanted::Wanted;

@@ -4,13 +4,12 @@ ghost use Rattle.tb_records.specs.Messages.{is_operation};
 ghost use Rattle.tb_records.specs.Operations.{operation_code, operation_name};
 ghost use Rattle.tb_text_commands.specs.Names.{status_word};
 
-use crate::lists::{EventResults, Ids, Judged, List, Records};
-use crate::objects::{Object, Plain, Record, Shown};
-use crate::results::results_of;
+use crate::lists::{EventResults, Ids, List, Records};
+use crate::objects::{Object, Plain, Shown};
 use serde::{Described, Serialize, Serializer};
 use std::alloc::{AllocError, Global};
-use tb_machine::{Entry, Machine};
-use tb_records::{Account, Body, DumpHead, Operation, Profile, Reply, ReplyBody, Status, Transfer};
+use tb_machine::Entry;
+use tb_records::{Body, DumpHead, Operation, Profile, Reply, ReplyBody, Status};
 
 /// The events of a register, and the results of its reply.
 const NO_IDS: &[u128] = &[];
@@ -39,7 +38,7 @@ fn status_name(status: Status) -> &'static str
 }
 
 /// The name of an operation's number.
-fn operation_name(operation: u8) -> &'static str
+pub fn operation_name(operation: u8) -> &'static str
     ensures named { (known : Operation) → operation_code known ≡ operation
         → result.now ≡ operation_name known }
     ensures unknown { is_operation operation ≡ false → result.now ≡ codes "unknown" }
@@ -105,12 +104,8 @@ impl Serialize for Events<'_> {
     }
 }
 
-/// The line of an entry with these events.
-fn entry_with<T: Serialize>(
-    alloc: Global,
-    entry: &Entry,
-    events: &T,
-) -> Result<Vec<u8>, AllocError> {
+/// The line of an entry.
+pub fn entry_line(alloc: Global, entry: &Entry) -> Result<Vec<u8>, AllocError> {
     let request = &entry.request;
     let fields = [
         ("commit", Shown::Digits(u128::from(entry.commit))),
@@ -126,14 +121,9 @@ fn entry_with<T: Serialize>(
     let object = Object {
         fields: &fields,
         name: "events",
-        last: events,
+        last: &Events(request.body()),
     };
     line(alloc, &object)
-}
-
-/// The line of an entry.
-pub fn entry_line(alloc: Global, entry: &Entry) -> Result<Vec<u8>, AllocError> {
-    entry_with(alloc, entry, &Events(entry.request.body()))
 }
 
 /// The line of a dump's head.
@@ -152,61 +142,4 @@ pub fn head_line(alloc: Global, head: &DumpHead) -> Result<Vec<u8>, AllocError> 
 /// The line of a mark.
 pub fn mark_line(alloc: Global) -> Result<Vec<u8>, AllocError> {
     line(alloc, &Plain(&[("profile", Shown::Number(2))]))
-}
-
-/// The line of the machine's last entry, with what became of each of its events.
-fn judged_with<R: Record>(
-    alloc: Global,
-    machine: &Machine<Global>,
-    entry: &Entry,
-    events: &[R],
-) -> Result<Vec<u8>, AllocError> {
-    let judged = Judged {
-        machine,
-        operation: entry.request.operation(),
-        results: results_of(machine, entry.request.client()),
-    };
-    entry_with(alloc, entry, &List(events, judged))
-}
-
-/// The line of the machine's last entry, with what became of each event of a batch: records that were accepted are shown
-/// as they were made.
-pub fn judged_line(
-    alloc: Global,
-    machine: &Machine<Global>,
-    entry: &Entry,
-) -> Result<Vec<u8>, AllocError> {
-    match entry.request.body() {
-        Body::CreateAccounts(events) => judged_with(alloc, machine, entry, events.as_slice()),
-        Body::CreateTransfers(events) => judged_with(alloc, machine, entry, events.as_slice()),
-        _ => entry_line(alloc, entry),
-    }
-}
-
-/// The line of a pending transfer that expired at a time.
-pub fn expired_line(alloc: Global, time: u128, transfer: &Transfer) -> Result<Vec<u8>, AllocError> {
-    let object = Object {
-        fields: &[("time", Shown::Digits(time))],
-        name: "expired",
-        last: &Plain(&transfer.fields()),
-    };
-    line(alloc, &object)
-}
-
-/// The line of an account as it stands after an entry.
-pub fn balance_line(
-    alloc: Global,
-    entry: &Entry,
-    account: &Account,
-) -> Result<Vec<u8>, AllocError> {
-    let fields = [
-        ("commit", Shown::Digits(u128::from(entry.commit))),
-        ("time", Shown::Digits(u128::from(entry.time))),
-    ];
-    let object = Object {
-        fields: &fields,
-        name: "account",
-        last: &Plain(&account.fields()),
-    };
-    line(alloc, &object)
 }

@@ -1,12 +1,6 @@
 //! Lists of records, ids and results, each item an object.
-ghost use Rattle.std.specs.Prelude.{◌≡◌, if◌then◌else◌, unwrap_or};
-ghost use Rattle.tb_text_commands.specs.Audits.{is_accepted};
-
-use crate::objects::{Object, Plain, Record, Shown, result_shown};
-use crate::results::{is_accepted, outcome_of};
+use crate::objects::{Plain, Record, Shown, result_shown};
 use serde::{Described, Serialize, Serializer};
-use std::alloc::Global;
-use tb_machine::Machine;
 use tb_records::EventResult;
 
 /// What shows items as objects.
@@ -64,40 +58,5 @@ impl Shows<EventResult> for EventResults {
     ) -> Result<(), S::Error> {
         let shown = result_shown(self.0, judged.result);
         Plain(&[("index", Shown::Number(judged.index)), ("result", shown)]).serialize(out)
-    }
-}
-
-/// Shows the events of a machine's last entry with what became of each: one that was accepted as the record that it made.
-#[derive(Drop)]
-pub struct Judged<'a> {
-    pub machine: &'a Machine<Global>,
-    pub operation: u8,
-    pub results: &'a [EventResult],
-}
-
-impl Judged<'_> {
-    /// An event as it was recorded, or as it was asked for where it was not accepted.
-    fn made<R: Record>(&self, index: usize, event: &R) -> R
-        ensures { result
-            ≡ (if is_accepted self.now.results.now index
-            then unwrap_or (R.kept event.now self.now.machine.now) event.now
-            else event.now) }
-    {
-        if is_accepted(self.results, index) {
-            event.kept_by(self.machine).unwrap_or(*event)
-        } else {
-            *event
-        }
-    }
-}
-
-impl<R: Record> Shows<R> for Judged<'_> {
-    fn put<S: Serializer>(&self, out: &mut S, index: usize, event: &R) -> Result<(), S::Error> {
-        let object = Object {
-            fields: &[("result", outcome_of(self.operation, self.results, index))],
-            name: "event",
-            last: &Plain(&self.made(index, event).fields()),
-        };
-        object.serialize(out)
     }
 }

@@ -1,9 +1,10 @@
 //! What became of the events of a machine's last entry.
-ghost use Rattle.std.specs.Prelude.{◌≡◌};
-ghost use Rattle.tb_text_commands.specs.Audits.{is_accepted, result_at, stored_results};
+ghost use Rattle.std.specs.Prelude.{◌≡◌, ◌≤◌, [], ◌∷◌, ℕ, IfOk, None, OnOk, length, slice_index_or};
+ghost use Rattle.std.proofs.Props.{props};
+ghost use Rattle.std.specs.Option.{option_or};
+ghost use Rattle.tb_text_commands.specs.Results.{result_at, stored_results};
 
-use crate::objects::{Shown, result_shown};
-use std::alloc::Global;
+use std::alloc::{AllocError, Global};
 use tb_machine::Machine;
 use tb_records::{EventResult, ReplyBody};
 
@@ -20,27 +21,67 @@ pub fn results_of(machine: &Machine<Global>, client: u128) -> &[EventResult]
     }
 }
 
-/// The result of an event that was not accepted.
-fn result_at(results: &[EventResult], index: usize) -> Option<EventResult>
-    ensures { result ≡ result_at results.now index }
-{
-    results
-        .iter()
-        .copied()
-        .find(|judged| judged.index as usize == index)
+/// The results of a batch, by the places of its events. One that was accepted has none.
+#[derive(Drop)]
+pub struct Outcomes<'a> {
+    results: &'a [EventResult],
+    by_place: Vec<Option<EventResult>>,
+    // Each is where the reply has it first.
+    ghost found: { (place : ℕ) → slice_index_or by_place.items place None ≡ result_at results.now place } by { Prim.hlevel props },
 }
 
-/// Says that an event of a batch was accepted.
-pub fn is_accepted(results: &[EventResult], index: usize) -> bool
-    ensures { result ≡ is_accepted results.now index }
+/// Makes a list so long that a place is next or in it.
+fn reach(by_place: &mut Vec<Option<EventResult>>, place: usize) -> Result<(), AllocError>
+    ensures long { OnOk result (place ≤ length by_place.new.items) }
+    ensures same { OnOk result ((other : ℕ)
+        → slice_index_or by_place.new.items other None ≡ slice_index_or by_place.old.items other None) }
 {
-    result_at(results, index).is_none()
+    for _ in by_place.len()..place {
+        by_place.push(None)?;
+    }
+    Ok(())
 }
 
-/// What became of an event of an operation: `created` where no result says that it was not accepted.
-pub fn outcome_of(operation: u8, results: &[EventResult], index: usize) -> Shown {
-    match result_at(results, index) {
-        Some(judged) => result_shown(operation, judged.result),
-        None => Shown::Name("created"),
+/// Notes a result at its place, unless there is one.
+fn note(by_place: &mut Vec<Option<EventResult>>, judged: EventResult) -> Result<(), AllocError>
+    ensures { OnOk result ((place : ℕ) → slice_index_or by_place.new.items place None
+        ≡ option_or (slice_index_or by_place.old.items place None) (result_at (judged ∷ []) place)) }
+{
+    let place = judged.index as usize;
+    reach(by_place, place)?;
+    if place == by_place.len() {
+        by_place.push(Some(judged))?;
+    } else if by_place[place].is_none() {
+        by_place[place] = Some(judged);
+    }
+    Ok(())
+}
+
+/// Results by their places: of those of one place the first.
+fn placed(alloc: Global, results: &[EventResult]) -> Result<Vec<Option<EventResult>>, AllocError>
+    ensures { IfOk result (λ by_place. (place : ℕ)
+        → slice_index_or by_place.items place None ≡ result_at results.now place) }
+{
+    let mut by_place = Vec::new(alloc);
+    for index in 0..results.len() {
+        note(&mut by_place, results[index])?;
+    }
+    Ok(by_place)
+}
+
+impl<'a> Outcomes<'a> {
+    /// Results by their places.
+    pub fn new(alloc: Global, results: &'a [EventResult]) -> Result<Outcomes<'a>, AllocError>
+        ensures { IfOk result (λ outcomes. outcomes.results.now ≡ results.now) }
+    {
+        let by_place = placed(alloc, results)?;
+        Ok(Outcomes { results, by_place })
+    }
+
+    /// The result of the event of a place, where it was not accepted.
+    pub fn at(&self, place: usize) -> Option<EventResult>
+        ensures { result ≡ result_at self.now.results.now place }
+    {
+        self.by_place.get(place).copied().unwrap_or(None)
     }
 }

@@ -1,13 +1,14 @@
 //! The pending transfers whose timeouts run, in the order in which they run out.
-ghost use Rattle.std.specs.Prelude.{◌≡◌, [], OnOk};
+ghost use Rattle.std.specs.Prelude.{◌≡◌, [], OnOk, unwrap_or};
+ghost use Rattle.tb_ledger.specs.Books.{transfer_at};
 ghost use Rattle.avl_tree.specs.Map.{entries};
 ghost use Rattle.tb_text_commands.specs.Audits.{TakesDue, began, ended, wait_key, waits_with, watched_from, watched_one};
 
-use crate::results::is_accepted;
+use crate::results::Outcomes;
 use avl_tree::AvlMap;
 use std::alloc::{AllocError, Global};
 use tb_machine::Machine;
-use tb_records::{EventResult, NANOSECONDS_PER_SECOND, Transfer};
+use tb_records::{NANOSECONDS_PER_SECOND, Transfer};
 
 /// When a timeout runs out, in nanoseconds, and the id of its transfer.
 type Key = (u128, u128);
@@ -24,6 +25,13 @@ fn key_of(transfer: &Transfer) -> Key
 {
     let length = u128::from(transfer.timeout) * u128::from(NANOSECONDS_PER_SECOND);
     (u128::from(transfer.timestamp) + length, transfer.id)
+}
+
+/// The transfer that an accepted event made.
+fn made(machine: &Machine<Global>, event: &Transfer) -> Transfer
+    ensures { result ≡ unwrap_or (transfer_at machine.now.books event.now.id) event.now }
+{
+    machine.transfer(event.id).unwrap_or(*event)
 }
 
 impl Waits {
@@ -55,43 +63,38 @@ impl Waits {
         let _ = self.by_end.remove(&key_of(transfer));
     }
 
-    /// Watches a transfer that was recorded: one that has a timeout, or one that ends the wait of another.
-    fn watch_one(
-        &mut self,
-        machine: &Machine<Global>,
-        transfer: &Transfer,
-    ) -> Result<(), AllocError>
+    /// Watches an event that was accepted: one that has a timeout, or one that ends the wait of another.
+    fn watch_one(&mut self, machine: &Machine<Global>, event: &Transfer) -> Result<(), AllocError>
         ensures { OnOk result (entries self.new.by_end
-            ≡ waits_with machine.now.books transfer.now (entries self.old.by_end)) }
+            ≡ waits_with machine.now.books event.now (entries self.old.by_end)) }
     {
-        if transfer.is_resolving() {
-            if let Some(pending) = machine.transfer(transfer.pending_id) {
+        if event.is_resolving() {
+            if let Some(pending) = machine.transfer(event.pending_id) {
                 self.end(&pending);
             }
             Ok(())
-        } else if transfer.is_pending() && transfer.timeout != 0 {
-            self.begin(transfer)
+        } else if event.is_pending() && event.timeout != 0 {
+            self.begin(&made(machine, event))
         } else {
             Ok(())
         }
     }
 
-    /// Watches the event of an index, where it was accepted, by the results of those that were not.
+    /// Watches the event of a place, where it was accepted.
     fn watch_event(
         &mut self,
         machine: &Machine<Global>,
-        results: &[EventResult],
-        index: usize,
+        outcomes: &Outcomes<'_>,
+        place: usize,
         event: &Transfer,
     ) -> Result<(), AllocError>
         ensures { OnOk result (entries self.new.by_end
-            ≡ watched_one machine.now.books results.now index event.now (entries self.old.by_end)) }
+            ≡ watched_one machine.now.books outcomes.now.results.now place event.now (entries self.old.by_end)) }
     {
-        if !is_accepted(results, index) {
+        if outcomes.at(place).is_some() {
             return Ok(());
         }
-        let recorded = machine.transfer(event.id).unwrap_or(*event);
-        self.watch_one(machine, &recorded)
+        self.watch_one(machine, event)
     }
 
     /// Watches the events of a batch that were accepted, by the results of the others.
@@ -99,13 +102,13 @@ impl Waits {
         &mut self,
         machine: &Machine<Global>,
         events: &[Transfer],
-        results: &[EventResult],
+        outcomes: &Outcomes<'_>,
     ) -> Result<(), AllocError>
         ensures { OnOk result (entries self.new.by_end
-            ≡ watched_from machine.now.books results.now 0 events.now (entries self.old.by_end)) }
+            ≡ watched_from machine.now.books outcomes.now.results.now 0 events.now (entries self.old.by_end)) }
     {
-        for (index, event) in events.iter().enumerate() {
-            self.watch_event(machine, results, index, event)?;
+        for (place, event) in events.iter().enumerate() {
+            self.watch_event(machine, outcomes, place, event)?;
         }
         Ok(())
     }

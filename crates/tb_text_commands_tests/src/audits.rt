@@ -7,12 +7,16 @@ use std::process::Abort;
 /// The lines of the head, the register and the two accounts, by profile 1.
 const BEGUN_BY_ONE: &str = r#"{"profile":1,"clients_max":2}
 {"commit":"1","time":"1","client":"7","session":"0","request":0,"operation":"register","events":[]}
-{"commit":"2","time":"3","client":"7","session":"1","request":1,"operation":"create_accounts","events":[{"result":"created","event":{"id":"1","debits_pending":"0","debits_posted":"0","credits_pending":"0","credits_posted":"0","user_data_128":"0","user_data_64":"0","user_data_32":0,"reserved":0,"ledger":700,"code":10,"flags":[],"timestamp":"2"}},{"result":"created","event":{"id":"2","debits_pending":"0","debits_posted":"0","credits_pending":"0","credits_posted":"0","user_data_128":"0","user_data_64":"0","user_data_32":0,"reserved":0,"ledger":700,"code":10,"flags":[],"timestamp":"3"}}]}"#;
+{"commit":"2","time":"3","client":"7","session":"1","request":1,"operation":"create_accounts","count":2}
+{"commit":"2","time":"3","place":0,"result":"created","event":{"id":"1","debits_pending":"0","debits_posted":"0","credits_pending":"0","credits_posted":"0","user_data_128":"0","user_data_64":"0","user_data_32":0,"reserved":0,"ledger":700,"code":10,"flags":[],"timestamp":"2"}}
+{"commit":"2","time":"3","place":1,"result":"created","event":{"id":"2","debits_pending":"0","debits_posted":"0","credits_pending":"0","credits_posted":"0","user_data_128":"0","user_data_64":"0","user_data_32":0,"reserved":0,"ledger":700,"code":10,"flags":[],"timestamp":"3"}}"#;
 
 /// The same by profile 2.
 const BEGUN_BY_TWO: &str = r#"{"profile":2,"clients_max":2}
 {"commit":"1","time":"1","client":"7","session":"0","request":0,"operation":"register","events":[]}
-{"commit":"2","time":"3","client":"7","session":"1","request":1,"operation":"create_accounts","events":[{"result":"created","event":{"id":"1","debits_pending":"0","debits_posted":"0","credits_pending":"0","credits_posted":"0","user_data_128":"0","user_data_64":"0","user_data_32":0,"reserved":0,"ledger":700,"code":10,"flags":[],"timestamp":"2"}},{"result":"created","event":{"id":"2","debits_pending":"0","debits_posted":"0","credits_pending":"0","credits_posted":"0","user_data_128":"0","user_data_64":"0","user_data_32":0,"reserved":0,"ledger":700,"code":10,"flags":[],"timestamp":"3"}}]}"#;
+{"commit":"2","time":"3","client":"7","session":"1","request":1,"operation":"create_accounts","count":2}
+{"commit":"2","time":"3","place":0,"result":"created","event":{"id":"1","debits_pending":"0","debits_posted":"0","credits_pending":"0","credits_posted":"0","user_data_128":"0","user_data_64":"0","user_data_32":0,"reserved":0,"ledger":700,"code":10,"flags":[],"timestamp":"2"}}
+{"commit":"2","time":"3","place":1,"result":"created","event":{"id":"2","debits_pending":"0","debits_posted":"0","credits_pending":"0","credits_posted":"0","user_data_128":"0","user_data_64":"0","user_data_32":0,"reserved":0,"ledger":700,"code":10,"flags":[],"timestamp":"3"}}"#;
 
 /// Words over the dump of a register, two accounts and these entries by a profile, with a mark behind so many of all, and the
 /// lines of the audit.
@@ -131,22 +135,29 @@ const OTHER_LEDGER: Made = (
 
 /// The transfer to no account, refused.
 const NO_ACCOUNT_LINE: &str =
-    r#"{"commit":"3","time":"4","client":"7","session":"1","request":2,"operation":"create_transfers","events":[{"result":"credit_account_not_found","event":{"id":"20","debit_account_id":"1","credit_account_id":"9","amount":"5","pending_id":"0","user_data_128":"0","user_data_64":"0","user_data_32":0,"timeout":0,"ledger":700,"code":10,"flags":[],"timestamp":"0"}}]}"#;
+    r#"{"commit":"3","time":"4","client":"7","session":"1","request":2,"operation":"create_transfers","count":1}
+{"commit":"3","time":"4","place":0,"result":"credit_account_not_found","event":{"id":"20","debit_account_id":"1","credit_account_id":"9","amount":"5","pending_id":"0","user_data_128":"0","user_data_64":"0","user_data_32":0,"timeout":0,"ledger":700,"code":10,"flags":[],"timestamp":"0"}}"#;
 
 /// The transfer of the same id, made.
 const SAME_ID_MADE: &str =
-    r#"{"commit":"4","time":"5","client":"7","session":"1","request":3,"operation":"create_transfers","events":[{"result":"created","event":{"id":"20","debit_account_id":"1","credit_account_id":"2","amount":"5","pending_id":"0","user_data_128":"0","user_data_64":"0","user_data_32":0,"timeout":0,"ledger":700,"code":10,"flags":[],"timestamp":"5"}}]}"#;
+    r#"{"commit":"4","time":"5","client":"7","session":"1","request":3,"operation":"create_transfers","count":1}
+{"commit":"4","time":"5","place":0,"result":"created","event":{"id":"20","debit_account_id":"1","credit_account_id":"2","amount":"5","pending_id":"0","user_data_128":"0","user_data_64":"0","user_data_32":0,"timeout":0,"ledger":700,"code":10,"flags":[],"timestamp":"5"}}"#;
 
 /// The same by profile 2, refused.
 const SAME_ID_FAILED: &str =
-    r#"{"commit":"4","time":"5","client":"7","session":"1","request":3,"operation":"create_transfers","events":[{"result":"id_already_failed","event":{"id":"20","debit_account_id":"1","credit_account_id":"2","amount":"5","pending_id":"0","user_data_128":"0","user_data_64":"0","user_data_32":0,"timeout":0,"ledger":700,"code":10,"flags":[],"timestamp":"0"}}]}"#;
+    r#"{"commit":"4","time":"5","client":"7","session":"1","request":3,"operation":"create_transfers","count":1}
+{"commit":"4","time":"5","place":0,"result":"id_already_failed","event":{"id":"20","debit_account_id":"1","credit_account_id":"2","amount":"5","pending_id":"0","user_data_128":"0","user_data_64":"0","user_data_32":0,"timeout":0,"ledger":700,"code":10,"flags":[],"timestamp":"0"}}"#;
 
 /// The mark.
 const MARKED: &str = r#"{"profile":2}"#;
 
-/// The pending transfer, made.
-const PENDING_MADE: &str =
-    r#"{"commit":"3","time":"4","client":"7","session":"1","request":2,"operation":"create_transfers","events":[{"result":"created","event":{"id":"12","debit_account_id":"1","credit_account_id":"2","amount":"30","pending_id":"0","user_data_128":"0","user_data_64":"0","user_data_32":0,"timeout":1,"ledger":700,"code":10,"flags":["pending"],"timestamp":"4"}}]}"#;
+/// The entry of the pending transfer.
+const PENDING_ENTRY: &str =
+    r#"{"commit":"3","time":"4","client":"7","session":"1","request":2,"operation":"create_transfers","count":1}"#;
+
+/// Its event.
+const PENDING_EVENT: &str =
+    r#"{"commit":"3","time":"4","place":0,"result":"created","event":{"id":"12","debit_account_id":"1","credit_account_id":"2","amount":"30","pending_id":"0","user_data_128":"0","user_data_64":"0","user_data_32":0,"timeout":1,"ledger":700,"code":10,"flags":["pending"],"timestamp":"4"}}"#;
 
 /// The pending transfer, expired.
 const EXPIRED: &str =
@@ -155,6 +166,85 @@ const EXPIRED: &str =
 /// The lookup.
 const LATE_LOOKUP_LINE: &str =
     r#"{"commit":"5","time":"2000000000","client":"7","session":"1","request":4,"operation":"lookup_accounts","events":[{"id":"2"}]}"#;
+
+/// A lookup a nanosecond before the expiry.
+const BEFORE_LINE: &str =
+    r#"{"commit":"4","time":"1000000003","client":"7","session":"1","request":3,"operation":"lookup_accounts","events":[{"id":"2"}]}"#;
+
+/// The lookup as it expires.
+const AT_LINE: &str =
+    r#"{"commit":"5","time":"1000000004","client":"7","session":"1","request":4,"operation":"lookup_accounts","events":[{"id":"2"}]}"#;
+
+/// The head of a dump by profile 1.
+const HEAD: &str = r#"{"profile":1,"clients_max":2}"#;
+
+/// Entries round the moment at which the pending transfer expires.
+const ROUND_ITS_TIME: &[Made] = &[PENDING, BEFORE_ITS_TIME, AT_ITS_TIME, BEHIND_ITS_TIME];
+
+/// What options leave of an audit.
+const CHOSEN: [AuditRow; 6] = [
+    // Behind the last entry but one: what expires before the last one comes with it.
+    AuditRow {
+        words: &["audit", "--after", "4"],
+        profile: 1,
+        mark: None,
+        entries: &[PENDING, BEFORE_ITS_TIME, AT_ITS_TIME],
+        lines: &[HEAD, EXPIRED, AT_LINE],
+    },
+    // Both ends of the time are in it, and the mark is shown whatever the time.
+    AuditRow {
+        words: &["audit", "--to", "1000000004", "--from", "1000000003"],
+        profile: 1,
+        mark: Some(2),
+        entries: ROUND_ITS_TIME,
+        lines: &[HEAD, MARKED, BEFORE_LINE, EXPIRED, AT_LINE],
+    },
+    // The same by dates: a nanosecond later the lookup before is out, and one earlier the two behind.
+    AuditRow {
+        words: &[
+            "audit",
+            "--from",
+            "1970-01-01T00:00:01.000000004Z",
+            "--to",
+            "1970-01-01T00:00:01.000000004Z",
+        ],
+        profile: 1,
+        mark: None,
+        entries: ROUND_ITS_TIME,
+        lines: &[HEAD, EXPIRED, AT_LINE],
+    },
+    // UTC beside each time.
+    AuditRow {
+        words: &["audit", "--utc", "--follow", "--after", "4"],
+        profile: 1,
+        mark: None,
+        entries: &[PENDING, BEFORE_ITS_TIME, AT_ITS_TIME],
+        lines: &[
+            HEAD,
+            r#"{"time":"1000000004","utc":"1970-01-01T00:00:01.000000004Z","expired":{"id":"12","debit_account_id":"1","credit_account_id":"2","amount":"30","pending_id":"0","user_data_128":"0","user_data_64":"0","user_data_32":0,"timeout":1,"ledger":700,"code":10,"flags":["pending"],"timestamp":"4"}}"#,
+            r#"{"commit":"5","time":"1000000004","utc":"1970-01-01T00:00:01.000000004Z","client":"7","session":"1","request":4,"operation":"lookup_accounts","events":[{"id":"2"}]}"#,
+        ],
+    },
+    // A void that is refused is one of the accounts of the pending transfer that it names; what is of other accounts is out.
+    AuditRow {
+        words: &["audit", "--after", "3", "--account", "2"],
+        profile: 1,
+        mark: None,
+        entries: &[PENDING, VOID_IN_A_BROKEN_CHAIN],
+        lines: &[
+            r#"{"commit":"4","time":"8","place":0,"result":"linked_event_failed","event":{"id":"13","debit_account_id":"0","credit_account_id":"0","amount":"0","pending_id":"12","user_data_128":"0","user_data_64":"0","user_data_32":0,"timeout":0,"ledger":0,"code":0,"flags":["linked","void_pending_transfer"],"timestamp":"0"}}"#,
+            r#"{"commit":"4","time":"8","place":2,"result":"linked_event_failed","event":{"id":"15","debit_account_id":"1","credit_account_id":"2","amount":"3","pending_id":"0","user_data_128":"0","user_data_64":"0","user_data_32":0,"timeout":1,"ledger":700,"code":10,"flags":["linked","pending"],"timestamp":"0"}}"#,
+        ],
+    },
+    // Of an option that comes twice the last one counts.
+    AuditRow {
+        words: &["audit", "--after", "0", "--after", "5"],
+        profile: 1,
+        mark: None,
+        entries: &[PENDING, BEFORE_ITS_TIME, AT_ITS_TIME],
+        lines: &[HEAD],
+    },
+];
 
 const AUDITS: [AuditRow; 9] = [
     // By profile 1 an id that failed is taken.
@@ -196,15 +286,12 @@ const AUDITS: [AuditRow; 9] = [
         mark: None,
         entries: &[PENDING, BEFORE_ITS_TIME, AT_ITS_TIME, BEHIND_ITS_TIME],
         lines: &[
-            BEGUN_BY_ONE,
+            r#"{"commit":"2","time":"3","place":0,"result":"created","event":{"id":"1","debits_pending":"0","debits_posted":"0","credits_pending":"0","credits_posted":"0","user_data_128":"0","user_data_64":"0","user_data_32":0,"reserved":0,"ledger":700,"code":10,"flags":[],"timestamp":"2"}}"#,
             r#"{"commit":"2","time":"3","account":{"id":"1","debits_pending":"0","debits_posted":"0","credits_pending":"0","credits_posted":"0","user_data_128":"0","user_data_64":"0","user_data_32":0,"reserved":0,"ledger":700,"code":10,"flags":[],"timestamp":"2"}}"#,
-            PENDING_MADE,
+            PENDING_EVENT,
             r#"{"commit":"3","time":"4","account":{"id":"1","debits_pending":"30","debits_posted":"0","credits_pending":"0","credits_posted":"0","user_data_128":"0","user_data_64":"0","user_data_32":0,"reserved":0,"ledger":700,"code":10,"flags":[],"timestamp":"2"}}"#,
-            r#"{"commit":"4","time":"1000000003","client":"7","session":"1","request":3,"operation":"lookup_accounts","events":[{"id":"2"}]}"#,
             EXPIRED,
-            r#"{"commit":"5","time":"1000000004","client":"7","session":"1","request":4,"operation":"lookup_accounts","events":[{"id":"2"}]}"#,
             r#"{"commit":"5","time":"1000000004","account":{"id":"1","debits_pending":"0","debits_posted":"0","credits_pending":"0","credits_posted":"0","user_data_128":"0","user_data_64":"0","user_data_32":0,"reserved":0,"ledger":700,"code":10,"flags":[],"timestamp":"2"}}"#,
-            r#"{"commit":"6","time":"1000000005","client":"7","session":"1","request":5,"operation":"lookup_accounts","events":[{"id":"2"}]}"#,
         ],
     },
     // Of transfers of 0, too, one that was posted or voided does not expire, also in the batch that made it.
@@ -215,8 +302,15 @@ const AUDITS: [AuditRow; 9] = [
         entries: &[PENDING_OF_NOTHING, RESOLVED_OF_NOTHING, LATE_LOOKUP],
         lines: &[
             BEGUN_BY_ONE,
-            r#"{"commit":"3","time":"6","client":"7","session":"1","request":2,"operation":"create_transfers","events":[{"result":"created","event":{"id":"21","debit_account_id":"1","credit_account_id":"2","amount":"0","pending_id":"0","user_data_128":"0","user_data_64":"0","user_data_32":0,"timeout":1,"ledger":700,"code":10,"flags":["pending"],"timestamp":"4"}},{"result":"created","event":{"id":"22","debit_account_id":"1","credit_account_id":"2","amount":"0","pending_id":"0","user_data_128":"0","user_data_64":"0","user_data_32":0,"timeout":1,"ledger":700,"code":10,"flags":["pending"],"timestamp":"5"}},{"result":"created","event":{"id":"23","debit_account_id":"1","credit_account_id":"2","amount":"0","pending_id":"0","user_data_128":"0","user_data_64":"0","user_data_32":0,"timeout":1,"ledger":700,"code":10,"flags":["pending"],"timestamp":"6"}}]}"#,
-            r#"{"commit":"4","time":"10","client":"7","session":"1","request":3,"operation":"create_transfers","events":[{"result":"created","event":{"id":"24","debit_account_id":"1","credit_account_id":"2","amount":"0","pending_id":"21","user_data_128":"0","user_data_64":"0","user_data_32":0,"timeout":0,"ledger":700,"code":10,"flags":["void_pending_transfer"],"timestamp":"7"}},{"result":"created","event":{"id":"25","debit_account_id":"1","credit_account_id":"2","amount":"0","pending_id":"22","user_data_128":"0","user_data_64":"0","user_data_32":0,"timeout":0,"ledger":700,"code":10,"flags":["post_pending_transfer"],"timestamp":"8"}},{"result":"created","event":{"id":"26","debit_account_id":"1","credit_account_id":"2","amount":"0","pending_id":"0","user_data_128":"0","user_data_64":"0","user_data_32":0,"timeout":1,"ledger":700,"code":10,"flags":["pending"],"timestamp":"9"}},{"result":"created","event":{"id":"27","debit_account_id":"1","credit_account_id":"2","amount":"0","pending_id":"26","user_data_128":"0","user_data_64":"0","user_data_32":0,"timeout":0,"ledger":700,"code":10,"flags":["void_pending_transfer"],"timestamp":"10"}}]}"#,
+            r#"{"commit":"3","time":"6","client":"7","session":"1","request":2,"operation":"create_transfers","count":3}
+{"commit":"3","time":"6","place":0,"result":"created","event":{"id":"21","debit_account_id":"1","credit_account_id":"2","amount":"0","pending_id":"0","user_data_128":"0","user_data_64":"0","user_data_32":0,"timeout":1,"ledger":700,"code":10,"flags":["pending"],"timestamp":"4"}}
+{"commit":"3","time":"6","place":1,"result":"created","event":{"id":"22","debit_account_id":"1","credit_account_id":"2","amount":"0","pending_id":"0","user_data_128":"0","user_data_64":"0","user_data_32":0,"timeout":1,"ledger":700,"code":10,"flags":["pending"],"timestamp":"5"}}
+{"commit":"3","time":"6","place":2,"result":"created","event":{"id":"23","debit_account_id":"1","credit_account_id":"2","amount":"0","pending_id":"0","user_data_128":"0","user_data_64":"0","user_data_32":0,"timeout":1,"ledger":700,"code":10,"flags":["pending"],"timestamp":"6"}}"#,
+            r#"{"commit":"4","time":"10","client":"7","session":"1","request":3,"operation":"create_transfers","count":4}
+{"commit":"4","time":"10","place":0,"result":"created","event":{"id":"24","debit_account_id":"1","credit_account_id":"2","amount":"0","pending_id":"21","user_data_128":"0","user_data_64":"0","user_data_32":0,"timeout":0,"ledger":700,"code":10,"flags":["void_pending_transfer"],"timestamp":"7"}}
+{"commit":"4","time":"10","place":1,"result":"created","event":{"id":"25","debit_account_id":"1","credit_account_id":"2","amount":"0","pending_id":"22","user_data_128":"0","user_data_64":"0","user_data_32":0,"timeout":0,"ledger":700,"code":10,"flags":["post_pending_transfer"],"timestamp":"8"}}
+{"commit":"4","time":"10","place":2,"result":"created","event":{"id":"26","debit_account_id":"1","credit_account_id":"2","amount":"0","pending_id":"0","user_data_128":"0","user_data_64":"0","user_data_32":0,"timeout":1,"ledger":700,"code":10,"flags":["pending"],"timestamp":"9"}}
+{"commit":"4","time":"10","place":3,"result":"created","event":{"id":"27","debit_account_id":"1","credit_account_id":"2","amount":"0","pending_id":"26","user_data_128":"0","user_data_64":"0","user_data_32":0,"timeout":0,"ledger":700,"code":10,"flags":["void_pending_transfer"],"timestamp":"10"}}"#,
             r#"{"time":"1000000006","expired":{"id":"23","debit_account_id":"1","credit_account_id":"2","amount":"0","pending_id":"0","user_data_128":"0","user_data_64":"0","user_data_32":0,"timeout":1,"ledger":700,"code":10,"flags":["pending"],"timestamp":"6"}}"#,
             LATE_LOOKUP_LINE,
         ],
@@ -229,8 +323,13 @@ const AUDITS: [AuditRow; 9] = [
         entries: &[PENDING, VOID_IN_A_BROKEN_CHAIN, LATE_LOOKUP],
         lines: &[
             BEGUN_BY_ONE,
-            PENDING_MADE,
-            r#"{"commit":"4","time":"8","client":"7","session":"1","request":3,"operation":"create_transfers","events":[{"result":"linked_event_failed","event":{"id":"13","debit_account_id":"0","credit_account_id":"0","amount":"0","pending_id":"12","user_data_128":"0","user_data_64":"0","user_data_32":0,"timeout":0,"ledger":0,"code":0,"flags":["linked","void_pending_transfer"],"timestamp":"0"}},{"result":"credit_account_not_found","event":{"id":"14","debit_account_id":"1","credit_account_id":"9","amount":"1","pending_id":"0","user_data_128":"0","user_data_64":"0","user_data_32":0,"timeout":0,"ledger":700,"code":10,"flags":[],"timestamp":"0"}},{"result":"linked_event_failed","event":{"id":"15","debit_account_id":"1","credit_account_id":"2","amount":"3","pending_id":"0","user_data_128":"0","user_data_64":"0","user_data_32":0,"timeout":1,"ledger":700,"code":10,"flags":["linked","pending"],"timestamp":"0"}},{"result":"debit_account_not_found","event":{"id":"16","debit_account_id":"9","credit_account_id":"1","amount":"1","pending_id":"0","user_data_128":"0","user_data_64":"0","user_data_32":0,"timeout":0,"ledger":700,"code":10,"flags":[],"timestamp":"0"}}]}"#,
+            PENDING_ENTRY,
+            PENDING_EVENT,
+            r#"{"commit":"4","time":"8","client":"7","session":"1","request":3,"operation":"create_transfers","count":4}
+{"commit":"4","time":"8","place":0,"result":"linked_event_failed","event":{"id":"13","debit_account_id":"0","credit_account_id":"0","amount":"0","pending_id":"12","user_data_128":"0","user_data_64":"0","user_data_32":0,"timeout":0,"ledger":0,"code":0,"flags":["linked","void_pending_transfer"],"timestamp":"0"}}
+{"commit":"4","time":"8","place":1,"result":"credit_account_not_found","event":{"id":"14","debit_account_id":"1","credit_account_id":"9","amount":"1","pending_id":"0","user_data_128":"0","user_data_64":"0","user_data_32":0,"timeout":0,"ledger":700,"code":10,"flags":[],"timestamp":"0"}}
+{"commit":"4","time":"8","place":2,"result":"linked_event_failed","event":{"id":"15","debit_account_id":"1","credit_account_id":"2","amount":"3","pending_id":"0","user_data_128":"0","user_data_64":"0","user_data_32":0,"timeout":1,"ledger":700,"code":10,"flags":["linked","pending"],"timestamp":"0"}}
+{"commit":"4","time":"8","place":3,"result":"debit_account_not_found","event":{"id":"16","debit_account_id":"9","credit_account_id":"1","amount":"1","pending_id":"0","user_data_128":"0","user_data_64":"0","user_data_32":0,"timeout":0,"ledger":700,"code":10,"flags":[],"timestamp":"0"}}"#,
             EXPIRED,
             LATE_LOOKUP_LINE,
         ],
@@ -243,7 +342,9 @@ const AUDITS: [AuditRow; 9] = [
         entries: &[TWO_TIMEOUTS, LATER_LOOKUP],
         lines: &[
             BEGUN_BY_ONE,
-            r#"{"commit":"3","time":"5","client":"7","session":"1","request":2,"operation":"create_transfers","events":[{"result":"created","event":{"id":"40","debit_account_id":"1","credit_account_id":"2","amount":"1","pending_id":"0","user_data_128":"0","user_data_64":"0","user_data_32":0,"timeout":3,"ledger":700,"code":10,"flags":["pending"],"timestamp":"4"}},{"result":"created","event":{"id":"41","debit_account_id":"1","credit_account_id":"2","amount":"2","pending_id":"0","user_data_128":"0","user_data_64":"0","user_data_32":0,"timeout":1,"ledger":700,"code":10,"flags":["pending"],"timestamp":"5"}}]}"#,
+            r#"{"commit":"3","time":"5","client":"7","session":"1","request":2,"operation":"create_transfers","count":2}
+{"commit":"3","time":"5","place":0,"result":"created","event":{"id":"40","debit_account_id":"1","credit_account_id":"2","amount":"1","pending_id":"0","user_data_128":"0","user_data_64":"0","user_data_32":0,"timeout":3,"ledger":700,"code":10,"flags":["pending"],"timestamp":"4"}}
+{"commit":"3","time":"5","place":1,"result":"created","event":{"id":"41","debit_account_id":"1","credit_account_id":"2","amount":"2","pending_id":"0","user_data_128":"0","user_data_64":"0","user_data_32":0,"timeout":1,"ledger":700,"code":10,"flags":["pending"],"timestamp":"5"}}"#,
             r#"{"time":"1000000005","expired":{"id":"41","debit_account_id":"1","credit_account_id":"2","amount":"2","pending_id":"0","user_data_128":"0","user_data_64":"0","user_data_32":0,"timeout":1,"ledger":700,"code":10,"flags":["pending"],"timestamp":"5"}}"#,
             r#"{"time":"3000000004","expired":{"id":"40","debit_account_id":"1","credit_account_id":"2","amount":"1","pending_id":"0","user_data_128":"0","user_data_64":"0","user_data_32":0,"timeout":3,"ledger":700,"code":10,"flags":["pending"],"timestamp":"4"}}"#,
             r#"{"commit":"4","time":"9000000000","client":"7","session":"1","request":3,"operation":"lookup_accounts","events":[{"id":"2"}]}"#,
@@ -257,9 +358,13 @@ const AUDITS: [AuditRow; 9] = [
         entries: &[RIGHT, OTHER_AMOUNT, OTHER_LEDGER],
         lines: &[
             BEGUN_BY_ONE,
-            r#"{"commit":"3","time":"4","client":"7","session":"1","request":2,"operation":"create_transfers","events":[{"result":"created","event":{"id":"11","debit_account_id":"1","credit_account_id":"2","amount":"100","pending_id":"0","user_data_128":"0","user_data_64":"0","user_data_32":0,"timeout":0,"ledger":700,"code":10,"flags":[],"timestamp":"4"}}]}"#,
-            r#"{"commit":"4","time":"5","client":"7","session":"1","request":3,"operation":"create_transfers","events":[{"result":"exists_with_different_amount","event":{"id":"11","debit_account_id":"1","credit_account_id":"2","amount":"7","pending_id":"0","user_data_128":"0","user_data_64":"0","user_data_32":0,"timeout":0,"ledger":700,"code":10,"flags":[],"timestamp":"0"}}]}"#,
-            r#"{"commit":"5","time":"7","client":"7","session":"1","request":4,"operation":"create_accounts","events":[{"result":"exists_with_different_ledger","event":{"id":"1","debits_pending":"0","debits_posted":"0","credits_pending":"0","credits_posted":"0","user_data_128":"0","user_data_64":"0","user_data_32":0,"reserved":0,"ledger":701,"code":10,"flags":[],"timestamp":"0"}},{"result":"exists","event":{"id":"2","debits_pending":"0","debits_posted":"0","credits_pending":"0","credits_posted":"0","user_data_128":"0","user_data_64":"0","user_data_32":0,"reserved":0,"ledger":700,"code":10,"flags":[],"timestamp":"0"}}]}"#,
+            r#"{"commit":"3","time":"4","client":"7","session":"1","request":2,"operation":"create_transfers","count":1}
+{"commit":"3","time":"4","place":0,"result":"created","event":{"id":"11","debit_account_id":"1","credit_account_id":"2","amount":"100","pending_id":"0","user_data_128":"0","user_data_64":"0","user_data_32":0,"timeout":0,"ledger":700,"code":10,"flags":[],"timestamp":"4"}}"#,
+            r#"{"commit":"4","time":"5","client":"7","session":"1","request":3,"operation":"create_transfers","count":1}
+{"commit":"4","time":"5","place":0,"result":"exists_with_different_amount","event":{"id":"11","debit_account_id":"1","credit_account_id":"2","amount":"7","pending_id":"0","user_data_128":"0","user_data_64":"0","user_data_32":0,"timeout":0,"ledger":700,"code":10,"flags":[],"timestamp":"0"}}"#,
+            r#"{"commit":"5","time":"7","client":"7","session":"1","request":4,"operation":"create_accounts","count":2}
+{"commit":"5","time":"7","place":0,"result":"exists_with_different_ledger","event":{"id":"1","debits_pending":"0","debits_posted":"0","credits_pending":"0","credits_posted":"0","user_data_128":"0","user_data_64":"0","user_data_32":0,"reserved":0,"ledger":701,"code":10,"flags":[],"timestamp":"0"}}
+{"commit":"5","time":"7","place":1,"result":"exists","event":{"id":"2","debits_pending":"0","debits_posted":"0","credits_pending":"0","credits_posted":"0","user_data_128":"0","user_data_64":"0","user_data_32":0,"reserved":0,"ledger":700,"code":10,"flags":[],"timestamp":"0"}}"#,
         ],
     },
 ];
@@ -309,4 +414,32 @@ fn audits(rt: HostRuntime) {
     for row in &AUDITS {
         audit_leaves(&rt, row);
     }
+}
+
+#[test]
+fn chosen(rt: HostRuntime) {
+    for row in &CHOSEN {
+        audit_leaves(&rt, row);
+    }
+}
+
+/// The account of the transfer that was refused since there is none.
+#[test]
+fn no_account(rt: HostRuntime) {
+    let dump = dump_of(
+        &rt,
+        1,
+        &[(1, 1, REGISTER), (2, 3, ACCOUNTS), NO_ACCOUNT],
+        None,
+    );
+    let wanted = Row {
+        words: &["audit", "--account", "9"],
+        input: dump.as_slice(),
+        status: 2,
+        output: r#"{"commit":"3","time":"4","place":0,"result":"credit_account_not_found","event":{"id":"20","debit_account_id":"1","credit_account_id":"9","amount":"5","pending_id":"0","user_data_128":"0","user_data_64":"0","user_data_32":0,"timeout":0,"ledger":700,"code":10,"flags":[],"timestamp":"0"}}
+"#,
+        line: "tbt: audit --account 9: the dump has no account of this id\n",
+    };
+    leaves(&rt, &wanted);
+    drop(dump);
 }

@@ -151,7 +151,7 @@ const TALKS: [Row<'static>; 11] = [
         input: b"",
         status: 2,
         output: "",
-        line: "tbt: audit ?2J?: only --account and an id may follow\n",
+        line: "tbt: audit ?2J?: its options are --account, --after, --from, --to, --utc and --follow\n",
     },
     Row {
         words: &["run", "2"],
@@ -367,12 +367,32 @@ fn faults_of_what_is_left_out(rt: HostRuntime) {
 }
 
 /// Arguments that are named, and the line that says what is wrong with them.
-const WRONG_WORDS: [(&[&str], &str); 12] = [
+const WRONG_WORDS: [(&[&str], &str); 17] = [
+    (
+        &["audit", "--after", "-1"],
+        "tbt: audit --after -1: a commit number is 0 to 2^63 - 1, in decimal digits\n",
+    ),
+    (
+        &["audit", "--utc", "--from", "2026-13-01T00:00:00Z"],
+        "tbt: audit --from 2026-13-01T00:00:00Z: a time is as 2026-11-26T10:00:00Z, or nanoseconds since 1970\n",
+    ),
+    (
+        &["audit", "--to", "1969-12-31T23:59:59Z"],
+        "tbt: audit --to 1969-12-31T23:59:59Z: a time is as 2026-11-26T10:00:00Z, or nanoseconds since 1970\n",
+    ),
+    (
+        &["audit", "--to", "1", "--from"],
+        "tbt: audit --from: its value is missing\n",
+    ),
+    (
+        &["audit", "--account", "--utc"],
+        "tbt: audit --account --utc: an account's id is 0 to 2^128 - 1, in decimal digits\n",
+    ),
     (&["run", "x", "3"], "tbt: run x 3: CLIENTS_MAX is 1 to 64\n"),
     (&["run", "2", "1", "x"], "tbt: run 2: too many words\n"),
     (
         &["audit", "--accounts", "1"],
-        "tbt: audit --accounts: only --account and an id may follow\n",
+        "tbt: audit --accounts: its options are --account, --after, --from, --to, --utc and --follow\n",
     ),
     (
         &["audit", "--account", "x"],
@@ -389,7 +409,7 @@ const WRONG_WORDS: [(&[&str], &str); 12] = [
     (&["script", "x"], "tbt: script x: too many words\n"),
     (
         &["audit", "1"],
-        "tbt: audit 1: only --account and an id may follow\n",
+        "tbt: audit 1: its options are --account, --after, --from, --to, --utc and --follow\n",
     ),
     (
         &[

@@ -2,7 +2,7 @@ use Rattle.std.proofs.Common.{◌∙◌, add-one, ap, arith, inr, refl, rules, s
 use Rattle.std.proofs.lemmas.Result.{err_from_is_err_and}
 use Rattle.tb_text_commands.specs.Audited.{audited}
 use Rattle.tb_text_commands.specs.Whole.{IsItem}
-use Rattle.tb_text_commands.proofs.AuditSteps.{audits_on, items_fail}
+use Rattle.tb_text_commands.proofs.AuditSteps.{audits_on, items_end, items_fail}
 use Rattle.tb_text_commands.proofs.Taking.{takes_on}
 use Rattle.tb_text_commands.proofs.auditing.Replay.put_all.Goals as goal
 
@@ -18,7 +18,7 @@ loop-preserved g c = record {
           g.R.Source.input c.loop.reader,
           g.W.Sink.output c.loop.writer,
           t.1,
-          audits_on g.T.Teller.IsLine c.in_ok-put_next.field-0 _ _ _ _ _ _ (search rules) c.in_ok-put_next.ensures.audits,
+          audits_on g.T.Teller.IsLine (g.T.Teller.wants c.args.teller.now) c.in_ok-put_next.field-0 _ _ _ _ _ _ (search rules) c.in_ok-put_next.ensures.audits,
         ),
         ap suc t.2 ∙ sym (add-one c.loop.counter),
       );
@@ -28,7 +28,7 @@ pub returns-in_err-put_next-clause-audits : goal.returns-in_err-put_next-clause-
 returns-in_err-put_next-clause-audits g c =
     let t = c.loop.invariant.audits in
     let p = err_from_is_err_and c.from_residual.result c.from_residual.ensures.1 in
-    rw (p.1, p.2) (items_fail g.T.Teller.IsLine _ t.0 _ _ _ _ _ _ _ _ _ t.1 c.in_err-put_next.ensures.audits)
+    rw (p.1, p.2) (items_fail g.T.Teller.IsLine (g.T.Teller.wants c.args.teller.now) _ t.0 _ _ _ _ _ _ _ _ _ t.1 c.in_err-put_next.ensures.audits)
 
 pub returns-clause-audits : goal.returns-clause-audits
 returns-clause-audits g c =
@@ -39,5 +39,10 @@ returns-clause-audits g c =
       middle = g.R.Source.input c.loop.reader;
       made = g.W.Sink.output c.loop.writer;
       audits = t.1;
-      ends = inr (inr (refl, omega (arith, t.2)), refl, refl);
+      ends = inr (inr (inr (refl, omega (arith, t.2)), refl, refl));
     }
+
+pub returns-then-not-branch-clause-audits : goal.returns-then-not-branch-clause-audits
+returns-then-not-branch-clause-audits g c =
+    let t = c.loop.invariant.audits in
+    items_end g.T.Teller.IsLine (g.T.Teller.wants c.args.teller.now) c.in_ok-put_next.field-0 c.find_account.result t.0 _ _ _ _ _ _ _ _ _ (search rules) t.1 c.in_ok-put_next.ensures.audits c.find_account.ensures.found

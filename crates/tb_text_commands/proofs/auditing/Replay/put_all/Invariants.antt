@@ -10,6 +10,6 @@ abbrev pub invariant-loop : goal.invariant-loop
 invariant-loop g l = record {
   whole : IsWhole (g.R.Source.input l.initial.reader) (g.R.Source.input l.reader) (g.W.Sink.output l.initial.writer) (g.W.Sink.output l.writer);
   taken : TakesParts IsItem (g.R.Source.input l.initial.reader).left (g.R.Source.input l.reader).left;
-  audits : (count : ℕ) × AuditsAll g.T.Teller.IsLine count (audited l.initial.self) (audited l.self) (g.R.Source.input l.initial.reader) (g.R.Source.input l.reader)
+  audits : (count : ℕ) × AuditsAll g.T.Teller.IsLine (g.T.Teller.wants l.teller) count (audited l.initial.self) (audited l.self) (g.R.Source.input l.initial.reader) (g.R.Source.input l.reader)
       (g.W.Sink.output l.initial.writer) (g.W.Sink.output l.writer) × (count ≡ l.counter);
 }
