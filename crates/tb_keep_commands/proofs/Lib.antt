@@ -1,3 +1,4 @@
+pub mod FirstBytes
 pub mod Lengths
 pub mod Passing
 pub mod Wholes

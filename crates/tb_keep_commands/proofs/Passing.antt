@@ -4,7 +4,7 @@ use Rattle.tb_records.specs.declared.faults.FrameFault.{FrameFault}
 use Rattle.tb_records.specs.Transport.{Output, Sent, CutOff, IsSent}
 use Rattle.tb_records.proofs.Sendings.{sent_rest}
 use Rattle.tb_keep_commands.specs.Forms.{Wrong}
-use Rattle.tb_keep_commands.specs.Statuses.{shown_words, wrong_line, cut_line, SaysLine, TellsMade, TellsCut, made_line}
+use Rattle.tb_keep_commands.specs.Statuses.{shown_words, wrong_line, cut_line, SaysLine, TellsCut}
 
 pub sent_passed : (xs : List ℕ) (old mid new : Output) → Sent xs old mid → Sent [] mid new → Sent xs old new
 sent_passed xs old mid new one two = sent_rest xs [] old mid new xs (append-nil xs) one (Ok tt) two
@@ -18,16 +18,6 @@ told_as xs line (Err fault) old new same sent = inr (subst (λ (l : List ℕ). C
 pub cut_told : (bytes at : ℕ) (r : Result (Unit {0}) FrameFault) (before after : Output) → 0 < bytes → IsSent r (cut_line bytes at) before after → TellsCut bytes at before after
 cut_told zero at r before after some sent = absurd (omega (arith, some))
 cut_told (suc more) at r before after some sent = told_as _ _ r before after refl sent
-
--- of a file without bytes it is told that it was made
-pub made_told : (len : ℕ) (path : List ℕ) (r : Result (Unit {0}) FrameFault) (before after : Output) → len ≡ 0 → IsSent r (made_line path) before after → TellsMade len path before after
-made_told zero path r before after none sent = told_as _ _ r before after refl sent
-made_told (suc more) path r before after none sent = absurd (omega (arith, none))
-
--- of any other nothing is told
-pub not_made : (len : ℕ) (path : List ℕ) (before : Output) → 0 < len → TellsMade len path before before
-not_made zero path before some = absurd (omega (arith, some))
-not_made (suc more) path before some = refl
 
 -- words and what is wrong with them
 pub wrong_sent : (said : Wrong) (shown : List (List ℕ)) (what : List ℕ) (r : Result (Unit {0}) FrameFault) (old new : Output) → shown ≡ said.shown → what ≡ said.what

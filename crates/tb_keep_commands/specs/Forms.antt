@@ -1,6 +1,6 @@
 -- What the words of the command line ask for, and what is wrong with words that ask for nothing.
 -- Cited by public contracts of: arguments, commands.
-use Rattle.std.specs.Prelude.{ℕ, Bool, false, ◌≡◌, ◌||◌, ◌&&◌, ◌==◌, nat_lt, nat_eq, List, [], ◌∷◌, length, take, Option, Some, None, if◌then◌else◌, codes, refl}
+use Rattle.std.specs.Prelude.{ℕ, Bool, true, false, ◌≡◌, ◌||◌, ◌&&◌, ◌==◌, nat_lt, nat_eq, List, [], ◌∷◌, length, take, Option, Some, None, if◌then◌else◌, codes, refl}
 use Rattle.std.specs.Char.{is_ascii_digit}
 use Rattle.std.specs.List.{list_all}
 use Rattle.std.specs.Cmp.Lexicographic.{pointwise}
@@ -24,23 +24,38 @@ form_over word =
     else if pointwise nat_eq word (codes "check") then Some form.Check
     else None
 
-abbrev pub run_by : Option ℕ → Option Profile → Option Form
-run_by None profile = None
-run_by (Some clients_max) None = None
-run_by (Some clients_max) (Some profile) = Some (form.Run clients_max profile)
+abbrev pub run_by : Option ℕ → Option Profile → Bool → Option Form
+run_by None profile reports = None
+run_by (Some clients_max) None reports = None
+run_by (Some clients_max) (Some profile) reports = Some (form.Run clients_max profile reports)
 
--- `run FILE CLIENTS_MAX` with a profile
-abbrev pub run_form : List ℕ → List ℕ → Option Profile → Option Form
-run_form word clients profile = if pointwise nat_eq word (codes "run") then run_by (clients_of clients) profile else None
+-- `run FILE CLIENTS_MAX` with a profile, its start reported or not
+abbrev pub run_form : List ℕ → List ℕ → Option Profile → Bool → Option Form
+run_form word clients profile reports = if pointwise nat_eq word (codes "run") then run_by (clients_of clients) profile reports else None
+
+-- the word that has a start reported
+abbrev pub is_progress : List ℕ → Bool
+is_progress word = pointwise nat_eq word (codes "--progress")
+
+-- `run FILE CLIENTS_MAX PROFILE`, or `run FILE CLIENTS_MAX --progress`
+abbrev pub run_four : List ℕ → List ℕ → List ℕ → Option Form
+run_four word clients last =
+    if is_progress last then run_form word clients (Some One) true
+    else run_form word clients (profile_of last) false
+
+-- `run FILE CLIENTS_MAX PROFILE --progress`
+abbrev pub run_five : List ℕ → List ℕ → List ℕ → List ℕ → Option Form
+run_five word clients profile last = if is_progress last then run_form word clients (profile_of profile) true else None
 
 -- the form, whatever the word is that names the file
 abbrev pub form_by : List (List ℕ) → Option Form
 form_by [] = None
 form_by (word ∷ []) = form_alone word
 form_by (word ∷ file ∷ []) = form_over word
-form_by (word ∷ file ∷ clients ∷ []) = run_form word clients (Some One)
-form_by (word ∷ file ∷ clients ∷ profile ∷ []) = run_form word clients (profile_of profile)
-form_by (word ∷ file ∷ clients ∷ profile ∷ more ∷ rest) = None
+form_by (word ∷ file ∷ clients ∷ []) = run_form word clients (Some One) false
+form_by (word ∷ file ∷ clients ∷ last ∷ []) = run_four word clients last
+form_by (word ∷ file ∷ clients ∷ profile ∷ last ∷ []) = run_five word clients profile last
+form_by (word ∷ file ∷ clients ∷ profile ∷ last ∷ more ∷ rest) = None
 
 -- the word that names the file
 abbrev pub file_word : List (List ℕ) → List ℕ
@@ -77,6 +92,10 @@ abbrev pub wrong_last : Option ℕ → List ℕ
 wrong_last None = codes "CLIENTS_MAX is 1 to 64"
 wrong_last (Some clients_max) = codes "PROFILE is 1 or 2"
 
+-- of five words the last is wrong where it does not have the start reported
+abbrev pub wrong_five : Option ℕ → List ℕ → List ℕ
+wrong_five clients last = if is_progress last then wrong_last clients else codes "only --progress may follow PROFILE"
+
 -- words that are wrong in their second one, which names no file; else what is wrong with the others
 abbrev pub wrong_file : List (List ℕ) → Wrong → Wrong
 wrong_file words other =
@@ -89,7 +108,8 @@ wrong_clients (word ∷ []) = so_wrong (word ∷ []) (codes "FILE and CLIENTS_MA
 wrong_clients (word ∷ file ∷ []) = so_wrong (word ∷ file ∷ []) (codes "CLIENTS_MAX is missing, 1 to 64")
 wrong_clients (word ∷ file ∷ clients ∷ []) = so_wrong (word ∷ file ∷ clients ∷ []) (codes "CLIENTS_MAX is 1 to 64")
 wrong_clients (word ∷ file ∷ clients ∷ profile ∷ []) = so_wrong (word ∷ file ∷ clients ∷ profile ∷ []) (wrong_last (clients_of clients))
-wrong_clients (word ∷ file ∷ clients ∷ profile ∷ more ∷ rest) = so_wrong (word ∷ []) (codes "too many words")
+wrong_clients (word ∷ file ∷ clients ∷ profile ∷ last ∷ []) = so_wrong (word ∷ file ∷ clients ∷ profile ∷ last ∷ []) (wrong_five (clients_of clients) last)
+wrong_clients (word ∷ file ∷ clients ∷ profile ∷ last ∷ more ∷ rest) = so_wrong (word ∷ []) (codes "too many words")
 
 -- words that begin with `run`
 abbrev pub wrong_run : List (List ℕ) → Wrong
@@ -120,8 +140,11 @@ wrong (word ∷ rest) = if pointwise nat_eq word (codes "run") then wrong_run (w
 
 -- rows
 
-pub profile_one_is_the_default : form_of (codes "run" ∷ codes "ledger" ∷ codes "2" ∷ []) ≡ Some (form.Run 2 One)
+pub profile_one_is_the_default : form_of (codes "run" ∷ codes "ledger" ∷ codes "2" ∷ []) ≡ Some (form.Run 2 One false)
 profile_one_is_the_default = refl
+
+pub a_start_is_reported : form_of (codes "run" ∷ codes "ledger" ∷ codes "2" ∷ codes "--progress" ∷ []) ≡ Some (form.Run 2 One true)
+a_start_is_reported = refl
 
 pub no_profile_three : form_of (codes "run" ∷ codes "ledger" ∷ codes "2" ∷ codes "3" ∷ []) ≡ None
 no_profile_three = refl

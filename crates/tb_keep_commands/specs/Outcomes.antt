@@ -1,6 +1,6 @@
 -- What each form does, and how a command ends: its outcome, exit status and line.
 -- Cited by public contracts of: commands.
-use Rattle.std.specs.Prelude.{ℕ, true, ◌≡◌, ◌-◌, List, [], length, Result, Ok, Err, IfOk}
+use Rattle.std.specs.Prelude.{ℕ, Bool, true, ◌||◌, ◌≡◌, ◌-◌, List, [], length, Result, Ok, Err, IfOk}
 use Rattle.tb_records.specs.Transport.{Input, Output, Sent, CutOff}
 use Rattle.tb_journal.specs.declared.faults.Fault as journal
 use Rattle.tb_journal.specs.Device.{Disk, Looks, LeavesOnly}
@@ -18,11 +18,15 @@ use Rattle.tb_keep_commands.specs.declared.arguments.Form.{Form}
 use Rattle.tb_keep_commands.specs.declared.arguments.Form.TheVariants as form
 use Rattle.tb_keep_commands.specs.declared.faults.Fault.{Fault}
 use Rattle.tb_keep_commands.specs.declared.faults.Fault.TheVariants.{Device, NoMemory, Opening}
+use Rattle.tb_keep_commands.specs.declared.faults.Failed.{Failed}
+use Rattle.tb_keep_commands.specs.declared.faults.Failed.TheVariants as failed
+use Rattle.tb_keep_commands.specs.declared.commands.Terminals.{Terminals}
 use Rattle.tb_keep_commands.specs.declared.help.TheConstants.{USAGE, VERSION}
 use Rattle.tb_keep_commands.specs.declared.openers.OpeningFault.{OpeningFault}
 use Rattle.tb_keep_commands.specs.declared.summaries.Found.{Found}
 use Rattle.tb_keep_commands.specs.declared.summaries.Summary.{Summary}
-use Rattle.tb_keep_commands.specs.Statuses.{disk_fault, dumped_fault, started_fault, kept_fault, fault_status, fault_line, SaysLine, TellsMade, TellsCut}
+use Rattle.tb_keep_commands.specs.Statuses.{disk_fault, dumped_fault, started_fault, kept_fault, failed_pipe, fault_status, fault_line, SaysLine, TellsMade, TellsCut, TellsReading, TellsReady, TellsFrames}
+use Rattle.tb_keep_commands.specs.Naming.{Names, NamesAsked}
 use Rattle.tb_keep_commands.specs.Summaries.{ReadsWhole, IsSummary, summary_text}
 
 -- done, or not to its end
@@ -32,20 +36,25 @@ Outcome = Result (Unit {0}) Fault
 -- a text went out whole, or a prefix of it and the writer failed
 abbrev pub Prints : List ℕ → Outcome → Output → Output → Type 0
 Prints text (Ok done) start written = Sent text start written
-Prints text (Err fault) start written = (fault ≡ Device) × CutOff text start written
+Prints text (Err fault) start written = (fault ≡ Device failed.Output) × CutOff text start written
 
 -- the text of a summary was printed, or there is no memory for it
 abbrev pub Reports : Outcome → Summary → Output → Output → Type 0
 Reports (Err NoMemory) s start written = written ≡ start
 Reports outcome s start written = Prints (summary_text s) outcome start written
 
-abbrev pub kept_outcome : Result ℕ KeepFault → Outcome
-kept_outcome (Ok count) = Ok tt
-kept_outcome (Err fault) = Err (kept_fault fault)
+-- where a pipe failed, this one
+abbrev pub kept_outcome : Failed → Result ℕ KeepFault → Outcome
+kept_outcome pipe (Ok count) = Ok tt
+kept_outcome pipe (Err fault) = Err (kept_fault pipe fault)
 
 abbrev pub dump_outcome : Result (Unit {0}) DumpFault → Outcome
 dump_outcome (Ok done) = Ok tt
 dump_outcome (Err fault) = Err (dumped_fault fault)
+
+-- a call left a device so
+abbrev pub Left : {D : Type 0} → (D → Type 0) → Type 0
+Left {D} Leaves = (after : D) × Leaves after
 
 module _ (tells : Type 0) {D : Type 0} (disk : D → Disk) (holds : D → List ℕ → Type 0) where
   -- of the file that the reads of a device are of
@@ -63,9 +72,15 @@ module _ (tells : Type 0) {D : Type 0} (disk : D → Disk) (holds : D → List �
     pub dumps : OfFile device (λ file. Dumps result rules file start written)
     pub cause : tells → HasDumpCause result (disk device) (disk after)
 
+  -- a file that was read is refused, with what there is to say of it
+  pub record IsRefused (fault : StartFault) (outcome : Outcome) (device after : D) : Type 0 where
+    pub named : Fault
+    pub outcome_is : outcome ≡ Err named
+    pub names : Names tells disk holds (started_fault fault) named device after
+
   -- where a file was found to be one history its dump was written, or why not; else nothing was
   abbrev pub DumpsFound : Result Found StartFault → Outcome → D → D → Output → Output → Type 0
-  DumpsFound (Err fault) outcome device after start written = (outcome ≡ Err (started_fault fault)) × (written ≡ start)
+  DumpsFound (Err fault) outcome device after start written = IsRefused fault outcome device after × (written ≡ start)
   DumpsFound (Ok found) outcome device after start written =
       (result : Result (Unit {0}) DumpFault) × IsDumped result found.rules device after start written × (outcome ≡ dump_outcome result)
 
@@ -77,16 +92,17 @@ module _ (tells : Type 0) {D : Type 0} (disk : D → Disk) (holds : D → List �
     pub dumps : DumpsFound found outcome between after start written
 
   -- where a file of so many bytes was found to be one history its summary was printed; else nothing was
-  abbrev pub ChecksFound : Result Found StartFault → ℕ → Outcome → D → Output → Output → Type 0
-  ChecksFound (Err fault) len outcome device start written = (outcome ≡ Err (started_fault fault)) × (written ≡ start)
-  ChecksFound (Ok found) len outcome device start written =
+  abbrev pub ChecksFound : Result Found StartFault → ℕ → Outcome → D → D → D → Output → Output → Type 0
+  ChecksFound (Err fault) len outcome device between after start written = IsRefused fault outcome between after × (written ≡ start)
+  ChecksFound (Ok found) len outcome device between after start written =
       (s : Summary) × OfFile device (IsSummary len s) × Reports outcome s start written
 
   -- a file of so many bytes was read to its end before its summary was printed
   pub record ChecksLong (len : ℕ) (outcome : Outcome) (device after : D) (start written : Output) : Type 0 where
     pub found : Result Found StartFault
-    pub whole : IsReadWhole found device after
-    pub checks : ChecksFound found len outcome device start written
+    pub between : D
+    pub whole : IsReadWhole found device between
+    pub checks : ChecksFound found len outcome device between after start written
 
   -- a device was asked for the length of its file, which stays
   pub record IsAsked (len : Result ℕ journal.Fault) (device after : D) : Type 0 where
@@ -105,16 +121,18 @@ module _ (tells : Type 0) {D : Type 0} (disk : D → Disk) (holds : D → List �
     pub asked : IsAsked len device between
     pub checks : ChecksBy len outcome between after start written
 
-  -- that its start made a file where there were no bytes was told, and what it cut off behind the records of one of so many bytes; then a
-  -- ledger was kept
-  pub record ServesKept (outcome : Outcome) (keeper : Keeping D) (path : List ℕ) (len : ℕ) (first last : Input) (start written quiet told : Output) : Type 0 where
+  -- that its start made a file where there were no bytes was told, and what it cut off behind the records of one of so many bytes, and that
+  -- it is done, where that is reported; then a ledger was kept
+  pub record ServesKept (outcome : Outcome) (keeper : Keeping D) (path : List ℕ) (reports : Bool) (len : ℕ) (first last : Input) (start written quiet told : Output) : Type 0 where
     pub noted : Output
     pub made : TellsMade len path quiet noted
-    pub cut : TellsCut keeper.cut (len - keeper.cut - 1) noted told
+    pub started : Output
+    pub cut : TellsCut keeper.cut (len - keeper.cut - 1) noted started
+    pub ready : TellsReady reports started told
     pub result : Result ℕ KeepFault
     pub after : Keeping D
     pub served : Served tells disk result keeper after first last start written
-    pub outcome_is : outcome ≡ kept_outcome result
+    pub outcome_is : outcome ≡ kept_outcome (failed_pipe first.failed last.failed) result
 
   -- what a start over a device answers, of one that tells what its calls do; of one that is kept, where no sync has failed before
   abbrev pub StartAnswers : Result (Keeping D) (NotKept D) → Rules → D → Type 0
@@ -127,30 +145,43 @@ module _ (tells : Type 0) {D : Type 0} (disk : D → Disk) (holds : D → List �
     -- a crash at any moment of it, where none has
     pub any_moment : (disk device).sound ≡ true → LeavesOnly (disk device) (disk (device_left result)) (MayBeStarted rules.profile rules.clients_max (disk device))
 
-  -- a ledger that was started was kept; where none was nothing was read, written or told but why
-  abbrev pub ServesStarted : Result (Keeping D) (NotKept D) → Outcome → List ℕ → ℕ → Input → Input → Output → Output → Output → Output → Type 0
-  ServesStarted (Ok keeper) outcome path len first last start written quiet told = ServesKept outcome keeper path len first last start written quiet told
-  ServesStarted (Err failed) outcome path len first last start written quiet told =
-      (outcome ≡ Err (started_fault failed.fault)) × (last ≡ first) × (written ≡ start) × (told ≡ quiet)
+  -- a start was refused, with what there is to say of the file; nothing was read, written or told but why
+  pub record IsUnstarted (failed : NotKept D) (rules : Rules) (outcome : Outcome) (first last : Input) (start written quiet told : Output) : Type 0 where
+    pub named : Fault
+    pub outcome_is : outcome ≡ Err named
+    pub names : Left (NamesAsked tells disk holds rules failed.fault named failed.device)
+    pub unread : last ≡ first
+    pub unwritten : written ≡ start
+    pub silent : told ≡ quiet
 
-  pub record ServesLong (outcome : Outcome) (rules : Rules) (path : List ℕ) (len : ℕ) (device : D) (first last : Input) (start written quiet told : Output) : Type 0 where
+  -- a ledger that was started was kept
+  abbrev pub ServesStarted : Result (Keeping D) (NotKept D) → Rules → Outcome → List ℕ → Bool → ℕ → Input → Input → Output → Output → Output → Output → Type 0
+  ServesStarted (Ok keeper) rules outcome path reports len first last start written quiet told =
+      ServesKept outcome keeper path reports len first last start written quiet told
+  ServesStarted (Err failed) rules outcome path reports len first last start written quiet told =
+      IsUnstarted failed rules outcome first last start written quiet told
+
+  -- that the file is read was told, where that is reported, and a ledger was started
+  pub record ServesLong (outcome : Outcome) (rules : Rules) (path : List ℕ) (reports : Bool) (len : ℕ) (device : D) (first last : Input) (start written quiet told : Output) : Type 0 where
+    pub noted : Output
+    pub reading : TellsReading reports path len quiet noted
     pub started : Result (Keeping D) (NotKept D)
     pub starts : tells → Starts started rules device
     pub handed : OfFile device (StartsFile started rules.profile rules.clients_max)
-    pub serves : ServesStarted started outcome path len first last start written quiet told
+    pub serves : ServesStarted started rules outcome path reports len first last start written noted told
 
-  abbrev pub ServesBy : Result ℕ journal.Fault → Outcome → Rules → List ℕ → D → Input → Input → Output → Output → Output → Output → Type 0
-  ServesBy (Err fault) outcome rules path device first last start written quiet told =
+  abbrev pub ServesBy : Result ℕ journal.Fault → Outcome → Rules → List ℕ → Bool → D → Input → Input → Output → Output → Output → Output → Type 0
+  ServesBy (Err fault) outcome rules path reports device first last start written quiet told =
       (outcome ≡ Err (disk_fault fault)) × (last ≡ first) × (written ≡ start) × (told ≡ quiet)
-  ServesBy (Ok len) outcome rules path device first last start written quiet told =
-      ServesLong outcome rules path len device first last start written quiet told
+  ServesBy (Ok len) outcome rules path reports device first last start written quiet told =
+      ServesLong outcome rules path reports len device first last start written quiet told
 
   -- the length of the file of this path was asked for, and then a ledger of these rules was started over it, and kept
-  pub record ServesFile (outcome : Outcome) (rules : Rules) (path : List ℕ) (device : D) (first last : Input) (start written quiet told : Output) : Type 0 where
+  pub record ServesFile (outcome : Outcome) (rules : Rules) (path : List ℕ) (reports : Bool) (device : D) (first last : Input) (start written quiet told : Output) : Type 0 where
     pub len : Result ℕ journal.Fault
     pub between : D
     pub asked : IsAsked len device between
-    pub serves : ServesBy len outcome rules path between first last start written quiet told
+    pub serves : ServesBy len outcome rules path reports between first last start written quiet told
 
 -- an opening answered this: a device, with which that was done; or a fault, and nothing was done
 abbrev pub DoneWith : {D : Type 0} → Result D OpeningFault → Outcome → Type 0 → (D → Type 0) → Type 0
@@ -164,10 +195,12 @@ pub record Opens {D O : Type 0} (may : Result D OpeningFault → O → Type 0) (
   pub done : DoneWith answer outcome Nothing Does
 
 module _ (tells : Type 0) {D : Type 0} (disk : D → Disk) (holds : D → List ℕ → Type 0) {O : Type 0} (may : Result D OpeningFault → O → Type 0) (left : O) where
-  abbrev pub RunsOver : Outcome → Rules → List ℕ → Input → Input → Output → Output → Output → Output → Type 0
-  RunsOver outcome rules path first last start written quiet told =
-      Opens may left outcome ((last ≡ first) × (written ≡ start) × (told ≡ quiet))
-      (λ device. ServesFile tells disk holds outcome rules path device first last start written quiet told)
+  -- where requests would come from a terminal it is told first where words are read
+  pub record RunsOver (outcome : Outcome) (rules : Rules) (path : List ℕ) (reports talks : Bool) (first last : Input) (start written quiet told : Output) : Type 0 where
+    pub noted : Output
+    pub frames : TellsFrames talks quiet noted
+    pub runs : Opens may left outcome ((last ≡ first) × (written ≡ start) × (told ≡ noted))
+        (λ device. ServesFile tells disk holds outcome rules path reports device first last start written noted told)
 
   abbrev pub DumpsOver : Outcome → Output → Output → Type 0
   DumpsOver outcome start written =
@@ -180,7 +213,7 @@ module _ (tells : Type 0) {D : Type 0} (disk : D → Disk) (holds : D → List �
 -- what was held back went out where all was done; where it does not go out, that is the outcome
 abbrev pub Finishes : Type 0 → Outcome → Outcome → Output → Output → Type 0
 Finishes gone (Ok done) (Ok finished) middle written = gone × Sent [] middle written
-Finishes gone (Ok done) (Err fault) middle written = (fault ≡ Device) × CutOff [] middle written
+Finishes gone (Ok done) (Err fault) middle written = (fault ≡ Device failed.Output) × CutOff [] middle written
 Finishes gone (Err fault) outcome middle written = (outcome ≡ Err fault) × (written ≡ middle)
 
 abbrev pub outcome_status : Outcome → ℕ
@@ -192,16 +225,17 @@ abbrev pub Tells : Outcome → List ℕ → Output → Output → Type 0
 Tells (Ok done) path before after = after ≡ before
 Tells (Err fault) path before after = SaysLine (fault_line fault path) before after
 
-module _ (tells : Type 0) {D : Type 0} (disk : D → Disk) (holds : D → List ℕ → Type 0) {O : Type 0} (makes opens : O → List ℕ → Result D OpeningFault → O → Type 0) (before : O) (name : List ℕ) (left : O) where
+module _ (tells : Type 0) {D : Type 0} (disk : D → Disk) (holds : D → List ℕ → Type 0) (tells_read : Type 0) {E : Type 0} (disk_read : E → Disk) (holds_read : E → List ℕ → Type 0) {O : Type 0} (makes : O → List ℕ → Result D OpeningFault → O → Type 0) (opens : O → List ℕ → Result E OpeningFault → O → Type 0) (ends : Terminals) (before : O) (name : List ℕ) (left : O) where
   -- what a form does over what opens devices: `run` has the device of a name made where there is none, `dump` and `check` open one that is
   -- there, and the other forms open none. What it tells while it goes on stands before the line of its outcome
   abbrev pub Performs : Form → Outcome → Input → Input → Output → Output → Output → Output → Type 0
-  Performs (form.Run clients_max profile) outcome first last start written quiet told =
-      RunsOver tells disk holds (makes before name) left outcome (rules_of profile clients_max) name first last start written quiet told
+  Performs (form.Run clients_max profile reports) outcome first last start written quiet told =
+      RunsOver tells disk holds (makes before name) left outcome (rules_of profile clients_max) name (reports || ends.faults) ends.input
+      first last start written quiet told
   Performs form.Dump outcome first last start written quiet told =
-      (last ≡ first) × (told ≡ quiet) × DumpsOver tells disk holds (opens before name) left outcome start written
+      (last ≡ first) × (told ≡ quiet) × DumpsOver tells_read disk_read holds_read (opens before name) left outcome start written
   Performs form.Check outcome first last start written quiet told =
-      (last ≡ first) × (told ≡ quiet) × ChecksOver tells disk holds (opens before name) left outcome start written
+      (last ≡ first) × (told ≡ quiet) × ChecksOver tells_read disk_read holds_read (opens before name) left outcome start written
   Performs form.Help outcome first last start written quiet told =
       (left ≡ before) × (last ≡ first) × (told ≡ quiet) × Prints USAGE.now outcome start written
   Performs form.Version outcome first last start written quiet told =

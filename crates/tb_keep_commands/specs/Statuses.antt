@@ -1,12 +1,13 @@
 -- The exit status of each fault, and the line that names it.
 -- Cited by public contracts of: commands, faults, host, lines, openers.
-use Rattle.std.specs.Prelude.{ℕ, zero, suc, ◌≡◌, ◌++◌, List, [], ◌∷◌, flat_map, codes, refl}
+use Rattle.std.specs.Prelude.{ℕ, zero, suc, Bool, true, false, ◌≡◌, ◌==◌, ◌/◌, ◌&&◌, nat_le, nat_eq, ◌++◌, List, [], ◌∷◌, Option, Some, None, if◌then◌else◌, flat_map, codes, refl}
 use Rattle.std.specs.Fmt.{decimal, digits}
 use Rattle.std.specs.IoError.{error_kind}
 use Rattle.std.specs.declared.io.Error.{Error}
 use Rattle.std.specs.declared.io.ErrorKind.{ErrorKind}
 use Rattle.std.specs.declared.io.ErrorKind.TheVariants as kinds
 use Rattle.tb_records.specs.declared.faults.FrameFault.TheVariants as frame
+use Rattle.tb_records.specs.DumpBytes.{profile_number}
 use Rattle.tb_records.specs.Faults.{fault_name}
 use Rattle.tb_records.specs.Transport.{Output}
 use Rattle.tb_commands.specs.Statuses as commands
@@ -28,10 +29,17 @@ use Rattle.tb_keep.specs.declared.faults.KeepFault.{KeepFault}
 use Rattle.tb_keep.specs.declared.faults.KeepFault.TheVariants as keep
 use Rattle.tb_keep.specs.declared.faults.StartFault.{StartFault}
 use Rattle.tb_keep.specs.declared.faults.StartFault.TheVariants as start
+use Rattle.tb_keep.specs.declared.heads.Rules.{Rules}
 use Rattle.tb_keep_commands.specs.declared.faults.Damage.{Damage}
 use Rattle.tb_keep_commands.specs.declared.faults.Damage.TheVariants.{Block, Record, Entry, Torn}
 use Rattle.tb_keep_commands.specs.declared.faults.Fault.{Fault}
 use Rattle.tb_keep_commands.specs.declared.faults.Fault.TheVariants.{Usage, Device, Opening, NoMemory, Request, NotAJournal, NoHead, Damaged, OtherRules, Full, SyncFailed}
+use Rattle.tb_keep_commands.specs.declared.faults.Failed.{Failed}
+use Rattle.tb_keep_commands.specs.declared.faults.Failed.TheVariants.{Input, Output as OutputSide, File}
+use Rattle.tb_keep_commands.specs.declared.faults.Mismatch.{Mismatch}
+use Rattle.tb_keep_commands.specs.declared.faults.Numbers.{Numbers}
+use Rattle.tb_keep_commands.specs.declared.kinds.Kind.{Kind}
+use Rattle.tb_keep_commands.specs.declared.kinds.Kind.TheVariants as kind
 use Rattle.tb_keep_commands.specs.declared.help.TheConstants.{USAGE}
 use Rattle.tb_keep_commands.specs.declared.openers.OpeningFault.{OpeningFault}
 use Rattle.tb_keep_commands.specs.declared.openers.OpeningFault.TheVariants as opening
@@ -65,14 +73,14 @@ words_fault error = words_fault_of (error_kind error)
 
 abbrev pub disk_fault : journal.Fault → Fault
 disk_fault disk.Memory = NoMemory
-disk_fault disk.Failed = Device
+disk_fault disk.Failed = Device File
 disk_fault disk.Full = Full
 disk_fault disk.TooLong = Request run.TooLong
-disk_fault disk.NotEmpty = NotAJournal
+disk_fault disk.NotEmpty = NotAJournal kind.Unread
 disk_fault disk.SyncFailed = SyncFailed
 
 abbrev pub refused_fault : Refusal → Fault
-refused_fault refusal.NotAJournal = NotAJournal
+refused_fault refusal.NotAJournal = NotAJournal kind.Unread
 refused_fault (refusal.Damaged at) = Damaged (Block at)
 
 abbrev pub opened_fault : OpenFault → Fault
@@ -82,7 +90,7 @@ opened_fault (opened.Device fault) = disk_fault fault
 abbrev pub started_fault : StartFault → Fault
 started_fault (start.Journal fault) = opened_fault fault
 started_fault start.Head = NoHead
-started_fault start.OtherRules = OtherRules
+started_fault start.OtherRules = OtherRules None
 started_fault (start.Record place fault) = Damaged (Record place fault)
 started_fault (start.Entry fault) = Damaged (Entry fault)
 started_fault start.NoMemory = NoMemory
@@ -90,21 +98,30 @@ started_fault (start.TornTooLong at bytes) = Damaged (Torn at bytes)
 
 abbrev pub dumped_fault : DumpFault → Fault
 dumped_fault (dump.Journal fault) = opened_fault fault
-dumped_fault (dump.Writer fault) = Device
+dumped_fault (dump.Writer fault) = Device OutputSide
 
-abbrev pub read_fault : RunFault → Fault
-read_fault (run.Frame frame.Device) = Device
-read_fault (run.Frame frame.NoMemory) = NoMemory
-read_fault run.NoMemory = NoMemory
-read_fault fault = Request fault
+-- where a pipe failed, this one
+abbrev pub read_fault : Failed → RunFault → Fault
+read_fault pipe (run.Frame frame.Device) = Device pipe
+read_fault pipe (run.Frame frame.NoMemory) = NoMemory
+read_fault pipe run.NoMemory = NoMemory
+read_fault pipe fault = Request fault
 
-abbrev pub kept_fault : KeepFault → Fault
-kept_fault (keep.Serving fault) = read_fault fault
-kept_fault (keep.Journal fault) = disk_fault fault
+abbrev pub kept_fault : Failed → KeepFault → Fault
+kept_fault pipe (keep.Serving fault) = read_fault pipe fault
+kept_fault pipe (keep.Journal fault) = disk_fault fault
+
+-- of a reader whose count of errors was this before and is this now, and of a writer behind it
+abbrev pub failed_pipe : ℕ → ℕ → Failed
+failed_pipe before now = if before == now then OutputSide else Input
+
+-- the rules of a ledger in numbers
+abbrev pub numbers_of : Rules → Numbers
+numbers_of rules = record { clients_max = rules.clients_max; profile = profile_number rules.profile }
 
 -- 1 a device or memory failed, 2 the arguments are wrong or a request is none, and from 4 on why the file is not served
 abbrev pub fault_status : Fault → ℕ
-fault_status Device = 1
+fault_status (Device which) = 1
 fault_status NoMemory = 1
 fault_status (Opening opening.Locked) = 4
 fault_status (Opening opening.Missing) = 1
@@ -114,10 +131,10 @@ fault_status (Opening opening.SyncFailed) = 9
 fault_status (Opening opening.Unopened) = 1
 fault_status Usage = 2
 fault_status (Request fault) = 2
-fault_status NotAJournal = 5
+fault_status (NotAJournal kind) = 5
 fault_status NoHead = 5
 fault_status (Damaged damage) = 6
-fault_status OtherRules = 7
+fault_status (OtherRules numbers) = 7
 fault_status Full = 8
 fault_status SyncFailed = 9
 
@@ -139,17 +156,43 @@ opening_text opening.NoMemory path = codes "NoMemory"
 opening_text opening.SyncFailed path = sync_text
 opening_text opening.Unopened path = codes "Device: cannot open " ++ path
 
+-- what failed
+abbrev pub failed_text : Failed → List ℕ → List ℕ
+failed_text Input path = codes "Device: standard input"
+failed_text OutputSide path = codes "Device: standard output"
+failed_text File path = codes "Device: " ++ path
+
+-- a file that is no ledger, and what it is; nothing more where it was not looked at
+abbrev pub kind_text : Kind → List ℕ → List ℕ
+kind_text kind.Unread path = codes "NotAJournal"
+kind_text kind.Empty path = codes "NotAJournal: " ++ (path ++ codes " is empty; tbd run makes a ledger in it")
+kind_text kind.Dump path = codes "NotAJournal: " ++ (path ++ codes " is a dump; tbs replay and tbt read it")
+kind_text kind.Script path = codes "NotAJournal: " ++ (path ++ codes " is a script; tbs and tbd run read it as standard input")
+kind_text kind.Text path = codes "NotAJournal: " ++ (path ++ codes " is a text; tbt script makes request frames of statements")
+kind_text kind.Other path = codes "NotAJournal: " ++ (path ++ codes " does not begin as a ledger's file")
+
+-- rules in words
+unfoldable pub numbers_text : Numbers → List ℕ
+numbers_text numbers = (codes "CLIENTS_MAX " ++ decimal numbers.clients_max) ++ (codes " and PROFILE " ++ decimal numbers.profile)
+
+-- the rules that a file was made with, and those that were asked for
+abbrev pub mismatch_text : Option Mismatch → List ℕ → List ℕ
+mismatch_text None path = codes "OtherRules: tbd check shows those that the file was made with"
+mismatch_text (Some both) path =
+    (codes "OtherRules: " ++ (path ++ codes " was made with "))
+    ++ (numbers_text both.made ++ (codes ", not with " ++ numbers_text both.asked))
+
 -- the fault's name, and words behind it where there is more to say, of a file with this path
 abbrev pub fault_text : Fault → List ℕ → List ℕ
 fault_text Usage path = codes "Usage"
-fault_text Device path = codes "Device"
+fault_text (Device which) path = failed_text which path
 fault_text (Opening fault) path = opening_text fault path
 fault_text NoMemory path = codes "NoMemory"
 fault_text (Request fault) path = run_fault_name fault
-fault_text NotAJournal path = codes "NotAJournal"
+fault_text (NotAJournal kind) path = kind_text kind path
 fault_text NoHead path = codes "NotAJournal: the first record is no ledger's head"
 fault_text (Damaged damage) path = codes "Damaged: " ++ damage_text damage
-fault_text OtherRules path = codes "OtherRules: tbd check shows those that the file was made with"
+fault_text (OtherRules numbers) path = mismatch_text numbers path
 fault_text Full path = codes "Full"
 fault_text SyncFailed path = sync_text
 
@@ -164,16 +207,44 @@ fault_line fault path = codes "tbd: " ++ (fault_text fault path ++ codes "\n")
 abbrev pub made_line : List ℕ → List ℕ
 made_line path = codes "tbd: made " ++ (path ++ codes "\n")
 
+-- a line is told, or none is
+abbrev pub TellsWhere : Bool → List ℕ → Output → Output → Type 0
+TellsWhere false line before after = after ≡ before
+TellsWhere true line before after = SaysLine line before after
+
 -- of a file of so many bytes: it was made where it had none, and else nothing is told
 abbrev pub TellsMade : ℕ → List ℕ → Output → Output → Type 0
-TellsMade zero path before after = SaysLine (made_line path) before after
-TellsMade (suc more) path before after = after ≡ before
+TellsMade len path before after = TellsWhere (nat_eq len 0) (made_line path) before after
 
 -- what a start says that cut bytes off: how many, and where the records end that stay
 abbrev pub cut_line : ℕ → ℕ → List ℕ
 cut_line bytes at =
     (codes "tbd: cut " ++ decimal bytes)
     ++ ((codes " bytes of a batch that was not committed, behind byte " ++ decimal at) ++ codes "\n")
+
+-- how far the file of this path was read, in millions of bytes
+abbrev pub reading_line : List ℕ → ℕ → ℕ → List ℕ
+reading_line path read all =
+    (codes "tbd: reading " ++ (path ++ codes ", ")) ++ (((decimal read ++ codes " of ") ++ (decimal all ++ codes " MB")) ++ codes "\n")
+
+-- of a start that is reported: that it begins to read a file of a million bytes or more
+abbrev pub TellsReading : Bool → List ℕ → ℕ → Output → Output → Type 0
+TellsReading reports path bytes before after =
+    TellsWhere (reports && nat_le 1000000 bytes) (reading_line path 0 (bytes / 1000000)) before after
+
+-- of a start that is reported: that requests are served from here on
+abbrev pub ready_line : List ℕ
+ready_line = codes "tbd: ready\n"
+
+abbrev pub TellsReady : Bool → Output → Output → Type 0
+TellsReady reports before after = TellsWhere reports ready_line before after
+
+-- of requests that would come from a terminal: where words are read
+abbrev pub frames_line : List ℕ
+frames_line = codes "tbd: standard input is a terminal, and run reads request frames there; tb-repl and tbt script take words\n"
+
+abbrev pub TellsFrames : Bool → Output → Output → Type 0
+TellsFrames talks before after = TellsWhere talks frames_line before after
 
 -- nothing where nothing was cut off
 abbrev pub TellsCut : ℕ → ℕ → Output → Output → Type 0
@@ -205,6 +276,19 @@ line_of_a_name = refl
 pub line_of_a_cut : cut_line 5 182 ≡ codes "tbd: cut 5 bytes of a batch that was not committed, behind byte 182\n"
 unfolding digits
 line_of_a_cut = refl
+
+pub line_of_a_pipe : fault_line (Device OutputSide) (codes "ledger") ≡ codes "tbd: Device: standard output\n"
+line_of_a_pipe = refl
+
+pub line_of_other_rules :
+    fault_line (OtherRules (Some (record { made = record { clients_max = 3; profile = 1 }; asked = record { clients_max = 64; profile = 2 } }))) (codes "ledger")
+    ≡ codes "tbd: OtherRules: ledger was made with CLIENTS_MAX 3 and PROFILE 1, not with CLIENTS_MAX 64 and PROFILE 2\n"
+unfolding digits numbers_text
+line_of_other_rules = refl
+
+pub line_of_reading : reading_line (codes "ledger") 128 900 ≡ codes "tbd: reading ledger, 128 of 900 MB\n"
+unfolding digits
+line_of_reading = refl
 
 pub line_of_a_new_file : made_line (codes "ledger") ≡ codes "tbd: made ledger\n"
 line_of_a_new_file = refl

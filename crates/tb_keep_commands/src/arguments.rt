@@ -1,6 +1,6 @@
 //! What the words of the command line ask for, and what is wrong with words that ask for nothing.
 ghost use Rattle.std.specs.Prelude.{◌≡◌, map, take, string_bytes};
-ghost use Rattle.tb_keep_commands.specs.Forms.{form_alone, form_by, form_of, form_over, run_form, file_word, is_number, is_no_file, wrong_last, wrong_clients, wrong_run, wrong_count, wrong_over, wrong};
+ghost use Rattle.tb_keep_commands.specs.Forms.{form_alone, form_by, form_of, form_over, run_form, run_four, run_five, file_word, is_number, is_no_file, is_progress, wrong_last, wrong_five, wrong_clients, wrong_run, wrong_count, wrong_over, wrong};
 ghost use Rattle.tb_commands.specs.Forms.{clients_of};
 
 use tb_commands::{read_clients_max, read_profile};
@@ -9,8 +9,8 @@ use tb_records::{ClientsMax, Profile};
 /// What the program is asked to do.
 #[derive(Clone, Copy)]
 pub enum Form {
-    /// Serve requests over a file, which is made where there is none.
-    Run(ClientsMax, Profile),
+    /// Serve requests over a file, which is made where there is none. The flag has its start reported.
+    Run(ClientsMax, Profile, bool),
     /// Write the history of a file as a dump.
     Dump,
     /// Read a file, and tell what is in it.
@@ -43,14 +43,50 @@ fn form_alone(word: &str) -> Option<Form>
     }
 }
 
-/// What a word with a file, the number of clients and a profile asks for.
-fn run_form(word: &str, clients_max: &str, profile_given: Option<Profile>) -> Option<Form>
-    ensures { result ≡ run_form word.now clients_max.now profile_given }
+/// Says that a word has a start reported.
+fn is_progress(word: &str) -> bool
+    ensures { result ≡ is_progress word.now }
+{
+    word == "--progress"
+}
+
+/// What a word with a file, the number of clients and a profile asks for, its start reported or not.
+fn run_form(
+    word: &str,
+    clients_max: &str,
+    profile_given: Option<Profile>,
+    reports: bool,
+) -> Option<Form>
+    ensures { result ≡ run_form word.now clients_max.now profile_given reports }
 {
     if word != "run" {
         return None;
     }
-    Some(Form::Run(read_clients_max(clients_max.as_bytes())?, profile_given?))
+    Some(Form::Run(
+        read_clients_max(clients_max.as_bytes())?,
+        profile_given?,
+        reports,
+    ))
+}
+
+/// What a word with a file, the number of clients and one more word asks for: a profile, or `--progress`.
+fn run_four(word: &str, clients_max: &str, last: &str) -> Option<Form>
+    ensures { result ≡ run_four word.now clients_max.now last.now }
+{
+    if is_progress(last) {
+        return run_form(word, clients_max, Some(Profile::One), true);
+    }
+    run_form(word, clients_max, read_profile(last.as_bytes()), false)
+}
+
+/// What a word with a file, the number of clients, a profile and one more word asks for.
+fn run_five(word: &str, clients_max: &str, profile: &str, last: &str) -> Option<Form>
+    ensures { result ≡ run_five word.now clients_max.now profile.now last.now }
+{
+    if !is_progress(last) {
+        return None;
+    }
+    run_form(word, clients_max, read_profile(profile.as_bytes()), true)
 }
 
 /// What the words ask for, whatever the word is that names the file.
@@ -61,12 +97,21 @@ fn form_by(words: &[String]) -> Option<Form>
         [word] => form_alone(word.as_str()),
         [word, _file] => form_over(word.as_str()),
         [word, _file, clients_max] => {
-            run_form(word.as_str(), clients_max.as_str(), Some(Profile::One))
+            run_form(
+                word.as_str(),
+                clients_max.as_str(),
+                Some(Profile::One),
+                false,
+            )
         }
-        [word, _file, clients_max, last] => run_form(
+        [word, _file, clients_max, last] => {
+            run_four(word.as_str(), clients_max.as_str(), last.as_str())
+        }
+        [word, _file, clients_max, profile, last] => run_five(
             word.as_str(),
             clients_max.as_str(),
-            read_profile(last.as_str().as_bytes()),
+            profile.as_str(),
+            last.as_str(),
         ),
         _ => None,
     }
@@ -120,6 +165,16 @@ fn wrong_last(clients_max: &str) -> &'static str
     }
 }
 
+/// What is wrong with five words that begin with `run`, of which the last is to be `--progress`.
+fn wrong_five(clients_max: &str, last: &str) -> &'static str
+    ensures { result.now ≡ wrong_five (clients_of clients_max.now) last.now }
+{
+    if is_progress(last) {
+        return wrong_last(clients_max);
+    }
+    "only --progress may follow PROFILE"
+}
+
 /// What is wrong with a word that names no file.
 const NO_FILE: &str = "FILE is a number or begins with -; write ./FILE";
 
@@ -145,6 +200,7 @@ fn wrong_clients(words: &[String]) -> (&[String], &'static str)
         [_, _] => (words, "CLIENTS_MAX is missing, 1 to 64"),
         [_, _, _] => (words, "CLIENTS_MAX is 1 to 64"),
         [_, _, clients_max, _] => (words, wrong_last(clients_max.as_str())),
+        [_, _, clients_max, _, last] => (words, wrong_five(clients_max.as_str(), last.as_str())),
         [_, ..] => (&words[..1], "too many words"),
     }
 }

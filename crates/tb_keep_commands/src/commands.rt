@@ -1,38 +1,50 @@
 //! The program's forms, over what opens devices, any reader and any writer, and the exit status of each outcome.
-ghost use Rattle.std.specs.Prelude.{◌≡◌, None, Some, map, string_bytes};
+ghost use Rattle.std.specs.Prelude.{◌≡◌, ◌||◌, None, Some, map, string_bytes};
 ghost use Rattle.tb_keep_commands.specs.declared.arguments.Form.{Form};
 ghost use Rattle.tb_keep_commands.specs.Forms.{form_of, file_word};
 ghost use Rattle.tb_keep_commands.specs.Statuses.{SaysLine, usage_lines};
 ghost use Rattle.tb_keep_commands.specs.Outcomes.{Performs, Prints, RunsOver, DumpsOver, ChecksOver, Finishes, Exits};
 
 use crate::arguments::{Form, file_word, read_form};
-use crate::faults::Fault;
+use crate::faults::{Failed, Fault};
 use crate::files::{check, dump};
 use crate::help::{USAGE, VERSION};
-use crate::lines::{tell, tell_usage};
+use crate::lines::{tell, tell_frames, tell_usage};
 use crate::openers::Opener;
 use crate::outlets::Outlet;
-use crate::serving::run;
+use crate::serving::{Told, run};
 use std::alloc::Global;
 use tb_keep::Rules;
 use tb_records::{Sink, Source, put_all};
 
-/// Serves a ledger over the device of a name, which is made where there is none.
+/// Which of the program's ends are terminals.
+#[derive(Clone, Copy)]
+pub struct Terminals {
+    /// Standard input: then `run` says where words are read.
+    pub input: bool,
+    /// Standard error: then `run` reports its start.
+    pub faults: bool,
+}
+
+/// Serves a ledger over the device of a path, which is made where there is none. Where requests would come from a terminal it is
+/// told first where words are read.
 fn run_over<O: Opener, R: Source, W: Sink, E: Sink>(
     alloc: Global,
     opener: &mut O,
-    name: &str,
     rules: Rules,
+    told: &Told,
+    talks: bool,
     reader: &mut R,
     writer: &mut W,
     faults: &mut E,
 ) -> Result<(), Fault>
-    ensures { RunsOver O.File.tells O.File.disk O.File.holds (O.makes opener.old name.now) opener.new result
-        rules name.now (R.input reader.old) (R.input reader.new) (W.output writer.old) (W.output writer.new)
+    ensures { RunsOver O.File.tells O.File.disk O.File.holds (O.makes opener.old told.now.path.now) opener.new result
+        rules told.now.path.now told.now.reports talks (R.input reader.old) (R.input reader.new) (W.output writer.old) (W.output writer.new)
         (E.output faults.old) (E.output faults.new) }
 {
-    match opener.make(name) {
-        Ok(device) => run(alloc, device, rules, name, reader, writer, faults),
+    tell_frames(talks, faults);
+    match opener.make(told.path) {
+        Ok(device) => run(alloc, device, rules, told, reader, writer, faults),
         Err(fault) => Err(Fault::Opening(fault)),
     }
 }
@@ -44,7 +56,7 @@ fn dump_over<O: Opener, W: Sink>(
     name: &str,
     writer: &mut W,
 ) -> Result<(), Fault>
-    ensures { DumpsOver O.File.tells O.File.disk O.File.holds (O.opens opener.old name.now) opener.new result
+    ensures { DumpsOver O.Reading.tells O.Reading.disk O.Reading.holds (O.opens opener.old name.now) opener.new result
         (W.output writer.old) (W.output writer.new) }
 {
     let opened = opener.open(name);
@@ -66,7 +78,7 @@ fn check_over<O: Opener, W: Sink>(
     name: &str,
     writer: &mut W,
 ) -> Result<(), Fault>
-    ensures { ChecksOver O.File.tells O.File.disk O.File.holds (O.opens opener.old name.now) opener.new result
+    ensures { ChecksOver O.Reading.tells O.Reading.disk O.Reading.holds (O.opens opener.old name.now) opener.new result
         (W.output writer.old) (W.output writer.new) }
 {
     let found = opener.open(name);
@@ -87,8 +99,15 @@ fn print<W: Sink>(writer: &mut W, text: &str) -> Result<(), Fault>
 {
     match put_all(writer, text.as_bytes()) {
         Ok(()) => Ok(()),
-        Err(_) => Err(Fault::Device),
+        Err(_) => Err(Fault::Device(Failed::Output)),
     }
+}
+
+/// Says whether a start is reported: where that is asked for, and on a terminal.
+fn is_reported(reports: bool, terminals: Terminals) -> bool
+    ensures { result ≡ (reports || terminals.faults) }
+{
+    reports || terminals.faults
 }
 
 /// Does what the form asks for, over the device of a name.
@@ -96,22 +115,29 @@ fn perform<O: Opener, R: Source, W: Sink, E: Sink>(
     alloc: Global,
     opener: &mut O,
     form: Form,
+    terminals: Terminals,
     name: &str,
     reader: &mut R,
     writer: &mut W,
     faults: &mut E,
 ) -> Result<(), Fault>
-    ensures { Performs O.File.tells O.File.disk O.File.holds O.makes O.opens opener.old name.now opener.new form
+    ensures { Performs O.File.tells O.File.disk O.File.holds O.Reading.tells O.Reading.disk O.Reading.holds
+        O.makes O.opens terminals opener.old name.now opener.new form
         result (R.input reader.old) (R.input reader.new) (W.output writer.old) (W.output writer.new)
         (E.output faults.old) (E.output faults.new) }
 {
     match form {
-        Form::Run(clients_max, profile) => {
+        Form::Run(clients_max, profile, reports) => {
             let rules = Rules {
                 profile,
                 clients_max,
             };
-            run_over(alloc, opener, name, rules, reader, writer, faults)
+            let told = Told {
+                path: name,
+                reports: is_reported(reports, terminals),
+            };
+            let talks = terminals.input;
+            run_over(alloc, opener, rules, &told, talks, reader, writer, faults)
         }
         Form::Dump => dump_over(alloc, opener, name, writer),
         Form::Check => check_over(alloc, opener, name, writer),
@@ -127,7 +153,7 @@ fn finish<W: Outlet>(done: Result<(), Fault>, writer: &mut W) -> Result<(), Faul
     match done {
         Ok(()) => match writer.finish() {
             Ok(()) => Ok(()),
-            Err(_) => Err(Fault::Device),
+            Err(_) => Err(Fault::Device(Failed::Output)),
         },
         Err(fault) => Err(fault),
     }
@@ -138,16 +164,18 @@ fn exit<O: Opener, R: Source, W: Outlet, E: Sink>(
     alloc: Global,
     opener: &mut O,
     form: Form,
+    terminals: Terminals,
     name: &str,
     reader: &mut R,
     writer: &mut W,
     faults: &mut E,
 ) -> u8
-    ensures { Exits O.File.tells O.File.disk O.File.holds O.makes O.opens opener.old name.now opener.new
+    ensures { Exits O.File.tells O.File.disk O.File.holds O.Reading.tells O.Reading.disk O.Reading.holds
+        O.makes O.opens terminals opener.old name.now opener.new
         (W.gone writer.new) form result (R.input reader.old) (R.input reader.new) (W.output writer.old)
         (W.output writer.new) (E.output faults.old) (E.output faults.new) }
 {
-    let done = perform(alloc, opener, form, name, reader, writer, faults);
+    let done = perform(alloc, opener, form, terminals, name, reader, writer, faults);
     match finish(done, writer) {
         Ok(()) => 0,
         Err(fault) => {
@@ -158,12 +186,13 @@ fn exit<O: Opener, R: Source, W: Outlet, E: Sink>(
 }
 
 /// Does what the words ask for, and answers the exit status: 0 done, else that of the fault, whose line goes to `faults`.
-/// With 0 nothing goes there but what a start of `run` says that made a file or cut torn bytes off. Words that are none of the program's
+/// With 0 nothing goes there but what a start of `run` says that made a file or cut torn bytes off, or that is reported. Words that are none of the program's
 /// forms are found before anything is opened or read.
 pub fn command<O: Opener, R: Source, W: Outlet, E: Sink>(
     alloc: Global,
     opener: &mut O,
     words: &[String],
+    terminals: Terminals,
     reader: &mut R,
     writer: &mut W,
     faults: &mut E,
@@ -175,7 +204,8 @@ pub fn command<O: Opener, R: Source, W: Outlet, E: Sink>(
     ensures told { let said = map string_bytes words.now in
         form_of said ≡ None → SaysLine (usage_lines said) (E.output faults.old) (E.output faults.new) }
     ensures served { (form : Form) → form_of (map string_bytes words.now) ≡ Some form
-        → Exits O.File.tells O.File.disk O.File.holds O.makes O.opens opener.old
+        → Exits O.File.tells O.File.disk O.File.holds O.Reading.tells O.Reading.disk O.Reading.holds
+        O.makes O.opens terminals opener.old
         (file_word (map string_bytes words.now)) opener.new (W.gone writer.new) form result
         (R.input reader.old) (R.input reader.new) (W.output writer.old) (W.output writer.new)
         (E.output faults.old) (E.output faults.new) }
@@ -185,6 +215,7 @@ pub fn command<O: Opener, R: Source, W: Outlet, E: Sink>(
             alloc,
             opener,
             form,
+            terminals,
             file_word(words),
             reader,
             writer,

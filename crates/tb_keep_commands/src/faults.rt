@@ -1,14 +1,53 @@
 //! Why a command ends with a status other than 0.
 ghost use Rattle.std.specs.Prelude.{◌≡◌, ◌<◌};
-ghost use Rattle.tb_keep_commands.specs.Statuses.{fault_status, opened_fault, read_fault, refused_fault, disk_fault, dumped_fault, started_fault, kept_fault, words_fault};
+ghost use Rattle.tb_keep_commands.specs.Statuses.{fault_status, numbers_of, opened_fault, read_fault, refused_fault, disk_fault, dumped_fault, started_fault, kept_fault, words_fault};
 
+use crate::kinds::Kind;
 use crate::openers::OpeningFault;
+use crate::summaries::profile_number;
 use std::io;
 use std::io::ErrorKind;
 use tb_journal::{OpenFault, Refusal};
-use tb_keep::{DumpFault, KeepFault, StartFault};
+use tb_keep::{DumpFault, KeepFault, Rules, StartFault};
 use tb_machine::{RestoreFault, RunFault};
 use tb_records::FrameFault;
+
+/// What a read, a write or a sync failed of.
+#[derive(Clone, Copy, Debug, PartialEq, Eq)]
+pub enum Failed {
+    /// Standard input.
+    Input,
+    /// Standard output.
+    Output,
+    /// The file.
+    File,
+}
+
+/// The rules of a ledger, in numbers.
+#[derive(Clone, Copy, Debug, PartialEq, Eq)]
+pub struct Numbers {
+    /// How many clients have a session at a time.
+    pub clients_max: u32,
+    /// 1 or 2.
+    pub profile: u8,
+}
+
+/// The rules that a file was made with, and others that were asked for.
+#[derive(Clone, Copy, Debug, PartialEq, Eq)]
+pub struct Mismatch {
+    pub made: Numbers,
+    pub asked: Numbers,
+}
+
+/// The numbers of a ledger's rules.
+pub(crate) fn numbers_of(rules: Rules) -> Numbers
+    ensures { result ≡ numbers_of rules }
+{
+    Numbers {
+        clients_max: rules.clients_max.get(),
+        profile: profile_number(rules.profile),
+    }
+}
 
 /// What is damaged in a file.
 #[derive(Clone, Copy, Debug, PartialEq, Eq)]
@@ -28,22 +67,22 @@ pub enum Damage {
 pub enum Fault {
     /// The arguments are none of the program's forms.
     Usage,
-    /// A pipe, or a read, write or sync of the file failed.
-    Device,
+    /// A pipe, or a read or write of the file failed.
+    Device(Failed),
     /// The file was not opened.
     Opening(OpeningFault),
     /// There is no memory.
     NoMemory,
     /// A request is none, or no time is left for it.
     Request(RunFault),
-    /// The file is no journal.
-    NotAJournal,
+    /// The file is no journal, but something of this kind.
+    NotAJournal(Kind),
     /// The file is a journal, but its first record is no ledger's head, or it has none.
     NoHead,
     /// The file is damaged. It is as it was.
     Damaged(Damage),
     /// The file was made with another profile, or for another number of clients.
-    OtherRules,
+    OtherRules(Option<Mismatch>),
     /// The disk is full.
     Full,
     /// A sync of the file failed: what was written may be lost, though reads still return it.
@@ -56,10 +95,10 @@ pub fn disk_fault(fault: tb_journal::Fault) -> Fault
 {
     match fault {
         tb_journal::Fault::Memory => Fault::NoMemory,
-        tb_journal::Fault::Failed => Fault::Device,
+        tb_journal::Fault::Failed => Fault::Device(Failed::File),
         tb_journal::Fault::Full => Fault::Full,
         tb_journal::Fault::TooLong => Fault::Request(RunFault::TooLong),
-        tb_journal::Fault::NotEmpty => Fault::NotAJournal,
+        tb_journal::Fault::NotEmpty => Fault::NotAJournal(Kind::Unread),
         tb_journal::Fault::SyncFailed => Fault::SyncFailed,
     }
 }
@@ -69,7 +108,7 @@ fn refused_fault(why: Refusal) -> Fault
     ensures { result ≡ refused_fault why }
 {
     match why {
-        Refusal::NotAJournal => Fault::NotAJournal,
+        Refusal::NotAJournal => Fault::NotAJournal(Kind::Unread),
         Refusal::Damaged { at } => Fault::Damaged(Damage::Block { at }),
     }
 }
@@ -84,14 +123,14 @@ fn opened_fault(fault: OpenFault) -> Fault
     }
 }
 
-/// The fault of a ledger that is not opened.
+/// The fault of a ledger that is not opened, before the file is looked at for what else there is to say of it.
 pub fn started_fault(fault: StartFault) -> Fault
     ensures { result ≡ started_fault fault }
 {
     match fault {
         StartFault::Journal(fault) => opened_fault(fault),
         StartFault::Head => Fault::NoHead,
-        StartFault::OtherRules => Fault::OtherRules,
+        StartFault::OtherRules => Fault::OtherRules(None),
         StartFault::Record { place, fault } => Fault::Damaged(Damage::Record { place, fault }),
         StartFault::Entry(fault) => Fault::Damaged(Damage::Entry(fault)),
         StartFault::NoMemory => Fault::NoMemory,
@@ -105,28 +144,28 @@ pub fn dumped_fault(fault: DumpFault) -> Fault
 {
     match fault {
         DumpFault::Journal(fault) => opened_fault(fault),
-        DumpFault::Writer(_) => Fault::Device,
+        DumpFault::Writer(_) => Fault::Device(Failed::Output),
     }
 }
 
-/// The fault of reading a request, or of writing replies.
-fn read_fault(fault: RunFault) -> Fault
-    ensures { result ≡ read_fault fault }
+/// The fault of reading a request, or of writing replies, where this pipe failed if one did.
+fn read_fault(fault: RunFault, pipe: Failed) -> Fault
+    ensures { result ≡ read_fault pipe fault }
 {
     match fault {
-        RunFault::Frame(FrameFault::Device) => Fault::Device,
+        RunFault::Frame(FrameFault::Device) => Fault::Device(pipe),
         RunFault::Frame(FrameFault::NoMemory) => Fault::NoMemory,
         RunFault::NoMemory => Fault::NoMemory,
         fault => Fault::Request(fault),
     }
 }
 
-/// The fault that serving ends with.
-pub fn kept_fault(fault: KeepFault) -> Fault
-    ensures { result ≡ kept_fault fault }
+/// The fault that serving ends with, where this pipe failed if one did.
+pub fn kept_fault(fault: KeepFault, pipe: Failed) -> Fault
+    ensures { result ≡ kept_fault pipe fault }
 {
     match fault {
-        KeepFault::Serving(fault) => read_fault(fault),
+        KeepFault::Serving(fault) => read_fault(fault, pipe),
         KeepFault::Journal(fault) => disk_fault(fault),
     }
 }
@@ -150,11 +189,11 @@ impl Fault {
         match self {
             Fault::Opening(OpeningFault::Locked) => 4,
             Fault::Opening(OpeningFault::SyncFailed) | Fault::SyncFailed => 9,
-            Fault::Device | Fault::NoMemory | Fault::Opening(_) => 1,
+            Fault::Device(_) | Fault::NoMemory | Fault::Opening(_) => 1,
             Fault::Usage | Fault::Request(_) => 2,
-            Fault::NotAJournal | Fault::NoHead => 5,
+            Fault::NotAJournal(_) | Fault::NoHead => 5,
             Fault::Damaged(_) => 6,
-            Fault::OtherRules => 7,
+            Fault::OtherRules(_) => 7,
             Fault::Full => 8,
         }
     }

@@ -5,7 +5,8 @@ ghost use Rattle.tb_keep.specs.Restoration.{HasStartCause};
 ghost use Rattle.tb_keep_commands.specs.Summaries.{ReadsWhole};
 ghost use Rattle.tb_keep_commands.specs.Outcomes.{DumpsFound, DumpsFile, ChecksLong, ChecksFile, Reports};
 
-use crate::faults::{Fault, disk_fault, dumped_fault, started_fault};
+use crate::faults::{Failed, Fault, disk_fault, dumped_fault};
+use crate::naming::named;
 use crate::summaries::{Found, Summary};
 use std::alloc::Global;
 use std::format;
@@ -64,7 +65,7 @@ pub(crate) fn dump<D: Device, W: Sink>(
 {
     match read_whole(alloc, device) {
         Ok(found) => dump_found(alloc, device, found, writer),
-        Err(fault) => Err(started_fault(fault)),
+        Err(fault) => Err(named(device, fault)),
     }
 }
 
@@ -75,7 +76,7 @@ fn report<W: Sink>(alloc: Global, summary: Summary, writer: &mut W) -> Result<()
     match format!(in alloc; "{summary}") {
         Ok(text) => match put_all(writer, text.as_bytes()) {
             Ok(()) => Ok(()),
-            Err(_) => Err(Fault::Device),
+            Err(_) => Err(Fault::Device(Failed::Output)),
         },
         Err(_) => Err(Fault::NoMemory),
     }
@@ -93,7 +94,7 @@ fn check_long<D: Device, W: Sink>(
 {
     match read_whole(alloc, device) {
         Ok(found) => report(alloc, found.summary(len), writer),
-        Err(fault) => Err(started_fault(fault)),
+        Err(fault) => Err(named(device, fault)),
     }
 }
 

@@ -8,9 +8,11 @@ pub const USAGE: &str = "Usage: tbd FORM
 
 Keeps a ledger in a file: what was answered is in the file, whenever the program or the machine ends.
 
-  run FILE CLIENTS_MAX [PROFILE]  serves standard input to standard output as tbs run does; each
+  run FILE CLIENTS_MAX [PROFILE] [--progress]
+                                  serves standard input to standard output as tbs run does; each
                                   reply goes out when its entry is on the disk. Makes FILE if it
-                                  is not there, and says so; goes on with its history if it is
+                                  is not there, and says so; goes on with its history if it is.
+                                  With --progress, and on a terminal, its start is reported
   dump FILE                       writes the history of FILE, as tbs dump does
   check FILE                      reads all of FILE and tells what is in it, or the damage
   --help, -h, --version

@@ -5,7 +5,7 @@ ghost use Rattle.tb_keep_commands.specs.Hosts.{input_size, Commands, Serves, Wan
 ghost use Rattle.tb_keep_commands.specs.Statuses.{SaysLine, fault_status, fault_line};
 
 use crate::arguments::{Form, read_form};
-use crate::commands::command;
+use crate::commands::{Terminals, command};
 use crate::faults::Fault;
 use crate::lines::tell;
 use crate::openers::Opener;
@@ -26,7 +26,7 @@ fn capacities(form: Option<Form>) -> (usize, usize)
     ensures { result.0 ≡ input_size form }
 {
     match form {
-        Some(Form::Run(_, _)) => (INPUT, 0),
+        Some(Form::Run(_, _, _)) => (INPUT, 0),
         Some(Form::Dump) => (0, OUTPUT),
         _ => (0, 0),
     }
@@ -37,17 +37,27 @@ fn between<O: Opener, R: Read + Drop, W: Write + Drop, E: Sink>(
     alloc: Global,
     opener: &mut O,
     words: &[String],
+    terminals: Terminals,
     input: BufReader<R>,
     output: BufWriter<W>,
     faults: &mut E,
 ) -> u8
     ensures { let said = map string_bytes words.now in
-        Commands O.File.tells O.File.disk O.File.holds O.makes O.opens opener.old opener.new R.remaining
+        Commands O.File.tells O.File.disk O.File.holds O.Reading.tells O.Reading.disk O.Reading.holds
+        O.makes O.opens terminals opener.old opener.new R.remaining
         W.contents (form_of said) said result input output (E.output faults.old) (E.output faults.new) }
 {
     let mut reader = Buffered::new(input);
     let mut writer = Outgoing::new(output);
-    command(alloc, opener, words, &mut reader, &mut writer, faults)
+    command(
+        alloc,
+        opener,
+        words,
+        terminals,
+        &mut reader,
+        &mut writer,
+        faults,
+    )
 }
 
 /// Serves the command that the words are, between an input and an output, both buffered, and answers the exit status.
@@ -55,11 +65,13 @@ pub fn serve<O: Opener, R: Read + Drop, W: Write + Drop, E: Sink>(
     alloc: Global,
     opener: &mut O,
     words: &[String],
+    terminals: Terminals,
     input: R,
     output: W,
     faults: &mut E,
 ) -> u8
-    ensures { Serves O.File.tells O.File.disk O.File.holds O.makes O.opens opener.old opener.new R.remaining
+    ensures { Serves O.File.tells O.File.disk O.File.holds O.Reading.tells O.Reading.disk O.Reading.holds
+        O.makes O.opens terminals opener.old opener.new R.remaining
         W.contents (map string_bytes words.now) result input output (E.output faults.old) (E.output faults.new)
         ⊎ WantsMemory opener.old opener.new result (E.output faults.old) (E.output faults.new) }
 {
@@ -70,7 +82,7 @@ pub fn serve<O: Opener, R: Read + Drop, W: Write + Drop, E: Sink>(
     let Ok(output) = BufWriter::with_capacity(alloc, held_out, output) else {
         return refuse(Fault::NoMemory, faults);
     };
-    between(alloc, opener, words, input, output, faults)
+    between(alloc, opener, words, terminals, input, output, faults)
 }
 
 /// Tells a fault of no file, and answers its status.

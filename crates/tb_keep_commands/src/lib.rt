@@ -6,9 +6,12 @@
 //! - `help`: the page of usage.
 //! - `openers`: `Opener`, what opens the device of a name, and why it does not.
 //! - `outlets`: `Outlet`, a writer that says at its end whether all that was put went out.
+//! - `kinds`: what a file is that holds no ledger, by its first bytes.
 //! - `faults`: why a command ends with a status other than 0.
 //! - `lines`: the lines that say so.
+//! - `reports`: `Reported`, a file that reports how far it was read.
 //! - `summaries`: what `check` reports of a file.
+//! - `naming`: what there is to say of a file that is refused.
 //! - `files`: `dump` and `check`, a file read without a write.
 //! - `serving`: `run`, a ledger over a file served.
 //! - `commands`: `command`, each form, and the exit status of each outcome.
@@ -24,18 +27,23 @@ mod faults;
 mod files;
 mod help;
 mod host;
+mod kinds;
 mod lines;
+mod naming;
 mod openers;
 mod outlets;
+mod reports;
 mod serving;
 mod summaries;
 
 pub use arguments::{Form, file_word, read_form, wrong};
-pub use commands::command;
-pub use faults::{Damage, Fault, words_fault};
+pub use commands::{Terminals, command};
+pub use faults::{Damage, Failed, Fault, Mismatch, Numbers, words_fault};
 pub use help::{USAGE, VERSION};
 pub use host::{refuse, serve};
+pub use kinds::Kind;
 pub use lines::{tell, tell_usage};
 pub use openers::{Opener, OpeningFault, opening_fault};
 pub use outlets::{Outgoing, Outlet};
+pub use reports::Reported;
 pub use summaries::Summary;

@@ -1,13 +1,14 @@
 //! The lines of standard error.
-ghost use Rattle.std.specs.Prelude.{◌≡◌, ◌++◌, codes, map, string_bytes};
+ghost use Rattle.std.specs.Prelude.{◌≡◌, ◌++◌, Some, codes, map, string_bytes};
 ghost use Rattle.std.specs.Fmt.{decimal};
 ghost use Rattle.tb_records.specs.Transport.{IsSent};
-ghost use Rattle.tb_keep_commands.specs.Statuses.{damage_text, opening_text, fault_text, fault_line, shown_words, wrong_line, usage_lines, SaysLine, TellsMade, TellsCut};
+ghost use Rattle.tb_keep_commands.specs.Statuses.{damage_text, opening_text, failed_text, kind_text, numbers_text, mismatch_text, fault_text, fault_line, reading_line, shown_words, wrong_line, usage_lines, SaysLine, TellsMade, TellsCut, TellsReading, TellsReady, TellsFrames};
 ghost use Rattle.tb_keep_commands.specs.Forms.{wrong};
 
 use crate::arguments::wrong;
-use crate::faults::{Damage, Fault};
+use crate::faults::{Damage, Failed, Fault, Mismatch, Numbers};
 use crate::help::USAGE;
+use crate::kinds::Kind;
 use crate::openers::OpeningFault;
 use itoa::Buffer;
 use tb_records::{FrameFault, Sink, put_all};
@@ -19,6 +20,16 @@ fn put_both<E: Sink>(faults: &mut E, first: &str, second: &str) -> Result<(), Fr
 {
     put_all(faults, first.as_bytes())?;
     put_all(faults, second.as_bytes())
+}
+
+/// Writes a text, the path of a file and a text behind it.
+#[tactic(auto, using(tb_records::proofs::Sendings::sent_rest, tb_records::proofs::Sendings::sent_few))]
+fn put_named<E: Sink>(faults: &mut E, first: &str, path: &str, last: &str) -> Result<(), FrameFault>
+    ensures { IsSent result (first.now ++ (path.now ++ last.now)) (E.output faults.old)
+        (E.output faults.new) }
+{
+    put_all(faults, first.as_bytes())?;
+    put_both(faults, path, last)
 }
 
 /// Writes a text and a number behind it.
@@ -113,23 +124,165 @@ fn put_damaged<E: Sink>(faults: &mut E, first: &str, damage: Damage) -> Result<(
     put_damage(faults, damage)
 }
 
+/// Writes what failed of a program over a file of this path.
+fn put_failed<E: Sink>(faults: &mut E, which: Failed, path: &str) -> Result<(), FrameFault>
+    ensures { IsSent result (failed_text which path.now) (E.output faults.old) (E.output faults.new) }
+{
+    match which {
+        Failed::Input => put_all(faults, b"Device: standard input"),
+        Failed::Output => put_all(faults, b"Device: standard output"),
+        Failed::File => put_both(faults, "Device: ", path),
+    }
+}
+
+/// Writes that a file of this path is no ledger, and of what kind it is.
+fn put_kind<E: Sink>(faults: &mut E, kind: Kind, path: &str) -> Result<(), FrameFault>
+    ensures { IsSent result (kind_text kind path.now) (E.output faults.old) (E.output faults.new) }
+{
+    match kind {
+        Kind::Unread => put_all(faults, b"NotAJournal"),
+        Kind::Empty => put_named(
+            faults,
+            "NotAJournal: ",
+            path,
+            " is empty; tbd run makes a ledger in it",
+        ),
+        Kind::Dump => put_named(
+            faults,
+            "NotAJournal: ",
+            path,
+            " is a dump; tbs replay and tbt read it",
+        ),
+        Kind::Script => put_named(
+            faults,
+            "NotAJournal: ",
+            path,
+            " is a script; tbs and tbd run read it as standard input",
+        ),
+        Kind::Text => put_named(
+            faults,
+            "NotAJournal: ",
+            path,
+            " is a text; tbt script makes request frames of statements",
+        ),
+        Kind::Other => put_named(
+            faults,
+            "NotAJournal: ",
+            path,
+            " does not begin as a ledger's file",
+        ),
+    }
+}
+
+/// Writes two numbers, each behind a text.
+#[tactic(auto, using(tb_records::proofs::Sendings::sent_rest, tb_records::proofs::Sendings::sent_few))]
+fn put_two<E: Sink>(
+    faults: &mut E,
+    first: &str,
+    one: u64,
+    second: &str,
+    two: u64,
+) -> Result<(), FrameFault>
+    ensures { IsSent result ((first.now ++ decimal one) ++ (second.now ++ decimal two)) (E.output faults.old)
+        (E.output faults.new) }
+{
+    put_number(faults, first, one)?;
+    put_number(faults, second, two)
+}
+
+/// Writes rules in words.
+#[tactic(auto, unfolding(crate::specs::Statuses::numbers_text))]
+fn put_numbers<E: Sink>(faults: &mut E, numbers: Numbers) -> Result<(), FrameFault>
+    ensures { IsSent result (numbers_text numbers) (E.output faults.old) (E.output faults.new) }
+{
+    put_two(
+        faults,
+        "CLIENTS_MAX ",
+        numbers.clients_max as u64,
+        " and PROFILE ",
+        numbers.profile as u64,
+    )
+}
+
+/// Writes a text and rules in words behind it.
+#[tactic(auto, using(tb_records::proofs::Sendings::sent_rest, tb_records::proofs::Sendings::sent_few))]
+fn put_asked<E: Sink>(faults: &mut E, first: &str, asked: Numbers) -> Result<(), FrameFault>
+    ensures { IsSent result (first.now ++ numbers_text asked) (E.output faults.old) (E.output faults.new) }
+{
+    put_all(faults, first.as_bytes())?;
+    put_numbers(faults, asked)
+}
+
+/// Writes rules in words, and others behind a text.
+#[tactic(auto, using(tb_records::proofs::Sendings::sent_rest, tb_records::proofs::Sendings::sent_few))]
+fn put_both_numbers<E: Sink>(
+    faults: &mut E,
+    both: Mismatch,
+    between: &str,
+) -> Result<(), FrameFault>
+    ensures { IsSent result (numbers_text both.made ++ (between.now ++ numbers_text both.asked))
+        (E.output faults.old) (E.output faults.new) }
+{
+    put_numbers(faults, both.made)?;
+    put_asked(faults, between, both.asked)
+}
+
+/// Writes a path between two texts, and then rules in words and others behind a text.
+#[tactic(auto, using(tb_records::proofs::Sendings::sent_rest, tb_records::proofs::Sendings::sent_few))]
+fn put_rules<E: Sink>(
+    faults: &mut E,
+    first: &str,
+    path: &str,
+    last: &str,
+    both: Mismatch,
+    between: &str,
+) -> Result<(), FrameFault>
+    ensures { IsSent result
+        ((first.now ++ (path.now ++ last.now)) ++ (numbers_text both.made ++ (between.now ++ numbers_text both.asked)))
+        (E.output faults.old) (E.output faults.new) }
+{
+    put_named(faults, first, path, last)?;
+    put_both_numbers(faults, both, between)
+}
+
+/// Writes that the rules of a file of this path are others.
+fn put_mismatch<E: Sink>(
+    faults: &mut E,
+    numbers: Option<Mismatch>,
+    path: &str,
+) -> Result<(), FrameFault>
+    ensures { IsSent result (mismatch_text numbers path.now) (E.output faults.old) (E.output faults.new) }
+{
+    match numbers {
+        Some(both) => put_rules(
+            faults,
+            "OtherRules: ",
+            path,
+            " was made with ",
+            both,
+            ", not with ",
+        ),
+        None => put_all(
+            faults,
+            b"OtherRules: tbd check shows those that the file was made with",
+        ),
+    }
+}
+
 /// Writes a fault's name, and what there is to say of it, over a file of this path.
 fn put_fault<E: Sink>(faults: &mut E, fault: Fault, path: &str) -> Result<(), FrameFault>
     ensures { IsSent result (fault_text fault path.now) (E.output faults.old) (E.output faults.new) }
 {
     match fault {
         Fault::Usage => put_all(faults, b"Usage"),
-        Fault::Device => put_all(faults, b"Device"),
+        Fault::Device(which) => put_failed(faults, which, path),
         Fault::Opening(fault) => put_opening(faults, fault, path),
         Fault::NoMemory => put_all(faults, b"NoMemory"),
         Fault::Request(fault) => put_all(faults, fault.name().as_bytes()),
-        Fault::NotAJournal => put_all(faults, b"NotAJournal"),
+        Fault::NotAJournal(kind) => put_kind(faults, kind, path),
         Fault::NoHead => put_all(faults, b"NotAJournal: the first record is no ledger's head"),
         Fault::Damaged(damage) => put_damaged(faults, "Damaged: ", damage),
-        Fault::OtherRules => put_all(
-            faults,
-            b"OtherRules: tbd check shows those that the file was made with",
-        ),
+        Fault::OtherRules(numbers) => put_mismatch(faults, numbers, path),
         Fault::Full => put_all(faults, b"Full"),
         Fault::SyncFailed => put_all(
             faults,
@@ -300,6 +453,76 @@ pub(crate) fn tell_made<E: Sink>(len: usize, path: &str, faults: &mut E)
 {
     if len == 0 {
         let _ = put_behind(faults, "tbd: made ", path);
+    }
+}
+
+/// Writes how much of how much was read, in millions of bytes, and the end of the line.
+#[tactic(auto, using(tb_records::proofs::Sendings::sent_rest, tb_records::proofs::Sendings::sent_few))]
+fn put_read<E: Sink>(faults: &mut E, read: u64, all: u64) -> Result<(), FrameFault>
+    ensures { IsSent result
+        (((decimal read ++ codes " of ") ++ (decimal all ++ codes " MB")) ++ codes "\n") (E.output faults.old)
+        (E.output faults.new) }
+{
+    put_torn(faults, read, " of ", all, " MB")?;
+    end_line(faults)
+}
+
+/// Writes a path between two texts, and how much of how much was read, and the end of the line.
+#[tactic(auto, using(tb_records::proofs::Sendings::sent_rest, tb_records::proofs::Sendings::sent_few))]
+fn put_reading<E: Sink>(
+    faults: &mut E,
+    first: &str,
+    path: &str,
+    last: &str,
+    read: u64,
+    all: u64,
+) -> Result<(), FrameFault>
+    ensures { IsSent result
+        ((first.now ++ (path.now ++ last.now)) ++ (((decimal read ++ codes " of ") ++ (decimal all ++ codes " MB")) ++ codes "\n"))
+        (E.output faults.old) (E.output faults.new) }
+{
+    put_named(faults, first, path, last)?;
+    put_read(faults, read, all)
+}
+
+/// The bytes of a megabyte, as it is shown.
+pub(crate) const MEGABYTE: usize = 1_000_000;
+
+/// Reports how much of a file of this path was read, of how much, in millions of bytes.
+pub(crate) fn tell_read<E: Sink>(path: &str, read: u64, all: u64, faults: &mut E)
+    ensures { SaysLine (reading_line path.now read all) (E.output faults.old) (E.output faults.new) }
+{
+    let _ = put_reading(faults, "tbd: reading ", path, ", ", read, all);
+}
+
+/// Reports that a start begins to read a file of this path and so many bytes, where starts are reported and the file is long.
+pub(crate) fn tell_reading<E: Sink>(reports: bool, path: &str, len: usize, faults: &mut E)
+    ensures { TellsReading reports path.now len (E.output faults.old) (E.output faults.new) }
+{
+    if reports && len >= MEGABYTE {
+        tell_read(path, 0, (len / MEGABYTE) as u64, faults);
+    }
+}
+
+/// Reports that a start is done, where starts are reported.
+pub(crate) fn tell_ready<E: Sink>(reports: bool, faults: &mut E)
+    ensures { TellsReady reports (E.output faults.old) (E.output faults.new) }
+{
+    if reports {
+        let _ = put_what(faults, "tbd: ready");
+    }
+}
+
+/// What is told of requests that would come from a terminal.
+const FRAMES: &str =
+    "tbd: standard input is a terminal, and run reads request frames there; tb-repl and tbt script take words";
+
+/// Tells where words are read, where requests would come from a terminal.
+pub(crate) fn tell_frames<E: Sink>(talks: bool, faults: &mut E)
+    ensures { TellsFrames talks (E.output faults.old) (E.output faults.new) }
+{
+    if talks {
+        let _ = put_what(faults, FRAMES);
     }
 }
 

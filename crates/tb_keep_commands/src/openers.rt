@@ -42,21 +42,24 @@ pub fn opening_fault(fault: &FileFault) -> OpeningFault
 
 /// What opens devices by their names, as a folder opens files.
 pub trait Opener {
-    /// What is opened.
+    /// A file that is served: nobody else serves it meanwhile.
     type File: Device + Drop;
+
+    /// A file that is read alone, as it stood at some moment: another program may serve it meanwhile.
+    type Reading: Device + Drop;
 
     /// An opening may answer this, where what is not there is made. Anything, where an opener does not say it.
     ghost makes: { Self → List ℕ → Result Self.File OpeningFault → Self → Type 0 } = { λ before name answer after. Unit {0} };
 
     /// An opening may answer this, where nothing is made.
-    ghost opens: { Self → List ℕ → Result Self.File OpeningFault → Self → Type 0 } = { λ before name answer after. Unit {0} };
+    ghost opens: { Self → List ℕ → Result Self.Reading OpeningFault → Self → Type 0 } = { λ before name answer after. Unit {0} };
 
     /// Opens the device of this name, and makes it where there is none. No sync has failed on it.
     fn make(&mut self, name: &str) -> Result<Self::File, OpeningFault>
         ensures made { makes self.old name.now result self.new }
         ensures sound { Self.File.tells → IfOk result (λ device. (Self.File.disk device).sound ≡ true) };
 
-    /// Opens the device of this name, which is there.
-    fn open(&mut self, name: &str) -> Result<Self::File, OpeningFault>
+    /// Opens the device of this name, which is there, for reading alone.
+    fn open(&mut self, name: &str) -> Result<Self::Reading, OpeningFault>
         ensures { opens self.old name.now result self.new };
 }

@@ -1,31 +1,63 @@
 //! The serving of a ledger over a device.
 ghost use Rattle.std.specs.Prelude.{◌≡◌, true};
 ghost use Rattle.tb_keep.specs.Keeping.{IsFresh, IsUsable};
-ghost use Rattle.tb_keep_commands.specs.Outcomes.{ServesKept, ServesLong, ServesFile};
-ghost use Rattle.tb_keep_commands.specs.Statuses.{started_fault};
+ghost use Rattle.tb_keep_commands.specs.Naming.{NamesAsked};
+ghost use Rattle.tb_keep_commands.specs.Outcomes.{ServesKept, ServesLong, ServesFile, kept_outcome, Left};
+ghost use Rattle.tb_keep_commands.specs.Statuses.{failed_pipe};
 
-use crate::faults::{Fault, disk_fault, kept_fault, started_fault};
-use crate::lines::{tell_cut, tell_made};
+use crate::faults::{Failed, Fault, disk_fault, kept_fault};
+use crate::lines::{tell_cut, tell_made, tell_reading, tell_ready};
+use crate::naming::named_asked;
 use std::alloc::Global;
 use tb_journal::Device;
-use tb_keep::{Keeper, NotKept, Rules, keep};
+use tb_keep::{KeepFault, Keeper, NotKept, Rules, keep};
 use tb_records::{Sink, Source};
 
-/// The fault of a ledger that was not opened. Its device is let go.
-fn refused<D: Device + Drop>(failed: NotKept<D>) -> Fault
-    ensures { result ≡ started_fault failed.fault }
+/// How a start is told: over a file of which path, and whether that it reads, and is done, is reported.
+#[derive(Clone, Copy)]
+pub(crate) struct Told<'a> {
+    pub path: &'a str,
+    pub reports: bool,
+}
+
+/// The fault of a ledger of these rules that was not opened, with what there is to say of its file.
+fn refused<D: Device + Drop>(alloc: Global, failed: NotKept<D>, asked: Rules) -> Fault
+    ensures { Left (NamesAsked D.tells D.disk D.holds asked failed.fault result failed.device) }
 {
-    let fault = failed.fault;
-    drop(failed);
-    started_fault(fault)
+    let NotKept { device, fault } = failed;
+    let mut device = device;
+    let named = named_asked(alloc, &mut device, asked, fault);
+    drop(device);
+    named
+}
+
+/// Which pipe failed if one did, of a reader that had so many errors before, and has so many now.
+fn failed_pipe(before: u64, now: u64) -> Failed
+    ensures { result ≡ failed_pipe before now }
+{
+    if before == now {
+        Failed::Output
+    } else {
+        Failed::Input
+    }
+}
+
+/// What is told of serving that ended so.
+fn kept_outcome(kept: Result<u64, KeepFault>, pipe: Failed) -> Result<(), Fault>
+    ensures { result ≡ kept_outcome pipe kept }
+{
+    match kept {
+        Ok(_) => Ok(()),
+        Err(fault) => Err(kept_fault(fault, pipe)),
+    }
 }
 
 /// Serves pairs over a ledger until they end. What its start made of the file of this path is told first: where it had no bytes
-/// it was made, and else what was cut off behind the records.
+/// it was made, and else what was cut off behind the records; and then that it is done, where that is reported.
 fn serve<D: Device + Drop, R: Source, W: Sink, E: Sink>(
     alloc: Global,
     keeper: Keeper<D>,
-    path: &str,
+    told: &Told,
     len: usize,
     reader: &mut R,
     writer: &mut W,
@@ -33,20 +65,19 @@ fn serve<D: Device + Drop, R: Source, W: Sink, E: Sink>(
 ) -> Result<(), Fault>
     requires usable { IsUsable keeper }
     requires fresh { D.tells → IsFresh D.disk keeper }
-    ensures { ServesKept D.tells D.disk D.holds result keeper path.now len (R.input reader.old) (R.input reader.new)
+    ensures { ServesKept D.tells D.disk D.holds result keeper told.now.path.now told.now.reports len (R.input reader.old) (R.input reader.new)
         (W.output writer.old) (W.output writer.new) (E.output faults.old) (E.output faults.new) }
 {
     let mut keeper = keeper;
     let cut = keeper.cut_bytes();
     let at = (len as u64).saturating_sub(cut).saturating_sub(1);
-    tell_made(len, path, faults);
+    tell_made(len, told.path, faults);
     tell_cut(cut, at, faults);
+    tell_ready(told.reports, faults);
+    let failures = reader.failures();
     let kept = keep(alloc, &mut keeper, reader, writer);
     drop(keeper);
-    match kept {
-        Ok(_) => Ok(()),
-        Err(fault) => Err(kept_fault(fault)),
-    }
+    kept_outcome(kept, failed_pipe(failures, reader.failures()))
 }
 
 /// Opens a ledger over a device, or creates one, and serves pairs until they end: each reply is told when the entry that it
@@ -55,19 +86,21 @@ fn start<D: Device + Drop, R: Source, W: Sink, E: Sink>(
     alloc: Global,
     device: D,
     rules: Rules,
-    path: &str,
+    told: &Told,
     len: usize,
     reader: &mut R,
     writer: &mut W,
     faults: &mut E,
 ) -> Result<(), Fault>
     requires { D.tells → (D.disk device).sound ≡ true }
-    ensures { ServesLong D.tells D.disk D.holds result rules path.now len device (R.input reader.old) (R.input reader.new)
+    ensures { ServesLong D.tells D.disk D.holds result rules told.now.path.now told.now.reports len device (R.input reader.old) (R.input reader.new)
         (W.output writer.old) (W.output writer.new) (E.output faults.old) (E.output faults.new) }
 {
+    tell_reading(told.reports, told.path, len, faults);
+    let asked = rules;
     match Keeper::start(alloc, device, rules) {
-        Ok(keeper) => serve(alloc, keeper, path, len, reader, writer, faults),
-        Err(failed) => Err(refused(failed)),
+        Ok(keeper) => serve(alloc, keeper, told, len, reader, writer, faults),
+        Err(failed) => Err(refused(alloc, failed, asked)),
     }
 }
 
@@ -76,18 +109,18 @@ pub(crate) fn run<D: Device + Drop, R: Source, W: Sink, E: Sink>(
     alloc: Global,
     device: D,
     rules: Rules,
-    path: &str,
+    told: &Told,
     reader: &mut R,
     writer: &mut W,
     faults: &mut E,
 ) -> Result<(), Fault>
     requires { D.tells → (D.disk device).sound ≡ true }
-    ensures { ServesFile D.tells D.disk D.holds result rules path.now device (R.input reader.old) (R.input reader.new)
+    ensures { ServesFile D.tells D.disk D.holds result rules told.now.path.now told.now.reports device (R.input reader.old) (R.input reader.new)
         (W.output writer.old) (W.output writer.new) (E.output faults.old) (E.output faults.new) }
 {
     let mut device = device;
     match device.len() {
-        Ok(len) => start(alloc, device, rules, path, len, reader, writer, faults),
+        Ok(len) => start(alloc, device, rules, told, len, reader, writer, faults),
         Err(fault) => {
             drop(device);
             Err(disk_fault(fault))

@@ -48,7 +48,7 @@ pub struct Summary {
 }
 
 /// The number of a profile.
-fn profile_number(profile: Profile) -> u8
+pub(crate) fn profile_number(profile: Profile) -> u8
     ensures { result ≡ profile_number profile }
 {
     match profile {

@@ -1,18 +1,51 @@
 //! The files of the system, by their paths.
-use tb_journal::Real;
-use tb_keep_commands::{Opener, OpeningFault, opening_fault};
+use std::io::{BufWriter, Stderr};
+use tb_journal::{FileFault, Real};
+use tb_keep_commands::{Opener, OpeningFault, Reported, opening_fault};
+use tb_records::Counting;
 
 /// The files of the system.
 #[derive(Clone, Copy)]
 pub struct SystemFiles<'a> {
     pub rt: &'a HostRuntime,
+    /// Whether it is reported how far a file was read that is served.
+    pub reports: bool,
+}
+
+/// The bytes of standard error that are held, so that a line goes out at once.
+const LINE: usize = 1024;
+
+/// Standard error behind a buffer; where there is no memory for one, without.
+pub fn lines(rt: &HostRuntime) -> BufWriter<Stderr> {
+    match BufWriter::with_capacity(rt.alloc(), LINE, rt.stderr()) {
+        Ok(lines) => lines,
+        Err(_) => BufWriter::with_capacity(rt.alloc(), 0, rt.stderr()).unwrap(),
+    }
+}
+
+/// A file of this path that reports how far it was read, if that is wanted.
+fn reported(
+    rt: &HostRuntime,
+    real: Real,
+    path: &str,
+    reports: bool,
+) -> Result<Reported<Real, Counting<BufWriter<Stderr>>>, OpeningFault> {
+    let out = Counting::new(lines(rt));
+    Reported::new(rt.alloc(), real, path, out, reports).map_err(|fault| opening_fault(
+        &FileFault::Sync(fault),
+    ))
 }
 
 impl<'a> Opener for SystemFiles<'a> {
-    type File = Real;
+    type File = Reported<Real, Counting<BufWriter<Stderr>>>;
 
-    fn make(&mut self, name: &str) -> Result<Real, OpeningFault> {
-        Real::make(self.rt, name).map_err(|fault| opening_fault(&fault))
+    type Reading = Real;
+
+    fn make(&mut self, name: &str) -> Result<Self::File, OpeningFault> {
+        match Real::make(self.rt, name) {
+            Ok(real) => reported(self.rt, real, name, self.reports),
+            Err(fault) => Err(opening_fault(&fault)),
+        }
     }
 
     fn open(&mut self, name: &str) -> Result<Real, OpeningFault> {

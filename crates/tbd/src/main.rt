@@ -9,33 +9,31 @@
 
 mod files;
 
-use files::SystemFiles;
-use std::io::{BufWriter, Stderr};
+use files::{SystemFiles, lines};
+use std::io::IsTerminal;
 use std::process::ExitCode;
 use tb_commands::words;
-use tb_keep_commands::{refuse, serve, words_fault};
+use tb_keep_commands::{Form, Terminals, read_form, refuse, serve, words_fault};
 use tb_records::Counting;
 
-/// The bytes of standard error that are held, so that a line goes out at once.
-const LINE: usize = 1024;
-
-/// Standard error behind a buffer; where there is no memory for one, without.
-fn lines(rt: &HostRuntime) -> BufWriter<Stderr> {
-    match BufWriter::with_capacity(rt.alloc(), LINE, rt.stderr()) {
-        Ok(lines) => lines,
-        Err(_) => BufWriter::with_capacity(rt.alloc(), 0, rt.stderr()).unwrap(),
-    }
-}
-
 fn main(rt: HostRuntime) -> ExitCode {
+    let terminals = Terminals {
+        input: rt.stdin().is_terminal(),
+        faults: rt.stderr().is_terminal(),
+    };
     let mut faults = Counting::new(lines(&rt));
     let status = match words(&rt) {
         Ok(words) => {
-            let mut files = SystemFiles { rt: &rt };
+            let reports = matches!(read_form(words.as_slice()), Some(Form::Run(_, _, true)));
+            let mut files = SystemFiles {
+                rt: &rt,
+                reports: reports || terminals.faults,
+            };
             serve(
                 rt.alloc(),
                 &mut files,
                 words.as_slice(),
+                terminals,
                 rt.stdin(),
                 rt.stdout(),
                 &mut faults,

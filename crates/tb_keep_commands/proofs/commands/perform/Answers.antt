@@ -2,7 +2,7 @@ use Rattle.std.proofs.Common.{refl}
 use Rattle.tb_keep_commands.proofs.commands.perform.Goals as goal
 
 pub returns-in-Run : goal.returns-in-Run
-returns-in-Run g c = rw c.in-Run.is c.run_over.ensures
+returns-in-Run g c = rw (c.in-Run.is, ← c.is_reported.ensures) c.run_over.ensures
 
 pub returns-in-Dump : goal.returns-in-Dump
 returns-in-Dump g c = rw c.in-Dump.is (refl, refl, c.dump_over.ensures)

@@ -14,5 +14,5 @@ returns-in-Err g c = record {
   found = Err c.in-Err.fault;
   between = c.read_whole.new.device;
   whole = record { found_is = c.in-Err.ensures.found; same = c.in-Err.ensures.same; cause = c.in-Err.ensures.cause };
-  dumps = (rw c.started_fault.ensures refl, refl);
+  dumps = (record { named = c.named.result; outcome_is = refl; names = c.named.ensures }, refl);
 }

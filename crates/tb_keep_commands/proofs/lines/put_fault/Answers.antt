@@ -1,13 +1,13 @@
 use Rattle.tb_keep_commands.proofs.lines.put_fault.Goals as goal
 
 pub returns-in-NotAJournal : goal.returns-in-NotAJournal
-returns-in-NotAJournal g c = rw c.in-NotAJournal.is c.put_all-in-NotAJournal.ensures
+returns-in-NotAJournal g c = rw c.in-NotAJournal.is c.put_kind.ensures
 
 pub returns-in-NoHead : goal.returns-in-NoHead
 returns-in-NoHead g c = rw c.in-NoHead.is c.put_all-in-NoHead.ensures
 
 pub returns-in-OtherRules : goal.returns-in-OtherRules
-returns-in-OtherRules g c = rw c.in-OtherRules.is c.put_all-in-OtherRules.ensures
+returns-in-OtherRules g c = rw c.in-OtherRules.is c.put_mismatch.ensures
 
 pub returns-in-SyncFailed : goal.returns-in-SyncFailed
 returns-in-SyncFailed g c = rw c.in-SyncFailed.is c.put_all-in-SyncFailed.ensures

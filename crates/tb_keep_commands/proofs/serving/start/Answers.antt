@@ -3,6 +3,8 @@ use Rattle.tb_keep_commands.proofs.serving.start.Goals as goal
 
 pub returns-in-Ok : goal.returns-in-Ok
 returns-in-Ok g c = record {
+  noted = _;
+  reading = c.tell_reading.ensures;
   started = Ok c.in-Ok.keeper;
   starts = λ t. record { answers = c.in-Ok.ensures.started t; cause = c.in-Ok.ensures.cause t; any_moment = c.in-Ok.ensures.any_moment t };
   handed = c.in-Ok.ensures.handed;
@@ -11,8 +13,10 @@ returns-in-Ok g c = record {
 
 pub returns-in-Err : goal.returns-in-Err
 returns-in-Err g c = record {
+  noted = _;
+  reading = c.tell_reading.ensures;
   started = Err c.in-Err.failed;
   starts = λ t. record { answers = c.in-Err.ensures.refused t; cause = c.in-Err.ensures.cause t; any_moment = c.in-Err.ensures.any_moment t };
   handed = c.in-Err.ensures.handed;
-  serves = (rw c.refused.ensures refl, refl, refl, refl);
+  serves = record { named = c.refused.result; outcome_is = refl; names = c.refused.ensures; unread = refl; unwritten = refl; silent = refl };
 }

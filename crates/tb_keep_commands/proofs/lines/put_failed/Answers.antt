@@ -1,0 +1,7 @@
+use Rattle.tb_keep_commands.proofs.lines.put_failed.Goals as goal
+
+pub returns-in-Input : goal.returns-in-Input
+returns-in-Input g c = rw c.in-Input.is c.put_all.ensures
+
+pub returns-in-Output : goal.returns-in-Output
+returns-in-Output g c = rw c.in-Output.is c.put_all-in-Output.ensures

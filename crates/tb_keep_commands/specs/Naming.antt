@@ -1,0 +1,45 @@
+-- What is said of a file that is refused: what it is, by its first bytes, and the rules that it was made with.
+-- Cited by public contracts of: commands.
+use Rattle.std.specs.Prelude.{ℕ, ◌≡◌, List, Option, Some, None, Result, Ok, Err}
+use Rattle.tb_journal.specs.declared.faults.Fault as journal
+use Rattle.tb_journal.specs.Device.{Disk, Looks}
+use Rattle.tb_keep.specs.declared.faults.StartFault.{StartFault}
+use Rattle.tb_keep.specs.declared.faults.StartFault.TheVariants as start
+use Rattle.tb_keep.specs.declared.heads.Rules.{Rules}
+use Rattle.tb_keep.specs.Reading.{RulesAnswer}
+use Rattle.tb_keep.specs.Restoration.{HasStartCause}
+use Rattle.tb_keep_commands.specs.declared.faults.Fault.{Fault}
+use Rattle.tb_keep_commands.specs.declared.faults.Fault.TheVariants.{NotAJournal, OtherRules}
+use Rattle.tb_keep_commands.specs.declared.faults.Mismatch.{Mismatch}
+use Rattle.tb_keep_commands.specs.declared.kinds.Kind.{Kind}
+use Rattle.tb_keep_commands.specs.Kinds.{kind_by}
+use Rattle.tb_keep_commands.specs.Statuses.{numbers_of, started_fault}
+
+-- rules that were read next to those that were asked for
+abbrev pub mismatch : Result Rules StartFault → Rules → Option Mismatch
+mismatch (Ok made) asked = Some (record { made = numbers_of made; asked = numbers_of asked })
+mismatch (Err fault) asked = None
+
+module _ (tells : Type 0) {D : Type 0} (disk : D → Disk) (holds : D → List ℕ → Type 0) where
+  -- the first bytes of the file of a device were read, or it failed
+  pub record IsOfKind (kind : Kind) (device after : D) : Type 0 where
+    pub read : Result ℕ journal.Fault
+    pub kind_is : (file : List ℕ) → holds device file → kind ≡ kind_by read file
+    pub looks : tells → Looks read (disk device) (disk after)
+
+  -- of a file that is no journal it is said what it is
+  abbrev pub Names : Fault → Fault → D → D → Type 0
+  Names (NotAJournal kind) fault device after = (found : Kind) × (fault ≡ NotAJournal found) × IsOfKind found device after
+  Names named fault device after = (fault ≡ named) × (after ≡ device)
+
+  -- the rules of the file were read
+  pub record IsMadeWith (asked : Rules) (numbers : Option Mismatch) (device after : D) : Type 0 where
+    pub made : Result Rules StartFault
+    pub numbers_are : numbers ≡ mismatch made asked
+    pub of_file : (file : List ℕ) → holds device file → RulesAnswer made file
+    pub cause : tells → HasStartCause made (disk device) (disk after)
+
+  -- of one of other rules than were asked for it is said which these are
+  abbrev pub NamesAsked : Rules → StartFault → Fault → D → D → Type 0
+  NamesAsked asked start.OtherRules fault device after = (numbers : Option Mismatch) × (fault ≡ OtherRules numbers) × IsMadeWith asked numbers device after
+  NamesAsked asked cause fault device after = Names (started_fault cause) fault device after

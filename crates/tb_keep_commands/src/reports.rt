@@ -1,0 +1,93 @@
+//! A file that reports how far it was read.
+ghost use Rattle.std.specs.Prelude.{◌≡◌, MatchResult};
+ghost use Rattle.tb_journal.specs.Device.{IsOfCall};
+
+use crate::lines::{MEGABYTE, tell_read};
+use std::alloc::Global;
+use tb_journal::{Device, Fault};
+use tb_records::Sink;
+
+/// The bytes between two reports.
+const STEP: usize = 64 * MEGABYTE;
+
+/// A file that reports how far it was read, each 64 MB. It is the file in all else.
+#[derive(Drop)]
+pub struct Reported<D, E> {
+    device: D,
+    lines: E,
+    path: String,
+    len: usize,
+    // The offset from which on the next report is due.
+    due: usize,
+}
+
+impl<D: Device + Drop, E: Sink + Drop> Reported<D, E> {
+    /// A file of this path, and where its reports go; none where they are not wanted. Failed, or Memory, where its length cannot be
+    /// asked for or there is no memory.
+    pub fn new(
+        alloc: Global,
+        device: D,
+        path: &str,
+        lines: E,
+        reports: bool,
+    ) -> Result<Reported<D, E>, Fault> {
+        let mut device = device;
+        let len = device.len()?;
+        let path = String::from_str(alloc, path)?;
+        Ok(Reported {
+            device,
+            lines,
+            path,
+            len,
+            due: if reports { STEP } else { usize::MAX },
+        })
+    }
+
+    /// Reports how far the file was read, where that is due.
+    fn report(&mut self, at: usize)
+        ensures { self.new.device ≡ self.old.device }
+    {
+        if at >= self.due {
+            let (read, all) = ((at / MEGABYTE) as u64, (self.len / MEGABYTE) as u64);
+            tell_read(self.path.as_str(), read, all, &mut self.lines);
+            self.due = at.saturating_add(STEP);
+        }
+    }
+}
+
+impl<D: Device + Drop, E: Sink + Drop> Device for Reported<D, E> {
+    ghost tells = { D.tells };
+
+    ghost disk = { λ s. D.disk s.device };
+
+    ghost holds = { λ s. D.holds s.device };
+
+    ghost holds_seen = { λ s. D.holds_seen s.device };
+
+    ghost stays = { λ s. D.stays s.device };
+
+    ghost counts_now = { λ s. D.counts_now s.device };
+
+    ghost only_now = { λ s. D.only_now s.device };
+
+    fn read_at(&mut self, at: usize, into: &mut [u8]) -> Result<usize, Fault> {
+        self.report(at);
+        self.device.read_at(at, into)
+    }
+
+    fn len(&mut self) -> Result<usize, Fault> {
+        self.device.len()
+    }
+
+    fn write_at(&mut self, at: usize, bytes: &[u8]) -> Result<(), Fault> {
+        self.device.write_at(at, bytes)
+    }
+
+    fn cut(&mut self, len: usize) -> Result<(), Fault> {
+        self.device.cut(len)
+    }
+
+    fn sync(&mut self) -> Result<(), Fault> {
+        self.device.sync()
+    }
+}
