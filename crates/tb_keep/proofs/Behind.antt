@@ -18,7 +18,7 @@ use Rattle.tb_keep.specs.declared.faults.StartFault.TheVariants as start
 use Rattle.tb_keep.specs.Keeping.{Keeping}
 use Rattle.tb_keep.specs.Restoration.{RecordsLead, IsTornTooLong, HasStartCause, IsStartCause, torn_bytes}
 use Rattle.tb_keep.specs.Salvaging.{StopsBehind, IsUnsalvaged, old_part}
-use Rattle.tb_keep.specs.Taking.{stop_of, fault_old, StopsAfter, StopsBy, IsTornStop, IsOldDevice, Breaks, Queues, Taken, TakesAll, CommitsTaken, TakesBehind}
+use Rattle.tb_keep.specs.Taking.{stop_of, of_old, StopsAfter, StopsBy, IsTornStop, IsOldDevice, Breaks, Queues, Taken, TakesAll, CommitsTaken, TakesRest}
 use Rattle.tb_keep.proofs.Causes.{has_start_then}
 use Rattle.tb_keep.proofs.Entered.{extent_found}
 use Rattle.tb_keep.proofs.Taking.{queues_then}
@@ -97,7 +97,7 @@ module _ {N : Type 0} (disk : N → Disk) (tells : Type 0) (holds later : List �
   }
 
   pub behind_done : (taken : Result (Unit {0}) SalvageFault) (stop : Option StartFault) (after : Keeping N) → TakesAll disk tells holds extent taken first before mid → StopsBy (Ok stop) taken later extent
-      → CommitsTaken disk tells (Ok tt) mid after → TakesBehind disk tells holds (Ok (extent, stop)) first before after
+      → CommitsTaken disk tells (Ok tt) mid after → TakesRest disk tells holds (Ok (extent, stop)) first before after
   behind_done (Ok done) stop after all by commits =
       let is = all.ends.0 in (
         all.records,
@@ -139,10 +139,10 @@ module _ {N : Type 0} (disk : N → Disk) (tells : Type 0) (holds later : List �
   ready_at taken stop all by t = subst (λ (j : Kept N). IsReady disk j) (sym (journal_at taken stop all by)) (all.taken.queues t).ready
 
   pub behind_uncommitted : (taken : Result (Unit {0}) SalvageFault) (stop : Option StartFault) (fault : SalvageFault) (after : Keeping N) → TakesAll disk tells holds extent taken first before mid
-      → StopsBy (Ok stop) taken later extent → CommitsTaken disk tells (Err fault) mid after → TakesBehind disk tells holds (Err fault) first before after
+      → StopsBy (Ok stop) taken later extent → CommitsTaken disk tells (Err fault) mid after → TakesRest disk tells holds (Err fault) first before after
   behind_uncommitted taken stop fault after all by (f, named, breaks) =
       let same_journal = journal_at taken stop all by in
-      subst (λ (g : SalvageFault). TakesBehind disk tells holds (Err g) first before after) (sym named) (
+      subst (λ (g : SalvageFault). TakesRest disk tells holds (Err g) first before after) (sym named) (
         all.records,
         all.here,
         all.middle,
@@ -153,7 +153,7 @@ module _ {N : Type 0} (disk : N → Disk) (tells : Type 0) (holds later : List �
 
   -- the old file is not read on, or the new one was not written to
   pub behind_not : (taken : Result (Unit {0}) SalvageFault) (fault : SalvageFault) → TakesAll disk tells holds extent taken first before mid → StopsBy (Err fault) taken later extent
-      → TakesBehind disk tells holds (Err fault) first before mid
+      → TakesRest disk tells holds (Err fault) first before mid
   behind_not (Ok done) (Old (start.Journal (open_faults.Device f))) all by =
       (all.records, all.here, all.middle, all.taken, ap (λ (k : Keeping N). k.journal) all.ends.0, λ file read of has. tt)
   behind_not (Ok done) (Old (start.Journal (open_faults.Refused why))) all by = absurd by
@@ -165,7 +165,7 @@ module _ {N : Type 0} (disk : N → Disk) (tells : Type 0) (holds later : List �
   behind_not (Ok done) (Old (start.TornTooLong at bytes)) all by = absurd by
   behind_not (Ok done) (New f) all by = absurd by
   behind_not (Err (Old other)) fault all by =
-      subst (λ (g : SalvageFault). TakesBehind disk tells holds (Err g) first before mid) (sym by.0) (
+      subst (λ (g : SalvageFault). TakesRest disk tells holds (Err g) first before mid) (sym by.0) (
         all.records,
         all.here,
         all.middle,
@@ -175,13 +175,13 @@ module _ {N : Type 0} (disk : N → Disk) (tells : Type 0) (holds later : List �
             other_behind other (read ++ all.records) all.middle.state file by.1 (all.ends.2 file (read ++ all.records) of (all.taken.read file read of has)),
       )
   behind_not (Err (New other)) fault all by =
-      subst (λ (g : SalvageFault). TakesBehind disk tells holds (Err g) first before mid) (sym by.0)
+      subst (λ (g : SalvageFault). TakesRest disk tells holds (Err g) first before mid) (sym by.0)
       (all.records, all.here, all.middle, all.taken, all.ends, λ file read of has. tt)
 
 -- and the cause, by the old file's device before, behind the records, and behind the question for its length
 
 module _ {D : Type 0} (disk : D → Disk) (old mid last : D) (seen : (disk mid).seen ≡ (disk old).seen) (later : List ℕ → Type 0) (extent : Extent) where
-  pub none_behind : (taken : Result (Unit {0}) SalvageFault) (stop : Option StartFault) → HasStartCause (fault_old taken) (disk old) (disk mid) → StopsBy (Ok stop) taken later extent
+  pub none_behind : (taken : Result (Unit {0}) SalvageFault) (stop : Option StartFault) → HasStartCause (of_old taken) (disk old) (disk mid) → StopsBy (Ok stop) taken later extent
       → OnOk taken (HasStartCause {T = Unit {0}} (Ok tt) (disk mid) (disk last)) → OnErr taken (last ≡ mid) → FailsNone (disk old) (disk last)
   none_behind (Ok done) stop cause by one same = none_since (disk old) (disk mid) (disk last) cause.ok one.ok
   none_behind (Err (Old fault)) None cause by one same = absurd by
@@ -190,7 +190,7 @@ module _ {D : Type 0} (disk : D → Disk) (old mid last : D) (seen : (disk mid).
   none_behind (Err (New fault)) None cause by one same = absurd by
   none_behind (Err (New fault)) (Some stop) cause by one same = absurd (cc)
 
-  pub cause_behind_not : (taken : Result (Unit {0}) SalvageFault) (fault : SalvageFault) → HasStartCause (fault_old taken) (disk old) (disk mid) → StopsBy (Err fault) taken later extent
+  pub cause_behind_not : (taken : Result (Unit {0}) SalvageFault) (fault : SalvageFault) → HasStartCause (of_old taken) (disk old) (disk mid) → StopsBy (Err fault) taken later extent
       → OnOk taken (HasStartCause (old_part fault) (disk mid) (disk last)) → OnErr taken (last ≡ mid) → HasStartCause (old_part fault) (disk old) (disk last)
   cause_behind_not (Ok done) fault cause by one same = has_start_then (disk old) (disk mid) (disk last) cause.ok seen (old_part fault) one
   cause_behind_not (Err other) fault cause by one same =

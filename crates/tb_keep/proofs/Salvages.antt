@@ -30,7 +30,7 @@ use Rattle.tb_keep.specs.Keeping.{History, state_of, records_of, head_record, Ke
 use Rattle.tb_keep.specs.Opening.{history_of, MayBeCreated, IsCreateRefused, IsCreateStartCause}
 use Rattle.tb_keep.specs.Restoration.{RecordsLead, StopsAt, StopsBeginning, StopsFile, IsNotOfFile, IsStartCause}
 use Rattle.tb_keep.specs.Salvaging.{StopsBehind, IsTaken, IsSalvaged, IsBackedUp, IsUnsalvaged, IsNotBackedUp, IsWriteCause, IsNewCause, HasNewCause, MayBeSalvaged, IsLeftAlone}
-use Rattle.tb_keep.specs.Taking.{HoldsRead, IsBetween, line, Taken, TakesBehind, fault_new}
+use Rattle.tb_keep.specs.Taking.{HoldsRead, IsBetween, line, Taken, TakesRest, of_new}
 use Rattle.tb_keep.specs.Reading.{HasRules, RulesIn, rules_of}
 use Rattle.tb_keep.proofs.Entered.{Latest}
 use Rattle.tb_keep.proofs.Leading.{leads_none, stops_file}
@@ -281,7 +281,7 @@ module _ (rules : Rules) (some_client : 0 < rules.clients_max) (clients : rules.
     all_moments t before to blank made leaves =
         moments_of_all rules some_client clients records after.state leading reads begins before (disk created.journal.device) to blank made (between t to leaves)
 
-  pub salvaged_all : (extent : Extent) (stop : Option StartFault) → TakesBehind disk tells holds (Ok (extent, stop)) first created last
+  pub salvaged_all : (extent : Extent) (stop : Option StartFault) → TakesRest disk tells holds (Ok (extent, stop)) first created last
       → IsSalvaged tells disk reads (record { keeper = last; end = extent.end; stop = stop })
   salvaged_all extent stop (records, here, taken, none_waits, end, stops) =
       let leads = leading records here last taken in
@@ -314,12 +314,12 @@ module _ (rules : Rules) (some_client : 0 < rules.clients_max) (clients : rules.
             };
       }
 
-  pub unsalvaged_all : (fault : SalvageFault) → TakesBehind disk tells holds (Err fault) first created last → (file : List ℕ) → reads file → IsUnsalvaged fault file
+  pub unsalvaged_all : (fault : SalvageFault) → TakesRest disk tells holds (Err fault) first created last → (file : List ℕ) → reads file → IsUnsalvaged fault file
   unsalvaged_all fault (records, here, middle, taken, untaken, is) file of = is file (top ∷ []) of.0 of.1
 
   pub moments_behind : tells → (result : Result (Extent × Option StartFault) SalvageFault) → (before : Disk) → is_blank before.seen ≡ true
       → LeavesOnly before (disk created.journal.device) (MayBeCreated rules.profile rules.clients_max before)
-      → TakesBehind disk tells holds result first created last → LeavesOnly before (disk last.journal.device) (MayBeSalvaged reads before)
+      → TakesRest disk tells holds result first created last → LeavesOnly before (disk last.journal.device) (MayBeSalvaged reads before)
   moments_behind t (Ok found) before blank made (records, here, taken, none_waits, end, stops) =
       all_moments records here last taken t before (disk last.journal.device) blank made (taken.queues t).any_moment
   moments_behind t (Err (Old fault)) before blank made (records, here, middle, taken, same, is) =
@@ -331,7 +331,7 @@ module _ (rules : Rules) (some_client : 0 < rules.clients_max) (clients : rules.
       (append-nil records) (breaks_then disk created.journal middle.journal last.journal records [] (taken.queues t) f (breaks t)).any_moment)
 
   pub cause_behind : tells → (result : Result (Extent × Option StartFault) SalvageFault) → (before : Disk) → FailsNone before (disk created.journal.device)
-      → TakesBehind disk tells holds result first created last → HasNewCause (fault_new result) before (disk last.journal.device)
+      → TakesRest disk tells holds result first created last → HasNewCause (of_new result) before (disk last.journal.device)
   cause_behind t (Ok found) before none (records, here, taken, none_waits, end, stops) =
       record { ok = none_since before (disk created.journal.device) (disk last.journal.device) none (taken.queues t).none; cause = tt; alone = tt }
   cause_behind t (Err (Old fault)) before none (records, here, middle, taken, same, is) =

@@ -12,7 +12,7 @@ use Rattle.tb_keep.specs.declared.faults.StartFault.{StartFault}
 use Rattle.tb_keep.specs.declared.faults.StartFault.TheVariants as start
 use Rattle.tb_keep.specs.declared.heads.Rules.{Rules}
 use Rattle.tb_keep.specs.Keeping.{head_record}
-use Rattle.tb_keep.specs.Restoration.{RecordsLead, StopsAt, RestoresRecord, RestoresAll, StopsReading, Restores}
+use Rattle.tb_keep.specs.Restoration.{RecordsLead, StopsAt, RestoresRecord, RestoresAll, StopsReading, HasStartCause, Restores}
 use Rattle.tb_keep.specs.Opening.{IsUntouched}
 use Rattle.tb_keep.specs.Reading.{HasRules, RulesAnswer}
 
@@ -21,6 +21,10 @@ pub record StaysKept (before after : Disk) : Type 0 where
   pub untouched : IsUntouched before after
   pub kept : IsOnDisk before → IsOnDisk after
   pub sound : after.sound ≡ before.sound
+
+-- the cause of a fault, where some records were read before
+abbrev pub ReadCause : {T : Type 0} → Result T StartFault → Place → Disk → Disk → Type 0
+ReadCause result scan before after = (read : List (List ℕ)) → HasRead read before.seen scan → HasStartCause result before after
 
 -- the head was read, or there is none
 abbrev pub ReadsHead : Result Bool StartFault → Profile → ℕ → List ℕ → Place → Type 0

@@ -4,6 +4,7 @@ use Rattle.std.specs.Prelude.{ℕ, ◌≡◌, ◌+◌, ◌-◌, nat_lt, List, []
 use Rattle.std.specs.List.{filter}
 use Rattle.tb_records.specs.declared.faults.FrameFault.TheVariants.{Device}
 use Rattle.tb_records.specs.Transport.{Output, Sent, CutOff}
+use Rattle.tb_journal.specs.Device.{Disk}
 use Rattle.tb_journal.specs.Contents.{Records, contents}
 use Rattle.tb_journal.specs.Opening.{RefusesFile}
 use Rattle.tb_journal.specs.Scans.{BeginsWith, HasRead, Place}
@@ -12,7 +13,7 @@ use Rattle.tb_machine.specs.Dumps.{dumped}
 use Rattle.tb_keep.specs.declared.faults.DumpFault.{DumpFault}
 use Rattle.tb_keep.specs.declared.faults.DumpFault.TheVariants as dump
 use Rattle.tb_keep.specs.Keeping.{History, records_of, IsKeepable}
-use Rattle.tb_keep.specs.Reading.{joined}
+use Rattle.tb_keep.specs.Reading.{HasDumpCause, joined}
 
 -- the bytes of those records behind the ones read so far that have a number above `after`. Record 0 is the head, and record n is that
 -- of the entry of commit number n
@@ -29,6 +30,10 @@ WritesEntries (Err (dump.Journal fault)) after read file scan old new =
     RefusesFile fault file × ((more : List (List ℕ)) × BeginsWith (read ++ more) file × Sent (entries_above after read more) old new)
 WritesEntries (Err (dump.Writer fault)) after read file scan old new =
     (fault ≡ Device) × ((more : List (List ℕ)) × BeginsWith (read ++ more) file × CutOff (entries_above after read more) old new)
+
+-- the cause of a fault, where these records were read before
+abbrev pub HasLaterCause : {T : Type 0} → Result T DumpFault → Place → Disk → Disk → Type 0
+HasLaterCause result scan before after = (read : List (List ℕ)) → HasRead read before.seen scan → HasDumpCause result before after
 
 -- of the records of a history these are the entries with a commit number above `after`
 abbrev pub EntriesAreAbove : Type 0

@@ -14,18 +14,19 @@ use Rattle.tb_keep.specs.declared.faults.SalvageFault.{SalvageFault}
 use Rattle.tb_keep.specs.declared.faults.SalvageFault.TheVariants.{Old, New}
 use Rattle.tb_keep.specs.declared.faults.StartFault.{StartFault}
 use Rattle.tb_keep.specs.declared.faults.StartFault.TheVariants as start
-use Rattle.tb_keep.specs.Keeping.{Keeping}
+use Rattle.tb_keep.specs.declared.heads.Rules.{Rules}
+use Rattle.tb_keep.specs.Keeping.{Keeping, head_record}
 use Rattle.tb_keep.specs.Restoration.{RecordsLead, RestoresRecord, IsTornTooLong, torn_bytes}
 use Rattle.tb_keep.specs.Salvaging.{StopsBehind, IsUnsalvaged, IsWriteCause, old_part, new_part}
 
 -- the fault of a step, as one of the file that is read
-abbrev pub fault_old : {T : Type 0} → Result T SalvageFault → Result (Unit {0}) StartFault
-fault_old (Ok value) = Ok tt
-fault_old (Err fault) = old_part fault
+abbrev pub of_old : {T : Type 0} → Result T SalvageFault → Result (Unit {0}) StartFault
+of_old (Ok value) = Ok tt
+of_old (Err fault) = old_part fault
 
-abbrev pub fault_new : {T : Type 0} → Result T SalvageFault → Result (Unit {0}) StartFault
-fault_new (Ok value) = Ok tt
-fault_new (Err fault) = new_part fault
+abbrev pub of_new : {T : Type 0} → Result T SalvageFault → Result (Unit {0}) StartFault
+of_new (Ok value) = Ok tt
+of_new (Err fault) = new_part fault
 
 -- a fault of the new file's device
 abbrev pub by_device : Fault → SalvageFault
@@ -34,6 +35,9 @@ by_device fault = New (start.Journal (open_faults.Device fault))
 -- a file that the reads are of, and of which these records were read
 abbrev pub HoldsRead : (List ℕ → Type 0) → List (List ℕ) → Place → List ℕ → Type 0
 HoldsRead holds read scan file = holds file × HasRead read file scan
+
+abbrev pub HeadRead : (List ℕ → Type 0) → Rules → Place → List ℕ → Type 0
+HeadRead holds rules scan file = HoldsRead holds (head_record rules.profile rules.clients_max ∷ []) scan file
 
 -- the fault for which a start refuses a file each time
 abbrev pub stop_of : SalvageFault → Option StartFault
@@ -150,11 +154,11 @@ module _ {N : Type 0} (disk : N → Disk) where
         pub ends : Ends result here middle after
 
       -- and they were committed; or not, where the old file is not read on for a reason that is not its own, or the new one was not written
-      abbrev pub TakesBehind : Result (Extent × Option StartFault) SalvageFault → Place → Keeping N → Keeping N → Type 0
-      TakesBehind (Ok found) first before after =
+      abbrev pub TakesRest : Result (Extent × Option StartFault) SalvageFault → Place → Keeping N → Keeping N → Type 0
+      TakesRest (Ok found) first before after =
           (records : List (List ℕ)) × (here : Place) × Taken records first here before after × (after.journal.waiting ≡ []) × (found.0.end ≡ here.end)
           × ((file : List ℕ) (read : List (List ℕ)) → holds file → HasRead read file first → StopsBehind found.1 (read ++ records) after.state file)
-      TakesBehind (Err fault) first before after =
+      TakesRest (Err fault) first before after =
           (records : List (List ℕ)) × (here : Place) × (middle : Keeping N) × Taken records first here before middle
           × IsUntaken fault middle after
           × ((file : List ℕ) (read : List (List ℕ)) → holds file → HasRead read file first → IsUnsalvaged fault file)

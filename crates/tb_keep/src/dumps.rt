@@ -7,7 +7,7 @@ ghost use Rattle.tb_keep.specs.Entering.{StaysKept, FindsRules};
 ghost use Rattle.tb_keep.specs.Opening.{IsUntouched};
 ghost use Rattle.tb_keep.specs.Restoration.{HasStartCause};
 ghost use Rattle.tb_keep.specs.Reading.{RulesAnswer, RulesIn, FindsHistory, Dumps, HasDumpCause, joined};
-ghost use Rattle.tb_keep.specs.Following.{WritesEntries};
+ghost use Rattle.tb_keep.specs.Following.{HasLaterCause, WritesEntries};
 ghost use Rattle.tb_keep.specs.Salvaging.{IsUnsalvaged};
 ghost use Rattle.tb_keep.specs.Sending.{SendsNext, SendsAll};
 
@@ -150,8 +150,7 @@ fn send_next<D: Device, W: Sink>(
         → SendsNext result after read file scan.new (W.output writer.old) (W.output writer.new) }
     ensures same { (file : List ℕ) → D.holds device.old file → D.holds device.new file }
     ensures stays { D.tells → StaysKept (D.disk device.old) (D.disk device.new) }
-    ensures cause { D.tells → (read : List (List ℕ)) → HasRead read (D.disk device.old).seen scan.old
-        → HasDumpCause result (D.disk device.old) (D.disk device.new) }
+    ensures cause { D.tells → HasLaterCause result scan.old (D.disk device.old) (D.disk device.new) }
     ensures further { IfOk result (λ more. more ≡ true → GoesFurther scan.old scan.new) }
 {
     let commit = scan.extent().count as u64;
@@ -176,8 +175,7 @@ fn send_records<D: Device, W: Sink>(
         → SendsAll result after read file scan.new (W.output writer.old) (W.output writer.new) }
     ensures same { (file : List ℕ) → D.holds device.old file → D.holds device.new file }
     ensures stays { D.tells → StaysKept (D.disk device.old) (D.disk device.new) }
-    ensures cause { D.tells → (read : List (List ℕ)) → HasRead read (D.disk device.old).seen scan.old
-        → HasDumpCause result (D.disk device.old) (D.disk device.new) }
+    ensures cause { D.tells → HasLaterCause result scan.old (D.disk device.old) (D.disk device.new) }
 {
     loop {
         match send_next(scan, device, after, writer) {
@@ -206,8 +204,7 @@ pub fn write_entries<D: Device, W: Sink>(
         → WritesEntries result after read file scan.new (W.output writer.old) (W.output writer.new) }
     ensures same { (file : List ℕ) → D.holds device.old file → D.holds device.new file }
     ensures untouched { D.tells → IsUntouched (D.disk device.old) (D.disk device.new) }
-    ensures cause { D.tells → (read : List (List ℕ)) → HasRead read (D.disk device.old).seen scan.old
-        → HasDumpCause result (D.disk device.old) (D.disk device.new) }
+    ensures cause { D.tells → HasLaterCause result scan.old (D.disk device.old) (D.disk device.new) }
 {
     match send_records(scan, device, after, writer) {
         Ok(()) => Ok((scan.extent().count as u64).saturating_sub(1)),

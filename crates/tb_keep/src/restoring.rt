@@ -10,7 +10,7 @@ ghost use Rattle.tb_keep.specs.Keeping.{head_record};
 ghost use Rattle.tb_keep.specs.Restoration.{ReadsRecord, RestoresRecord, Restores, HasStartCause};
 ghost use Rattle.tb_keep.specs.Opening.{IsUntouched};
 ghost use Rattle.tb_keep.specs.Sources.{IsNext};
-ghost use Rattle.tb_keep.specs.Entering.{StaysKept, ReadsHead, EntersNext, EntersAll, FindsBehind};
+ghost use Rattle.tb_keep.specs.Entering.{StaysKept, ReadCause, ReadsHead, EntersNext, EntersAll, FindsBehind};
 
 use crate::faults::StartFault;
 use crate::heads::{Rules, check_head};
@@ -103,8 +103,7 @@ fn enter_next<D: Device>(
         → EntersNext result read file scan.new machine.old machine.new }
     ensures same { (file : List ℕ) → D.holds device.old file → D.holds device.new file }
     ensures stays { D.tells → StaysKept (D.disk device.old) (D.disk device.new) }
-    ensures cause { D.tells → (read : List (List ℕ)) → HasRead read (D.disk device.old).seen scan.old
-        → HasStartCause result (D.disk device.old) (D.disk device.new) }
+    ensures cause { D.tells → ReadCause result scan.old (D.disk device.old) (D.disk device.new) }
     ensures further { IfOk result (λ more. more ≡ true → GoesFurther scan.old scan.new) }
 {
     match read_record(scan, device) {
@@ -129,8 +128,7 @@ fn enter_all<D: Device>(
         → EntersAll result read file scan.new machine.old machine.new }
     ensures same { (file : List ℕ) → D.holds device.old file → D.holds device.new file }
     ensures stays { D.tells → StaysKept (D.disk device.old) (D.disk device.new) }
-    ensures cause { D.tells → (read : List (List ℕ)) → HasRead read (D.disk device.old).seen scan.old
-        → HasStartCause result (D.disk device.old) (D.disk device.new) }
+    ensures cause { D.tells → ReadCause result scan.old (D.disk device.old) (D.disk device.new) }
 {
     loop {
         match enter_next(global, machine, scan, device) {

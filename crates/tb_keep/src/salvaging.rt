@@ -6,11 +6,11 @@ ghost use Rattle.tb_journal.specs.Ready.{IsReady};
 ghost use Rattle.tb_journal.specs.Reading.{extent_of};
 ghost use Rattle.tb_journal.specs.Scans.{HasRead, GoesFurther};
 ghost use Rattle.tb_keep.specs.Keeping.{head_record};
-ghost use Rattle.tb_keep.specs.Entering.{StaysKept};
+ghost use Rattle.tb_keep.specs.Entering.{StaysKept, ReadCause};
 ghost use Rattle.tb_keep.specs.Opening.{IsUntouched};
 ghost use Rattle.tb_keep.specs.Restoration.{HasStartCause};
 ghost use Rattle.tb_keep.specs.Salvaging.{IsSalvaged, IsUnsalvaged, IsBackedUp, IsNotBackedUp, MayBeSalvaged, HasNewCause, salvaged_device, backup_device, why_old, why_new};
-ghost use Rattle.tb_keep.specs.Taking.{HoldsRead, IsOldDevice, IsTornStop, StopsBy, Puts, TakesRecord, TakesNext, TakesAll, CommitsTaken, TakesBehind, fault_old, stop_of};
+ghost use Rattle.tb_keep.specs.Taking.{HoldsRead, HeadRead, IsOldDevice, IsTornStop, StopsBy, Puts, TakesRecord, TakesNext, TakesAll, CommitsTaken, TakesRest, of_old, stop_of};
 
 use crate::dumps::first_rules;
 use crate::faults::{SalvageFault, StartFault};
@@ -117,8 +117,7 @@ fn take_next<D: Device, N: Device>(
     ensures takes { TakesNext N.disk N.tells (D.holds from.old) result scan.old scan.new keeper.old keeper.new }
     ensures same { (file : List ℕ) → D.holds from.old file → D.holds from.new file }
     ensures stays { D.tells → StaysKept (D.disk from.old) (D.disk from.new) }
-    ensures cause { D.tells → (read : List (List ℕ)) → HasRead read (D.disk from.old).seen scan.old
-        → HasStartCause (fault_old result) (D.disk from.old) (D.disk from.new) }
+    ensures cause { D.tells → ReadCause (of_old result) scan.old (D.disk from.old) (D.disk from.new) }
     ensures further { IfOk result (λ more. more ≡ true → GoesFurther scan.old scan.new) }
 {
     match read_record(scan, from) {
@@ -144,8 +143,7 @@ fn take_all<D: Device, N: Device>(
     ensures takes { TakesAll N.disk N.tells (D.holds from.old) result.0 result.1 scan.old keeper.old keeper.new }
     ensures same { (file : List ℕ) → D.holds from.old file → D.holds from.new file }
     ensures stays { D.tells → StaysKept (D.disk from.old) (D.disk from.new) }
-    ensures cause { D.tells → (read : List (List ℕ)) → HasRead read (D.disk from.old).seen scan.old
-        → HasStartCause (fault_old result.1) (D.disk from.old) (D.disk from.new) }
+    ensures cause { D.tells → ReadCause (of_old result.1) scan.old (D.disk from.old) (D.disk from.new) }
 {
     loop {
         let extent = scan.extent();
@@ -180,7 +178,7 @@ fn torn_stop<D: Device>(from: &mut D, extent: Extent) -> Result<Option<StartFaul
     ensures same { (file : List ℕ) → D.holds from.old file → D.holds from.new file }
     ensures stays { D.tells → StaysKept (D.disk from.old) (D.disk from.new) }
     ensures fault { IfErr result IsOldDevice }
-    ensures cause { D.tells → HasStartCause (fault_old result) (D.disk from.old) (D.disk from.new) }
+    ensures cause { D.tells → HasStartCause (of_old result) (D.disk from.old) (D.disk from.new) }
 {
     match torn_behind(from, extent) {
         Ok(torn) => {
@@ -229,7 +227,7 @@ fn stopped_by<D: Device>(
     ensures stops { StopsBy result taken (D.holds from.old) extent }
     ensures same { (file : List ℕ) → D.holds from.old file → D.holds from.new file }
     ensures stays { D.tells → StaysKept (D.disk from.old) (D.disk from.new) }
-    ensures cause { D.tells → OnOk taken (HasStartCause (fault_old result) (D.disk from.old) (D.disk from.new)) }
+    ensures cause { D.tells → OnOk taken (HasStartCause (of_old result) (D.disk from.old) (D.disk from.new)) }
     ensures unread { OnErr taken (from.new ≡ from.old) }
 {
     match taken {
@@ -250,11 +248,10 @@ fn take_behind<D: Device, N: Device>(
 ) -> Result<(Extent, Option<StartFault>), SalvageFault>
     requires usable { keeper.old.journal.usable ≡ true }
     requires ready { N.tells → IsReady N.disk keeper.old.journal }
-    ensures takes { TakesBehind N.disk N.tells (D.holds from.old) result scan.old keeper.old keeper.new }
+    ensures takes { TakesRest N.disk N.tells (D.holds from.old) result scan.old keeper.old keeper.new }
     ensures same { (file : List ℕ) → D.holds from.old file → D.holds from.new file }
     ensures stays { D.tells → StaysKept (D.disk from.old) (D.disk from.new) }
-    ensures cause { D.tells → (read : List (List ℕ)) → HasRead read (D.disk from.old).seen scan.old
-        → HasStartCause (fault_old result) (D.disk from.old) (D.disk from.new) }
+    ensures cause { D.tells → ReadCause (of_old result) scan.old (D.disk from.old) (D.disk from.new) }
 {
     let (extent, taken) = take_all(global, keeper, scan, from);
     match stopped_by(taken, from, extent) {
@@ -277,14 +274,14 @@ fn salvage_behind<D: Device, N: Device>(
     requires sound { N.tells → (N.disk into).sound ≡ true }
     ensures salvaged { IfOk result
         (IsSalvaged N.tells N.disk
-        (HoldsRead (D.holds from.old) (head_record rules.profile rules.clients_max ∷ []) scan.old)) }
+        (HeadRead (D.holds from.old) rules scan.old)) }
     ensures unsalvaged { (file : List ℕ)
-        → HoldsRead (D.holds from.old) (head_record rules.profile rules.clients_max ∷ []) scan.old file
+        → HeadRead (D.holds from.old) rules scan.old file
         → IfErr result (λ failed. IsUnsalvaged failed.fault file) }
     ensures any_moment { N.tells
         → LeavesOnly (N.disk into) (N.disk (salvaged_device result))
         (MayBeSalvaged
-        (HoldsRead (D.holds from.old) (head_record rules.profile rules.clients_max ∷ []) scan.old)
+        (HeadRead (D.holds from.old) rules scan.old)
         (N.disk into)) }
     ensures cause_new { N.tells → HasNewCause (why_new result) (N.disk into) (N.disk (salvaged_device result)) }
     ensures same { (file : List ℕ) → D.holds from.old file → D.holds from.new file }
