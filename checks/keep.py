@@ -286,7 +286,7 @@ def reads(tbd, folder, shim, data):
     sound = check(tbd, path)
     number = 1
     while (told := check(tbd, path, shim, f"read {number} {EIO}"))["status"]:
-        case(f"read {number} fails: Device", told["status"] == 1 and told["said"] == "tbd: Device", told)
+        case(f"read {number} fails: Device", told["status"] == 1 and told["said"] == f"tbd: Device: {path}", told)
         case(f"read {number} is interrupted: read again", check(tbd, path, shim, f"read {number} {EINTR}") == sound)
         number += 1
     case("reads that failed were some", number > 3, f"{number - 1}")
@@ -422,7 +422,8 @@ WORDS = [
     ("run ledger.tbk 2 3", "run ledger.tbk 2 3: PROFILE is 1 or 2"),
     ("run ledger.tbk", "run ledger.tbk: CLIENTS_MAX is missing, 1 to 64"),
     ("check", "check: FILE is missing"),
-    ("dump ledger.tbk 2", "dump: too many words"),
+    ("run ledger.tbk 2 1 --reports", "run ledger.tbk 2 1 --reports: only --progress may follow PROFILE"),
+    ("check ledger.tbk 2", "check: too many words"),
     ("serve", "serve: unknown; tbd --help shows the forms"),
 ]
 
@@ -446,7 +447,7 @@ def told_of_words(tbd, folder):
     for form in ("dump", "check"):
         with open("/dev/full", "wb") as full:
             told = told_of(tbd, folder, [form, "words.tbk"], output=full)
-        case(f"lost output of {form}", told == (1, None, "tbd: Device\n"), told)
+        case(f"lost output of {form}", told == (1, None, "tbd: Device: standard output\n"), told)
     if os.geteuid() == 0:
         os.chmod(folder, 0o755)
         copy = shutil.copy(tbd, os.path.join(folder, "copy"))
@@ -462,7 +463,7 @@ def lost_replies(tbd, folder):
     process.stdin.write(pair_of_a_register())
     process.stdin.flush()
     told = ended(process), process.stderr.read()
-    case("lost output of run", told == (1, b"tbd: made lost.tbk\ntbd: Device\n"), told)
+    case("lost output of run", told == (1, b"tbd: made lost.tbk\ntbd: Device: standard output\n"), told)
     process.stdin.close()
 
 
@@ -494,7 +495,7 @@ def failing_dumps(tbd, folder, shim):
         env = {**os.environ, "LD_PRELOAD": shim, "KEEP_FILE": path, "KEEP_FAULT": f"read {number} {EIO}"}
         told = told_of(tbd, folder, ["dump", path], env=env)
         status = told[0]
-        case(f"read {number} of a dump fails", status == 0 or (status, told[2]) == (1, "tbd: Device\n"), told)
+        case(f"read {number} of a dump fails", status == 0 or (status, told[2]) == (1, f"tbd: Device: {path}\n"), told)
     case("a dump whose reads do not fail is whole", told == whole and number > 3, (number, told))
 
 

@@ -1,7 +1,7 @@
 #!/usr/bin/env python3
 """A stand-in for `tbd`, for the tests of the listener where that program is not built.
 
-    stand_in_tbd.py run FILE CLIENTS_MAX [PROFILE]
+    stand_in_tbd.py run FILE CLIENTS_MAX [PROFILE] [--progress]
     stand_in_tbd.py dump FILE
     stand_in_tbd.py check FILE
 
@@ -137,15 +137,25 @@ class Ending:
         os.kill(os.getpid(), signal.Signals[self.name])
 
 
-def opened(path, flags):
+def unopened(path, error):
+    """The fault of a file that is not opened."""
+    if isinstance(error, FileNotFoundError):
+        return Fault(f"Device: cannot find {path}", 1)
+    if isinstance(error, PermissionError):
+        return Fault(f"Device: no permission to open {path}", 1)
+    return Fault(f"Device: cannot open {path}", 1)
+
+
+def locked(path, flags):
+    """A file that no other process has open, and its bytes."""
     try:
-        it = os.open(path, flags, 0o666)
+        it = os.open(path, flags, 0o600)
     except OSError as error:
-        raise Fault(f"Device: {error.strerror}", 1) from None
+        raise unopened(path, error) from None
     try:
         fcntl.flock(it, fcntl.LOCK_EX | fcntl.LOCK_NB)
     except OSError:
-        raise Fault("Locked", 4) from None
+        raise Fault("Locked: another program has the file open", 4) from None
     with open(path, "rb") as file:
         return it, file.read()
 
@@ -177,7 +187,8 @@ def write(file, data):
 
 def begin(path, clients_max, profile):
     """The file, with its torn end cut off, and its ledger."""
-    file, data = opened(path, os.O_RDWR | os.O_CREAT | os.O_APPEND)
+    file, data = locked(path, os.O_RDWR | os.O_CREAT | os.O_APPEND)
+    is_new = not data
     if len(data) < HEAD.size:
         if data != HEAD.pack(b"TBSDUMP1", profile, clients_max)[: len(data)]:
             raise Fault("NotAJournal", 5)
@@ -186,9 +197,13 @@ def begin(path, clients_max, profile):
         data = HEAD.pack(b"TBSDUMP1", profile, clients_max)
     kept, ledger, end = read(data)
     if (kept, ledger.clients_max) != (profile, clients_max):
-        raise Fault("OtherRules", 7)
+        made = f"CLIENTS_MAX {ledger.clients_max} and PROFILE {kept}"
+        asked = f"CLIENTS_MAX {clients_max} and PROFILE {profile}"
+        raise Fault(f"OtherRules: {path} was made with {made}, not with {asked}", 7)
     os.ftruncate(file, end)
     os.fsync(file)
+    if is_new:
+        write(2, f"tbd: made {path}\n".encode())
     return file, ledger
 
 
@@ -280,18 +295,28 @@ def tell(word, data):
     write(1, data[:end] if word == "dump" else told.encode())
 
 
+def run(path, clients_max, profile, reports):
+    file, ledger = begin(path, clients_max, profile)
+    if reports:
+        write(2, b"tbd: ready\n")
+    serve(file, ledger, Ending(os.environ.get("FAIL")))
+
+
 def main(words):
+    reports = words[:1] == ["run"] and words[-1] == "--progress"
+    words = words[:-1] if reports else words
+    if len(words) > 1 and (words[1].isdigit() or words[1].startswith("-")):
+        line = f"Usage: {words[0]} {words[1]}: FILE is a number or begins with -; write ./FILE"
+        raise Fault(line, 2)
     if (
         len(words) in (3, 4)
         and words[0] == "run"
         and all(it.isdigit() for it in words[2:])
         and 1 <= int(words[2]) <= 64
     ):
-        file, ledger = begin(words[1], int(words[2]), int(words[3]) if len(words) == 4 else 1)
-        serve(file, ledger, Ending(os.environ.get("FAIL")))
+        run(words[1], int(words[2]), int(words[3]) if len(words) == 4 else 1, reports)
     elif len(words) == 2 and words[0] in ("dump", "check"):
-        _, data = opened(words[1], os.O_RDWR)
-        tell(words[0], data)
+        tell(words[0], locked(words[1], os.O_RDWR)[1])
     else:
         raise Fault("Usage", 2)
 
@@ -303,5 +328,5 @@ if __name__ == "__main__":
         write(2, f"tbd: {fault.line}\n".encode())
         sys.exit(fault.status)
     except OSError:
-        write(2, b"tbd: Device\n")
+        write(2, b"tbd: Device: standard output\n")
         sys.exit(1)

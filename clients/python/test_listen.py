@@ -50,6 +50,11 @@ def is_gone(process):
     return True
 
 
+def plain(line):
+    """A line without the last one of a server that made its file, which says so and no fault."""
+    return re.sub(r" \(tbd: made [^)]*\)", "", line)
+
+
 class Running:
     """A listener as a process, before a server that keeps its ledger in a file where no other
     command is given."""
@@ -97,7 +102,7 @@ class Running:
     def ended(self):
         """The status and the lines on standard error, once it has ended."""
         status = self.process.wait(20)
-        self.said += self.process.stderr.read().splitlines(keepends=True)
+        self.said += map(plain, self.process.stderr.read().splitlines(keepends=True))
         return status
 
     def server(self):
@@ -114,7 +119,7 @@ class Running:
 
     def tells(self):
         """Its next line."""
-        self.said.append(self.process.stderr.readline())
+        self.said.append(plain(self.process.stderr.readline()))
         return self.said[-1]
 
     def call(self):
