@@ -3,7 +3,7 @@ ghost use Rattle.std.specs.Prelude.{◌≡◌, true, Ok, IfOk};
 ghost use Rattle.tb_journal.specs.Memory.{memory_disk};
 ghost use Rattle.tb_keep.specs.Keeping.{IsFresh, IsUsable};
 
-use crate::frames::script;
+use crate::frames::{dump, script};
 use std::alloc::Global;
 use std::process::Abort;
 use tb_journal::Memory;
@@ -18,8 +18,14 @@ pub enum Has {
     Nothing,
     /// It is empty.
     NoByte,
-    /// It is no journal.
+    /// It is no journal, but a text.
     Text,
+    /// It is a dump.
+    Dump,
+    /// It is the script.
+    Script,
+    /// It has 8 other bytes.
+    Other,
     /// A journal without records.
     NoRecord,
     /// A journal whose first record has 3 bytes.
@@ -78,6 +84,9 @@ fn kept(rt: &impl Abort, alloc: Global) -> Vec<u8> {
 fn bytes_of(rt: &impl Abort, alloc: Global, has: Has) -> Vec<u8> {
     let text: &[u8] = match has {
         Has::Text => b"a text, and no journal",
+        Has::Dump => return dump(rt, alloc),
+        Has::Script => return script(rt, alloc),
+        Has::Other => b"\x01\x02\x03\x04\x05\x06\x07\x08",
         Has::NoRecord => b"TBJRNL01\0",
         Has::NoHead => b"TBJRNL01\xff\x03\0\0\x34\xe6\xc2\xf2\x01\x02\x03\0",
         _ => b"",
@@ -173,6 +182,8 @@ impl Folder {
 
 impl Opener for Folder {
     type File = Memory;
+
+    type Reading = Memory;
 
     fn make(&mut self, name: &str) -> Result<Memory, OpeningFault> {
         if self.file.is_none() {

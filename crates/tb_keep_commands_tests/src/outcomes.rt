@@ -1,7 +1,7 @@
 //! What becomes of each form, over each file.
 use crate::files::Has;
 use crate::rows::{Out, Row, WELL, run};
-use tb_keep_commands::OpeningFault;
+use tb_keep_commands::{OpeningFault, Terminals};
 
 const RUN: &[&str] = &["run", "ledger", "2"];
 
@@ -80,7 +80,17 @@ fn what_is_asked_for_is_done(rt: HostRuntime) {
     }
 }
 
-const NO_JOURNAL: &str = "tbd: NotAJournal\n";
+const TEXT: &str =
+    "tbd: NotAJournal: ledger is a text; tbt script makes request frames of statements\n";
+
+const EMPTY: &str = "tbd: NotAJournal: ledger is empty; tbd run makes a ledger in it\n";
+
+const A_DUMP: &str = "tbd: NotAJournal: ledger is a dump; tbs replay and tbt read it\n";
+
+const A_SCRIPT: &str =
+    "tbd: NotAJournal: ledger is a script; tbs and tbd run read it as standard input\n";
+
+const OTHERS: &str = "tbd: NotAJournal: ledger does not begin as a ledger's file\n";
 
 const NO_HEAD: &str = "tbd: NotAJournal: the first record is no ledger's head\n";
 
@@ -88,14 +98,22 @@ const ROT: &str = "tbd: Damaged: at byte 94\n";
 
 const TORN: &str = "tbd: Damaged: 4194305 bytes behind byte 182, more than one batch can have\n";
 
-const OTHER: &str = "tbd: OtherRules: tbd check shows those that the file was made with\n";
+const THREE: &str =
+    "tbd: OtherRules: ledger was made with CLIENTS_MAX 2 and PROFILE 1, not with CLIENTS_MAX 3 and PROFILE 1\n";
+
+const TWO: &str =
+    "tbd: OtherRules: ledger was made with CLIENTS_MAX 2 and PROFILE 1, not with CLIENTS_MAX 2 and PROFILE 2\n";
 
 const REFUSED: &[(Words, Has, u8, Line)] = &[
-    (RUN, Has::Text, 5, NO_JOURNAL),
-    (DUMP, Has::Text, 5, NO_JOURNAL),
-    (CHECK, Has::Text, 5, NO_JOURNAL),
-    (DUMP, Has::NoByte, 5, NO_JOURNAL),
-    (CHECK, Has::NoByte, 5, NO_JOURNAL),
+    (RUN, Has::Text, 5, TEXT),
+    (DUMP, Has::Text, 5, TEXT),
+    (CHECK, Has::Text, 5, TEXT),
+    (DUMP, Has::NoByte, 5, EMPTY),
+    (CHECK, Has::NoByte, 5, EMPTY),
+    (DUMP, Has::Dump, 5, A_DUMP),
+    (RUN, Has::Script, 5, A_SCRIPT),
+    (CHECK, Has::Script, 5, A_SCRIPT),
+    (RUN, Has::Other, 5, OTHERS),
     (RUN, Has::NoHead, 5, NO_HEAD),
     (DUMP, Has::NoHead, 5, NO_HEAD),
     (CHECK, Has::NoHead, 5, NO_HEAD),
@@ -105,8 +123,8 @@ const REFUSED: &[(Words, Has, u8, Line)] = &[
     (RUN, Has::TornLong, 6, TORN),
     (DUMP, Has::Rot, 6, ROT),
     (CHECK, Has::Rot, 6, ROT),
-    (&["run", "ledger", "3"], Has::Entries, 7, OTHER),
-    (&["run", "ledger", "2", "2"], Has::Entries, 7, OTHER),
+    (&["run", "ledger", "3"], Has::Entries, 7, THREE),
+    (&["run", "ledger", "2", "2"], Has::Entries, 7, TWO),
 ];
 
 #[test]
@@ -212,4 +230,84 @@ fn a_start_tells_nothing_of_a_file_that_is_there(rt: HostRuntime) {
         };
         run(&rt, rt.alloc(), row);
     }
+}
+
+const READY: &str = "tbd: ready\n";
+
+const MADE_AND_READY: &str = "tbd: made ledger\ntbd: ready\n";
+
+const CUT_AND_READY: &str =
+    "tbd: cut 5 bytes of a batch that was not committed, behind byte 182\ntbd: ready\n";
+
+const READING_TORN: &str =
+    "tbd: reading ledger, 0 of 4 MB\ntbd: Damaged: 4194305 bytes behind byte 182, more than one batch can have\n";
+
+/// Starts that are reported, by a word or to a terminal.
+const REPORTED: &[(Words, bool, Has, Line)] = &[
+    (PROGRESS, false, Has::Entries, READY),
+    (
+        &["run", "ledger", "2", "1", "--progress"],
+        false,
+        Has::Entries,
+        READY,
+    ),
+    (RUN, true, Has::Entries, READY),
+    (PROGRESS, false, Has::Nothing, MADE_AND_READY),
+    (RUN, true, Has::Torn, CUT_AND_READY),
+];
+
+const PROGRESS: &[&str] = &["run", "ledger", "2", "--progress"];
+
+/// Standard error is a terminal or not.
+fn terminals(faults: bool) -> Terminals {
+    Terminals {
+        input: false,
+        faults,
+    }
+}
+
+#[test]
+fn a_start_is_reported(rt: HostRuntime) {
+    for (words, faults, has, line) in REPORTED {
+        let row = Row {
+            asks: false,
+            terminals: terminals(*faults),
+            ..done(words, *has, Out::Nothing, line)
+        };
+        run(&rt, rt.alloc(), row);
+    }
+}
+
+/// Of a long file it is told that it is read; one that is refused is never ready.
+#[test]
+fn a_long_file_is_read_and_refused(rt: HostRuntime) {
+    run(
+        &rt,
+        rt.alloc(),
+        refused(PROGRESS, Has::TornLong, 6, READING_TORN),
+    );
+}
+
+/// Requests from a terminal: where words are read is told once, and before the file is opened.
+#[test]
+fn a_terminal_is_told_where_words_are_read(rt: HostRuntime) {
+    let line =
+        "tbd: standard input is a terminal, and run reads request frames there; tb-repl and tbt script take words\n";
+    let row = Row {
+        asks: false,
+        terminals: Terminals {
+            input: true,
+            faults: false,
+        },
+        ..done(RUN, Has::Entries, Out::Nothing, line)
+    };
+    run(&rt, rt.alloc(), row);
+    let row = Row {
+        terminals: Terminals {
+            input: true,
+            faults: true,
+        },
+        ..done(CHECK, Has::Entries, Out::Text(ALL), "")
+    };
+    run(&rt, rt.alloc(), row);
 }

@@ -1,13 +1,20 @@
 //! Outputs that fail at a byte, or at their flush, and calls on the file that fail.
 use crate::files::Has;
-use crate::rows::{Out, Row, WELL, run};
+use crate::pipes::{NoInput, Pipe};
+use crate::rows::{Out, Row, WELL, run, run_with};
+use tb_journal::{Device, Memory};
+use tb_keep_commands::Reported;
+use tb_records::Counting;
 
 type Words = &'static [&'static str];
 
-const LOST: &str = "tbd: Device\n";
+const LOST: &str = "tbd: Device: standard output\n";
+
+/// A call on the file that failed.
+const FAILED: &str = "tbd: Device: ledger\n";
 
 /// That of a file which was made before.
-const MADE: &str = "tbd: made ledger\ntbd: Device\n";
+const MADE: &str = "tbd: made ledger\ntbd: Device: standard output\n";
 
 /// A form whose output takes so many bytes.
 fn cut(words: Words, has: Has, room: usize, out: Out, line: &'static str) -> Row {
@@ -122,12 +129,40 @@ const MADE_SYNC: &str =
 
 /// The calls of a reading: a sync, and the file with its end. `run` and `check` ask for the length first, and `dump` reads twice.
 const BROKEN: &[(Words, Has, u64, u8, Out, &str)] = &[
-    (&["check", "ledger"], Has::Entries, 1, 1, Out::Nothing, LOST),
+    (
+        &["check", "ledger"],
+        Has::Entries,
+        1,
+        1,
+        Out::Nothing,
+        FAILED,
+    ),
     (&["check", "ledger"], Has::Entries, 2, 9, Out::Nothing, SYNC),
-    (&["check", "ledger"], Has::Entries, 3, 1, Out::Nothing, LOST),
+    (
+        &["check", "ledger"],
+        Has::Entries,
+        3,
+        1,
+        Out::Nothing,
+        FAILED,
+    ),
     (&["dump", "ledger"], Has::Entries, 1, 9, Out::Nothing, SYNC),
-    (&["dump", "ledger"], Has::Entries, 2, 1, Out::Nothing, LOST),
-    (&["dump", "ledger"], Has::Entries, 3, 1, Out::Nothing, LOST),
+    (
+        &["dump", "ledger"],
+        Has::Entries,
+        2,
+        1,
+        Out::Nothing,
+        FAILED,
+    ),
+    (
+        &["dump", "ledger"],
+        Has::Entries,
+        3,
+        1,
+        Out::Nothing,
+        FAILED,
+    ),
     (&["dump", "ledger"], Has::Entries, 4, 9, Out::Nothing, SYNC),
     (
         &["run", "ledger", "2"],
@@ -135,7 +170,7 @@ const BROKEN: &[(Words, Has, u64, u8, Out, &str)] = &[
         1,
         1,
         Out::Nothing,
-        LOST,
+        FAILED,
     ),
     (
         &["run", "ledger", "2"],
@@ -143,7 +178,7 @@ const BROKEN: &[(Words, Has, u64, u8, Out, &str)] = &[
         2,
         1,
         Out::Nothing,
-        LOST,
+        FAILED,
     ),
     (
         &["run", "ledger", "2"],
@@ -172,4 +207,33 @@ fn a_call_on_the_file_fails(rt: HostRuntime) {
             broken(words, *has, (*fails_at, *status), *out, line),
         );
     }
+}
+
+/// It is told that the input failed, and not the output.
+#[test]
+fn an_input_fails(rt: HostRuntime) {
+    let row = Row {
+        words: &["run", "ledger", "2"],
+        status: 1,
+        line: "tbd: Device: standard input\n",
+        ..WELL
+    };
+    run_with(&rt, rt.alloc(), row, NoInput {});
+}
+
+/// Reads at these offsets are reported each 64 MB, and no others.
+#[test]
+fn a_long_read_is_reported(rt: HostRuntime) {
+    let alloc = rt.alloc();
+    let mut pipe = Pipe::new(alloc, 4096, true);
+    let memory = Memory::new(alloc, Vec::new(alloc)).expect(&rt, "memory");
+    let lines = Counting::new(&mut pipe);
+    let mut file = Reported::new(alloc, memory, "ledger", lines, true).expect(&rt, "no fault");
+    for at in [0, 63_999_999, 64_000_000, 127_999_999, 200_000_000] {
+        let read = file.read_at(at, &mut [0; 8]);
+        assert!(rt; read == Ok(0));
+    }
+    drop(file);
+    let told: &[u8] = b"tbd: reading ledger, 64 of 0 MB\ntbd: reading ledger, 200 of 0 MB\n";
+    assert!(rt; pipe.bytes() == told);
 }

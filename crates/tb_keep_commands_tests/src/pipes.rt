@@ -1,6 +1,6 @@
-//! A writer that fails at a byte, or at its flush.
+//! A writer that fails at a byte, or at its flush, and a reader that fails.
 use std::alloc::Global;
-use std::io::{self, ErrorKind, Write};
+use std::io::{self, ErrorKind, Read, Write};
 
 /// A writer that takes so many bytes, and whose flush may fail.
 #[derive(Drop)]
@@ -41,5 +41,15 @@ impl Write for Pipe {
         } else {
             Err(io::Error::from(ErrorKind::StorageFull))
         }
+    }
+}
+
+/// A reader of which each read fails.
+#[derive(Drop)]
+pub struct NoInput {}
+
+impl Read for NoInput {
+    fn read(&mut self, _buf: &mut [u8]) -> io::Result<usize> {
+        Err(io::Error::from(ErrorKind::BrokenPipe))
     }
 }

@@ -3,8 +3,9 @@ use crate::files::{Folder, Has};
 use crate::frames::{dump, empty_dump, replies, script};
 use crate::pipes::Pipe;
 use std::alloc::Global;
+use std::io::Read;
 use std::process::Abort;
-use tb_keep_commands::{OpeningFault, serve};
+use tb_keep_commands::{OpeningFault, Terminals, serve};
 use tb_records::Counting;
 
 /// What must go out.
@@ -39,10 +40,17 @@ pub struct Row {
     /// The bytes that the output takes, and whether its flush answers well.
     pub room: usize,
     pub flushes: bool,
+    pub terminals: Terminals,
     pub status: u8,
     pub out: Out,
     pub line: &'static str,
 }
+
+/// Pipes and files.
+pub const NO_TERMINALS: Terminals = Terminals {
+    input: false,
+    faults: false,
+};
 
 /// A command over a ledger of the script that goes well, to be changed.
 pub const WELL: Row = Row {
@@ -53,6 +61,7 @@ pub const WELL: Row = Row {
     fails_at: 0,
     room: 4096,
     flushes: true,
+    terminals: NO_TERMINALS,
     status: 0,
     out: Out::Nothing,
     line: "",
@@ -89,20 +98,26 @@ fn words_of(rt: &impl Abort, alloc: Global, words: &[&str]) -> Vec<String> {
 
 /// Runs a row, and answers how many files were made.
 pub fn run(rt: &impl Abort, alloc: Global, row: Row) -> u32 {
-    let mut folder = Folder::new(rt, alloc, row.has, row.fault, row.fails_at);
-    let words = words_of(rt, alloc, row.words);
     let script = if row.asks {
         script(rt, alloc)
     } else {
         Vec::new(alloc)
     };
+    run_with(rt, alloc, row, script.as_slice())
+}
+
+/// The same of a row with this input.
+pub fn run_with<R: Read + Drop>(rt: &impl Abort, alloc: Global, row: Row, input: R) -> u32 {
+    let mut folder = Folder::new(rt, alloc, row.has, row.fault, row.fails_at);
+    let words = words_of(rt, alloc, row.words);
     let mut pipe = Pipe::new(alloc, row.room, row.flushes);
     let mut lines = Counting::new(Vec::new(alloc));
     let status = serve(
         alloc,
         &mut folder,
         words.as_slice(),
-        script.as_slice(),
+        row.terminals,
+        input,
         &mut pipe,
         &mut lines,
     );

@@ -48,7 +48,19 @@ const WRONG: &[(&[&str], &str)] = &[
     ),
     (
         &["run", "ledger", "2", "1", "x"],
+        "tbd: Usage: run ledger 2 1 x: only --progress may follow PROFILE\n",
+    ),
+    (
+        &["run", "ledger", "2", "1", "--progress", "x"],
         "tbd: Usage: run: too many words\n",
+    ),
+    (
+        &["run", "ledger", "65", "--progress"],
+        "tbd: Usage: run ledger 65 --progress: CLIENTS_MAX is 1 to 64\n",
+    ),
+    (
+        &["run", "ledger", "64", "3", "--progress"],
+        "tbd: Usage: run ledger 64 3 --progress: PROFILE is 1 or 2\n",
     ),
     (&["dump"], "tbd: Usage: dump: FILE is missing\n"),
     (&["check"], "tbd: Usage: check: FILE is missing\n"),
