@@ -15,6 +15,7 @@ import re
 import select
 import subprocess
 import sys
+import tempfile
 import termios
 import time
 
@@ -435,59 +436,64 @@ check("audit at once", ([it.count(b"\n") for it in told], rest, status), ([1, 1,
 # a terminal
 
 
-def end(master):
-    """Types the end, one Ctrl-D at the beginning of a line."""
-    os.write(master, b"\x04")
+PROMPTS = (b"> ", b". ")
 
 
-def typed(words, lines):
-    """What a program shows behind each line that is typed on a terminal, and its status."""
-    master, slave = pty.openpty()
-    settings = termios.tcgetattr(slave)
-    settings[3] &= ~termios.ECHO
-    termios.tcsetattr(slave, termios.TCSANOW, settings)
-    it = subprocess.Popen([TBT, *words], stdin=slave, stdout=subprocess.PIPE, stderr=subprocess.STDOUT)
-    shown = []
-    for line in lines:
-        os.write(master, line)
-        ready = select.select([it.stdout], [], [], 10)[0]
-        shown.append(os.read(it.stdout.fileno(), 65536) if ready else None)
-    end(master)
-    return shown, it.wait(timeout=10)
+def shown_until_prompt(master):
+    """What comes on a terminal until a prompt stands at its end, or the program ends; 10 seconds at most."""
+    shown, end = b"", time.monotonic() + 10
+    while select.select([master], [], [], 0.1 if shown.endswith(PROMPTS) else max(0, end - time.monotonic()))[0]:
+        try:
+            shown += os.read(master, 65536)
+        except OSError:  # the program ended
+            break
+    return shown
 
 
-first = run(TBT, ["replies"], replied[0])[1]
-fault = run(TBT, ["script"], b"at=10 clint=7")[2].replace(b"line 1", b"line 2")
-check("a terminal", typed(["run", "2"], [b"at=10 client=7 register;\n", b"at=10 clint=7\n", b"at=10 client=7 register;\n"])[0][:2], [first, fault])
-check("its status", typed(["run", "2"], [b"at=10 client=7 register;\n", b"at=10 clint=7\n"])[1], 2)
-check("its status where all is right", typed(["run", "2"], [b"at=10 client=7 register;\n"])[1], 0)
-
-def conversation(words, lines):
-    """What stands on a terminal after these lines were typed, each when all before it was answered, and the program's status. What is
-    typed is shown behind `> `, what comes back as it comes."""
+def conversation(words, lines, echo=True, out=None):
+    """What stands on a terminal when these lines were typed, each behind a prompt, and the program's status. What the terminal
+    echoes is left out without `echo`. Standard output goes to `out` where there is one."""
     master, slave = pty.openpty()
     settings = termios.tcgetattr(slave)
     settings[1] &= ~termios.OPOST
-    settings[3] &= ~termios.ECHO
+    settings[3] &= ~(termios.ECHOCTL if echo else termios.ECHO)
     termios.tcsetattr(slave, termios.TCSANOW, settings)
-    it = subprocess.Popen([TBT, *words], stdin=slave, stdout=slave, stderr=slave)
-    shown = b""
+    it = subprocess.Popen([TBT, *words], stdin=slave, stdout=out or slave, stderr=slave)
+    os.close(slave)
+    shown = shown_until_prompt(master)
     for line in lines:
-        shown += b"> " + line + b"\n"
-        os.write(master, line + b"\n")
-        while select.select([master], [], [], 1 if line.endswith(b";") else 0.2)[0]:
-            shown += os.read(master, 65536)
-    end(master)
-    return shown, it.wait(timeout=10)
+        os.write(master, line)
+        shown += shown_until_prompt(master)
+    status = it.wait(timeout=10)
+    os.close(master)
+    return shown, status
 
+
+GREETING = b"A statement ends with `;`. `help` shows some, `exit` or Ctrl-D ends.\n"
+END = b"\x04"  # Ctrl-D at the beginning of a line
+REGISTER = b"at=10 client=7 register;\n"
+first = run(TBT, ["replies"], frames[0])[1]
+check("a terminal", conversation(["run", "2"], [REGISTER, END], echo=False), (GREETING + b"> " + first + b"> \n", 0))
+shown, status = conversation(["run", "2"], [b"at=10 clint=7\n", END], echo=False)
+check("a mistake is no failure", (shown.count(b"unknown field 'clint'; did you mean client?"), status), (1, 0))
+for word in [b"exit\n", b"quit\n", b"exit;\n", b" quit # the end\n"]:
+    check(f"{word} ends", conversation(["run", "2"], [word], echo=False), (GREETING + b"> ", 0))
+with tempfile.TemporaryFile() as kept:
+    shown, status = conversation(["run", "2"], [REGISTER, b"help\n", END], echo=False, out=kept)
+    kept.seek(0)
+    check("an output that is no terminal has replies alone", (kept.read(), status), (first, 0))
+for length, wanted in [(4094, first), (4095, b"tbt: line 1: LineTooLong: "), (5000, b"tbt: line 1: LineTooLong: ")]:
+    line = b"at=10 client=7 register; #".ljust(length, b"x") + b"\n"
+    shown, status = conversation(["run", "2"], [line, END], echo=False)
+    check(f"a line of {length} bytes", (shown[len(GREETING) + 2 :].startswith(wanted), shown.count(first), status), (True, int(length < 4095), 0))
 
 with open(f"{TOP}/checks/terminal.txt", "rb") as stored:
     wanted = stored.read()
-typed_lines = [it[2:] for it in wanted.split(b"\n") if it.startswith(b"> ")]
+typed_lines = [it[2:] + b"\n" for it in wanted.split(b"\n") if it.startswith(PROMPTS)]
 began = time.time_ns()
 shown, status = conversation(["run", "2"], typed_lines)
 ended = time.time_ns()
-check("a conversation on a terminal", (without_moments(shown), status), (without_moments(wanted), 2))
+check("a conversation on a terminal", (without_moments(shown), status), (without_moments(wanted), 0))
 moments = [int(it) for it in MOMENT.findall(shown)]
 check("its moments are the clock's", (len(moments), all(began <= it <= ended for it in moments)), (len(MOMENT.findall(wanted)), True))
 
@@ -498,7 +504,7 @@ largest = ("client=7 request=1 create_accounts " + ", ".join([FULL] * 8190) + ";
 status, script, line = run(TBT, ["script"], largest)
 check("8190 full accounts are a statement", (status, line, script[56:] == b"\xff" * 128 * 8190), (0, b"", True))
 check("one more is too many", run(TBT, ["script"], largest[:-1] + b", id=1;")[:2], (2, b""))
-check("/dev/full", subprocess.run([TBT, "--version"], stdout=open("/dev/full", "wb"), stderr=subprocess.PIPE).stderr, b"tbt: Device\n")
+check("/dev/full", subprocess.run([TBT, "--version"], stdout=open("/dev/full", "wb"), stderr=subprocess.PIPE).stderr, b"tbt: Device: standard output\n")
 check("its status", subprocess.run([TBT, "--version"], stdout=open("/dev/full", "wb"), stderr=subprocess.DEVNULL).returncode, 1)
 
 # dumps: their pairs, their audit, and what is wrong
@@ -526,6 +532,8 @@ check("explain a script", run(TBT, ["explain"], SCRIPT), (0, b"a script, 3 pairs
 check("explain a cut script", run(TBT, ["explain"], SCRIPT[:60]), (0, b"pair 2, at byte 56: the bytes end within it (Short)\n", b""))
 check("explain text", run(TBT, ["explain"], TEXT)[1].splitlines()[1], b"It looks like text: tbt script makes a script of statements.")
 check("explain a dump", run(TBT, ["explain"], dumped), (0, b"a dump, 3 entries in %d bytes: tbs replays it to its end\n" % len(dumped), b""))
+ledger = b"a ledger's file of tbd: tbd check FILE tells where it ends, tbd dump FILE makes a dump of it\n"
+check("explain a ledger's file", run(TBT, ["explain"], b"TBJRNL01" + dumped), (0, ledger, b""))
 check("explain a cut dump", run(TBT, ["explain"], dumped[:-1])[1].startswith(b"entry 3, at byte "), True)
 
 sys.exit(tried.status())

@@ -9,7 +9,7 @@
 //! - `scanner`: the reader, a byte at a time.
 //! - `reading`: `read_text`, a text as requests, or its fault's place, line and column.
 //! - `awaited`: what could stand next.
-//! - `nearest`: the known word that is nearest to a written one.
+//! - `nearest`: the known name that is nearest to a written one.
 //! - `messages`: `explain_fault`, a fault in words, and `as_shown`, bytes as a terminal may be shown them.
 //! - `printing`: requests, printed as statements.
 //! - `text_laws`: what holds of every text of statements: functions that do nothing.
@@ -37,6 +37,7 @@ mod words;
 pub use awaited::{Awaited, awaited_behind};
 pub use lexemes::{digit, word_named};
 pub use messages::{as_shown, explain_fault, word_around};
+pub use nearest::nearest_name;
 pub use places::{Lexeme, Place, Refusal};
 pub use printing::{print_request, print_requests};
 pub use reading::{Reading, TextFault, position, read_text};

@@ -8,7 +8,7 @@ use crate::awaited::{Awaited, awaited_behind};
 use crate::lexemes::word_named;
 use crate::nearest::nearest_word;
 use crate::reading::{TextFault, position};
-use crate::words::{Field, Word};
+use crate::words::{Field, Word, words};
 use std::alloc::{AllocError, Global};
 use std::str;
 use tb_records::Operation;
@@ -128,13 +128,13 @@ fn awaits(awaited: &Awaited, wanted: Field) -> bool {
     awaited.words.iter().any(is_wanted)
 }
 
-/// Says that bytes are digits, or `0x` and digits.
+/// Says that bytes are decimal digits, or `0x` and hexadecimal ones.
 fn is_number(text: &[u8]) -> bool {
-    let digits = match text {
-        [b'0', b'x', rest @ ..] => rest,
-        _ => text,
-    };
-    !digits.is_empty() && digits.iter().all(|byte| byte.is_ascii_hexdigit())
+    match text {
+        [] | [b'0', b'x'] => false,
+        [b'0', b'x', digits @ ..] => digits.iter().all(|byte| byte.is_ascii_hexdigit()),
+        digits => digits.iter().all(|byte| byte.is_ascii_digit()),
+    }
 }
 
 /// Says that bytes have no digit but 0.
@@ -168,8 +168,13 @@ fn kind(word: Word) -> &'static str {
 }
 
 /// Appends that a word is none that statements have, and the nearest one that they have.
-fn put_unknown(out: &mut Vec<u8>, word: &[u8], awaited: &Awaited) -> Result<(), AllocError> {
-    match nearest_word(word, awaited.words.as_slice()) {
+fn put_unknown(
+    alloc: Global,
+    out: &mut Vec<u8>,
+    word: &[u8],
+    awaited: &Awaited,
+) -> Result<(), AllocError> {
+    match nearest_word(alloc, word, awaited.words.as_slice())? {
         Some(known) => {
             put_parts(out, &[b"unknown ".as_slice(), kind(known).as_bytes()])?;
             put_word(out, " ", word, "; did you mean ")?;
@@ -217,10 +222,17 @@ fn begins_statement(word: Word) -> bool {
 }
 
 /// Appends what is wrong with a word.
-fn put_wrong_word(out: &mut Vec<u8>, word: &[u8], awaited: &Awaited) -> Result<(), AllocError> {
+fn put_wrong_word(
+    alloc: Global,
+    out: &mut Vec<u8>,
+    word: &[u8],
+    awaited: &Awaited,
+) -> Result<(), AllocError> {
     let is_name = matches!(word, [b'A'..=b'Z' | b'a'..=b'z', ..]);
     match (word_named(word), awaited.number) {
-        (None, _) if is_name && !awaited.words.is_empty() => put_unknown(out, word, awaited),
+        (None, _) if is_name && !awaited.words.is_empty() => {
+            put_unknown(alloc, out, word, awaited)
+        }
         (None, Some(field)) => put_wrong_number(out, word, field),
         (None, None) => put_word(out, "found ", word, ""),
         (Some(Word::Operation(operation)), None) if !awaited.semicolon => {
@@ -315,12 +327,24 @@ fn numbers_of(field: Field) -> &'static str {
     }
 }
 
-/// The names of what could stand next.
-fn names(alloc: Global, awaited: &Awaited) -> Result<Vec<&'static str>, AllocError> {
+/// The names of the words that could stand next, of all words in their order: those that are awaited, and these.
+fn word_names(
+    alloc: Global,
+    awaited: &Awaited,
+    also: &[Word],
+) -> Result<Vec<&'static str>, AllocError> {
     let mut names = Vec::new(alloc);
-    for word in awaited.words.as_slice() {
-        names.push(word.text())?;
+    for word in words() {
+        if awaited.words.as_slice().contains(word) || also.contains(word) {
+            names.push(word.text())?;
+        }
     }
+    Ok(names)
+}
+
+/// The names of what could stand next: what is awaited, and these words.
+fn names(alloc: Global, awaited: &Awaited, also: &[Word]) -> Result<Vec<&'static str>, AllocError> {
+    let mut names = word_names(alloc, awaited, also)?;
     if let Some(field) = awaited.number {
         names.push(numbers_of(field))?;
     }
@@ -337,9 +361,14 @@ fn names(alloc: Global, awaited: &Awaited) -> Result<Vec<&'static str>, AllocErr
     Ok(names)
 }
 
-/// Appends what could stand next, the last name behind an `or`.
-fn put_expected(alloc: Global, out: &mut Vec<u8>, awaited: &Awaited) -> Result<(), AllocError> {
-    let names = names(alloc, awaited)?;
+/// Appends what could stand next, the last name behind an `or`: what is awaited, and these words.
+fn put_expected(
+    alloc: Global,
+    out: &mut Vec<u8>,
+    awaited: &Awaited,
+    also: &[Word],
+) -> Result<(), AllocError> {
+    let names = names(alloc, awaited, also)?;
     put(out, "\n  expected ")?;
     for (place, name) in names.as_slice().iter().enumerate() {
         let mark = match place {
@@ -352,8 +381,8 @@ fn put_expected(alloc: Global, out: &mut Vec<u8>, awaited: &Awaited) -> Result<(
     Ok(())
 }
 
-/// Appends what is wrong where a text goes wrong, and what could stand there. The word at the place is its bytes, and
-/// the byte at the place the next one.
+/// Appends what is wrong where a text goes wrong, and what could stand there, these words too. The word at the place is its
+/// bytes, and the byte at the place the next one.
 fn put_wrong(
     alloc: Global,
     out: &mut Vec<u8>,
@@ -361,14 +390,15 @@ fn put_wrong(
     rest: &[u8],
     word: &[u8],
     awaited: &Awaited,
+    also: &[Word],
 ) -> Result<(), AllocError> {
     if word.is_empty() {
         put_byte(alloc, out, rest.first().copied())?;
     } else {
-        put_wrong_word(out, word, awaited)?;
+        put_wrong_word(alloc, out, word, awaited)?;
     }
     put_line(alloc, out, ending_line(before), leading_line(rest))?;
-    put_expected(alloc, out, awaited)
+    put_expected(alloc, out, awaited, also)
 }
 
 /// The line and the column of a place behind bytes whose first stands at a line and a column.
@@ -394,18 +424,20 @@ fn put_position(
     put(out, ": ")
 }
 
-/// Appends what is wrong at a place, between the bytes before it and those from it on.
+/// Appends what is wrong at a place, between the bytes before it and those from it on. What could stand there is told with
+/// these words.
 fn put_fault(
     alloc: Global,
     out: &mut Vec<u8>,
     before: &[u8],
     rest: &[u8],
+    also: &[Word],
 ) -> Result<(), AllocError> {
     let (head, tail) = word_around(before, rest);
     if head == 0 || tail == 0 {
         if let Some(awaited) = awaited_behind(alloc, before)? {
             let word = around(rest, tail).0;
-            return put_wrong(alloc, out, before, rest, word, &awaited);
+            return put_wrong(alloc, out, before, rest, word, &awaited, also);
         }
     }
     let (front, begun) = around(before, before.len() - head);
@@ -413,7 +445,7 @@ fn put_fault(
         Some(awaited) => {
             let mut word = Vec::from_slice(alloc, begun)?;
             word.extend_from_slice(around(rest, tail).0)?;
-            put_wrong(alloc, out, before, rest, word.as_slice(), &awaited)
+            put_wrong(alloc, out, before, rest, word.as_slice(), &awaited, also)
         }
         None => put_byte(alloc, out, rest.first().copied()),
     }
@@ -449,19 +481,21 @@ pub fn as_shown(alloc: Global, bytes: &[u8]) -> Result<Vec<u8>, AllocError>
 
 /// What is wrong with a text, in words for its writer, without a line end behind them: the line and the column, the whole
 /// word there and the nearest one that statements have, the line with a mark under the place, and all that could stand
-/// there. The text's first byte stands at the line and the column `first`, both from 1. The message is UTF-8, and no control
-/// character of the text gets there but the tab, so that no text moves a terminal. AllocError where there is no memory.
+/// there: what goes on a text of statements, and the words of `also`, which a caller makes right by what it fills in. The
+/// text's first byte stands at the line and the column `first`, both from 1. The message is UTF-8, and no control character
+/// of the text gets there but the tab, so that no text moves a terminal. AllocError where there is no memory.
 pub fn explain_fault(
     alloc: Global,
     text: &[u8],
     fault: TextFault,
     first: (usize, usize),
+    also: &[Word],
 ) -> Result<Vec<u8>, AllocError>
     ensures { IfOk result (λ message. IsShown message.items) }
 {
     let mut out = Vec::new(alloc);
     let (before, rest) = around(text, fault.place);
     put_position(alloc, &mut out, position_from(first, before))?;
-    put_fault(alloc, &mut out, before, rest)?;
+    put_fault(alloc, &mut out, before, rest, also)?;
     as_shown(alloc, out.as_slice())
 }

@@ -34,6 +34,7 @@ late moment rest behind next above = record {
   pair = (moment, next.0);
   behind = behind;
   bytes_are = next.1.0;
+  fits = (next.1.1, next.1.2);
   no_time = λ (S : State). search (arith, above);
 }
 

@@ -1,12 +1,14 @@
 -- What is taken part by part, all in all.
-use Rattle.std.proofs.Common.{◌≡◌, ℕ, Bool, true, false, cond, List, [], ◌∷◌, ◌++◌, take, drop, flat_map, Option, Some, None, Ok, sym, ap, ◌∙◌, append_assoc, take-append-drop}
+use Rattle.std.proofs.Common.{◌≡◌, ℕ, Bool, true, false, cond, List, [], ◌∷◌, ◌++◌, take, drop, flat_map, Option, Some, None, Ok, sym, ap, subst, ◌∙◌, append_assoc, take-append-drop}
 use Rattle.std.proofs.lemmas.Bool.{false≢true}
 use Rattle.std.specs.Io.KnownBytes.{prepend_known}
 use Rattle.std.proofs.lemmas.List.{append-nil, flat_map_more}
-use Rattle.tb_machine.proofs.Rows.{each_snoc}
+use Rattle.tb_machine.proofs.Rows.{each_snoc, some_one}
+use Rattle.tb_machine.proofs.Running.{sends_then}
 use Rattle.tb_records.specs.Messages.{Answer}
 use Rattle.tb_records.specs.ReplyFrames.{FoundReply}
-use Rattle.tb_records.specs.Transport.{Input}
+use Rattle.tb_records.specs.Transport.{Input, Output, Sent}
+use Rattle.tb_text_commands.specs.Explanations.{Explains, IsExplained}
 use Rattle.tb_text_commands.specs.declared.intake.Intake.{Intake}
 use Rattle.tb_text_commands.specs.Taken.{Stays, TakesParts, TakesIf, TakesNone, TakesOne, TakesPart, rest_of, waiting}
 use Rattle.tb_text_commands.specs.Whole.{IsReplyFrame, Parts, WasWhole}
@@ -75,4 +77,28 @@ reply_taken i j r n bytes found first later ended = record {
   bytes = sym first ∙ (sym (take-append-drop n bytes) ∙ ap (λ (rest : List ℕ). take n bytes ++ rest) (ap (drop n) first ∙ sym later));
   same = ended;
   is = record { reply = r; spelled = found.1 };
+}
+
+-- all that is left was read
+
+pub all_read : (a b : Option (List ℕ)) (i : Intake) (input : Input) → Stays a b → Stays b (waiting i input) → i.ended ≡ true → Stays a (Some (rest_of i))
+all_read a b i input h k ended = stays_on a b (Some (rest_of i)) h (subst (λ (e : Bool). Stays b (cond e (Some (rest_of i)) (prepend_known (rest_of i) input.left))) ended k)
+  where
+    stays_on : (a b c : Option (List ℕ)) → Stays a b → Stays b c → Stays a c
+    stays_on None b c h k = record { how = tt }
+    stays_on (Some a) None c h k = absurd h.how
+    stays_on (Some a) (Some b) None h k = absurd k.how
+    stays_on (Some a) (Some b) (Some c) h k = record { how = h.how ∙ k.how }
+
+pub explained_by : (left before : Option (List ℕ)) (i : Intake) (line : List ℕ) (start middle written : Output) → before ≡ left → Stays before (Some (rest_of i)) → Explains (rest_of i) line
+    → Sent [] start middle → Sent line middle written → WasWhole (λ bytes. IsExplained bytes start written) left
+explained_by None before i line start middle written is h says none sent = tt
+explained_by (Some bytes) None i line start middle written is h says none sent = absurd (nothing is)
+  where
+    nothing : None ≡ Some bytes → ⊥
+    nothing e = cc
+explained_by (Some bytes) (Some same) i line start middle written is h says none sent = record {
+  line = line;
+  explains = subst (λ (b : List ℕ). Explains b line) (sym (sym (some_one is) ∙ h.how)) says;
+  sent = sends_then [] line start middle written none sent;
 }

@@ -7,7 +7,7 @@ use Rattle.tb_sessions.specs.declared.classes.Class.TheVariants.{New, Repeat}
 use Rattle.tb_machine.specs.Histories.{State, refusal, status_of, step}
 use Rattle.tb_machine.specs.Scripts.{Pair, entry_of, has_time}
 use Rattle.tb_text_commands.specs.declared.faults.Fault.{Fault}
-use Rattle.tb_text_commands.specs.declared.faults.Fault.TheVariants.{NoMemory, TimeExhausted}
+use Rattle.tb_text_commands.specs.declared.faults.Fault.TheVariants.{NoMemory, TimeExhausted, Late}
 
 -- a new request is entered, where there are a time and memory for it; else nothing changes, and the fault says which was
 -- wanting
@@ -36,3 +36,10 @@ abbrev pub Answers : Class → Result (Option Answer) Fault → State → State 
 Answers New result S T p = AnswersNew result S T p
 Answers Repeat result S T p = AnswersRepeat result S T
 Answers class result S T p = Refuses class result S T p
+
+-- a fault is told with its place where no time is left, as far as there is memory for that; else it stays
+abbrev pub IsPlaced : Fault → Fault → Type 0
+IsPlaced TimeExhausted (Late line) = Unit {0}
+IsPlaced TimeExhausted NoMemory = Unit {0}
+IsPlaced TimeExhausted told = ⊥
+IsPlaced fault told = told ≡ fault

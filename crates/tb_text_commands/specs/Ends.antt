@@ -3,10 +3,13 @@
 use Rattle.std.specs.Prelude.{ℕ, Bool, true, false, ◌≡◌, ◌⊎◌, List, OnOk, Result, Ok, Err}
 use Rattle.tb_records.specs.Transport.{Input, Output, risen, Refuses}
 use Rattle.tb_text_commands.specs.declared.faults.Fault.{Fault}
-use Rattle.tb_text_commands.specs.declared.faults.Fault.TheVariants.{Device, TimeExhausted, Text}
+use Rattle.tb_text_commands.specs.declared.faults.Fault.TheVariants.{Device, Text, Late}
 use Rattle.tb_text_commands.specs.declared.arguments.Form.{Form}
-use Rattle.tb_text_commands.specs.Statuses.{fault_status, TellsOf}
-use Rattle.tb_text_commands.specs.Whole.{IsInputOf, WasWhole}
+use Rattle.tb_text_commands.specs.declared.arguments.Form.TheVariants as forms
+use Rattle.tb_text_commands.specs.Explanations.{Explained}
+use Rattle.tb_text_commands.specs.Statuses.{device_named, fault_status, TellsOf}
+use Rattle.tb_text_commands.specs.Typed.{IsReadBy, is_typed}
+use Rattle.tb_text_commands.specs.Whole.{WasWhole}
 
 -- nothing failed: no error was counted, and the writer took some of whatever it was offered
 pub record IsWhole (before after : Input) (start written : Output) : Type 0 where
@@ -68,7 +71,7 @@ IsOfInput fault = Unit {0}
 -- a fault behind which a conversation goes on
 abbrev pub is_passing : Fault → Bool
 is_passing (Text line) = true
-is_passing TimeExhausted = true
+is_passing (Late line) = true
 is_passing fault = false
 
 -- the exit status of an outcome
@@ -76,16 +79,23 @@ abbrev pub outcome_status : Result (Unit {0}) Fault → ℕ
 outcome_status (Ok done) = 0
 outcome_status (Err fault) = fault_status fault
 
+-- the outcome as it is told: of a device that failed, which one, by the reader's errors
+abbrev pub named : Result (Unit {0}) Fault → ℕ → ℕ → Result (Unit {0}) Fault
+named (Ok done) before after = Ok done
+named (Err fault) before after = Err (device_named fault before after)
+
 -- what is told of an outcome: nothing of one that was done, and of a fault its line
 abbrev pub Tells : Result (Unit {0}) Fault → Output → Output → Type 0
 Tells (Ok done) quiet told = told ≡ quiet
 Tells (Err fault) quiet told = TellsOf fault quiet told
 
 -- a form of the program was done, or a fault ended it: the status is the outcome's, and a device failed exactly where that
--- says so; with status 0 a whole input was read; where no statements are typed, nothing but its line is told
+-- says so; with status 0 a whole input was read, and `explain` says where `tbs` stops in it; where no statements are typed,
+-- nothing but its line is told
 pub record Exits (form : Form) (talks : Bool) (status : ℕ) (before after : Input) (start written quiet told : Output) : Type 0 where
   pub outcome : Result (Unit {0}) Fault
   pub ended : Ended outcome before after start written
   pub status_is : status ≡ outcome_status outcome
-  pub whole : status ≡ 0 → WasWhole (IsInputOf form) before.left
-  pub line : talks ≡ false → Tells outcome quiet told
+  pub whole : status ≡ 0 → WasWhole (IsReadBy form talks) before.left
+  pub line : is_typed form talks ≡ false → Tells (named outcome before.failed after.failed) quiet told
+  pub explained : form ≡ forms.Explain → status ≡ 0 → Explained before start written

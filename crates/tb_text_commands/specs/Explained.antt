@@ -1,10 +1,11 @@
 -- What `explain` says: how far `tbs` reads a script, and how far it replays a dump.
--- Cited by private contracts alone, of: stops.
+-- Public contracts reach it through: ExplainLaws, Explanations.
 use Rattle.std.specs.Prelude.{ℕ, false, true, ◌≡◌, ◌+◌, ◌≤◌, ◌-◌, ◌^◌, ◌≢◌, IsTrue, min, List, [], ◌∷◌, ◌++◌, length, flat_map, Option, Some, None, Ok, Err}
 use Rattle.tb_records.specs.declared.dumps.DumpFault.{DumpFault}
 use Rattle.tb_records.specs.declared.dumps.DumpItem.{DumpItem}
 use Rattle.tb_records.specs.declared.dumps.DumpItem.TheVariants as item
 use Rattle.tb_records.specs.declared.faults.FrameFault.{FrameFault}
+use Rattle.tb_records.specs.declared.faults.FrameFault.TheVariants as frame
 use Rattle.tb_records.specs.declared.limits.Profile.{Profile}
 use Rattle.tb_records.specs.declared.limits.Profile.TheVariants.{One, Two}
 use Rattle.tb_records.specs.DumpBytes.{HeadAnswered, ItemAnswered, entry_bytes, head_bytes, mark_bytes}
@@ -48,6 +49,12 @@ IsNextPair moment rest behind = (r : Message) × TimedAnswered (Ok (Some (moment
 abbrev pub IsNoPair : FrameFault → List ℕ → Type 0
 IsNoPair fault rest = (behind : List ℕ) × TimedAnswered (Err fault) rest behind
 
+-- it is a fault of the bytes
+abbrev pub ComesOfBytes : FrameFault → Type 0
+ComesOfBytes frame.Device = ⊥
+ComesOfBytes frame.NoMemory = ⊥
+ComesOfBytes fault = Unit {0}
+
 -- a place is that of the rest
 abbrev pub IsPlace : Place → List ℕ → List ℕ → Type 0
 IsPlace place bytes rest = place.at + length rest ≡ length bytes
@@ -57,13 +64,14 @@ pub record IsLate (rest : List ℕ) : Type 0 where
   pub pair : Pair
   pub behind : List ℕ
   pub bytes_are : rest ≡ timed_bytes pair ++ behind
+  pub fits : IsTimed pair
   pub no_time : (S : State) → has_time S pair ≡ false
 
 -- how far a script is read
 abbrev pub ScriptEnds : ScriptEnd → List ℕ → Type 0
 ScriptEnds (script_end.Whole pairs) bytes = Leads (pairs + 1) bytes []
 ScriptEnds (script_end.Late place) bytes = (rest : List ℕ) × Leads place.number bytes rest × IsPlace place bytes rest × IsLate rest
-ScriptEnds (script_end.Wrong place fault) bytes = (rest : List ℕ) × Leads place.number bytes rest × IsPlace place bytes rest × IsNoPair fault rest
+ScriptEnds (script_end.Wrong place fault) bytes = (rest : List ℕ) × Leads place.number bytes rest × IsPlace place bytes rest × IsNoPair fault rest × ComesOfBytes fault
 ScriptEnds script_end.TooLong bytes = (rest : List ℕ) × Leads (2 ^ 64 - 1) bytes rest
 
 -- a dump

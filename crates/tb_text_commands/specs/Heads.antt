@@ -1,6 +1,6 @@
 -- What stands before the operation of a statement: at, client, session and request, each with its number, in any order,
 -- with spaces and comments between.
--- Public contracts reach it through: Completed.
+-- Public contracts reach it through: Completed, Typed.
 use Rattle.std.specs.Prelude.{ℕ, Bool, true, false, not, ◌&&◌, ◌||◌, ◌==◌, ◌+◌, ◌*◌, ◌^◌, nat_le, nat_lt, List, [], ◌∷◌, length, drop, take, unwrap_or, Option, Some, None, if◌then◌else◌}
 use Rattle.std.specs.Option.{option_and_then, is_none, is_some}
 use Rattle.tb_records.specs.declared.operations.Operation.{Operation}

@@ -5,6 +5,8 @@ pub mod Audited
 pub mod Completed
 pub mod Ends
 pub mod Explained
+pub mod Explanations
+pub mod ExplainLaws
 pub mod Heads
 pub mod Forms
 pub mod Names
@@ -13,4 +15,5 @@ pub mod Results
 pub mod Statuses
 pub mod Taken
 pub mod Wanted
+pub mod Typed
 pub mod Whole

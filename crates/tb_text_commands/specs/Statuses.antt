@@ -1,7 +1,7 @@
 -- The exit status of each fault: 1 a device or memory failed, 2 the input or the arguments are wrong. And the line that a
 -- fault is told by.
 -- Cited by public contracts of: faults, host.
-use Rattle.std.specs.Prelude.{ℕ, ◌++◌, List, [], codes}
+use Rattle.std.specs.Prelude.{ℕ, not, ◌==◌, ◌-◌, ◌^◌, nat_lt, ◌++◌, List, [], if◌then◌else◌, codes}
 use Rattle.tb_records.specs.declared.faults.FrameFault.{FrameFault}
 use Rattle.tb_records.specs.declared.faults.FrameFault.TheVariants as frame
 use Rattle.tb_records.specs.declared.dumps.DumpFault.{DumpFault}
@@ -11,7 +11,7 @@ use Rattle.tb_records.specs.Faults.{fault_name}
 use Rattle.tb_records.specs.Transport.{Output}
 use Rattle.tb_commands.specs.Statuses.{frame_status, dump_status, TellsLine}
 use Rattle.tb_text_commands.specs.declared.faults.Fault.{Fault}
-use Rattle.tb_text_commands.specs.declared.faults.Fault.TheVariants.{Usage, Device, NoMemory, TimeExhausted, TooLong, Frame, Dump, Arguments, Text, WasTold}
+use Rattle.tb_text_commands.specs.declared.faults.Fault.TheVariants.{Usage, Device, NoMemory, Reader, Writer, TimeExhausted, TooLong, Frame, Dump, Arguments, Text, Late}
 
 -- the faults of a frame and of a dump: a device that failed and want of memory are the program's own
 
@@ -25,10 +25,21 @@ dump_fault_of (dump.Frame fault) = frame_fault_of fault
 dump_fault_of dump.NoMemory = NoMemory
 dump_fault_of fault = Dump fault
 
+-- a device that failed, by the reader's errors before and behind: at their greatest they say nothing
+
+abbrev pub device_named : Fault → ℕ → ℕ → Fault
+device_named Device before after =
+    if not (before == after) then Reader
+    else if nat_lt before (2 ^ 64 - 1) then Writer
+    else Device
+device_named fault before after = fault
+
 -- statuses
 
 abbrev pub fault_status : Fault → ℕ
 fault_status Device = 1
+fault_status Reader = 1
+fault_status Writer = 1
 fault_status NoMemory = 1
 fault_status (Frame fault) = frame_status fault
 fault_status (Dump fault) = dump_status fault
@@ -43,6 +54,8 @@ line_named name = codes "tbt: " ++ name ++ codes "\n"
 abbrev pub fault_line : Fault → List ℕ
 fault_line Usage = []
 fault_line Device = line_named (codes "Device")
+fault_line Reader = line_named (codes "Device: standard input")
+fault_line Writer = line_named (codes "Device: standard output")
 fault_line NoMemory = line_named (codes "NoMemory")
 fault_line TimeExhausted = line_named (codes "TimeExhausted")
 fault_line TooLong = line_named (codes "TooLong")
@@ -50,7 +63,7 @@ fault_line (Frame fault) = line_named (fault_name fault)
 fault_line (Dump fault) = line_named (dump_fault_name fault)
 fault_line (Arguments line) = line.bytes.items
 fault_line (Text line) = line.bytes.items
-fault_line WasTold = []
+fault_line (Late line) = line.bytes.items
 
 -- what is written of a fault: its line, or the page of usage
 abbrev pub TellsOf : Fault → Output → Output → Type 0

@@ -1,10 +1,17 @@
 -- What is taken of an input part by part, of what an intake holds, and of what its reader has left: for private functions alone.
--- Cited by private contracts alone, of: auditing, converting, dumps, intake, running, scripts, statements.
-use Rattle.std.specs.Prelude.{ℕ, Bool, true, false, ◌≡◌, List, [], ◌++◌, drop, flat_map, Option, Some, None, if◌then◌else◌}
+-- Cited by private contracts alone, of: auditing, converting, dumps, intake, running, scripts, statements, typing.
+use Rattle.std.specs.Prelude.{ℕ, Bool, true, false, ◌≡◌, ◌⊎◌, List, [], ◌++◌, drop, flat_map, Option, Some, None, Result, Ok, Err, if◌then◌else◌}
 use Rattle.std.specs.Io.KnownBytes.{prepend_known}
 use Rattle.tb_records.specs.Ordered.{Each}
 use Rattle.tb_records.specs.Transport.{Input}
+use Rattle.tb_text_commands.specs.declared.faults.Fault.{Fault}
+use Rattle.tb_text_commands.specs.declared.faults.Fault.TheVariants as fault
 use Rattle.tb_text_commands.specs.declared.intake.Intake.{Intake}
+use Rattle.tb_text_commands.specs.declared.typing.Typed.{Typed}
+use Rattle.tb_text_commands.specs.declared.typing.Typed.TheVariants as typed
+use Rattle.tb_text_commands.specs.Ends.{is_passing}
+use Rattle.tb_text_commands.specs.Typed.{IsTypedPart, IsWrong, Leaves}
+use Rattle.tb_text_commands.specs.Whole.{WasWhole}
 
 -- what was read and not taken yet
 abbrev pub rest_of : Intake → List ℕ
@@ -69,3 +76,64 @@ pub record TakesPart (Part : List ℕ → Type 0) (before after : Intake) : Type
 pub record HoldsAsBefore (before after : Intake) : Type 0 where
   pub rest : rest_of after ≡ rest_of before
   pub same : after.ended ≡ before.ended
+
+-- on a terminal, of what an intake holds
+
+-- the first bytes were taken as a part, or end the conversation and stay
+pub record HoldsEnd (before after : Intake) : Type 0 where
+  pub leaves : Leaves (rest_of before)
+  pub same : HoldsAsBefore before after
+
+abbrev pub TakenOf : Typed → Intake → Intake → Type 0
+TakenOf (typed.Statement pairs) before after = TakesPart IsTypedPart before after
+TakenOf typed.Help before after = TakesPart IsTypedPart before after
+TakenOf typed.End before after = HoldsEnd before after
+
+abbrev pub TakenIfPassing : Bool → Intake → Intake → Type 0
+TakenIfPassing true before after = TakesPart IsTypedPart before after
+TakenIfPassing false before after = Unit {0}
+
+-- a text that goes wrong was taken, where the fault is that of a text
+abbrev pub TakesIfWrong : Fault → Intake → Intake → Type 0
+TakesIfWrong (fault.Text lines) before after = TakesPart IsWrong before after
+TakesIfWrong f before after = is_passing f ≡ false
+
+abbrev pub TypedOfRest : Result Typed Fault → Intake → Intake → Type 0
+TypedOfRest (Ok typed) before after = TakenOf typed before after
+TypedOfRest (Err fault) before after = TakenIfPassing (is_passing fault) before after
+
+abbrev pub CutRefused : Result (Unit {0}) Fault → Intake → Intake → Type 0
+CutRefused (Ok done) before after = after ≡ before
+CutRefused (Err fault) before after = TakenIfPassing (is_passing fault) before after
+
+-- on a terminal, of an intake and its reader
+
+-- the conversation ends: nothing is left, or the word that ends it is next
+abbrev pub EndsHere : List ℕ → Type 0
+EndsHere bytes = (bytes ≡ []) ⊎ Leaves bytes
+
+pub record TakesEnd (before : Option (List ℕ)) : Type 0 where
+  pub how : WasWhole EndsHere before
+
+-- a part was taken behind which the conversation goes on, or the conversation ends
+abbrev pub TakesNextTyped : Bool → Option (List ℕ) → Option (List ℕ) → Type 0
+TakesNextTyped true before after = TakesOne IsTypedPart before after
+TakesNextTyped false before after = TakesEnd before
+
+-- the same by what is typed next; behind a mistake the conversation goes on too
+abbrev pub goes_on : Typed → Bool
+goes_on (typed.Statement pairs) = true
+goes_on typed.Help = true
+goes_on typed.End = false
+
+abbrev pub TakesIfPassing : Bool → Option (List ℕ) → Option (List ℕ) → Type 0
+TakesIfPassing true before after = TakesOne IsTypedPart before after
+TakesIfPassing false before after = Unit {0}
+
+abbrev pub TakesTyped : Result Typed Fault → Option (List ℕ) → Option (List ℕ) → Type 0
+TakesTyped (Ok typed) before after = TakesNextTyped (goes_on typed) before after
+TakesTyped (Err fault) before after = TakesIfPassing (is_passing fault) before after
+
+abbrev pub TakesTurn : Result Bool Fault → Option (List ℕ) → Option (List ℕ) → Type 0
+TakesTurn (Ok more) before after = TakesNextTyped more before after
+TakesTurn (Err fault) before after = TakesIfPassing (is_passing fault) before after

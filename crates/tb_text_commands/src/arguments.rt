@@ -8,6 +8,7 @@ use std::alloc::{AllocError, Global};
 use std::format;
 use tb_commands::{read_clients_max, read_profile};
 use tb_records::{ClientsMax, Profile};
+use tb_text::nearest_name;
 
 /// What the program is asked to do.
 #[derive(Clone, Copy)]
@@ -112,6 +113,30 @@ fn wrong_run(alloc: Global, clients_max: &str, rest: &[String]) -> Result<String
     }
 }
 
+/// The first words of the program's forms.
+const FORMS: [&str; 10] = [
+    "run",
+    "script",
+    "requests",
+    "replies",
+    "dump",
+    "pairs",
+    "audit",
+    "explain",
+    "--help",
+    "--version",
+];
+
+/// The line of a word that no form begins with, and the nearest one that does.
+fn unknown_word(alloc: Global, word: &str) -> Result<String, AllocError> {
+    match nearest_name(alloc, word.as_bytes(), &FORMS)? {
+        Some(known) => format!(in alloc;
+            "tbt: {word}: unknown; did you mean {known}? tbt --help shows the forms\n"
+        ),
+        None => format!(in alloc; "tbt: {word}: unknown; tbt --help shows the forms\n"),
+    }
+}
+
 /// The line that says what is wrong with a word and those behind it, which are none of the program's forms.
 pub fn wrong_words(alloc: Global, word: &str, rest: &[String]) -> Result<String, AllocError> {
     match (word, rest) {
@@ -121,6 +146,6 @@ pub fn wrong_words(alloc: Global, word: &str, rest: &[String]) -> Result<String,
         (word, [more, ..]) if form_alone(word).is_some() => format!(in alloc;
             "tbt: {word} {more}: too many words\n"
         ),
-        (word, _) => format!(in alloc; "tbt: {word}: unknown; tbt --help shows the forms\n"),
+        (word, _) => unknown_word(alloc, word),
     }
 }

@@ -1,10 +1,12 @@
 //! The program's forms, over any reader and writer.
-ghost use Rattle.std.specs.Prelude.{◌≡◌, ◌<◌, false, IfOk, None, Option, Some, map, string_bytes, ℕ};
+ghost use Rattle.std.specs.Prelude.{◌≡◌, ◌<◌, false, None, OnOk, Option, Some, map, string_bytes, ℕ};
 ghost use Rattle.tb_text_commands.specs.declared.arguments.Form.{Form};
 ghost use Rattle.tb_text_commands.specs.declared.wanted.Wanted.{Wanted};
 ghost use Rattle.tb_text_commands.specs.AuditRuns.{AuditRan, AuditedBy};
 ghost use Rattle.tb_text_commands.specs.Ends.{Converts, Exits};
+ghost use Rattle.tb_text_commands.specs.Explanations.{Explained};
 ghost use Rattle.tb_text_commands.specs.Forms.{form_of};
+ghost use Rattle.tb_text_commands.specs.Typed.{IsReadBy, is_typed};
 ghost use Rattle.tb_text_commands.specs.Wanted.{is_wanted};
 ghost use Rattle.tb_text_commands.specs.Whole.{IsInputOf};
 
@@ -34,13 +36,14 @@ fn perform<C: Clock, R: Source, W: Sink, E: Sink>(
     writer: &mut W,
     faults: &mut E,
 ) -> Result<(), Fault>
-    ensures done { Converts (IsInputOf form) result (R.input reader.old) (R.input reader.new)
+    ensures done { Converts (IsReadBy form talks) result (R.input reader.old) (R.input reader.new)
         (W.output writer.old) (W.output writer.new) }
-    ensures quiet { IfOk result (λ _. faults.new ≡ faults.old) }
-    ensures silent { talks ≡ false → faults.new ≡ faults.old }
+    ensures silent { is_typed form talks ≡ false → faults.new ≡ faults.old }
     ensures audited { (wanted : Wanted) → form ≡ Form.Audit wanted
         → AuditRan (λ told line. Unit {0}) (is_wanted wanted) result wanted.account
         (R.input reader.old) (R.input reader.new) (W.output writer.old) (W.output writer.new) }
+    ensures explained { form ≡ Form.Explain → OnOk result
+        (Explained (R.input reader.old) (W.output writer.old) (W.output writer.new)) }
 {
     match form {
         Form::Script => {
@@ -57,9 +60,12 @@ fn perform<C: Clock, R: Source, W: Sink, E: Sink>(
         Form::Audit(wanted) => audit(alloc, wanted, reader, writer),
         Form::Explain => explain(alloc, reader, writer),
         Form::Run(clients_max, profile) => {
-            let rules = (clients_max, profile);
-            let mut conversation = Conversation::new(alloc, clock, rules, talks)?;
-            converse(&mut conversation, reader, writer, faults)
+            let conversation = Conversation::new(alloc, clock, (clients_max, profile))?;
+            if talks {
+                converse(conversation, reader, writer, faults)
+            } else {
+                convert(conversation, reader, writer)
+            }
         }
         Form::Help => put(writer, USAGE.as_bytes()),
         Form::Version => put(writer, VERSION.as_bytes()),
@@ -85,9 +91,10 @@ fn usage_fault(alloc: Global, words: &[String]) -> Fault {
 }
 
 /// Does what the words ask for, and answers the exit status: 0 done, 1 a device or memory failed, 2 the input or the
-/// arguments are wrong. With a status other than 0 one line goes to `faults`, with 0 nothing. Arguments that are none of
-/// the program's forms are found before any input is read. The clock is that of statements of `run` that leave out their
-/// moment.
+/// arguments are wrong. With a status other than 0 one line goes to `faults`, with 0 nothing. Where `run` talks, prompts and
+/// mistakes go there as they come, and it ends with status 0 at the end of the input, `exit` or `quit`. Arguments that are
+/// none of the program's forms are found before any input is read. The clock is that of statements of `run` that leave out
+/// their moment. What `explain` writes is the line that says where and why `tbs` stops, or that it ends well.
 pub fn command<C: Clock, R: Source, W: Sink, E: Sink>(
     alloc: Global,
     clock: &C,
@@ -98,7 +105,7 @@ pub fn command<C: Clock, R: Source, W: Sink, E: Sink>(
     faults: &mut E,
 ) -> u8
     ensures status { result < 3 }
-    ensures quiet { result ≡ 0 → faults.new ≡ faults.old }
+    ensures quiet { result ≡ 0 → talks ≡ false → faults.new ≡ faults.old }
     ensures usage { form_of (map string_bytes words.now) ≡ None
         → (result ≡ 2) × (reader.new ≡ reader.old) × (writer.new ≡ writer.old) }
     ensures ended { (form : Form) → form_of (map string_bytes words.now) ≡ Some form
@@ -112,11 +119,13 @@ pub fn command<C: Clock, R: Source, W: Sink, E: Sink>(
         usage_fault(alloc, words).tell(faults);
         return 2;
     };
+    let failures = reader.failures();
     match perform(alloc, clock, form, talks, reader, writer, faults) {
         Ok(()) => 0,
         Err(fault) => {
-            fault.tell(faults);
-            fault.status()
+            let status = fault.status();
+            fault.of_device(failures, reader.failures()).tell(faults);
+            status
         }
     }
 }

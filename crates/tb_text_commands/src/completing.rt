@@ -6,6 +6,17 @@ ghost use Rattle.tb_text_commands.specs.declared.completing.Standing.{Standing};
 
 use crate::heads::{Given, begins_operation, first_word, head_of, is_batch, is_register};
 use std::alloc::{AllocError, Global};
+use tb_records::Operation;
+use tb_text::{Word, awaited_behind, word_around};
+
+/// Every operation.
+const OPERATIONS: [Operation; 5] = [
+    Operation::Register,
+    Operation::CreateAccounts,
+    Operation::CreateTransfers,
+    Operation::LookupAccounts,
+    Operation::LookupTransfers,
+];
 
 /// How a client stands.
 #[derive(Clone, Copy)]
@@ -242,5 +253,65 @@ pub fn untold_at<'a, S: Standings>(
     match standings.standing(client) {
         Standing::Unknown => Some((client, operation)),
         _ => None,
+    }
+}
+
+/// What may be written where a statement says nothing yet but its fields: the fields that are left, and each operation that
+/// what is filled in makes right.
+fn words_of_head<S: Standings>(
+    alloc: Global,
+    standings: &S,
+    before: &[u8],
+) -> Result<Vec<Word>, AllocError> {
+    let mut found = match awaited_behind(alloc, before)? {
+        Some(awaited) => awaited.words,
+        None => Vec::new(alloc),
+    };
+    for operation in OPERATIONS {
+        if begins_with(alloc, standings, before, operation)? {
+            found.push(Word::Operation(operation))?;
+        }
+    }
+    Ok(found)
+}
+
+/// Says that a statement may begin with these bytes and an operation, what it leaves out filled in.
+fn begins_with<S: Standings>(
+    alloc: Global,
+    standings: &S,
+    before: &[u8],
+    operation: Operation,
+) -> Result<bool, AllocError> {
+    let mut text = Vec::from_slice(alloc, before)?;
+    text.push(b'\n')?;
+    text.extend_from_slice(operation.name().as_bytes())?;
+    text.push(b' ')?;
+    let whole = completed(alloc, None, standings, text.as_slice())?;
+    Ok(awaited_behind(alloc, whole.as_slice())?.is_some())
+}
+
+/// What stands before the word at a place, which lies before these bytes; a word that ends there and is right stands before it.
+fn before_word<'a>(alloc: Global, before: &'a [u8], rest: &[u8]) -> Result<&'a [u8], AllocError> {
+    let (begun, further) = word_around(before, rest);
+    if further == 0 && awaited_behind(alloc, before)?.is_some() {
+        return Ok(before);
+    }
+    Ok(before.split_at(before.len() - begun).0)
+}
+
+/// What may be written at a place of a statement, beside what goes on the whole one: where its operation is not written yet.
+pub fn words_to_fill<S: Standings>(
+    alloc: Global,
+    standings: &S,
+    text: &[u8],
+    place: usize,
+) -> Result<Vec<Word>, AllocError> {
+    let (before, rest) = text.split_at(place.min(text.len()));
+    let before = before_word(alloc, before, rest)?;
+    let (_, behind) = head_of(before);
+    if behind.is_empty() {
+        words_of_head(alloc, standings, before)
+    } else {
+        Ok(Vec::new(alloc))
     }
 }

@@ -1,5 +1,7 @@
 //! Where and why `tbs` stops in a script or a dump, in words.
+ghost use Rattle.std.specs.Prelude.{◌≡◌, IfOk, OnOk, length, string_bytes};
 ghost use Rattle.tb_text_commands.specs.Ends.{Ended};
+ghost use Rattle.tb_text_commands.specs.Explanations.{Explained, Explains, NamesHead, NamesStop, SaysDump, SaysRefused, SaysScript, TellsDump, TellsScript, begins_with, head_text, stop_text};
 
 use crate::faults::Fault;
 use crate::intake::Intake;
@@ -14,7 +16,21 @@ use tb_records::{DumpFault, FrameFault, Sink, Source};
 const SAMPLE: usize = 32;
 
 /// What a dump begins with.
-const SIGNATURE: &[u8] = b"TBSDUMP1";
+const DUMP: &[u8] = b"TBSDUMP1";
+
+/// What a ledger's file begins with, of `tbd`.
+const LEDGER: &[u8] = b"TBJRNL01";
+
+/// What is told of a ledger's file.
+const LEDGER_TOLD: &str =
+    "a ledger's file of tbd: tbd check FILE tells where it ends, tbd dump FILE makes a dump of it\n";
+
+/// Says that bytes begin with a name.
+fn begins_with(bytes: &[u8], name: &[u8]) -> bool
+    ensures { result ≡ begins_with name.now bytes.now }
+{
+    bytes.get(..name.len()).unwrap_or(bytes) == name
+}
 
 /// Why a pair is not served for which no time is left.
 const LATE: &str = "its moment is above 2^63 - 1; where its request is new, no time is left";
@@ -59,6 +75,22 @@ fn hint(bytes: &[u8]) -> &'static str {
     }
 }
 
+/// The line that is told where `tbs` stops, and what stands behind it.
+fn stop_line(
+    alloc: Global,
+    unit: &str,
+    place: Place,
+    words: &str,
+    name: &str,
+    more: &str,
+) -> Result<String, AllocError>
+    ensures { IfOk result (λ line.
+        string_bytes line ≡ stop_text unit.now place words.now name.now more.now) }
+{
+    let Place { number, at } = place;
+    format!(in alloc; "{unit} {number}, at byte {at}: {words} ({name})\n{more}")
+}
+
 /// What is told where `tbs` stops.
 fn stops_at(
     alloc: Global,
@@ -66,27 +98,40 @@ fn stops_at(
     place: Place,
     words: &str,
     name: &str,
-) -> Result<String, AllocError> {
-    let Place { number, at } = place;
-    format!(in alloc; "{unit} {number}, at byte {at}: {words} ({name})\n")
+    more: &str,
+) -> Result<String, AllocError>
+    ensures { IfOk result (λ line. NamesStop unit.now place name.now (string_bytes line)) }
+{
+    let line = stop_line(alloc, unit, place, words, name, more)?;
+    Ok(line)
 }
 
-/// What is told of a script.
-fn explain_script(alloc: Global, bytes: &[u8]) -> Result<String, AllocError> {
-    match script_end(alloc, bytes) {
+/// What is told by how far a script is read.
+fn script_line(alloc: Global, end: ScriptEnd, bytes: &[u8]) -> Result<String, AllocError>
+    ensures { IfOk result (λ line. TellsScript end bytes.now (string_bytes line)) }
+{
+    match end {
         ScriptEnd::Whole(pairs) => {
             let total = bytes.len();
             format!(in alloc; "a script, {pairs} pairs in {total} bytes: tbs reads it to its end\n")
         }
-        ScriptEnd::Late(place) => stops_at(alloc, "pair", place, LATE, "TimeExhausted"),
+        ScriptEnd::Late(place) => stops_at(alloc, "pair", place, LATE, "TimeExhausted", ""),
         ScriptEnd::Wrong(place, fault) => {
             let words = frame_words(fault);
-            let mut told = stops_at(alloc, "pair", place, words, fault.name())?;
-            told.push_str(hint(bytes.get(place.at..).unwrap_or_default()))?;
-            Ok(told)
+            let hint = hint(bytes.get(place.at..).unwrap_or_default());
+            stops_at(alloc, "pair", place, words, fault.name(), hint)
         }
         ScriptEnd::TooLong => format!(in alloc; "too many pairs\n"),
     }
+}
+
+/// What is told of a script.
+fn explain_script(alloc: Global, bytes: &[u8]) -> Result<String, AllocError>
+    ensures { IfOk result (λ line. SaysScript bytes.now (string_bytes line)) }
+{
+    let end = script_end(alloc, bytes)?;
+    let line = script_line(alloc, end, bytes)?;
+    Ok(line)
 }
 
 /// Why an entry may not come next, in words.
@@ -106,23 +151,39 @@ fn cause_words(alloc: Global, cause: Cause) -> Result<String, AllocError> {
 }
 
 /// What is told of an item that is not taken.
-fn refused_at(alloc: Global, place: Place, stop: Stop) -> Result<String, AllocError> {
+fn refused_at(alloc: Global, place: Place, stop: Stop) -> Result<String, AllocError>
+    ensures { IfOk result (λ line. SaysRefused place stop (string_bytes line)) }
+{
     match stop {
-        Stop::Mark => stops_at(alloc, "entry", place, "a mark under profile 2", "Mark"),
+        Stop::Mark => stops_at(alloc, "entry", place, "a mark under profile 2", "Mark", ""),
         Stop::NotLegal(cause) => {
             let words = cause_words(alloc, cause)?;
-            stops_at(alloc, "entry", place, words.as_str(), "NotLegal")
+            stops_at(alloc, "entry", place, words.as_str(), "NotLegal", "")
         }
     }
 }
 
-/// What is told of a dump.
-fn explain_dump(alloc: Global, bytes: &[u8]) -> Result<String, AllocError> {
-    match dump_end(alloc, bytes)? {
-        DumpEnd::NoHead(fault) => {
-            let (words, name) = (dump_words(fault), fault.name());
-            format!(in alloc; "the head, at byte 0: {words} ({name})\n")
-        }
+/// The line of what is no head, in words and by the fault's name.
+fn head_line(alloc: Global, words: &str, name: &str) -> Result<String, AllocError>
+    ensures { IfOk result (λ line. string_bytes line ≡ head_text words.now name.now) }
+{
+    format!(in alloc; "the head, at byte 0: {words} ({name})\n")
+}
+
+/// What is told of what is no head.
+fn no_head(alloc: Global, words: &str, name: &str) -> Result<String, AllocError>
+    ensures { IfOk result (λ line. NamesHead name.now (string_bytes line)) }
+{
+    let line = head_line(alloc, words, name)?;
+    Ok(line)
+}
+
+/// What is told by how far a dump is replayed.
+fn dump_line(alloc: Global, end: DumpEnd, bytes: &[u8]) -> Result<String, AllocError>
+    ensures { IfOk result (λ line. TellsDump end bytes.now (string_bytes line)) }
+{
+    match end {
+        DumpEnd::NoHead(fault) => no_head(alloc, dump_words(fault), fault.name()),
         DumpEnd::Whole(entries) => {
             let total = bytes.len();
             format!(in alloc;
@@ -130,10 +191,32 @@ fn explain_dump(alloc: Global, bytes: &[u8]) -> Result<String, AllocError> {
             )
         }
         DumpEnd::Wrong(place, fault) => {
-            stops_at(alloc, "entry", place, dump_words(fault), fault.name())
+            stops_at(alloc, "entry", place, dump_words(fault), fault.name(), "")
         }
         DumpEnd::Refused(place, stop) => refused_at(alloc, place, stop),
         DumpEnd::TooLong => format!(in alloc; "too many entries\n"),
+    }
+}
+
+/// What is told of a dump.
+fn explain_dump(alloc: Global, bytes: &[u8]) -> Result<String, AllocError>
+    ensures { IfOk result (λ line. SaysDump bytes.now (string_bytes line)) }
+{
+    let end = dump_end(alloc, bytes)?;
+    let line = dump_line(alloc, end, bytes)?;
+    Ok(line)
+}
+
+/// What is told of bytes, by what they begin with: a ledger's file, a dump, or else a script.
+fn told_of(alloc: Global, bytes: &[u8]) -> Result<String, AllocError>
+    ensures { IfOk result (λ line. Explains bytes.now (string_bytes line)) }
+{
+    if begins_with(bytes, LEDGER) {
+        LEDGER_TOLD.to_string(alloc)
+    } else if begins_with(bytes, DUMP) {
+        explain_dump(alloc, bytes)
+    } else {
+        explain_script(alloc, bytes)
     }
 }
 
@@ -143,20 +226,14 @@ pub fn explain<R: Source, W: Sink>(
     reader: &mut R,
     writer: &mut W,
 ) -> Result<(), Fault>
-    ensures { Ended result (R.input reader.old) (R.input reader.new) (W.output writer.old)
+    ensures ended { Ended result (R.input reader.old) (R.input reader.new) (W.output writer.old)
         (W.output writer.new) }
+    ensures told { OnOk result
+        (Explained (R.input reader.old) (W.output writer.old) (W.output writer.new)) }
 {
     let mut intake = Intake::new(alloc);
-    for _ in 0..u64::MAX {
-        if !intake.read_more(reader, writer)? {
-            break;
-        }
-    }
-    let bytes = intake.rest();
-    let told = if bytes.starts_with(SIGNATURE) {
-        explain_dump(alloc, bytes)
-    } else {
-        explain_script(alloc, bytes)
-    };
-    put(writer, told?.as_str().as_bytes())
+    intake.read_all(reader, writer)?;
+    let told = told_of(alloc, intake.rest())?;
+    put(writer, told.as_str().as_bytes())?;
+    Ok(())
 }

@@ -2,7 +2,7 @@
 ghost use Rattle.std.specs.Prelude.{◌≡◌, ◌<◌, ◌≤◌, length};
 ghost use Rattle.tb_commands.specs.Statuses.{TellsLine};
 ghost use Rattle.tb_text_commands.specs.declared.faults.Fault.TheVariants.{NoMemory};
-ghost use Rattle.tb_text_commands.specs.Statuses.{dump_fault_of, fault_status, frame_fault_of, line_named, TellsOf};
+ghost use Rattle.tb_text_commands.specs.Statuses.{device_named, dump_fault_of, fault_status, frame_fault_of, line_named, TellsOf};
 
 use crate::help::USAGE;
 use crate::told_lines::Lines;
@@ -10,7 +10,7 @@ use std::alloc::{AllocError, AllocFailed, Global};
 use std::format;
 use tb_commands::{line_by, put_line};
 use tb_records::{DumpFault, FrameFault, Sink};
-use tb_text::{TextFault, explain_fault};
+use tb_text::{TextFault, Word, explain_fault};
 
 /// Why the program ends with a status other than 0.
 #[derive(Drop)]
@@ -19,6 +19,10 @@ pub enum Fault {
     Usage,
     /// The reader or the writer failed.
     Device,
+    /// The reader failed.
+    Reader,
+    /// The writer failed.
+    Writer,
     /// There is no memory.
     NoMemory,
     /// The next request is new, and the end of time leaves no time for it.
@@ -33,8 +37,8 @@ pub enum Fault {
     Arguments(Lines),
     /// The text goes wrong: the lines that say where, what stands there and what could.
     Text(Lines),
-    /// Statements went wrong, and each was told when it came.
-    WasTold,
+    /// A statement's request is new, and the end of time leaves no time for it: the line that says so, and where.
+    Late(Lines),
 }
 
 impl From<AllocError> for Fault {
@@ -106,21 +110,40 @@ fn put_said(lines: &mut Vec<u8>, said: &[u8], words: Option<&[u8]>) -> Result<()
 }
 
 /// The lines of a text's fault that stands at a line and a column for the writer of the text. What is wrong is said in
-/// these words, where there are some.
+/// these words, where there are some, and what could stand there with those of `also`.
 pub fn fault_lines(
     alloc: Global,
     text: &[u8],
     fault: TextFault,
     (line, column): (usize, usize),
     words: Option<&[u8]>,
+    also: &[Word],
 ) -> Result<Lines, AllocError> {
     let mut lines = format!(in alloc; "tbt: line {line}, column {column}: ")?.into_bytes();
-    let said = explain_fault(alloc, text, fault, (1, 1))?;
+    let said = explain_fault(alloc, text, fault, (1, 1), also)?;
     put_said(&mut lines, said.as_slice(), words)?;
     Lines::new(alloc, lines.as_slice())
 }
 
+/// The line of a statement at a line and a column for whose request no time is left.
+pub fn late_line(alloc: Global, (line, column): (usize, usize)) -> Result<Lines, AllocError> {
+    let said = format!(in alloc; "tbt: TimeExhausted: line {line}, column {column}\n")?;
+    Lines::new(alloc, said.as_bytes())
+}
+
 impl Fault {
+    /// The fault by the reader's errors before it and behind it: of a device that failed, which one. A count of errors that
+    /// is at its greatest says nothing.
+    pub fn of_device(self, before: u64, after: u64) -> Fault
+        ensures { result ≡ device_named self before after }
+    {
+        match self {
+            Fault::Device if before != after => Fault::Reader,
+            Fault::Device if before < u64::MAX => Fault::Writer,
+            fault => fault,
+        }
+    }
+
     /// 1 where a device or memory failed, 2 where the input or the arguments are wrong.
     pub fn status(&self) -> u8
         ensures status { result ≡ fault_status self.now }
@@ -128,7 +151,7 @@ impl Fault {
         ensures known { result < 3 }
     {
         match self {
-            Fault::Device => 1,
+            Fault::Device | Fault::Reader | Fault::Writer => 1,
             Fault::NoMemory => 1,
             Fault::Dump(DumpFault::NoMemory) => 1,
             Fault::Dump(DumpFault::Frame(FrameFault::Device | FrameFault::NoMemory)) => 1,
@@ -145,6 +168,8 @@ impl Fault {
         match self {
             Fault::Usage => put_line(USAGE.as_bytes(), faults),
             Fault::Device => put_name("Device", faults),
+            Fault::Reader => put_name("Device: standard input", faults),
+            Fault::Writer => put_name("Device: standard output", faults),
             Fault::NoMemory => put_name("NoMemory", faults),
             Fault::TimeExhausted => put_name("TimeExhausted", faults),
             Fault::TooLong => put_name("TooLong", faults),
@@ -152,7 +177,7 @@ impl Fault {
             Fault::Dump(fault) => put_name(fault.name(), faults),
             Fault::Arguments(line) => put_line(line.as_slice(), faults),
             Fault::Text(line) => put_line(line.as_slice(), faults),
-            Fault::WasTold => {}
+            Fault::Late(line) => put_line(line.as_slice(), faults),
         }
     }
 }

@@ -15,7 +15,7 @@ pub struct Given {
 }
 
 /// The number of bytes of the spaces and comments that the bytes begin with.
-fn gap_length(bytes: &[u8]) -> usize
+pub fn gap_length(bytes: &[u8]) -> usize
     ensures value { result ≡ gap_length false bytes.now }
     ensures within { result ≤ length bytes.now }
 {
@@ -53,7 +53,7 @@ fn word_length(bytes: &[u8]) -> usize
 }
 
 /// The bytes behind spaces and comments.
-fn past_gap(bytes: &[u8]) -> &[u8]
+pub fn past_gap(bytes: &[u8]) -> &[u8]
     ensures { result.now ≡ past_gap bytes.now }
 {
     bytes.split_at(gap_length(bytes)).1
@@ -67,7 +67,7 @@ pub fn first_word(bytes: &[u8]) -> &[u8]
 }
 
 /// What stands behind the word that the bytes begin with.
-fn behind_word(bytes: &[u8]) -> &[u8]
+pub fn behind_word(bytes: &[u8]) -> &[u8]
     ensures { result.now ≡ behind_word bytes.now }
 {
     past_gap(bytes.split_at(word_length(bytes)).1)

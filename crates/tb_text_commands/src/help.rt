@@ -26,6 +26,10 @@ Reads standard input, writes standard output.
 CLIENTS_MAX is 1 to 64, PROFILE 1 or 2. The exit status is 0 where all is done, 1 where a
 device or memory failed, 2 where the input or the arguments are wrong.
 
+On a terminal tbt run 2 shows a prompt, and help there shows statements. Its ledger ends with it.
+A ledger in a file is served by tbd: tbt script < a.text | tbd run FILE 2 | tbt replies. At a
+terminal, tb-repl takes statements to it.
+
 Example: two accounts, a transfer of 100, and how an account stands then.
 
   tbt run 2 <<END
@@ -33,4 +37,22 @@ Example: two accounts, a transfer of 100, and how an account stands then.
   create_transfers id=11 debit_account_id=1 credit_account_id=2 amount=100 ledger=700 code=10;
   lookup_accounts id=2;
   END
+";
+
+/// What a conversation on a terminal begins with.
+pub const GREETING: &str = "A statement ends with `;`. `help` shows some, `exit` or Ctrl-D ends.\n";
+
+/// How statements are written.
+pub const STATEMENTS: &str =
+    "An operation with its fields, events or ids between `,`, and `;`, on one line or more:
+
+  create_accounts id=1 ledger=700 code=10, id=2 ledger=700 code=10;
+  create_transfers id=11 debit_account_id=1 credit_account_id=2 amount=100 ledger=700 code=10;
+  lookup_accounts id=1, id=2;
+  lookup_transfers id=11;
+
+at=, client=, session= and request= may come before the operation, and `register` registers a
+client. What is left out is filled in. To send a request again, give its number: request=2.
+Flags: flags=linked|pending. Behind a mistake all that may be written there is shown.
+`exit`, `quit` or Ctrl-D at the beginning of a line ends. The ledger ends with the program.
 ";

@@ -37,7 +37,7 @@ fn finish<W: Write + Drop, E: Sink>(mut output: W, status: u8, line: &[u8], faul
     ensures { result < 3 }
 {
     if output.flush().is_err() {
-        return refuse(&Fault::Device, faults);
+        return refuse(&Fault::Writer, faults);
     }
     put_line(line, faults);
     status

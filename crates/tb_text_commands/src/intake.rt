@@ -1,16 +1,20 @@
 //! Bytes that were read and wait to be taken: statements, or replies, one by one.
-ghost use Rattle.std.specs.Prelude.{◌≡◌, IfOk, drop, false, take, true};
-ghost use Rattle.tb_records.specs.Transport.{Input};
-ghost use Rattle.tb_text_commands.specs.Ends.{Ended};
+ghost use Rattle.std.specs.Prelude.{◌≡◌, ◌≤◌, [], IfErr, IfOk, OnOk, Some, drop, false, length, take, true};
+ghost use Rattle.tb_records.specs.Transport.{Input, Sent};
+ghost use Rattle.tb_text_commands.specs.Ends.{Ended, is_passing};
 ghost use Rattle.tb_text_commands.specs.Taken.{HoldsAsBefore, Stays, rest_of, waiting};
 
 use crate::faults::Fault;
+use crate::heads::gap_length;
 use std::alloc::Global;
 use tb_records::{Sink, Source};
 use tb_text::position;
 
 /// The bytes that are asked for at a time.
 const CHUNK: usize = 4096;
+
+/// The bytes of the longest line that a terminal gives, with its end. It drops those of a longer one, and keeps its end.
+const LINE_MAX: usize = 4096;
 
 /// Bytes that were read and not taken yet.
 #[derive(Drop)]
@@ -28,6 +32,8 @@ pub struct Intake {
     /// The line and the column of the first byte that is not taken, both from 1.
     line: usize,
     column: usize,
+    /// Those of the first byte of what was taken last, behind spaces and comments.
+    taken_at: (usize, usize),
 }
 
 impl Intake {
@@ -44,6 +50,7 @@ impl Intake {
             ended: false,
             line: 1,
             column: 1,
+            taken_at: (1, 1),
         }
     }
 
@@ -76,11 +83,36 @@ impl Intake {
         }
     }
 
+    /// Says that the reader told its end.
+    pub fn has_ended(&self) -> bool
+        ensures { result ≡ self.now.ended }
+    {
+        self.ended
+    }
+
+    /// Says that the last line of the rest ended, and is as long as a terminal's longest: more may have been typed.
+    pub fn ends_with_cut_line(&self) -> bool
+        ensures { result ≡ true → 4096 ≤ length (rest_of self.now) }
+    {
+        let rest = self.rest();
+        let Some(before) = rest.len().checked_sub(LINE_MAX) else {
+            return false;
+        };
+        let line = rest.get(before..).unwrap_or(rest);
+        line.iter().position(|byte| *byte == b'\n') == Some(LINE_MAX - 1)
+    }
+
+    /// The line and the column of what was taken last, both from 1.
+    pub fn taken_at(&self) -> (usize, usize) {
+        self.taken_at
+    }
+
     /// Takes bytes of the rest.
     pub fn take(&mut self, length: usize)
         ensures rest { rest_of self.new ≡ drop length (rest_of self.old) }
         ensures same { self.new.ended ≡ self.old.ended }
     {
+        self.taken_at = self.position_at(gap_length(self.first(length)));
         let (line, column) = self.position_at(length);
         self.line = line;
         self.column = column;
@@ -138,6 +170,8 @@ impl Intake {
         ensures kept { IfOk result (λ _.
             Stays (waiting self.old (R.input reader.old)) (waiting self.new (R.input reader.new))) }
         ensures end { IfOk result (λ more. more ≡ false → self.new.ended ≡ true) }
+        ensures fault { IfErr result (λ fault. is_passing fault ≡ false) }
+        ensures silent { Sent [] (W.output writer.old) (W.output writer.new) }
     {
         if self.ended {
             return Ok(false);
@@ -153,5 +187,24 @@ impl Intake {
         self.bytes.extend_from_slice(&buffer[..read])?;
         self.ended = read == 0;
         Ok(read > 0)
+    }
+    /// Reads all that is left, and writes nothing.
+    pub fn read_all<R: Source, W: Sink>(
+        &mut self,
+        reader: &mut R,
+        writer: &mut W,
+    ) -> Result<(), Fault>
+        ensures ended { Ended result (R.input reader.old) (R.input reader.new) (W.output writer.old)
+            (W.output writer.new) }
+        ensures all { OnOk result (Stays (waiting self.old (R.input reader.old))
+            (Some (rest_of self.new))) }
+        ensures silent { Sent [] (W.output writer.old) (W.output writer.new) }
+    {
+        for _ in 0..u64::MAX {
+            if !self.read_more(reader, writer)? {
+                return Ok(());
+            }
+        }
+        Err(Fault::TooLong)
     }
 }

@@ -6,7 +6,7 @@
 //! - `wanted`: which lines of an audit are wanted.
 //! - `audit_options`: the options of `audit`.
 //! - `arguments`: `read_form`, what the words of the command line ask for.
-//! - `help`: the page of usage.
+//! - `help`: the page of usage, and what a terminal is shown.
 //! - `told_lines`: lines that may go to a terminal.
 //! - `faults`: why the program ends with a status other than 0, and its line.
 //! - `intake`: bytes that were read and wait to be taken.
@@ -14,6 +14,8 @@
 //! - `completing`: what a statement leaves out, and what stands for it.
 //! - `script_standings`: what the statements before tell of clients.
 //! - `statements`: statements, read one by one.
+//! - `asking`: the words beside statements on a terminal.
+//! - `typing`: what is typed on a terminal, behind a prompt.
 //! - `converting`: an input that is taken part by part, and what is written for each part.
 //! - `objects`: records, ids and results as JSON objects.
 //! - `results`: what became of the events of the last entry.
@@ -32,12 +34,14 @@
 //! - `commands`: `command`, each form over any reader and writer.
 //! - `host`: `serve`, a form between buffers, and the fault of words that cannot be had.
 //! - `completing_laws`: what holds of every statement that is completed, and rows of it.
+//! - `explaining_laws`: what `explain` says of a script is what `tbs run` makes of it.
 //! - `whole_laws`: rows of what is whole.
 //!
-//! specs/Whole is what each form has read where it is done; specs/Completed what stands for what a statement leaves out.
+//! specs/Whole is what each form has read where it is done, specs/Typed what `run` has on a terminal; specs/Completed what stands for what a statement leaves out.
 #![tactic(auto)]
 
 mod arguments;
+mod asking;
 mod audit_json;
 mod audit_lines;
 mod audit_options;
@@ -48,6 +52,7 @@ pub mod completing_laws;
 mod converting;
 mod dumps;
 mod explaining;
+pub mod explaining_laws;
 mod faults;
 mod heads;
 mod help;
@@ -64,6 +69,7 @@ mod scripts;
 mod statements;
 mod stops;
 mod told_lines;
+mod typing;
 mod waits;
 mod wanted;
 pub mod whole_laws;

@@ -1,22 +1,26 @@
 //! A server for statements: each is served when it is read, and its reply is told as a line of JSON.
-ghost use Rattle.std.specs.Prelude.{◌≡◌, false, IfErr, IfOk, OnOk, Some};
+ghost use Rattle.std.specs.Prelude.{◌≡◌, IfErr, IfOk, OnOk, Some};
 ghost use Rattle.tb_records.specs.Transport.{Input};
 ghost use Rattle.tb_sessions.specs.Judged.{class_of};
-ghost use Rattle.tb_text_commands.specs.Answered.{Answers, Enters};
+ghost use Rattle.tb_text_commands.specs.Answered.{Answers, Enters, IsPlaced};
 ghost use Rattle.tb_text_commands.specs.Completed.{standing_in};
 ghost use Rattle.tb_text_commands.specs.Ends.{Ended, IsOfInput, Written, is_passing};
-ghost use Rattle.tb_text_commands.specs.Taken.{waiting};
-ghost use Rattle.tb_text_commands.specs.Whole.{IsStatement, Parts, WasWhole};
+ghost use Rattle.tb_text_commands.specs.Taken.{TakesNextTyped, TakesTurn, waiting};
+ghost use Rattle.tb_text_commands.specs.Typed.{IsTyped};
+ghost use Rattle.tb_text_commands.specs.Whole.{IsStatement, WasWhole};
 
 use crate::completing::{Standing, Standings};
-use crate::converting::{Converter, Next, convert_next};
-use crate::faults::Fault;
+use crate::converting::{Converter, Next};
+use crate::faults::{Fault, late_line};
+use crate::help::{GREETING, STATEMENTS};
 use crate::intake::Intake;
 use crate::lines::reply_line;
 use crate::scripts::put;
 use crate::statements::next_statement;
+use crate::typing::{Typed, next_typed};
 use std::alloc::{AllocError, Global};
 use std::time::Clock;
+use tb_commands::put_line;
 use tb_machine::{Machine, status_of};
 use tb_records::{ClientsMax, Items, Profile, Reply, Request, Sink, Source};
 use tb_sessions::Class;
@@ -26,7 +30,7 @@ const FIRST_CLIENT: u128 = 1;
 
 /// A machine, the client that was named last, and a clock.
 #[derive(Drop)]
-struct Server<'a, C: Clock> {
+pub struct Server<'a, C: Clock> {
     alloc: Global,
     machine: Machine<Global>,
     last: u128,
@@ -134,8 +138,6 @@ impl<C: Clock> Server<'_, C> {
 pub struct Conversation<'a, C: Clock> {
     intake: Intake,
     server: Server<'a, C>,
-    /// Statements are typed: a wrong one is told with its line, before its `;` is there.
-    talks: bool,
 }
 
 impl<'a, C: Clock> Conversation<'a, C> {
@@ -144,10 +146,8 @@ impl<'a, C: Clock> Conversation<'a, C> {
         alloc: Global,
         clock: &'a C,
         rules: (ClientsMax, Profile),
-        talks: bool,
     ) -> Result<Conversation<'a, C>, AllocError>
-        ensures { IfOk result (λ begun.
-            (begun.talks ≡ talks) × ((input : Input) → waiting begun.intake input ≡ input.left)) }
+        ensures { IfOk result (λ begun. (input : Input) → waiting begun.intake input ≡ input.left) }
     {
         let (clients_max, profile) = rules;
         Ok(Conversation {
@@ -158,8 +158,20 @@ impl<'a, C: Clock> Conversation<'a, C> {
                 last: FIRST_CLIENT,
                 clock,
             },
-            talks,
         })
+    }
+
+    /// The fault of a statement that was served, of which the place is told where no time is left.
+    fn placed(&self, fault: Fault) -> Fault
+        ensures { IsPlaced fault result }
+    {
+        match fault {
+            Fault::TimeExhausted => {
+                let line = late_line(self.intake.alloc, self.intake.taken_at());
+                line.map_or_else(Fault::from, Fault::Late)
+            }
+            fault => fault,
+        }
     }
 }
 
@@ -171,13 +183,14 @@ impl<C: Clock> Converter for Conversation<'_, C> {
     ghost remaining = { λ conversation input. waiting conversation.intake input };
 
     fn next<R: Source, W: Sink>(&mut self, reader: &mut R, writer: &mut W) -> Next<Self::Piece> {
-        let talks = self.talks;
-        next_statement(&mut self.intake, &self.server, reader, writer, talks)
+        next_statement(&mut self.intake, &self.server, reader, writer)
     }
 
     fn put<W: Sink>(&mut self, writer: &mut W, pairs: Items<(u64, Request)>) -> Result<(), Fault> {
         for (moment, request) in pairs.into_vec() {
-            self.server.serve(moment, request, writer)?;
+            if let Err(fault) = self.server.serve(moment, request, writer) {
+                return Err(self.placed(fault));
+            }
         }
         Ok(())
     }
@@ -187,12 +200,57 @@ impl<C: Clock> Converter for Conversation<'_, C> {
 fn is_passing(fault: &Fault) -> bool
     ensures { result ≡ is_passing fault.now }
 {
-    matches!(fault, Fault::Text(_) | Fault::TimeExhausted)
+    matches!(fault, Fault::Text(_) | Fault::Late(_))
 }
 
-/// Serves statements to their end. Where they are typed, a wrong one is told at once, and the next one is read.
-pub fn converse<C: Clock, R: Source, W: Sink, E: Sink>(
+/// Serves what is typed next: false at the end.
+fn turn<C: Clock, R: Source, W: Sink, E: Sink>(
     conversation: &mut Conversation<'_, C>,
+    reader: &mut R,
+    writer: &mut W,
+    faults: &mut E,
+) -> Result<bool, Fault>
+    ensures ended { Ended result (R.input reader.old) (R.input reader.new) (W.output writer.old)
+        (W.output writer.new) }
+    ensures taken { TakesTurn result (waiting conversation.old.intake (R.input reader.old))
+        (waiting conversation.new.intake (R.input reader.new)) }
+{
+    let Conversation { intake, server } = conversation;
+    match next_typed(intake, server, reader, writer, faults)? {
+        Typed::Statement(pairs) => conversation.put(writer, pairs)?,
+        Typed::Help => put_line(STATEMENTS.as_bytes(), faults),
+        Typed::End => return Ok(false),
+    }
+    Ok(true)
+}
+
+/// Serves what is typed next, or tells at once what is wrong with it: false at the end.
+fn serve_turn<C: Clock, R: Source, W: Sink, E: Sink>(
+    conversation: &mut Conversation<'_, C>,
+    reader: &mut R,
+    writer: &mut W,
+    faults: &mut E,
+) -> Result<bool, Fault>
+    ensures ended { Ended result (R.input reader.old) (R.input reader.new) (W.output writer.old)
+        (W.output writer.new) }
+    ensures taken { IfOk result (λ more.
+        TakesNextTyped more (waiting conversation.old.intake (R.input reader.old))
+        (waiting conversation.new.intake (R.input reader.new))) }
+{
+    match turn(conversation, reader, writer, faults) {
+        Err(fault) if is_passing(&fault) => {
+            writer.pass_on();
+            fault.tell(faults);
+            Ok(true)
+        }
+        result => result,
+    }
+}
+
+/// Serves statements that are typed on a terminal, to the end of the input or a word that ends the conversation. A wrong one is
+/// told at once, and the next one is read.
+pub fn converse<C: Clock, R: Source, W: Sink, E: Sink>(
+    mut conversation: Conversation<'_, C>,
     reader: &mut R,
     writer: &mut W,
     faults: &mut E,
@@ -200,23 +258,12 @@ pub fn converse<C: Clock, R: Source, W: Sink, E: Sink>(
     ensures ended { Ended result (R.input reader.old) (R.input reader.new) (W.output writer.old)
         (W.output writer.new) }
     ensures whole { OnOk result
-        (WasWhole (Parts IsStatement) (waiting conversation.old.intake (R.input reader.old))) }
-    ensures quiet { IfOk result (λ _. faults.new ≡ faults.old) }
-    ensures silent { conversation.old.talks ≡ false → faults.new ≡ faults.old }
+        (WasWhole IsTyped (waiting conversation.entry.intake (R.input reader.old))) }
 {
-    let talks = conversation.talks;
-    let mut told = false;
+    put_line(GREETING.as_bytes(), faults);
     for _ in 0..u64::MAX {
-        match convert_next(conversation, reader, writer) {
-            Ok(true) => {}
-            Ok(false) if told => return Err(Fault::WasTold),
-            Ok(false) => return Ok(()),
-            Err(fault) if talks && is_passing(&fault) => {
-                writer.pass_on();
-                fault.tell(faults);
-                told = true;
-            }
-            Err(fault) => return Err(fault),
+        if !serve_turn(&mut conversation, reader, writer, faults)? {
+            return Ok(());
         }
     }
     Err(Fault::TooLong)

@@ -67,7 +67,7 @@ impl Converter for Script {
     ghost remaining = { λ script input. waiting script.intake input };
 
     fn next<R: Source, W: Sink>(&mut self, reader: &mut R, writer: &mut W) -> Next<Self::Piece> {
-        next_statement(&mut self.intake, &self.told, reader, writer, false)
+        next_statement(&mut self.intake, &self.told, reader, writer)
     }
 
     fn put<W: Sink>(&mut self, writer: &mut W, pairs: Items<(u64, Request)>) -> Result<(), Fault> {

@@ -1,10 +1,10 @@
 //! Statements that are read one by one.
 ghost use Rattle.std.specs.Prelude.{IfErr, IfOk, OnOk};
 ghost use Rattle.tb_text_commands.specs.Ends.{Ended, IsOfInput};
-ghost use Rattle.tb_text_commands.specs.Taken.{TakesNext, TakesPart, waiting};
+ghost use Rattle.tb_text_commands.specs.Taken.{TakesIfWrong, TakesNext, TakesPart, waiting};
 ghost use Rattle.tb_text_commands.specs.Whole.{IsStatement};
 
-use crate::completing::{Standings, completed, untold_at};
+use crate::completing::{Standings, completed, untold_at, words_to_fill};
 use crate::converting::Next;
 use crate::faults::{Fault, fault_lines};
 use crate::intake::Intake;
@@ -22,34 +22,43 @@ fn untold_words(alloc: Global, client: u128, operation: &[u8]) -> Result<Vec<u8>
     Ok(words)
 }
 
-/// The lines of a fault in the whole statement that a text stands for, where its writer sees it.
+/// The lines of a fault in the whole statement that a text stands for, where its writer sees it. What could stand there is
+/// told with the words that what is filled in makes right, where the statement is `typed`.
 fn lines_of<S: Standings>(
     intake: &Intake,
     standings: &S,
     text: &[u8],
     whole: &[u8],
     fault: TextFault,
+    typed: bool,
 ) -> Result<Lines, AllocError> {
     let alloc = intake.alloc;
     let added = whole.len().saturating_sub(text.len());
-    let position = intake.position_at(fault.place.saturating_sub(added));
-    match untold_at(standings, text, fault.place) {
-        Some((client, operation)) => {
-            let words = untold_words(alloc, client, operation)?;
-            fault_lines(alloc, whole, fault, position, Some(words.as_slice()))
-        }
-        None => fault_lines(alloc, whole, fault, position, None),
-    }
+    let place = fault.place.saturating_sub(added);
+    let position = intake.position_at(place);
+    let also = if typed {
+        words_to_fill(alloc, standings, text, place)?
+    } else {
+        Vec::new(alloc)
+    };
+    let said = match untold_at(standings, text, fault.place) {
+        Some((client, operation)) => Some(untold_words(alloc, client, operation)?),
+        None => None,
+    };
+    let words = said.as_ref().map(|words| words.as_slice());
+    fault_lines(alloc, whole, fault, position, words, also.as_slice())
 }
 
 /// The requests of the first bytes of the rest, which are taken; or where they go wrong.
-fn take_text<S: Standings>(
+pub fn take_text<S: Standings>(
     intake: &mut Intake,
     standings: &S,
     length: usize,
+    typed: bool,
 ) -> Result<Items<(u64, Request)>, Fault>
     ensures fault { IfErr result IsOfInput }
     ensures taken { OnOk result (TakesPart IsStatement intake.old intake.new) }
+    ensures wrong { IfErr result (λ fault. TakesIfWrong fault intake.old intake.new) }
 {
     let text = intake.first(length);
     let clock = standings.moment().map(|moment| moment as u128);
@@ -60,13 +69,13 @@ fn take_text<S: Standings>(
         return Ok(pairs);
     };
     drop(pairs);
-    let lines = lines_of(intake, standings, text, whole.as_slice(), fault);
+    let lines = lines_of(intake, standings, text, whole.as_slice(), fault, typed);
     intake.take(length);
     Err(Fault::Text(lines?))
 }
 
 /// Says that the lines of the rest begin no statement, whatever follows. That needs no clock: any moment fits.
-fn goes_wrong<S: Standings>(intake: &Intake, standings: &S) -> Result<bool, AllocError> {
+pub fn goes_wrong<S: Standings>(intake: &Intake, standings: &S) -> Result<bool, AllocError> {
     let rest = intake.rest();
     if !matches!(rest, [.., b'\n']) {
         return Ok(false);
@@ -78,14 +87,12 @@ fn goes_wrong<S: Standings>(intake: &Intake, standings: &S) -> Result<bool, Allo
 }
 
 /// The requests of the next statement, or of what stands behind the last one: none. None where nothing is left. What the
-/// statement leaves out is filled in. Where it is `urgent`, a statement that goes wrong is told with its line, before its `;`
-/// is there.
+/// statement leaves out is filled in.
 pub fn next_statement<R: Source, W: Sink, S: Standings>(
     intake: &mut Intake,
     standings: &S,
     reader: &mut R,
     writer: &mut W,
-    urgent: bool,
 ) -> Next<Items<(u64, Request)>>
     ensures ended { Ended result (R.input reader.old) (R.input reader.new) (W.output writer.old)
         (W.output writer.new) }
@@ -95,15 +102,14 @@ pub fn next_statement<R: Source, W: Sink, S: Standings>(
 {
     for _ in 0..u64::MAX {
         if let Some(length) = intake.statement() {
-            return Ok(Some(take_text(intake, standings, length)?));
+            return Ok(Some(take_text(intake, standings, length, false)?));
         }
-        let is_wrong = urgent && goes_wrong(intake, standings)?;
-        if is_wrong || !intake.read_more(reader, writer)? {
+        if !intake.read_more(reader, writer)? {
             let length = intake.rest().len();
-            if length == 0 && !is_wrong {
+            if length == 0 {
                 return Ok(None);
             }
-            return Ok(Some(take_text(intake, standings, length)?));
+            return Ok(Some(take_text(intake, standings, length, false)?));
         }
     }
     Err(Fault::TooLong)

@@ -64,7 +64,7 @@ pub enum DumpEnd {
     TooLong,
 }
 
-/// The moment of the next pair of a script, and what stands behind it.
+/// The moment of the next pair of a script, and what stands behind it; or the fault of what stands there.
 fn next_pair(alloc: Global, rest: &[u8]) -> Result<Option<(u64, &[u8])>, FrameFault>
     ensures { MatchResult result
         (λ next. MatchOption next (rest.now ≡ [])
@@ -81,9 +81,9 @@ fn next_pair(alloc: Global, rest: &[u8]) -> Result<Option<(u64, &[u8])>, FrameFa
     }
 }
 
-/// How far a script is read, of whose pairs none is late.
-pub fn script_end(alloc: Global, bytes: &[u8]) -> ScriptEnd
-    ensures { ScriptEnds result bytes.now }
+/// How far a script is read, of whose pairs none is late. AllocError where there is no memory.
+pub fn script_end(alloc: Global, bytes: &[u8]) -> Result<ScriptEnd, AllocError>
+    ensures { IfOk result (λ end. ScriptEnds end bytes.now) }
 {
     let mut rest = bytes;
     for number in 1..u64::MAX {
@@ -92,15 +92,16 @@ pub fn script_end(alloc: Global, bytes: &[u8]) -> ScriptEnd
         match next_pair(alloc, rest) {
             Ok(Some((moment, behind))) => {
                 if moment > LAST_MOMENT {
-                    return ScriptEnd::Late(place);
+                    return Ok(ScriptEnd::Late(place));
                 }
                 rest = behind;
             }
-            Ok(None) => return ScriptEnd::Whole(number - 1),
-            Err(fault) => return ScriptEnd::Wrong(place, fault),
+            Ok(None) => return Ok(ScriptEnd::Whole(number - 1)),
+            Err(FrameFault::NoMemory | FrameFault::Device) => return Err(AllocError),
+            Err(fault) => return Ok(ScriptEnd::Wrong(place, fault)),
         }
     }
-    ScriptEnd::TooLong
+    Ok(ScriptEnd::TooLong)
 }
 
 /// The first cause for which an entry may not come next; its time, where no other holds.
@@ -206,6 +207,11 @@ fn items_end(
                 rest = behind;
             }
             Ok(None) => return Ok(DumpEnd::Whole(machine.commit())),
+            Err(
+                DumpFault::NoMemory | DumpFault::Frame(FrameFault::NoMemory | FrameFault::Device),
+            ) => {
+                return Err(AllocError);
+            }
             Err(fault) => return Ok(DumpEnd::Wrong(place, fault)),
         }
     }

@@ -74,11 +74,11 @@ fn fail_reading(rt: &(impl Abort + AllocGlobal), form: &str, bytes: &[u8]) {
     let line = faults.into_inner();
     holds(rt, status == 1, &form);
     holds(rt, reader.failures() == 1, &form);
-    same(rt, line.as_slice(), b"tbt: Device\n");
+    same(rt, line.as_slice(), b"tbt: Device: standard input\n");
     drop(line);
 }
 
-/// An error of the reader is not the end of the input: the status is 1, the line Device, and the reader is asked no more.
+/// An error of the reader is not the end of the input: the status is 1, the line names the input, and the reader is asked no more.
 #[test]
 fn failing_reader(rt: HostRuntime) {
     for (form, bytes) in INPUTS {
@@ -137,7 +137,7 @@ fn loses<W: Write + Drop>(rt: &(impl Abort + AllocGlobal), words: &[&str], talks
     );
     drop(owned);
     let line = faults.into_inner();
-    same(rt, line.as_slice(), b"tbt: Device\n");
+    same(rt, line.as_slice(), b"tbt: Device: standard output\n");
     drop(line);
     holds(rt, status == 1, &status);
 }

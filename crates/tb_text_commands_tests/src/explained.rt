@@ -169,3 +169,37 @@ fn marks(rt: HostRuntime) {
         drop(dump);
     }
 }
+
+/// Inputs that are no script and no dump, or no whole one, and what is said.
+const OTHERS_SAID: [(&[u8], &str); 4] = [
+    (
+        b"TBJRNL01\xff\x10\0\0",
+        "a ledger's file of tbd: tbd check FILE tells where it ends, tbd dump FILE makes a dump of it\n",
+    ),
+    (
+        b"TBSDUMP1\x01\0\0\0\x02\0\0\0",
+        "a dump, 0 entries in 16 bytes: tbs replays it to its end\n",
+    ),
+    (
+        b"TBSDUMP1\x03\0\0\0\x02\0\0\0",
+        "the head, at byte 0: the first 16 bytes are no head: TBSDUMP1, profile 1 or 2, 1 to 64 clients (Head)\n",
+    ),
+    (
+        b"",
+        "a script, 0 pairs in 0 bytes: tbs reads it to its end\n",
+    ),
+];
+
+#[test]
+fn what_bytes_begin_with(rt: HostRuntime) {
+    for (input, output) in OTHERS_SAID {
+        let row = Row {
+            words: &["explain"],
+            input,
+            status: 0,
+            output,
+            line: "",
+        };
+        leaves(&rt, &row);
+    }
+}

@@ -5,6 +5,7 @@
 //! - `comparing`: what is compared, in one place.
 //! - `forms`: a form over bytes in memory.
 //! - `served`: statements, their scripts and replies.
+//! - `typed`: conversations on a terminal.
 //! - `large`: the largest statement.
 //! - `objects`: records, replies, statuses and results as JSON.
 //! - `histories`: histories as dumps.
@@ -37,3 +38,5 @@ mod objects;
 mod said;
 #[cfg(test)]
 mod served;
+#[cfg(test)]
+mod typed;

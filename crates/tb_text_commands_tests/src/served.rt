@@ -95,7 +95,7 @@ const TALKS: [Row<'static>; 11] = [
         input: LAST_MOMENTS,
         status: 2,
         output: LAST_REPLIES,
-        line: "tbt: TimeExhausted\n",
+        line: "tbt: TimeExhausted: line 1, column 86\n",
     },
     Row {
         words: &["run", "2"],
@@ -175,19 +175,6 @@ fn wrong_statement(rt: HostRuntime) {
     holds(&rt, left.output.len() == 56, &"the length of a script");
     same(&rt, left.line.as_slice(), NOT_ZERO.as_bytes());
     drop(left);
-}
-
-/// Where statements are typed, the next one is read behind a wrong one, and the status says that one was wrong.
-#[test]
-fn typed_statements(rt: HostRuntime) {
-    let text =
-        b"at=10 client=7 register;\nat=10 client=0 register;\nat=18446744073709551615 client=9 register;\nat=10 client=8 register;\n";
-    let left = left_where(&rt, &first_moment(), &["run", "2"], true, text);
-    let wanted =
-        "{\"client\":\"7\",\"session\":\"1\",\"request\":0,\"operation\":\"register\",\"status\":\"reply\",\"commit\":\"1\",\"results\":[]}\n{\"client\":\"8\",\"session\":\"2\",\"request\":0,\"operation\":\"register\",\"status\":\"reply\",\"commit\":\"2\",\"results\":[]}\n";
-    let lines =
-        "tbt: line 2, column 15: client is not 0\n  at=10 client=0 register;\n                ^\n  expected a number from 1 to 2^128 - 1\ntbt: TimeExhausted\n";
-    expect_left(&rt, left, 2, wanted, lines);
 }
 
 /// Statements that leave out what is known, and the whole ones that they stand for, in a conversation: a first client, the
@@ -401,6 +388,14 @@ const WRONG_WORDS: [(&[&str], &str); 17] = [
     (
         &["serve"],
         "tbt: serve: unknown; tbt --help shows the forms\n",
+    ),
+    (
+        &["runn", "2"],
+        "tbt: runn: unknown; did you mean run? tbt --help shows the forms\n",
+    ),
+    (
+        &["-help"],
+        "tbt: -help: unknown; did you mean --help? tbt --help shows the forms\n",
     ),
     (&["run"], "tbt: run: CLIENTS_MAX is missing, 1 to 64\n"),
     (&["run", "65"], "tbt: run 65: CLIENTS_MAX is 1 to 64\n"),

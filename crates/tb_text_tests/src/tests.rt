@@ -256,7 +256,7 @@ const ROWS: [(&str, &str); 21] = [
 fn tells(rt: &(impl Abort + AllocGlobal), text: &[u8], first: (usize, usize), wanted: &str) {
     let reading = read_text(rt.alloc(), text).expect(rt, "memory");
     let fault = reading.fault.expect(rt, "a fault");
-    let message = explain_fault(rt.alloc(), text, fault, first).expect(rt, "memory");
+    let message = explain_fault(rt.alloc(), text, fault, first, &[]).expect(rt, "memory");
     holds(rt, message.as_slice() == wanted.as_bytes(), wanted);
 }
 
@@ -348,7 +348,7 @@ fn what_is_no_text(rt: HostRuntime) {
 
 /// Texts with words that statements do not have, and how the first line ends that is told of them: by the word that is one letter away,
 /// or two where it is longer than three letters, and by none where none is.
-const SUGGESTED: [(&str, &str); 16] = [
+const SUGGESTED: [(&str, &str); 20] = [
     (
         "clint=7 register;",
         "unknown field 'clint'; did you mean client?",
@@ -401,6 +401,22 @@ const SUGGESTED: [(&str, &str); 16] = [
         "client=7 request=1 create_transfers id=1 amount=amount_mx;",
         "unknown amount 'amount_mx'; did you mean amount_max?",
     ),
+    (
+        "client=7 request=1 create_transfers id=1 debit_account=1;",
+        "unknown field 'debit_account'; did you mean debit_account_id?",
+    ),
+    (
+        "client=7 request=1 create_transfers id=1 flags=post_pending;",
+        "unknown flag 'post_pending'; did you mean post_pending_transfer?",
+    ),
+    (
+        "client=7 request=1 create_transfers id=1 pending=1;",
+        "'pending' cannot stand here",
+    ),
+    (
+        "client=7 request=1 create_transfers id=1 amount=1e3;",
+        "'1e3' is no whole number",
+    ),
     ("client=7 frobnicate;", "unknown word 'frobnicate'"),
     ("xyz=7 register;", "unknown word 'xyz'"),
     (
@@ -413,7 +429,7 @@ const SUGGESTED: [(&str, &str); 16] = [
 fn told(rt: &(impl Abort + AllocGlobal), text: &str) -> Vec<u8> {
     let reading = read_text(rt.alloc(), text.as_bytes()).expect(rt, "memory");
     let fault = reading.fault.expect(rt, "a fault");
-    explain_fault(rt.alloc(), text.as_bytes(), fault, (1, 1)).expect(rt, "memory")
+    explain_fault(rt.alloc(), text.as_bytes(), fault, (1, 1), &[]).expect(rt, "memory")
 }
 
 /// The first line of a message.

@@ -1,14 +1,10 @@
-use Rattle.std.proofs.Common.{◌≡◌, false}
 use Rattle.tb_text_commands.specs.Ends.{IsWhole}
 use Rattle.tb_text_commands.specs.Taken.{TakesParts, waiting}
-use Rattle.tb_text_commands.specs.Whole.{IsStatement}
+use Rattle.tb_text_commands.specs.Typed.{IsTypedPart}
 use Rattle.tb_text_commands.proofs.running.converse.Given as goal
 
 abbrev pub invariant-loop : goal.invariant-loop
 invariant-loop g l = record {
   whole : IsWhole (g.R.Source.input l.initial.reader) (g.R.Source.input l.reader) (g.W.Sink.output l.initial.writer) (g.W.Sink.output l.writer);
-  quiet : l.told ≡ false → l.faults ≡ l.initial.faults;
-  silent : l.talks ≡ false → l.told ≡ false;
-  taken : l.told ≡ false
-      → TakesParts IsStatement (waiting l.initial.conversation.intake (g.R.Source.input l.initial.reader)) (waiting l.conversation.intake (g.R.Source.input l.reader));
+  taken : TakesParts IsTypedPart (waiting l.initial.conversation.intake (g.R.Source.input l.initial.reader)) (waiting l.conversation.intake (g.R.Source.input l.reader));
 }

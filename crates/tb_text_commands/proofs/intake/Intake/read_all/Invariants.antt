@@ -1,0 +1,12 @@
+use Rattle.std.specs.Prelude.{[]}
+use Rattle.tb_records.specs.Transport.{Sent}
+use Rattle.tb_text_commands.specs.Ends.{IsWhole}
+use Rattle.tb_text_commands.specs.Taken.{Stays, waiting}
+use Rattle.tb_text_commands.proofs.intake.Intake.read_all.Given as goal
+
+abbrev pub invariant-loop : goal.invariant-loop
+invariant-loop g l = record {
+  whole : IsWhole (g.R.Source.input l.initial.reader) (g.R.Source.input l.reader) (g.W.Sink.output l.initial.writer) (g.W.Sink.output l.writer);
+  taken : Stays (waiting l.initial.self (g.R.Source.input l.initial.reader)) (waiting l.self (g.R.Source.input l.reader));
+  silent : Sent [] (g.W.Sink.output l.initial.writer) (g.W.Sink.output l.writer);
+}

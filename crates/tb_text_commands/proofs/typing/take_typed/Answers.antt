@@ -1,0 +1,9 @@
+use Rattle.std.proofs.Common.{rules}
+use Rattle.tb_text_commands.proofs.TypedParts.{end_held, wrong_taken}
+use Rattle.tb_text_commands.proofs.typing.take_typed.Goals as goal
+
+pub returns-in-Some-Leave-clause-taken : goal.returns-in-Some-Leave-clause-taken
+returns-in-Some-Leave-clause-taken g c = end_held c.args.intake.now c.args.length (search rules)
+
+pub returns-in-Err-clause-taken : goal.returns-in-Err-clause-taken
+returns-in-Err-clause-taken g c = wrong_taken c.in-Err.fault c.args.intake.now c.take_text.new.intake c.in-Err.ensures.wrong
