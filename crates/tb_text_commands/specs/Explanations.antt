@@ -1,5 +1,5 @@
 -- What `explain` prints: the place and the name of the fault at which `tbs` stops over the same bytes, or that it ends well.
--- Cited by public contracts of: commands.
+-- Public contracts reach it through: Ends.
 use Rattle.std.specs.Prelude.{ℕ, Bool, true, false, ◌≡◌, nat_eq, List, [], ◌++◌, length, take, codes}
 use Rattle.std.specs.Cmp.Lexicographic.{pointwise}
 use Rattle.std.specs.Fmt.{decimal}
