@@ -267,6 +267,12 @@ fn the_folder_of_a_links_target(rt: HostRuntime) {
         folder: folder.as_str(),
         opened: Cell::new(0),
     };
+    expect(
+        &rt,
+        matches!(Real::make(&rt, "link.tbj"), Err(FileFault::Dangling)),
+    );
+    expect(&rt, fs::metadata(&rt, "targets/made.tbj").is_err());
+    expect(&rt, Real::make_new(&rt, "targets/made.tbj").is_ok());
     let real = Real::make(&watched, "link.tbj");
     expect(&rt, real.is_ok());
     expect(&rt, watched.opened.get() == 1);

@@ -10,6 +10,8 @@
 //! - `failing`: a device that fails at one call.
 //! - `openings`: files opened, refused or created over.
 //! - `scans`: files read record by record, in pieces.
+//! - `live`: a file that goes through a few moments while it is read.
+//! - `snapshots`: snapshots of it, and of files that are torn or damaged.
 //! - `odd`: a file whose calls take a part, are interrupted or fail.
 //! - `posix`: devices over it.
 //! - `real`: files of the system.
@@ -26,6 +28,8 @@ mod files;
 #[cfg(test)]
 mod folders;
 #[cfg(test)]
+mod live;
+#[cfg(test)]
 mod odd;
 #[cfg(test)]
 mod openings;
@@ -37,6 +41,8 @@ mod real;
 mod rows;
 #[cfg(test)]
 mod scans;
+#[cfg(test)]
+mod snapshots;
 #[cfg(test)]
 mod sparse;
 #[cfg(test)]

@@ -1,9 +1,12 @@
 //! Journals over files of the system, in the folder that the tests run in.
 use crate::steps::{ONE_RECORD, THREE_RECORDS, expect, expect_bytes, sure};
 use std::fs;
-use std::fs::{File, Files};
+use std::fs::{File, Files, Permissions};
+use std::os::unix::fs::{MetadataExt, PermissionsExt};
 use std::process::Abort;
-use tb_journal::{FileFault, OpenFault, Real, Refusal, create, recover};
+use tb_journal::{
+    Device, Fault, FileFault, OpenFault, Real, Refusal, Snapshot, create, read_journal, recover,
+};
 
 /// The journal of one record, and what a crash left behind its closed gate.
 const TORN: [u8; 21] = [
@@ -99,4 +102,52 @@ fn files_that_are_opened_or_refused(rt: HostRuntime) {
     expect_opened(&rt, b"a text", Err(foreign), b"a text");
     expect_opened(&rt, &DAMAGED, Err(damaged), &DAMAGED);
     expect(&rt, !is_locked(&rt, "no_file.tbj"));
+}
+
+/// Counts the records of a file that is only looked at.
+fn looked_at<R: Abort + Files<File = File> + AllocGlobal>(rt: &R, path: &str) -> usize {
+    let mut snapshot = sure(
+        rt,
+        Snapshot::new(rt.alloc(), sure(rt, Real::look(rt, path))),
+    );
+    sure(rt, read_journal(rt.alloc(), &mut snapshot)).count
+}
+
+#[test]
+fn a_file_is_looked_at_while_it_is_written(rt: HostRuntime) {
+    let path = "a_file_that_is_looked_at.tbj";
+    let _ = fs::remove_file(&rt, path);
+    let real = sure(&rt, Real::make_new(&rt, path));
+    expect(
+        &rt,
+        matches!(Real::make_new(&rt, path), Err(FileFault::Exists)),
+    );
+    let mut journal = sure(&rt, create(rt.alloc(), real));
+    expect(&rt, looked_at(&rt, path) == 0);
+    sure(&rt, journal.append(b"ab"));
+    sure(&rt, journal.commit());
+    expect(&rt, looked_at(&rt, path) == 1);
+    drop(journal);
+    // Its owner alone may read and write it.
+    let mode = sure(&rt, fs::metadata(&rt, path)).mode();
+    expect(&rt, mode & 0o777 == 0o600);
+    sure(
+        &rt,
+        fs::set_permissions(&rt, path, Permissions::from_mode(0o400)),
+    );
+    expect(&rt, looked_at(&rt, path) == 1);
+    let mut looked = sure(&rt, Real::look(&rt, path));
+    expect(
+        &rt,
+        Device::write_at(&mut looked, 0, b"x") == Err(Fault::Failed),
+    );
+    sure(&rt, fs::remove_file(&rt, path));
+    expect(
+        &rt,
+        matches!(Real::look(&rt, path), Err(FileFault::System(_))),
+    );
+    expect(
+        &rt,
+        matches!(Real::look(&rt, "."), Err(FileFault::NotAFile)),
+    );
 }
