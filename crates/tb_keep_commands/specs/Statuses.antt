@@ -60,6 +60,9 @@ sync_fault fault = opening.SyncFailed
 
 abbrev pub opening_fault : FileFault → OpeningFault
 opening_fault file.Locked = opening.Locked
+opening_fault file.NotAFile = opening.Unopened
+opening_fault file.Exists = opening.Unopened
+opening_fault file.Dangling = opening.Unopened
 opening_fault (file.Sync fault) = sync_fault fault
 opening_fault (file.System error) = opening_fault_of (error_kind error)
 

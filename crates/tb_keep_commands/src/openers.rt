@@ -19,7 +19,7 @@ pub enum OpeningFault {
     NoMemory,
     /// A sync of it failed.
     SyncFailed,
-    /// It cannot be opened.
+    /// It cannot be opened: it is no regular file or a link to nothing, or the system refuses it.
     Unopened,
 }
 
@@ -29,6 +29,9 @@ pub fn opening_fault(fault: &FileFault) -> OpeningFault
 {
     match fault {
         FileFault::Locked => OpeningFault::Locked,
+        FileFault::NotAFile => OpeningFault::Unopened,
+        FileFault::Exists => OpeningFault::Unopened,
+        FileFault::Dangling => OpeningFault::Unopened,
         FileFault::Sync(Fault::Memory) => OpeningFault::NoMemory,
         FileFault::Sync(_) => OpeningFault::SyncFailed,
         FileFault::System(error) => match error.kind() {
