@@ -5,6 +5,6 @@ use Rattle.tb_text_commands.proofs.commands.command.Goals as goal
 pub returns-in-Err-clause-audited : goal.returns-in-Err-clause-audited
 returns-in-Err-clause-audited g c = λ wanted is. record {
   outcome = Err c.in-Err.fault;
-  status_is = c.status.ensures.status;
+  status_is = c.status-status.ensures.status;
   ran = c.in-Err.ensures.audited wanted (same_Some _ _ (c.in-Some.ensures ∙ is));
 }
