@@ -354,7 +354,7 @@ fn faults_of_what_is_left_out(rt: HostRuntime) {
 }
 
 /// Arguments that are named, and the line that says what is wrong with them.
-const WRONG_WORDS: [(&[&str], &str); 17] = [
+const WRONG_WORDS: [(&[&str], &str); 19] = [
     (
         &["audit", "--after", "-1"],
         "tbt: audit --after -1: a commit number is 0 to 2^63 - 1, in decimal digits\n",
