@@ -38,10 +38,16 @@ fn last_of(rt: &impl Abort, alloc: Global, count: usize) -> Vec<u8> {
     let bytes = kept_bytes(rt, alloc);
     let mut all = Vec::new(alloc);
     for (first, end) in [(30, 94), (102, 422), (430, 622), (630, 710)] {
-        sure(rt, all.extend_from_slice(bytes.get(first..end).unwrap_or_default()));
+        sure(
+            rt,
+            all.extend_from_slice(bytes.get(first..end).unwrap_or_default()),
+        );
     }
     let skipped = all.len().saturating_sub(count);
-    sure(rt, Vec::from_slice(alloc, all.get(skipped..).unwrap_or_default()))
+    sure(
+        rt,
+        Vec::from_slice(alloc, all.get(skipped..).unwrap_or_default()),
+    )
 }
 
 /// Behind so many records that were read, these are the entries above a commit number, and four were read then.

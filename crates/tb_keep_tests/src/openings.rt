@@ -38,7 +38,13 @@ fn append_some(rt: &impl Abort, journal: &mut Journal<Memory>, bytes: &[u8])
 }
 
 /// A file of these records, of which an empty one is left out.
-pub fn file_with(rt: &impl Abort, alloc: Global, first: &[u8], second: &[u8], third: &[u8]) -> Memory {
+pub fn file_with(
+    rt: &impl Abort,
+    alloc: Global,
+    first: &[u8],
+    second: &[u8],
+    third: &[u8],
+) -> Memory {
     let file = file_of(rt, alloc, &[]);
     let mut journal = sure(rt, tb_journal::create(alloc, file));
     append_some(rt, &mut journal, first);

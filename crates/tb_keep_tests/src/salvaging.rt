@@ -56,7 +56,10 @@ fn salvaged_into(rt: &impl Abort, alloc: Global, bytes: &[u8], there: &[u8]) -> 
 
 /// The first so many bytes of a file, up to where a block begins, and a closed latch.
 fn cut_to(rt: &impl Abort, alloc: Global, bytes: &[u8], end: usize) -> Vec<u8> {
-    let mut cut = sure(rt, Vec::from_slice(alloc, bytes.get(..end).unwrap_or_default()));
+    let mut cut = sure(
+        rt,
+        Vec::from_slice(alloc, bytes.get(..end).unwrap_or_default()),
+    );
     sure(rt, cut.push(0));
     cut
 }
@@ -90,11 +93,26 @@ fn expect_before(rt: &impl Abort, alloc: Global, number: usize, at: usize) {
 
 /// Blocks, and places in each: its length, its checksum, its first byte, and its last.
 const PLACES: [(usize, usize); 20] = [
-    (0, 9), (0, 12), (0, 16), (0, 21), //
-    (1, 23), (1, 26), (1, 30), (1, 93), //
-    (2, 95), (2, 98), (2, 102), (2, 421), //
-    (3, 423), (3, 426), (3, 430), (3, 621), //
-    (4, 623), (4, 626), (4, 630), (4, 709),
+    (0, 9),
+    (0, 12),
+    (0, 16),
+    (0, 21), //
+    (1, 23),
+    (1, 26),
+    (1, 30),
+    (1, 93), //
+    (2, 95),
+    (2, 98),
+    (2, 102),
+    (2, 421), //
+    (3, 423),
+    (3, 426),
+    (3, 430),
+    (3, 621), //
+    (4, 623),
+    (4, 626),
+    (4, 630),
+    (4, 709),
 ];
 
 #[test]
@@ -176,7 +194,12 @@ fn torn_bytes_are_not_taken(rt: HostRuntime) {
         at: 710,
         bytes: 4194305,
     };
-    expect_torn(&rt, rt.alloc(), BATCH_BYTES_MAX.saturating_add(1), Some(many));
+    expect_torn(
+        &rt,
+        rt.alloc(),
+        BATCH_BYTES_MAX.saturating_add(1),
+        Some(many),
+    );
 }
 
 /// Why a file of these bytes is not backed up, if it is not, and the bytes of the new file.
