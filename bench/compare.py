@@ -1,112 +1,231 @@
 #!/usr/bin/env python3
-"""Runs tbs and three plain Rust servers on the same scripts by turns, compares their replies byte
-for byte, and prints what they cost.
+"""Runs tbs and four other servers on the same scripts by turns, compares their replies byte for
+byte, and prints what an event costs.
 
-compare.py [SIZE [TURNS]]: SIZE events a workload (100000), the least CPU time of TURNS turns
-(3). Needs rustc, and crates/tbs/out/tbs as `rt run` in crates/tbs leaves it; PROGRAM names another.
-Scripts are made from a seed in a temporary folder.
+    compare.py [LOAD ..]              the loads that are named, or all but lookups-1m
+    compare.py --replies [SEED ..]    compares replies alone, over scripts of all operations
 
-For each program: CPU time in seconds, how much of it the system took, its greatest memory in
-MiB, and its page faults in thousands. The last columns are the ratios of the first one's time to
-those of the baselines (plain.rs over BTreeMaps, lean.rs, which runs fewer instructions, and hash.rs
-over hash maps), and whether all replies were the same.
+The others are hash.rs (hash maps), plain.rs and lean.rs (BTreeMap) and sqlite.c (SQLite in memory).
+It needs rustc, gcc with libsqlite3-dev, and crates/tbs/out/tbs as `rt run` in crates/tbs leaves it;
+PROGRAM names another. Scripts are made from a seed; --work FOLDER keeps them and the programs.
+
+For each load: nanoseconds of CPU time an event and bytes of memory an event, from the first
+transfer on (what the accounts took is subtracted), the best of --turns runs (5; lean.rs runs twice,
+SQLite once, over a tenth of the events), and the ratios of tbs to the others. A ratio over its
+bound, in brackets, is marked with '>'. With --before PROGRAM an earlier tbs takes part in old-1m,
+which has a bound over it, or in the one load that is named.
 """
-import filecmp
+import dataclasses
 import os
-import subprocess
-import sys
-import tempfile
 
-HERE = os.path.dirname(os.path.abspath(__file__))
-sys.path.insert(0, os.path.join(HERE, "..", "checks"))
+import measure
+import rows
+import tried
+from measure import Cost
 
-import tried  # noqa: E402
-
-TBS = os.environ.get("PROGRAM", os.path.join(HERE, "..", "crates", "tbs", "out", "tbs"))
-PEERS = ["plain", "lean", "hash"]
-WORKLOADS = ["rising", "pending", "chains", "expiring", "single", "lookups", "mixed", "random"]
+EVENTS = 1_000_000
 
 
-def run(words, script, replies):
-    """What a program costs: CPU time, the system's part of it, memory in MiB, thousand
-    page faults."""
-    with open(script, "rb") as source, open(replies, "wb") as sink:
-        child = subprocess.Popen(words, stdin=source, stdout=sink)
-        _, status, usage = os.wait4(child.pid, 0)
-    if status != 0:
-        sys.exit(f"{words[0]} ended with {status} on {script}")
-    return (
-        usage.ru_utime + usage.ru_stime,
-        usage.ru_stime,
-        usage.ru_maxrss / 1024,
-        usage.ru_minflt / 1000,
-    )
+@dataclasses.dataclass(frozen=True)
+class Load:
+    """A load, the accounts and events of its script, and bounds of tbs over other servers."""
+
+    subject: str
+    workload: str
+    accounts: int = 10_000
+    events: int = EVENTS
+    bounds: dict = dataclasses.field(default_factory=dict)
+    # The kind of the first request that is measured.
+    wanted: object = measure.is_transfers
+    # The share of the events that comes before that request.
+    before: float = 0
+
+    def script(self, folder, events):
+        """Its script of so many events, where the measured part begins, and how many it has."""
+        path = measure.make_script(folder, self.workload, events, self.accounts)
+        return path, measure.place(path, self.wanted), events - int(events * self.before)
 
 
-def same(left, right):
-    """Whether two files have the same bytes. They are read in pieces: a process that begins
-    counts what this one has in memory as its own."""
-    return filecmp.cmp(left, right, shallow=False)
+def over(of_hash, of_plain):
+    return {"hash": of_hash, "plain": of_plain}
 
 
-def compile_peer(name, folder):
-    """The words that start a baseline, which is built first."""
-    program = os.path.join(folder, name)
-    subprocess.run(
-        [
-            "rustc",
-            "-O",
-            "-C",
-            "target-cpu=x86-64-v2",
-            os.path.join(HERE, name + ".rs"),
-            "-o",
-            program,
-        ],
-        check=True,
-    )
-    return [program, "64"]
+HALF = EVENTS // 2
+LOADS = {
+    "bulk-10k": Load("bulk, 10,000 accounts", "rising", bounds=over(1.5, 0.82)),
+    "bulk-100k": Load("bulk, 100,000 accounts", "rising", 10**5, bounds=over(1.6, 0.75)),
+    "bulk-1m": Load("bulk, 1,000,000 accounts", "rising", 10**6, HALF, over(1.75, 0.75)),
+    "zipf-1m": Load("zipf, 1,000,000 accounts", "zipf", 10**6, HALF, over(2.1, 0.90)),
+    "pending-1m": Load(
+        "pending, then post or void, 1,000,000 accounts", "pending", 10**6, HALF, over(2.0, 0.80)
+    ),
+    "old-1m": Load(
+        "old posts and voids, 1,000,000 accounts",
+        "resolving",
+        10**6,
+        HALF,
+        {"before": 0.55},
+        measure.resolves,
+        0.5,
+    ),
+    "random": Load("random transfer ids, 1,000,000 rows", "random", bounds=over(2.6, 0.75)),
+    "expiring": Load("expiring, 1,000,000 rows", "expiring", bounds=over(1.9, 0.85)),
+    "single": Load("single requests of 60 clients", "single", 1000, HALF, over(1.3, 0.85)),
+    "chains": Load("chains of 5, each tenth broken", "chains", events=HALF),
+    "lookups": Load("lookups, 10,000 of each", "lookups", wanted=measure.is_lookup),
+    "lookups-1m": Load(
+        "lookups, 1,000,000 of each", "lookups", 10**6, HALF, wanted=measure.is_lookup
+    ),
+}
+# Servers that have no bound run less often.
+SELDOM = {"lean": 2}
+BY_DEFAULT = [it for it in LOADS if it != "lookups-1m"]
+# What a bulk transfer at the second load may cost, compared with the first; and its memory.
+GROWTH = ("bulk-10k", "bulk-1m", 2.3)
+BYTES_MAX = 200
 
 
-def compare(name, count, turns, programs, folder):
-    """A row of the table: all programs on one workload, the least of so many turns."""
-    script = os.path.join(folder, name)
-    with open(script, "wb") as out:
-        subprocess.run(
-            [sys.executable, os.path.join(HERE, "make_script.py"), name, str(count), "1"],
-            stdout=out,
-            check=True,
+def measured(words, script, cut, replies):
+    """What a server used from a place in the script on."""
+    start, end = measure.serve(words, script, [cut], replies)
+    return end.since(start)
+
+
+def cost_of_event(cost, events):
+    return Cost(round(cost.cpu / events), round(cost.resident / events))
+
+
+def run_load(load, programs, turns, folder):
+    """What an event costs each server, and whether all replies were the same."""
+    path, cut, events = load.script(folder, load.events)
+    costs = {name: [] for name in programs if name != "sqlite"}
+    replies = {name: os.path.join(folder, f"replies.{name}") for name in programs}
+    for turn in range(turns):
+        for name in [it for it in costs if turn < SELDOM.get(it, turns)]:
+            costs[name].append(measured(programs[name], path, cut, replies[name]))
+    agree = all(measure.same(replies["tbs"], replies[name]) for name in costs)
+    found = {name: cost_of_event(measure.best(of), events) for name, of in costs.items()}
+    if "sqlite" in programs:
+        path, cut, events = load.script(folder, load.events // 10)
+        cost = measured(programs["sqlite"], path, cut, replies["sqlite"])
+        found["sqlite"] = cost_of_event(cost, events)
+        measured(programs["tbs"], path, cut, replies["tbs"])
+        agree = agree and measure.same(replies["tbs"], replies["sqlite"])
+    return found, agree
+
+
+def ratio(costs, name):
+    return costs["tbs"].cpu / costs[name].cpu
+
+
+def shown(costs, name, bounds):
+    """A ratio as it is printed: with its bound, where it has one."""
+    said = f"{ratio(costs, name):.2f}"
+    if name not in bounds:
+        return said
+    return f"{'>' if ratio(costs, name) > bounds[name] else ''}{said} ({bounds[name]:.2f})"
+
+
+def print_load(load, costs, agree):
+    cells = [f"{name} {it.cpu}" for name, it in costs.items()]
+    ratios = [f"{name} {shown(costs, name, load.bounds)}" for name in costs if name != "tbs"]
+    print(f"{load.subject}: replies {'the same' if agree else 'DIFFERENT'}")
+    print(f"    nanoseconds an event: {', '.join(cells)}")
+    print(f"    tbs over {', '.join(ratios)}")
+    memory = [f"{name} {it.resident}" for name, it in costs.items()]
+    print(f"    bytes an event: {', '.join(memory)}", flush=True)
+
+
+def print_growth(costs):
+    first, second, bound = GROWTH
+    if first in costs and second in costs:
+        found = costs[second]["tbs"].cpu / costs[first]["tbs"].cpu
+        said = "holds" if found <= bound else "missed"
+        print(f"a bulk transfer, 1,000,000 accounts over 10,000: {found:.2f} ({bound}: {said})")
+
+
+def rows_of(costs, turns):
+    """Rows for runs.csv."""
+    for name, found in costs.items():
+        load = LOADS[name]
+        for server, cost in found.items():
+            once = server == "sqlite"
+            size = load.events // 10 if once else load.events
+            many = min(turns, SELDOM.get(server, turns))
+            note = "one run" if once else f"best of {many} runs"
+            yield rows.row("bench", load.subject, server, size, cost.cpu, "ns an event", note)
+        yield rows.row(
+            "bench", load.subject, "tbs", load.events, found["tbs"].resident, "bytes an event"
         )
-    replies = [f"{script}.{k}" for k in range(len(programs))]
-    turns = [[run(words, script, to) for words, to in zip(programs, replies)] for _ in range(turns)]
-    least = [min(of) for of in zip(*turns)]
-    cost = " ".join(f"{it[0]:8.3f} {it[1]:7.3f} {it[2]:6.0f} {it[3]:7.1f}" for it in least)
-    ratios = " ".join(f"{least[0][0] / it[0]:6.2f}" for it in least[1:])
-    agree = all(same(replies[0], other) for other in replies[1:])
-    print(
-        f"{name:10} {count:8} {cost} {ratios}  {'the same' if agree else 'DIFFERENT'}", flush=True
-    )
-    for path in [script] + replies:
-        os.remove(path)
+
+
+def run_loads(names, turns, folder, before=None):
+    """Prints the table of these loads; what each found, and whether all replies were the same. An
+    earlier tbs takes part in those that have a bound over it, or in the only one."""
+    programs = measure.servers(folder, *measure.PEERS)
+    if before:
+        programs["before"] = [before, "run", "64"]
+    all_costs, all_agree = {}, True
+    for name in names:
+        has_before = len(names) == 1 or "before" in LOADS[name].bounds
+        taking = {it: programs[it] for it in programs if it != "before" or has_before}
+        costs, agree = run_load(LOADS[name], taking, turns, folder)
+        print_load(LOADS[name], costs, agree)
+        all_costs[name], all_agree = costs, all_agree and agree
+    print_growth(all_costs)
+    return all_costs, all_agree
+
+
+# Replies alone
+
+
+def replies_agree(programs, profile, script, folder):
+    """Whether all servers write the same replies to a script."""
+    paths = []
+    for name, words in programs.items():
+        paths.append(os.path.join(folder, f"replies.{name}"))
+        measure.serve([*words, str(profile)], script, [], paths[-1])
+    return all(measure.same(paths[0], other) for other in paths[1:])
+
+
+def compare_replies(seeds, folder):
+    """Compares the replies of all servers over scripts of all operations, by both profiles."""
+    programs = measure.servers(folder, *measure.PEERS)
+    for seed in seeds:
+        for workload, events, accounts in (
+            ("mixed", 3000, 12),
+            ("various", 30_000, 1_000),
+            ("various", 100_000, 100_000),
+            ("various", 200_000, 1_000_000),
+        ):
+            script = measure.make_script(folder, workload, events, accounts, seed)
+            for profile in (1, 2):
+                agree = replies_agree(programs, profile, script, folder)
+                name = f"{workload}, {accounts} accounts, seed {seed}, profile {profile}"
+                tried.case(name, agree)
+            script.unlink()
+    return tried.status()
 
 
 def main():
     parser = tried.arguments(__doc__)
-    parser.add_argument("size", metavar="SIZE", type=tried.count, nargs="?", default=100000)
-    parser.add_argument("turns", metavar="TURNS", type=tried.count, nargs="?", default=3)
+    parser.add_argument("loads", metavar="LOAD", nargs="*", help=", ".join(LOADS))
+    parser.add_argument("--turns", metavar="N", type=tried.count, default=5, help="runs (5)")
+    parser.add_argument("--work", metavar="FOLDER", help="keeps scripts and programs there")
+    parser.add_argument("--before", metavar="PROGRAM", help="an earlier tbs to compare with")
+    parser.add_argument("--rows", action="store_true", help="write rows of docs/work/runs.csv")
+    parser.add_argument("--replies", metavar="SEED", type=int, nargs="*", help="replies alone (1)")
     given = parser.parse_args()
-    count, turns = given.size, given.turns
-    tried.built(TBS)
-    with tempfile.TemporaryDirectory() as folder:
-        programs = [[TBS, "run", "64"]] + [compile_peer(name, folder) for name in PEERS]
-        head = " ".join(
-            f"{it + ' s':>8} {'system':>7} {'MiB':>6} {'faults':>7}" for it in ["tbs"] + PEERS
-        )
-        print(
-            f"{'workload':10} {'events':>8} {head} {' '.join(f'{it:>6}' for it in PEERS)}  replies"
-        )
-        for name in WORKLOADS:
-            compare(name, count, turns, programs, folder)
-    return 0
+    for name in given.loads:
+        if name not in LOADS:
+            parser.error(f"there is no load {name}: {', '.join(LOADS)}")
+    with measure.work_folder(given.work) as folder:
+        if given.replies is not None:
+            return compare_replies(given.replies or [1], folder)
+        costs, agree = run_loads(given.loads or BY_DEFAULT, given.turns, folder, given.before)
+        if given.rows:
+            rows.write(rows_of(costs, given.turns))
+    return 0 if agree else 1
 
 
 if __name__ == "__main__":

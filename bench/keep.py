@@ -2,15 +2,15 @@
 """Runs a server without a file and one that keeps its ledger in a file on the same scripts by
 turns, and prints what they cost.
 
-    keep.py [SIZE [TURNS]]
+    keep.py [--turns N] [--size N] [--rows] [--work FOLDER]
 
-SIZE events a workload (100000), the least CPU time of TURNS turns (3). It needs
-crates/tbs/out/tbs (PROGRAM names another) and crates/tbd/out/tbd (TBD names another), as `rt run`
-leaves them. Scripts are made from a seed in a temporary folder.
+The best of --turns runs (5) over --size events a load (100,000). It needs crates/tbs/out/tbs
+(PROGRAM names another) and crates/tbd/out/tbd (TBD names another), as `rt run` leaves them. Scripts
+are made from a seed; --work FOLDER keeps them.
 
-For each workload: CPU seconds of `run` without a file, of `tbd run` over a new file, and of a
-start over that file; the two ratios to the first; syncs a request (by strace, where it is there);
-and whether the replies were the same.
+For each load: CPU seconds of `run` without a file, of `tbd run` over a new file, and of a start
+over that file; the two ratios to the first, marked with '>' over their bounds (serving batches 1.3,
+a start 1.1); syncs a reply (by strace, where it is there); and whether the replies were the same.
 """
 import os
 import re
@@ -19,16 +19,20 @@ import subprocess
 import sys
 import tempfile
 
-HERE = os.path.dirname(os.path.abspath(__file__))
-sys.path[:0] = [os.path.join(HERE, "..", "clients", "python"), os.path.join(HERE, "..", "checks")]
+import measure
+import rows
+import tried
+from measure import TBS, whole
 
-import tried  # noqa: E402
-from compare import run  # noqa: E402
+sys.path.append(str(measure.HERE.parent / "clients" / "python"))
+
 from tb_client import reply_length  # noqa: E402
 
-TBS = os.environ.get("PROGRAM", os.path.join(HERE, "..", "crates", "tbs", "out", "tbs"))
-TBD = os.environ.get("TBD", os.path.join(HERE, "..", "crates", "tbd", "out", "tbd"))
-WORKLOADS = ["rising", "chains", "expiring", "single", "lookups", "mixed"]
+TBD = os.environ.get("TBD", str(measure.HERE.parent / "crates" / "tbd" / "out" / "tbd"))
+SIZE, ACCOUNTS = 100_000, 10_000
+LOADS = ["rising", "chains", "expiring", "single", "lookups", "mixed"]
+BATCHES = {"rising", "chains", "expiring", "lookups"}
+BATCHES_MOST, START_MOST = 1.3, 1.1
 
 
 def replies_in(path):
@@ -51,57 +55,84 @@ def syncs(words, script, folder):
             ["strace", "-f", "-qq", "-e", "trace=fsync,fdatasync", "-o", log, *words],
             stdin=source,
             stdout=subprocess.DEVNULL,
+            stderr=subprocess.DEVNULL,
             check=True,
         )
     with open(log, encoding="utf-8") as told:
         return len(re.findall(r"sync\(", told.read()))
 
 
-def compare(name, count, turns, folder):
-    script, file = os.path.join(folder, name), os.path.join(folder, "ledger.tbk")
-    with open(script, "wb") as out:
-        subprocess.run(
-            [sys.executable, os.path.join(HERE, "make_script.py"), name, str(count), "1"],
-            stdout=out,
-            check=True,
-        )
+def marked(found, most):
+    return f"{'>' if most is not None and found > most else ''}{found:.2f}"
+
+
+def compare(load, size, turns, folder, scripts):
+    """Prints a load's line; the ratios of serving and of a start, and whether replies agree."""
+    script = measure.make_script(scripts, load, size, ACCOUNTS)
+    file = os.path.join(folder, "ledger.tbk")
+    replies = {name: os.path.join(folder, f"replies.{name}") for name in ("tbs", "tbd")}
     plain, kept, starts = [], [], []
     for _ in range(turns):
         if os.path.exists(file):
             os.remove(file)
-        plain.append(run([TBS, "run", "64"], script, script + ".tbs")[0])
-        kept.append(run([TBD, "run", file, "64"], script, script + ".tbd")[0])
-        starts.append(run([TBD, "run", file, "64"], os.devnull, os.devnull)[0])
-    with open(script + ".tbs", "rb") as a, open(script + ".tbd", "rb") as b:
-        same = a.read() == b.read()
+        plain.append(whole([TBS, "run", "64"], script, replies["tbs"]))
+        kept.append(whole([TBD, "run", file, "64"], script, replies["tbd"]))
+        starts.append(whole([TBD, "run", file, "64"], os.devnull, os.devnull))
+    agree = measure.same(replies["tbs"], replies["tbd"])
     os.remove(file)
     made = syncs([TBD, "run", file, "64"], script, folder)
-    rate = "?" if made is None else f"{made / replies_in(script + '.tbd'):.2f}"
+    rate = "?" if made is None else f"{made / replies_in(replies['tbd']):.2f}"
     a, b, c = min(plain), min(kept), min(starts)
     print(
-        f"{name:10} {count:8} {a:8.3f} {b:8.3f} {c:8.3f} {b / a:6.2f} {c / a:6.2f} {rate:>6}  "
-        f"{'the same' if same else 'DIFFERENT'}",
+        f"{load:10} {size:8} {a:8.3f} {b:8.3f} {c:8.3f} "
+        f"{marked(b / a, BATCHES_MOST if load in BATCHES else None):>6} "
+        f"{marked(c / a, START_MOST):>6} {rate:>6}  {'the same' if agree else 'DIFFERENT'}",
         flush=True,
     )
-    for it in (script, script + ".tbs", script + ".tbd", file):
-        os.remove(it)
+    os.remove(file)
+    return (b / a, c / a), agree
+
+
+def compare_all(size, turns, scripts):
+    """Prints the table; the ratios of each load, and whether all replies were the same."""
+    tried.built(TBS, TBD)
+    print(
+        f"{'load':10} {'events':>8} {'run s':>8} {'tbd s':>8} {'start s':>8} {'tbd':>6} "
+        f"{'start':>6} {'syncs':>6}  replies"
+    )
+    with tempfile.TemporaryDirectory() as folder:
+        found = {load: compare(load, size, turns, folder, scripts) for load in LOADS}
+    ratios, agree = zip(*found.values())
+    return dict(zip(found, ratios)), all(agree)
+
+
+def rows_of(found, size, turns):
+    """Rows for runs.csv."""
+    for load, ratios in found.items():
+        for what, ratio in zip(("tbd run", "tbd start"), ratios):
+            yield rows.row(
+                "bench",
+                f"{what}, {load}",
+                "tbs run",
+                size,
+                f"{ratio:.2f}",
+                "ratio of CPU time",
+                f"best of {turns} runs",
+            )
 
 
 def main():
     parser = tried.arguments(__doc__)
-    parser.add_argument("size", metavar="SIZE", type=tried.count, nargs="?", default=100000)
-    parser.add_argument("turns", metavar="TURNS", type=tried.count, nargs="?", default=3)
+    parser.add_argument("--turns", metavar="N", type=tried.count, default=5, help="runs (5)")
+    parser.add_argument("--size", metavar="N", type=tried.count, default=SIZE)
+    parser.add_argument("--work", metavar="FOLDER", help="keeps scripts there")
+    parser.add_argument("--rows", action="store_true", help="write rows of docs/work/runs.csv")
     given = parser.parse_args()
-    count, turns = given.size, given.turns
-    tried.built(TBS, TBD)
-    print(
-        f"{'workload':10} {'events':>8} {'run s':>8} {'tbd s':>8} {'start s':>8} {'tbd':>6} "
-        f"{'start':>6} {'syncs':>6}  replies"
-    )
-    with tempfile.TemporaryDirectory() as folder:
-        for name in WORKLOADS:
-            compare(name, count, turns, folder)
-    return 0
+    with measure.work_folder(given.work) as scripts:
+        found, agree = compare_all(given.size, given.turns, scripts)
+    if given.rows:
+        rows.write(rows_of(found, given.size, given.turns))
+    return 0 if agree else 1
 
 
 if __name__ == "__main__":

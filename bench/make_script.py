@@ -1,16 +1,19 @@
 #!/usr/bin/env python3
 """Writes a script of request frames to standard output: make_script.py WORKLOAD SIZE SEED.
 
-rising    batches of 8190 transfers with rising ids between 10,000 accounts (--accounts N)
+rising    batches of 8190 transfers with rising ids
 random    the same with random ids
 zipf      the same with rising ids, where few accounts have most transfers
 pending   pending transfers, then their posts and voids, batch by batch
 resolving pending transfers, then posts and voids of all of them in a random order
 chains    chains of 5, each tenth broken
 expiring  pending transfers that expire as moments go on
-single    requests of one transfer by 60 clients, each tenth repeated
-lookups   batches of 8190 ids of accounts and of transfers by turns, among 10,000 of each
-mixed     small batches of everything, right and wrong, for comparing replies
+single    requests of one transfer by 60 clients between 1,000 accounts, each tenth repeated
+lookups   batches of 8190 ids of accounts and of transfers by turns, among as many of each
+mixed     small batches of everything between 12 accounts, right and wrong, for comparing replies
+various   the same between all accounts, in batches of 1 to 2,000, by 70 clients in 64 sessions
+
+Transfers go between 10,000 accounts (--accounts N), which come first.
 """
 import argparse
 import bisect
@@ -19,7 +22,9 @@ import random
 import struct
 import sys
 
-WORKLOADS = "rising random zipf pending resolving chains expiring single lookups mixed".split()
+WORKLOADS = (
+    "rising random zipf pending resolving chains expiring single lookups mixed various".split()
+)
 parser = argparse.ArgumentParser(
     description=__doc__, formatter_class=argparse.RawDescriptionHelpFormatter
 )
@@ -114,8 +119,9 @@ def request(c, operation, items):
 
 
 def accounts_for(c, n):
+    rest = account(0)[16:]
     for first in range(1, n + 1, 8190):
-        request(c, 129, [account(i) for i in range(first, min(n, first + 8189) + 1)])
+        request(c, 129, [u128(i) + rest for i in range(first, min(n, first + 8189) + 1)])
 
 
 def two(n):
@@ -207,6 +213,7 @@ def chains():
     c = Client(7)
     register(c)
     accounts_for(c, many)
+    absent = max(99999, many + 1)
     for first in range(0, size, 8190):
         n = min(size, first + 8190) - first
         events = []
@@ -216,7 +223,7 @@ def chains():
             linked = i % 5 != 4 and i + 1 < n
             events.append(
                 transfer(
-                    1000000 + first + i, 99999 if broken else d, k, 1, flags=1 if linked else 0
+                    1000000 + first + i, absent if broken else d, k, 1, flags=1 if linked else 0
                 )
             )
         request(c, 130, events)
@@ -254,15 +261,16 @@ def single():
 def lookups():
     c = Client(7)
     register(c)
-    accounts_for(c, 10000)
-    for first in range(0, 10000, 5000):
-        request(c, 130, [transfer(1000000 + first + i, *two(10000), 1) for i in range(5000)])
+    accounts_for(c, many)
+    for first in range(0, many, 5000):
+        ids = range(1000000 + first, 1000000 + min(many, first + 5000))
+        request(c, 130, [transfer(id, *two(many), 1) for id in ids])
     for turn, first in enumerate(range(0, size, 8190)):
         n = min(size, first + 8190) - first
         if turn % 2 == 0:
-            request(c, 131, [u128(rng.randint(1, 10000)) for _ in range(n)])
+            request(c, 131, [u128(rng.randint(1, many)) for _ in range(n)])
         else:
-            request(c, 132, [u128(1000000 + rng.randrange(10000)) for _ in range(n)])
+            request(c, 132, [u128(1000000 + rng.randrange(many)) for _ in range(n)])
 
 
 def mixed():
@@ -351,6 +359,96 @@ def mixed():
             now += 1 << 40
 
 
+class Various:
+    """Draws accounts, transfers and ids of all kinds. Ids of transfers rise, are random, or were
+    used before; posts and voids name any pending transfer so far."""
+
+    KINDS = [0] * 6 + [2] * 4 + [4, 8] * 3 + [16, 32, 48, 18, 66, 130, 194, 12, 6, 64, 256, 80]
+
+    def __init__(self):
+        self.next, self.used, self.open = 10**9, [1], [1]
+
+    def account(self, id):
+        flags = rng.choice([0] * 40 + [1, 2, 4, 8, 6, 32, 16])
+        return account(
+            id,
+            flags=flags,
+            ledger=rng.choice([700] * 60 + [701, 0]),
+            code=rng.choice([10] * 60 + [0]),
+            user64=rng.choice([0] * 9 + [1]),
+        )
+
+    def id(self):
+        how = rng.random()
+        if how < 0.04:
+            return rng.choice(self.used)
+        self.next += 1
+        self.used.append(self.next if how < 0.7 else rng.getrandbits(127) + 1)
+        return self.used[-1]
+
+    def transfer(self):
+        kind, id = rng.choice(self.KINDS), self.id()
+        if kind & 2:
+            self.open.append(id)
+        d, c = two(many)
+        ledger, code, amount = 700, 10, rng.choice([1, 5, 10, 100, 1000, MAX])
+        if kind & 12 and rng.random() < 0.9:
+            d = c = ledger = code = 0
+            amount = (MAX if kind & 4 else 0) if rng.random() < 0.8 else amount
+        return transfer(
+            id,
+            d,
+            c,
+            amount,
+            flags=kind | (1 if rng.random() < 0.1 else 0),
+            pending=rng.choice(self.open) if kind & 12 else 0,
+            timeout=rng.choice([0, 0, 1, 3, 4294967295]) if kind & 2 else 0,
+            ledger=ledger,
+            code=code,
+            user128=rng.choice([0] * 9 + [1]),
+        )
+
+
+def various():
+    global now
+    draw, clients, commits = Various(), [Client(500 + i) for i in range(70)], {}
+
+    def ready():
+        """A client that has a session: of 64 sessions the one with the least commit is evicted."""
+        c = rng.choice(clients)
+        if c.id not in commits:
+            register(c)
+            if len(commits) == 64:
+                del commits[min(commits, key=commits.get)]
+        commits[c.id] = commit + 1
+        return c
+
+    def some(make, *most):
+        return [make() for _ in range(min(rng.randint(1, rng.choice(most)), size))]
+
+    for first in range(1, many + 1, 8190):
+        request(ready(), 129, [*map(draw.account, range(first, min(many, first + 8189) + 1))])
+    left = size
+    while left > 0:
+        what, c = rng.random(), ready()
+        if what < 0.6:
+            items = some(draw.transfer, 1, 20, 2000)
+            last = request(c, 130, items)
+        elif what < 0.7:
+            items = some(lambda: draw.account(rng.randint(1, many + many // 10)), 1, 20)
+            last = request(c, 129, items)
+        elif what < 0.85:
+            items = some(lambda: u128(rng.randint(1, many + 9)), 1, 20, 2000)
+            last = request(c, 131, items)
+        else:
+            items = some(lambda: u128(rng.choice(draw.used)), 1, 20, 2000)
+            last = request(c, 132, items)
+        if rng.random() < 0.05:
+            send(last)
+        left -= len(items)
+        now += rng.choice([0, 0, 1, 10**9, 2 * 10**9])
+
+
 {
     "rising": lambda: bulk(lambda i: 1000000 + i),
     "random": lambda: bulk(lambda i: rng.getrandbits(127) + 1),
@@ -362,4 +460,5 @@ def mixed():
     "single": single,
     "lookups": lookups,
     "mixed": mixed,
+    "various": various,
 }[workload]()

@@ -1,15 +1,16 @@
 //! The plain Rust machine of plain.rs behind a Mutex, served to threads: for comparison with ports and their server.
-//! rustc -O -C target-cpu=x86-64-v2 plain_ports.rs && ./plain_ports THREADS ORDERS EACH
-//! Each thread has ORDERS orders of EACH requests of one transfer, and takes the lock once for each order. It prints what tb_bench
-//! does: `commits`, and in nanoseconds `orders`, from the first order to the last reply.
+//! rustc -O -C target-cpu=x86-64-v2 plain_ports.rs && ./plain_ports THREADS ORDERS EACH ACCOUNTS
+//! Each thread has ORDERS orders of EACH requests of one transfer between ACCOUNTS accounts, an even number, and takes the lock
+//! once for each order. It prints what tb_bench does: `commits`, and in nanoseconds `orders`, from the first order to the last
+//! reply.
 use std::sync::Mutex;
 use std::time::Instant;
 
 #[path = "plain.rs"]
 mod plain;
 
-/// The number of accounts, which transfers go between.
-const ACCOUNTS: u64 = 1000;
+/// The most events of a request.
+const EVENTS_MAX: u64 = 8190;
 
 /// A header and a body.
 type Request = ([u8; 48], Vec<u8>);
@@ -32,28 +33,41 @@ fn account(id: u64) -> [u8; 128] {
     record
 }
 
-fn transfer(id: u64) -> [u8; 128] {
-    let mut record = account(id);
-    record[16..24].copy_from_slice(&(id % ACCOUNTS + 1).to_le_bytes());
-    record[32..40].copy_from_slice(&(ACCOUNTS - id % ACCOUNTS).to_le_bytes());
+/// A transfer between two of so many accounts.
+fn transfer(id: u64, accounts: u64) -> [u8; 128] {
+    let (mut record, debit) = (account(id), id % accounts);
+    record[16..24].copy_from_slice(&(debit + 1).to_le_bytes());
+    record[32..40].copy_from_slice(&(accounts - debit).to_le_bytes());
     record[48] = 1;
     record
 }
 
-/// The orders of a thread: the ids of all threads' transfers rise by turns.
-fn orders(thread: u64, threads: u64, count: u64, each: u64) -> Vec<Vec<Request>> {
-    let request = |k: u64| request(thread.into(), thread + 2, k as u32 + 1, 130, transfer(k * threads + thread).to_vec());
-    (0..count).map(|order| (0..each).map(|at| request(order * each + at)).collect()).collect()
-}
+/// What is served: orders of `each` requests from so many threads, between so many accounts.
+#[derive(Clone, Copy)]
+struct Scale { threads: u64, orders: u64, each: u64, accounts: u64 }
 
-/// Registers the client that creates the accounts, and the clients of all threads.
-fn prepare(machine: &mut plain::Machine, threads: u64) {
-    let mut sink = Vec::new();
-    let accounts = (1..=ACCOUNTS).flat_map(account).collect();
-    let mut first = vec![request(100, 0, 0, 2, Vec::new()), request(100, 1, 1, 129, accounts)];
-    first.extend((1..=threads).map(|client| request(client.into(), 0, 0, 2, Vec::new())));
-    for (head, body) in first {
-        assert!(machine.serve(0, &head, body, &mut sink));
+impl Scale {
+    /// The orders of a thread: the ids of all threads' transfers rise by turns.
+    fn orders(self, thread: u64) -> Vec<Vec<Request>> {
+        let session = thread + 2 + self.accounts.div_ceil(EVENTS_MAX);
+        let request = |k: u64| {
+            let body = transfer(k * self.threads + thread + 1, self.accounts).to_vec();
+            request((thread + 1).into(), session, k as u32 + 1, 130, body)
+        };
+        (0..self.orders).map(|order| (0..self.each).map(|at| request(order * self.each + at)).collect()).collect()
+    }
+
+    /// Registers the client that creates the accounts, and the clients of all threads.
+    fn prepare(self, machine: &mut plain::Machine) {
+        let (mut sink, ids) = (Vec::new(), (1..=self.accounts).collect::<Vec<u64>>());
+        let mut first = vec![request(100, 0, 0, 2, Vec::new())];
+        first.extend(ids.chunks(EVENTS_MAX as usize).zip(1..).map(|(some, number)| {
+            request(100, 1, number, 129, some.iter().copied().flat_map(account).collect())
+        }));
+        first.extend((1..=self.threads).map(|client| request(client.into(), 0, 0, 2, Vec::new())));
+        for (head, body) in first {
+            assert!(machine.serve(0, &head, body, &mut sink));
+        }
     }
 }
 
@@ -71,10 +85,10 @@ fn serve_all(machine: &Mutex<plain::Machine>, orders: Vec<Vec<Request>>) {
 
 fn main() {
     let words: Vec<u64> = std::env::args().skip(1).map(|word| word.parse().unwrap()).collect();
-    let (threads, count, each) = (words[0], words[1], words[2]);
+    let scale = Scale { threads: words[0], orders: words[1], each: words[2], accounts: words[3] };
     let mut machine = plain::Machine::new(64, false);
-    prepare(&mut machine, threads);
-    let all: Vec<_> = (1..=threads).map(|thread| orders(thread, threads, count, each)).collect();
+    scale.prepare(&mut machine);
+    let all: Vec<_> = (0..scale.threads).map(|thread| scale.orders(thread)).collect();
     let machine = Mutex::new(machine);
     let start = Instant::now();
     std::thread::scope(|scope| {

@@ -9,7 +9,7 @@ use std::cell::Cell;
 use std::collections::{BTreeMap, BTreeSet};
 use std::io::{BufReader, BufWriter, Read, Write};
 
-use tables::{Due, Rows};
+use self::tables::{Due, Rows};
 
 const MAX_TIME: u64 = (1 << 63) - 1;
 const SECOND: u64 = 1_000_000_000;

@@ -2,29 +2,37 @@
 """What published copies and ports cost: takes next to the one-thread machine, reads next to a busy
 writer and orders of ports, against plain Rust.
 
-  (cd crates/tb_bench && rt run)               # builds crates/tb_bench/out/tb_bench
-  python3 bench/threads.py [TURNS [TABLE..]]   # prints the tables; the best of TURNS runs (5)
+  (cd crates/tb_bench && rt run)   builds crates/tb_bench/out/tb_bench (TB_BENCH names another)
+  threads.py [--turns N] [--rows] [--work FOLDER] [TABLE ..]
 
-A TABLE is takes, reads, ports or memory; with none, all four. Programs that are compared run by
-turns. Memory is what is added to the resident size over 50 batches of 8190 transfers, in bytes a
-transfer.
+A TABLE is takes, reads, ports or memory; with none, all four. A cell is the best of --turns runs
+(5). Programs that are compared run by turns. Memory is what is added to the resident size over 50
+batches of 8190 transfers, in bytes a transfer. A ratio over its bound is marked with '>'.
 """
 import os
-import pathlib
 import subprocess
 import sys
-import tempfile
 
-TOP = pathlib.Path(__file__).resolve().parent.parent
-sys.path.insert(0, str(TOP / "checks"))
+import measure
+import rows
+import tried
 
-import tried  # noqa: E402
-
-BENCH = TOP / "crates" / "tb_bench" / "out" / "tb_bench"
+BENCH = os.environ.get(
+    "TB_BENCH", str(measure.HERE.parent / "crates" / "tb_bench" / "out" / "tb_bench")
+)
+TAKES = (
+    (("take", 30), "take of a batch of 8190", 30, 2.8),
+    (("single", 50), "take of a transfer, a show each", 50000, None),
+    (("eights", 50), "take of a transfer, a show for eight", 50000, 3.4),
+)
+NUMBERS = {1: "one", 8: "eight"}
+# Ports, requests an order, and the most that the time may be of that behind a Mutex.
+PORTS = ((1, 1, 2.2), (1, 8, 2.2), (2, 1, 1.5), (2, 8, 1.5), (4, 1, 1.5), (4, 8, 1.5))
+REQUESTS, ACCOUNTS = 400_000, 1000
 
 
 def run(program, words):
-    """The times that a program tells, and its greatest resident size in bytes."""
+    """The times that a program reports, and its greatest resident size in bytes."""
     child = subprocess.Popen(
         [str(program), *map(str, words)],
         stdout=subprocess.DEVNULL,
@@ -40,7 +48,7 @@ def run(program, words):
 
 
 def least(turns, *calls):
-    """The least of each time that each call of a program tells, where the calls take turns."""
+    """The least of each time that each call of a program reports, where the calls take turns."""
     told = [[] for _ in calls]
     for _ in range(turns):
         for words, times in zip(calls, told):
@@ -48,31 +56,29 @@ def least(turns, *calls):
     return [{name: min(time[name] for time in times) for name in times[0]} for times in told]
 
 
-def compile_plain(folder, name):
-    program = pathlib.Path(folder) / name
-    subprocess.run(
-        ["rustc", "-O", "-C", "target-cpu=x86-64-v2", "-o", program, TOP / "bench" / f"{name}.rs"],
-        check=True,
-    )
-    return program
+def marked(ratio, most):
+    return f"{'>' if most is not None and ratio > most else ''}{ratio:.2f}"
 
 
-def print_takes(turns, _folder):
-    print("\n| Takes beside applies | take, us | apply, us | ratio |\n|---|---|---|---|")
-    for words, label, each in (
-        (("take", 30), "a batch of 8190", 30),
-        (("single", 50), "a single transfer, a show each", 50000),
-        (("eights", 50), "a single transfer, a show for eight", 50000),
-    ):
+def bench(subject, peer, size, ratio, turns, unit="ratio of CPU time", note=""):
+    note = f"best of {turns} runs{note and '; '}{note}"
+    return rows.row("bench", subject, peer, size, f"{ratio:.2f}", unit, note)
+
+
+def takes(turns, _folder):
+    print("\n| Takes compared with applies | take, us | apply, us | ratio |\n|---|---|---|---|")
+    for words, label, each, most in TAKES:
         (told,) = least(turns, (BENCH, words))
+        ratio = told["take"] / told["apply"]
         print(
             f"| {label} | {told['take'] / each / 1000:.2f} | {told['apply'] / each / 1000:.2f} | "
-            f"{told['take'] / told['apply']:.2f} |"
+            f"{marked(ratio, most)} |"
         )
+        yield bench(label, "apply", "", ratio, turns)
 
 
-def print_reads(turns, folder):
-    plain = compile_plain(folder, "plain_threads")
+def reads(turns, folder):
+    plain = measure.build("plain_threads", folder)
     print(
         "\nNanoseconds a read in each thread, and in brackets million reads a second of all "
         "threads."
@@ -87,43 +93,50 @@ def print_reads(turns, folder):
         )
         counts = [threads * count for count in (reads, reads, reads, reads // 8)]
         told[threads] = list(zip(least(turns, *calls), counts))
-    for kind in ("status", "lookup"):
+    kinds = [(peer, writer) for writer in ("no writer", "a writer") for peer in ("seats", "RwLock")]
+    for kind, label in (("status", "status"), ("lookup", "lookup of 2")):
         print(
-            f"\n| Threads | {kind}: seats, no writer | RwLock, no writer | seats beside a writer "
-            "| RwLock beside a writer |\n|---|---|---|---|---|"
+            f"\n| Threads | {kind}: seats, no writer | RwLock, no writer | seats, a writer "
+            "| RwLock, a writer |\n|---|---|---|---|---|"
         )
-        for threads, rows in told.items():
-            each = [times[kind] / count for times, count in rows]
+        for threads, found in told.items():
+            each = [times[kind] / count for times, count in found]
             print(
                 f"| {threads} | "
                 + " | ".join(f"{one:.0f} ({1000 * threads / one:.1f})" for one in each)
                 + " |"
             )
+            many = f"{threads} thread{'s' if threads > 1 else ''}"
+            for (peer, writer), one in zip(kinds, each):
+                yield rows.row(
+                    "reads",
+                    f"{label}, {many}, {writer}",
+                    peer,
+                    "",
+                    round(one),
+                    "ns a read",
+                    f"best of {turns} runs",
+                )
 
 
-def print_ports(turns, folder):
-    plain = compile_plain(folder, "plain_ports")
-    print("\nThousand requests a second.\n")
+def ports(turns, folder):
+    plain = measure.build("plain_ports", folder)
     print(
-        "| Ports | one request an order: ports | Mutex | time to the Mutex's | eight an order: "
-        "ports | Mutex | time to the Mutex's |\n|---|---|---|---|---|---|---|"
+        "\n| Ports | thousand requests a second | behind a Mutex | time to the Mutex's |"
+        "\n|---|---|---|---|"
     )
-    for ports in (1, 2, 4):
-        cells = []
-        for each in (1, 8):
-            orders = 400000 // ports // each
-            ours, theirs = least(
-                turns, (BENCH, ("ports", ports, orders, each)), (plain, (ports, orders, each))
-            )
-            count = ports * orders * each * 1000000
-            cells.append(
-                f"{count / ours['orders']:.0f} | {count / theirs['orders']:.0f} | "
-                f"{ours['orders'] / theirs['orders']:.2f}"
-            )
-        print(f"| {ports} | {' | '.join(cells)} |")
+    for count, each, most in PORTS:
+        words = (count, REQUESTS // count // each, each)
+        ours, theirs = least(turns, (BENCH, ("ports", *words)), (plain, (*words, ACCOUNTS)))
+        rates = [REQUESTS * 1_000_000 / it["orders"] for it in (ours, theirs)]
+        ratio = ours["orders"] / theirs["orders"]
+        label = f"{count} port{'s' if count > 1 else ''}, {NUMBERS[each]} an order"
+        print(f"| {label} | {rates[0]:.0f} | {rates[1]:.0f} | {marked(ratio, most)} |", flush=True)
+        said = f"{rates[0]:.0f} against {rates[1]:.0f} thousand requests a second"
+        yield bench(label, "Mutex", ACCOUNTS, ratio, turns, "ratio of time", said)
 
 
-def print_memory(turns, _folder):
+def memory(turns, _folder):
     sizes = {
         (kind, size): min(run(BENCH, (kind, size))[1] for _ in range(turns))
         for kind in ("take", "memory")
@@ -133,23 +146,36 @@ def print_memory(turns, _folder):
     print(
         f"\nbytes a transfer: {took - alone:.0f} in history and copies, {alone:.0f} in one machine"
     )
+    for subject, found in (("one machine", alone), ("a publisher", took)):
+        yield rows.row(
+            "bench", subject, "", 50 * 8190, round(found), "bytes a transfer", "50 batches of 8190"
+        )
 
 
-TABLES = {"takes": print_takes, "reads": print_reads, "ports": print_ports, "memory": print_memory}
+TABLES = {it.__name__: it for it in (takes, reads, ports, memory)}
+
+
+def measure_tables(names, turns, folder):
+    """Prints these tables; their rows."""
+    tried.built(BENCH, how="build it first: (cd crates/tb_bench && rt run)")
+    return [row for name in names for row in TABLES[name](turns, folder)]
 
 
 def main():
     parser = tried.arguments(__doc__)
-    parser.add_argument("turns", metavar="TURNS", type=tried.count, nargs="?", default=5)
+    parser.add_argument("--turns", metavar="N", type=tried.count, default=5, help="runs (5)")
+    parser.add_argument("--work", metavar="FOLDER", help="keeps programs there")
+    parser.add_argument("--rows", action="store_true", help="write rows of docs/work/runs.csv")
     parser.add_argument("tables", metavar="TABLE", nargs="*", help=", ".join(TABLES))
     given = parser.parse_args()
     for name in given.tables:
         if name not in TABLES:
             parser.error(f"there is no table {name}: {', '.join(TABLES)}")
-    tried.built(BENCH, how="build it first: (cd crates/tb_bench && rt run)")
-    with tempfile.TemporaryDirectory() as folder:
-        for name in given.tables or TABLES:
-            TABLES[name](given.turns, folder)
+    with measure.work_folder(given.work) as folder:
+        found = measure_tables(given.tables or [*TABLES], given.turns, folder)
+    if given.rows:
+        for kind in ("bench", "reads"):
+            rows.write([it for it in found if it["kind"] == kind])
     return 0
 
 

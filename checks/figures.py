@@ -41,6 +41,7 @@ KINDS = {
     "crate",
     "bench",
     "bound",
+    "growth",
     "instructions",
     "reads",
     "check",
