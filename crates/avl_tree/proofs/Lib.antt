@@ -1,5 +1,6 @@
 pub mod Around
 pub mod Crosses
+pub mod Firsts
 pub mod InPlace
 pub mod Least
 pub mod Ranges

@@ -1,7 +1,7 @@
 // The map.
 #![tactic(auto, using(crate::proofs::Shape::entries_search_of))]
 
-ghost use Rattle.std.specs.Prelude.{◌≡◌, ◌+◌, ◌<◌, ◌≤◌, ◌^◌, ◌⊎◌, true, false, [], length, map, max, IfOk, IfErr, if◌then◌else◌};
+ghost use Rattle.std.specs.Prelude.{◌≡◌, ◌+◌, ◌<◌, ◌≤◌, ◌^◌, ◌⊎◌, true, false, [], length, map, max, take, IfOk, IfErr, if◌then◌else◌};
 ghost use Rattle.std.specs.Option.{option_copied, option_map, is_some, IfNone, IfSome};
 ghost use Rattle.std.specs.List.{slice_get};
 ghost use Rattle.std.specs.List.Sorted.{IsStrictlySortedBy};
@@ -186,6 +186,18 @@ impl<K: Ord + Copy, V, A: Allocator + Clone> AvlMap<K, V, A> {
         ensures ordered { IsStrictlySortedBy K.cmp (keys_of (entries self.now)) }
     {
         range::visit(&self.root, low, high, f);
+    }
+
+    /// Calls the closure with each of the first `n` pairs, or with all where there are fewer, by rising key.
+    ///
+    /// The closure is lent, so that the caller has the state that the calls left it in.
+    pub fn for_first<F: FnMut(&K, &V)>(&self, n: usize, f: &mut F)
+        requires { F.IsAlwaysCallable f.old }
+        ensures callable { F.IsAlwaysCallable f.new }
+        ensures visited { VisitsTo F.FnMut f.old (take n (entries self.now)) f.new }
+        ensures ordered { IsStrictlySortedBy K.cmp (keys_of (entries self.now)) }
+    {
+        let _ = range::visit_first(&self.root, n, f);
     }
 
     /// Gives the key another value, and answers the old one. Where the key is absent it answers the value that was

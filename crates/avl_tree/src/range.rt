@@ -1,5 +1,6 @@
-// Walks over a range of keys.
-ghost use Rattle.avl_tree.specs.Nodes.{entries, entry, IsSearchTree};
+// Walks over a range of keys, and over the first entries.
+ghost use Rattle.std.specs.Prelude.{◌≡◌, ◌-◌, length, take};
+ghost use Rattle.avl_tree.specs.Nodes.{entries, entry, IsAvl, IsSearchTree};
 ghost use Rattle.avl_tree.specs.Visits.{between, CalledAtEntry, VisitsTo};
 
 use crate::tree::{Node, Tree};
@@ -54,4 +55,27 @@ pub fn visit<K: Ord, V, A: Allocator, F: FnMut(&K, &V)>(
             }
         },
     }
+}
+
+/// Calls the closure with each of the first `n` entries, by rising key, and answers how many of the `n` are left.
+pub fn visit_first<K, V, A: Allocator, F: FnMut(&K, &V)>(
+    tree: &Tree<K, V, A>,
+    n: usize,
+    f: &mut F,
+) -> usize
+    requires balanced { IsAvl tree.now }
+    requires callable { F.IsAlwaysCallable f.old }
+    ensures callable { F.IsAlwaysCallable f.new }
+    ensures visited { VisitsTo F.FnMut f.old (take n (entries tree.now)) f.new }
+    ensures left { result ≡ n - length (entries tree.now) }
+{
+    let Tree::Fork(_, node) = tree else {
+        return n;
+    };
+    let left = visit_first(&node.left, n, f);
+    if left == 0 {
+        return 0;
+    }
+    call_at(node, f);
+    visit_first(&node.right, left - 1, f)
 }

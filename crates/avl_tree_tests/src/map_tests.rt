@@ -94,6 +94,16 @@ fn digits<A: Allocator + Clone>(map: &AvlMap<u64, u128, A>, low: u64, high: u64)
     digits
 }
 
+/// The keys of the first `n` pairs, below 10, as the digits of a number in the order in which they come.
+fn first_digits<A: Allocator + Clone>(map: &AvlMap<u64, u128, A>, n: usize) -> u64 {
+    let mut digits = 0u64;
+    map.for_first(
+        n,
+        &mut |key: &u64, _: &u128| { digits = digits.wrapping_mul(10).wrapping_add(*key) },
+    );
+    digits
+}
+
 /// The key has this value, or is absent.
 fn expect_value<A: Allocator + Clone>(
     rt: &impl Abort,
@@ -204,6 +214,22 @@ fn exchange_values(rt: &impl Abort, map: &mut AvlMap<u64, u128, Global>) -> Resu
 #[test]
 fn values_are_exchanged(rt: HostRuntime) -> Result<(), Fail> {
     exchange_values(&rt, &mut AvlMap::new_in(rt.alloc()))
+}
+
+fn visit_first(rt: &impl Abort, map: &mut AvlMap<u64, u128, Global>) -> Result<(), Fail> {
+    same(rt, &first_digits(map, 8), &0, &"empty");
+    map.reserve(9)?;
+    put_all(rt, map, 1, 9);
+    for (n, wanted) in [(0, 0), (1, 1), (4, 1234), (5, 12345), (8, 12_345_678)] {
+        same(rt, &first_digits(map, n), &wanted, &n);
+    }
+    same(rt, &first_digits(map, usize::MAX), &123_456_789, &"all");
+    Ok(())
+}
+
+#[test]
+fn first_pairs_are_visited(rt: HostRuntime) -> Result<(), Fail> {
+    visit_first(&rt, &mut AvlMap::new_in(rt.alloc()))
 }
 
 fn keep_spare_nodes(rt: &impl Abort, map: &mut AvlMap<u64, u128, Global>) -> Result<(), Fail> {
