@@ -15,12 +15,6 @@ fn accounts_of(t: &Transfer, pending: &Option<&TransferRow>) -> (u128, u128) {
     }
 }
 
-/// The accounts of four transfers.
-fn accounts_of_four(four: [(u128, u128); 4]) -> [u128; 8] {
-    let [a, b, c, d] = four;
-    [a.0, a.1, b.0, b.1, c.0, c.1, d.0, d.1]
-}
-
 /// The pending transfers that eight transfers name.
 fn named_by(eight: &[Transfer; 8]) -> [u128; 8] {
     let [a, b, c, d, e, f, g, h] = eight;
@@ -52,7 +46,7 @@ fn pending_rows<'a, A: Allocator + Clone>(
 fn accounts_of_eight<A: Allocator + Clone>(
     rows: &Rows<A>,
     eight: &[Transfer; 8],
-) -> ([u128; 8], [u128; 8]) {
+) -> ([(u128, u128); 4], [(u128, u128); 4]) {
     let [a, b, c, d, e, f, g, h] = eight;
     let [pa, pb, pc, pd, pe, pf, pg, ph] = pending_rows(rows, eight);
     let first = [
@@ -67,7 +61,7 @@ fn accounts_of_eight<A: Allocator + Clone>(
         accounts_of(g, &pg),
         accounts_of(h, &ph),
     ];
-    (accounts_of_four(first), accounts_of_four(later))
+    (first, later)
 }
 
 /// Brings the rows of the accounts that eight transfers need into the cache, where accounts are many.
@@ -76,7 +70,7 @@ pub(crate) fn touch_accounts<A: Allocator + Clone>(rows: &mut Rows<A>, eight: &[
 {
     if rows.accounts.is_large() {
         let (first, later) = accounts_of_eight(rows, eight);
-        rows.accounts.touch(&first);
-        rows.accounts.touch(&later);
+        rows.accounts.touch_pairs(first);
+        rows.accounts.touch_pairs(later);
     }
 }

@@ -74,6 +74,44 @@ fn mark_expired<A: Allocator + Clone>(
     }
 }
 
+/// The accounts of a row that is there.
+fn accounts_of(row: &Option<&TransferRow>) -> (u128, u128) {
+    match row {
+        Some(row) => row.accounts(),
+        None => (0, 0),
+    }
+}
+
+/// Brings the next eight transfers that have timeouts, and their accounts, into the cache.
+fn touch_next<A: Allocator + Clone>(rows: &mut Rows<A>)
+    ensures { rows.new ≡ rows.old }
+{
+    let [a, b, c, d, e, f, g, h] = rows.transfers.get_many(&rows.timeouts.next_eight());
+    let first = [
+        accounts_of(&a),
+        accounts_of(&b),
+        accounts_of(&c),
+        accounts_of(&d),
+    ];
+    let later = [
+        accounts_of(&e),
+        accounts_of(&f),
+        accounts_of(&g),
+        accounts_of(&h),
+    ];
+    rows.accounts.touch_pairs(first);
+    rows.accounts.touch_pairs(later);
+}
+
+/// Looks ahead after `ended` transfers have expired: after the first and each eighth from there, where transfers are many.
+fn look_ahead<A: Allocator + Clone>(rows: &mut Rows<A>, ended: usize)
+    ensures { rows.new ≡ rows.old }
+{
+    if ended % 8 == 1 && rows.transfers.is_large() {
+        touch_next(rows);
+    }
+}
+
 /// Moves the ledger on to `time`: pending transfers whose timeout has passed hold no more. It takes as many steps as there are
 /// of these.
 pub fn expire<A: Allocator + Clone>(rows: &mut Rows<A>, time: u64)
@@ -84,9 +122,12 @@ pub fn expire<A: Allocator + Clone>(rows: &mut Rows<A>, time: u64)
     ensures records { KeepsRecords rows.old rows.new }
     ensures time { rows.new.time ≡ time }
 {
+    let mut ended: usize = 0;
     while let Some(due) = rows.timeouts.pop_due(time) {
         let p = mark_expired(&mut rows.transfers, due);
         release(&mut rows.accounts, &p.recorded());
+        ended = ended.wrapping_add(1);
+        look_ahead(rows, ended);
     }
     rows.time = time;
 }

@@ -148,6 +148,14 @@ impl<V: Keyed, A: Allocator + Clone> Table<V, A> {
         self.touched ^= mixed;
     }
 
+    /// Touches the rows of four pairs of keys.
+    pub fn touch_pairs(&mut self, pairs: [(u128, u128); 4])
+        ensures { self.new ≡ self.old }
+    {
+        let [a, b, c, d] = pairs;
+        self.touch(&[a.0, a.1, b.0, b.1, c.0, c.1, d.0, d.1]);
+    }
+
     /// The row with the key, and the number of nodes that the search met.
     pub fn probe(&self, id: u128) -> (Option<&V>, u32)
         ensures row { option_copied result.0 ≡ find (λ row. V.key row == id) self.now.items }

@@ -138,6 +138,24 @@ impl<A: Allocator + Clone> Timeouts<A> {
         }
     }
 
+    /// The ids of the first eight timeouts, and 0 for each that isn't there.
+    pub fn next_eight(&self) -> [u128; 8] {
+        let mut ids = [0; 8];
+        if let Some(keys) = &self.keys {
+            let mut n = 0;
+            keys.for_first(
+                8,
+                &mut |key: &(u64, u128), _: &()| {
+                    if n < 8 {
+                        ids[n] = key.1;
+                        n += 1;
+                    }
+                },
+            );
+        }
+        ids
+    }
+
     /// Takes the first timeout out, where it is due at the time.
     pub fn pop_due(&mut self, time: u64) -> Option<Timeout>
         ensures { TakesDue time self.old result self.new }

@@ -45,7 +45,7 @@ loop-due-smaller g c =
     let due = c.in-Some.due in
     let old = c.loop-due.rows.timeouts.items in
     let left = ap (λ v. v.items) c.in-Some.ensures.2 in
-    subst (λ l. length l < length old) (sym left) (length-taken_out timeout_key (timeout_key due) due old c.in-Some.ensures.1)
+    rw c.look_ahead.ensures (subst (λ l. length l < length old) (sym left) (length-taken_out timeout_key (timeout_key due) due old c.in-Some.ensures.1))
 
 pub loop-due-preserved : goal.loop-due-preserved
 loop-due-preserved g c =
@@ -65,7 +65,7 @@ loop-due-preserved g c =
     let rising = rising_transfers rows.transfers.items (subst (Rising transfer_key) (sym inv.transfers) c.requires.kept.rising.transfers) in
     let taken = c.in-Some.ensures.2 in
     let unlisted_is : c.pop_due.new.self ≡ unlisted p rows.timeouts = taken ∙ sym (unlisted_due p due rows.timeouts of.0 of.1) in
-    record {
+    rw c.look_ahead.ensures (record {
       rising = rising_released rows.accounts.items rows.transfers.items p inv.rising inv.sums there holds later.items changed;
       sums = sums_after rows.accounts.items rows.transfers.items p inv.rising inv.sums there holds later.items left.items changed marked;
       ahead = ahead_marked c.args.time (map (λ t. t.recorded) c.args.rows.now.transfers.items) p rows.transfers.items left.items there lapsed marked inv.ahead;
@@ -77,7 +77,7 @@ loop-due-preserved g c =
       timeouts_capacity = omega (arith, ap (λ v. v.spare) taken, inv.timeouts_capacity);
       failed = inv.failed;
       keeps_failed = inv.keeps_failed;
-    }
+    })
 
 pub returns : goal.returns
 returns g c =
