@@ -214,7 +214,7 @@ def check(tbd, file, shim=None, fault=""):
     if shim:
         env.update(LD_PRELOAD=shim, KEEP_FILE=file, KEEP_FAULT=fault)
     ran = subprocess.run([tbd, "check", file], capture_output=True, text=True, env=env, timeout=SECONDS)
-    told = {line.rpartition(" ")[0]: int(line.rpartition(" ")[2]) for line in ran.stdout.splitlines()}
+    told = {name: int(number) for name, number in re.findall(r"^([a-z_ ]+) (\d+)(?:, .*)?$", ran.stdout, re.M)}
     return {"status": ran.returncode, "said": ran.stderr.strip(), **told}
 
 
@@ -474,7 +474,7 @@ def told_of_ends(tbd, folder):
     with open(os.path.join(folder, "torn.tbk"), "wb") as file:
         file.write(data + b"\0\2\0")
     told = check(tbd, os.path.join(folder, "torn.tbk"))
-    case("what is told of torn bytes", told["torn bytes"] == 3, told)
+    case("what is told of torn bytes", told["bytes behind"] == 3, told)
     told = told_of(tbd, folder, ["run", "torn.tbk", "3"])
     case("torn bytes are told", told == (0, b"", f"tbd: cut 3 bytes of a batch that was not committed, behind byte {len(data) - 1}\n"), told)
     with open(os.path.join(folder, "turned.tbk"), "wb") as file:
@@ -508,8 +508,181 @@ def told_by_check(tbd, folder):
         path = os.path.join(folder, f"profile{profile}.tbk")
         told_of(tbd, folder, ["run", path, "3", str(profile)], pair_of_a_register())
         told = check(tbd, path)
-        wanted = {"status": 0, "said": "", "records": 2, "entries": 1, "profile": profile, "clients_max": 3, "last time": 5, "torn bytes": 0}
+        wanted = {"status": 0, "said": "", "records": 2, "entries": 1, "profile": profile, "clients_max": 3, "last time": 5, "bytes behind": 0}
         case(f"what is told of profile {profile}", told == wanted, told)
+
+
+# Files that are read while they are served, and files that may only be read
+
+
+def rounds_until(ledger, process, stop):
+    """Rounds of all clients, until they are to stop."""
+    while not stop.is_set() and ledger.round(process, ledger.clients):
+        pass
+
+
+def dumped(tbd, folder, path, **how):
+    """The dump of a file, or None."""
+    status, dump, said = told_of(tbd, folder, ["dump", path], **how)
+    return dump if status == 0 and said == "" else None
+
+
+def looks(tbd, folder):
+    """Dumps and checks next to a server under load: none is refused, and each dump is a prefix of the next."""
+    ledger = Ledger(tbd, folder, "live")
+    ledger.open_accounts()
+    process, stop = ledger.start(), threading.Event()
+    load = threading.Thread(target=rounds_until, args=(ledger, process, stop))
+    load.start()
+    dumps, told = [], []
+    for _ in range(30):
+        dumps.append(dumped(tbd, folder, ledger.file))
+        told.append(check(tbd, ledger.file))
+    stop.set()
+    load.join()
+    process.stdin.close()
+    ended(process)
+    dumps.append(dumped(tbd, folder, ledger.file))
+    case("dumps next to a server", None not in dumps and dumps[0] != dumps[-1], [it and len(it) for it in dumps])
+    grows = all(later.startswith(earlier) for earlier, later in zip(dumps, dumps[1:])) if None not in dumps else False
+    case("each dump is a prefix of the next", grows)
+    case("checks next to a server", all(it["status"] == 0 and it["said"] == "" for it in told), told[:2])
+    entries = [it.get("entries", 0) for it in told]
+    case("each check finds what the one before found", entries == sorted(entries), entries)
+
+
+def read_only(tbd, folder):
+    """A file and a folder that may only be read, by a user that may not write to them."""
+    place = os.path.join(folder, "shelf")
+    os.mkdir(place)
+    told_of(tbd, place, ["run", "kept.tbk", "3"], pair_of_a_register())
+    path = os.path.join(place, "kept.tbk")
+    case("a new file has mode 0600", os.stat(path).st_mode & 0o777 == 0o600, oct(os.stat(path).st_mode))
+    wanted = dumped(tbd, place, "kept.tbk")
+    copy, how = shutil.copy(tbd, os.path.join(folder, "tbd_copy")), {}
+    os.chmod(copy, 0o755)
+    os.chmod(folder, 0o755)
+    if os.geteuid() == 0:
+        how = {"user": 65534, "group": 65534, "extra_groups": []}
+    os.chmod(path, 0o444)
+    os.chmod(place, 0o555)
+    case("a dump of what may only be read", wanted and dumped(copy, place, "kept.tbk", **how) == wanted)
+    told = told_of(copy, place, ["check", "kept.tbk"], **how)
+    case("a check of what may only be read", told[0] == 0 and told[2] == "", told)
+    told = told_of(copy, place, ["run", "kept.tbk", "3"], **how)
+    case("what may only be read is not served", told == (1, b"", "tbd: Device: no permission to open kept.tbk\n"), told)
+    os.chmod(place, 0o755)
+
+
+def names(tbd, folder):
+    """Names of what is no regular file."""
+    os.symlink(os.path.join(folder, "nowhere.tbk"), os.path.join(folder, "link.tbk"))
+    os.mkfifo(os.path.join(folder, "pipe.tbk"))
+    os.mkdir(os.path.join(folder, "folder.tbk"))
+    for form in (["run", "link.tbk", "3"], ["check", "link.tbk"], ["dump", "link.tbk"]):
+        told = told_of(tbd, folder, form)
+        case(f"a link to nothing: {form[0]}", told == (1, b"", "tbd: Device: link.tbk is a link to nothing\n"), told)
+    case("no file is made through a link to nothing", not os.path.exists(os.path.join(folder, "nowhere.tbk")))
+    for name in ("pipe.tbk", "folder.tbk"):
+        for form in (["check", name], ["dump", name]):
+            told = told_of(tbd, folder, form)
+            case(f"no regular file: {' '.join(form)}", told == (1, b"", f"tbd: Device: {name} is no regular file\n"), told)
+    os.symlink(os.path.join(folder, "words.tbk"), os.path.join(folder, "good.tbk"))
+    told = told_of(tbd, folder, ["check", "good.tbk"])
+    case("a link to a file", told[0] == 0, told)
+    with open(os.path.join(folder, "dump.tbs"), "wb") as file:
+        file.write(dumped(tbd, folder, "words.tbk"))
+    told = told_of(tbd, folder, ["dump", "dump.tbs"])
+    case("a dump is no ledger", told == (5, b"", "tbd: NotAJournal: dump.tbs is a dump; tbs replay and tbt read it\n"), told)
+    told = told_of(tbd, folder, ["run", "words.tbk", "4", "2"])
+    line = "tbd: OtherRules: words.tbk was made with CLIENTS_MAX 3 and PROFILE 1, not with CLIENTS_MAX 4 and PROFILE 2\n"
+    case("other rules are told", told == (7, b"", line), told)
+
+
+def reported(tbd, folder):
+    """Starts that are reported."""
+    told = told_of(tbd, folder, ["run", "reported.tbk", "3", "--progress"], pair_of_a_register())
+    case("a start that is reported", (told[0], told[2]) == (0, "tbd: made reported.tbk\ntbd: ready\n"), told)
+    told = told_of(tbd, folder, ["run", "reported.tbk", "3"])
+    case("a start that is not", told == (0, b"", ""), told)
+
+
+# Dumps behind a commit, and dumps that go on
+
+
+def entry_ends(dump):
+    """Where each entry of a dump ends, behind its head."""
+    ends = [16]
+    while ends[-1] < len(dump):
+        at = ends[-1]
+        ends.append(at + 64 + int.from_bytes(dump[at + 48 : at + 52], "little"))
+    return ends
+
+
+def more_of(process, count):
+    """At least so many more bytes of a program's output, or fewer where it ends before or is late."""
+    data, until = b"", time.monotonic() + SECONDS
+    while len(data) < count and time.monotonic() < until:
+        if select.select([process.stdout], [], [], 0.1)[0]:
+            piece = os.read(process.stdout.fileno(), 1 << 16)
+            if not piece:
+                break
+            data += piece
+    return data
+
+
+def followers(tbd, folder, path, after):
+    """A dump of a file that goes on, with a head and without one."""
+    words = [[tbd, "dump", path, "--follow"], [tbd, "dump", path, "--after", str(after), "--follow"]]
+    return [subprocess.Popen(it, cwd=folder, stdout=subprocess.PIPE, stderr=subprocess.PIPE) for it in words]
+
+
+def follows(tbd, folder):
+    """What is written of a file that is served, killed and served again: each entry once."""
+    ledger = Ledger(tbd, folder, "followed")
+    ledger.open_accounts()
+    process = ledger.start()
+    ledger.round(process, ledger.clients)
+    first = entry_ends(dumped(tbd, folder, ledger.file))
+    after = len(first) - 5
+    going = followers(tbd, folder, ledger.file, after)
+    for _ in range(3):
+        ledger.round(process, ledger.clients)
+    process.kill()
+    process.wait()
+    process = ledger.start()
+    for _ in range(3):
+        ledger.round(process, ledger.clients)
+    process.stdin.close()
+    ended(process)
+    whole = dumped(tbd, folder, ledger.file)
+    ends = entry_ends(whole)
+    wanted = [whole, whole[ends[after] :]]
+    for name, follower, dump in zip(("--follow", "--after --follow"), going, wanted):
+        data = more_of(follower, len(dump))
+        case(f"{name}: each entry once", data == dump, (len(data), len(dump)))
+        case(f"{name}: it goes on", follower.poll() is None, follower.poll())
+        follower.terminate()
+        case(f"{name}: ends by SIGTERM", ended(follower) == -15, follower.returncode)
+    told = told_of(tbd, folder, ["dump", ledger.file, "--after", str(after)])
+    case("--after: the later entries without a head", told == (0, wanted[1], ""), (told[0], len(told[1]), told[2]))
+    told = told_of(tbd, folder, ["dump", ledger.file, "--after", str(len(ends))])
+    case("--after a commit that is to come", told == (0, b"", ""), told)
+    with open("/dev/full", "wb") as full:
+        told = told_of(tbd, folder, ["dump", ledger.file, "--follow"], output=full)
+    case("--follow ends at a write that fails", told == (1, None, "tbd: Device: standard output\n"), told)
+    closed_pipe(tbd, folder, ledger)
+
+
+def closed_pipe(tbd, folder, ledger):
+    """A dump that goes on ends where nobody reads it any more."""
+    follower = followers(tbd, folder, ledger.file, 0)[0]
+    follower.stdout.close()
+    process = ledger.start()
+    ledger.round(process, ledger.clients)
+    case("--follow ends where its pipe is closed", ended(follower) in (1, -13), follower.returncode)
+    process.stdin.close()
+    ended(process)
 
 
 def cuts(tbd, folder, data, gates, entries, count):
@@ -558,6 +731,11 @@ def main():
         lost_replies(asked.tbd, folder)
         told_of_ends(asked.tbd, folder)
         told_by_check(asked.tbd, folder)
+        reported(asked.tbd, folder)
+        names(asked.tbd, folder)
+        read_only(asked.tbd, folder)
+        looks(asked.tbd, folder)
+        follows(asked.tbd, folder)
         failing_dumps(asked.tbd, folder, shim)
         orders(asked.tbd, folder, shim)
         if asked.builds:

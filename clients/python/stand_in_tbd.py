@@ -146,18 +146,26 @@ def unopened(path, error):
     return Fault(f"Device: cannot open {path}", 1)
 
 
-def locked(path, flags):
-    """A file that no other process has open, and its bytes."""
+def locked(path):
+    """A file that no other process serves, made where it is not there, and its bytes."""
     try:
-        it = os.open(path, flags, 0o600)
+        it = os.open(path, os.O_RDWR | os.O_CREAT | os.O_APPEND, 0o600)
     except OSError as error:
         raise unopened(path, error) from None
     try:
         fcntl.flock(it, fcntl.LOCK_EX | fcntl.LOCK_NB)
     except OSError:
         raise Fault("Locked: another program has the file open", 4) from None
-    with open(path, "rb") as file:
-        return it, file.read()
+    return it, looked_at(path)
+
+
+def looked_at(path):
+    """The bytes of a file, which another process may serve."""
+    try:
+        with open(path, "rb") as file:
+            return file.read()
+    except OSError as error:
+        raise unopened(path, error) from None
 
 
 def read(data):
@@ -187,7 +195,7 @@ def write(file, data):
 
 def begin(path, clients_max, profile):
     """The file, with its torn end cut off, and its ledger."""
-    file, data = locked(path, os.O_RDWR | os.O_CREAT | os.O_APPEND)
+    file, data = locked(path)
     is_new = not data
     if len(data) < HEAD.size:
         if data != HEAD.pack(b"TBSDUMP1", profile, clients_max)[: len(data)]:
@@ -278,7 +286,7 @@ def tell(word, data):
             1,
             b""
             if word == "dump"
-            else f"records 0\nentries 0\nlast time 0\ntorn bytes {len(data)}\n".encode(),
+            else f"records 0\nentries 0\nlast time 0\n{behind(len(data))}".encode(),
         )
         return
     profile, ledger, end = read(data)
@@ -289,10 +297,13 @@ def tell(word, data):
         ("clients_max", ledger.clients_max),
         ("last time", ledger.time),
     )
-    told = "".join(
-        f"{name} {number}\n" for name, number in (*lines, ("torn bytes", len(data) - end))
-    )
+    told = "".join(f"{name} {number}\n" for name, number in lines) + behind(len(data) - end)
     write(1, data[:end] if word == "dump" else told.encode())
+
+
+def behind(count):
+    """The line on the bytes behind the last whole entry."""
+    return f"bytes behind {count}{', not committed yet or torn' if count else ''}\n"
 
 
 def run(path, clients_max, profile, reports):
@@ -316,7 +327,7 @@ def main(words):
     ):
         run(words[1], int(words[2]), int(words[3]) if len(words) == 4 else 1, reports)
     elif len(words) == 2 and words[0] in ("dump", "check"):
-        tell(words[0], locked(words[1], os.O_RDWR)[1])
+        tell(words[0], looked_at(words[1]))
     else:
         raise Fault("Usage", 2)
 

@@ -1,7 +1,7 @@
 -- Words that are so many.
-use Rattle.std.proofs.Common.{◌≡◌, ℕ, ◌<◌, ◌≤◌, ◌-◌, List, [], ◌∷◌, ◌++◌, length, take, drop, get_or, map, codes, refl, arith}
+use Rattle.std.proofs.Common.{◌≡◌, ℕ, None, ◌<◌, ◌≤◌, ◌-◌, List, [], ◌∷◌, ◌++◌, length, take, drop, get_or, map, codes, refl, arith}
 use Rattle.std.proofs.lemmas.List.{take_all}
-use Rattle.tb_keep_commands.specs.Forms.{wrong_clients, so_wrong, wrong}
+use Rattle.tb_keep_commands.specs.Forms.{form_by, wrong_clients, so_wrong, wrong}
 use Rattle.tb_keep_commands.specs.Statuses.{shown_words, usage_lines, wrong_line}
 
 module _ {X : Type 0} (bytes : X → List ℕ) where
@@ -11,6 +11,16 @@ module _ {X : Type 0} (bytes : X → List ℕ) where
   three_said (a ∷ b ∷ []) low high = absurd (omega (arith, low))
   three_said (a ∷ b ∷ c ∷ []) low high = refl
   three_said (a ∷ b ∷ c ∷ d ∷ rest) low high = absurd (omega (arith, high))
+
+  -- too many words
+  pub six_no_form : (words : List X) → 6 ≤ length words → None ≡ form_by (map bytes words)
+  six_no_form [] many = absurd (omega (arith, many))
+  six_no_form (a ∷ []) many = absurd (omega (arith, many))
+  six_no_form (a ∷ b ∷ []) many = absurd (omega (arith, many))
+  six_no_form (a ∷ b ∷ c ∷ []) many = absurd (omega (arith, many))
+  six_no_form (a ∷ b ∷ c ∷ d ∷ []) many = absurd (omega (arith, many))
+  six_no_form (a ∷ b ∷ c ∷ d ∷ e ∷ []) many = absurd (omega (arith, many))
+  six_no_form (a ∷ b ∷ c ∷ d ∷ e ∷ f ∷ rest) many = refl
 
   -- no more words than up to the one that names the file
   pub few_said : (words : List X) → length words < 2 → map bytes words ≡ take 2 (map bytes words)

@@ -50,5 +50,5 @@ summary_is found s len file same is = subst (λ (t : Summary). IsSummary len t f
   records = is.records;
   entries = is.entries;
   time = is.time;
-  torn = ap (λ n. len - n - 1) is.end;
+  behind = ap (λ n. len - n - 1) is.end;
 })

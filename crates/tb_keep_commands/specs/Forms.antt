@@ -4,7 +4,7 @@ use Rattle.std.specs.Prelude.{ℕ, Bool, true, false, ◌≡◌, ◌||◌, ◌&&
 use Rattle.std.specs.Char.{is_ascii_digit}
 use Rattle.std.specs.List.{list_all}
 use Rattle.std.specs.Cmp.Lexicographic.{pointwise}
-use Rattle.tb_commands.specs.Forms.{clients_of, profile_of}
+use Rattle.tb_commands.specs.Forms.{clients_of, profile_of, commit_of}
 use Rattle.tb_records.specs.declared.limits.Profile.{Profile}
 use Rattle.tb_records.specs.declared.limits.Profile.TheVariants.{One}
 use Rattle.tb_keep_commands.specs.declared.arguments.Form.{Form}
@@ -17,10 +17,14 @@ form_alone word =
     else if pointwise nat_eq word (codes "--version") then Some form.Version
     else None
 
+-- the word of dumps
+abbrev pub is_dump : List ℕ → Bool
+is_dump word = pointwise nat_eq word (codes "dump")
+
 -- `dump FILE` or `check FILE`
 abbrev pub form_over : List ℕ → Option Form
 form_over word =
-    if pointwise nat_eq word (codes "dump") then Some form.Dump
+    if is_dump word then Some (form.Dump None false)
     else if pointwise nat_eq word (codes "check") then Some form.Check
     else None
 
@@ -47,15 +51,38 @@ run_four word clients last =
 abbrev pub run_five : List ℕ → List ℕ → List ℕ → List ℕ → Option Form
 run_five word clients profile last = if is_progress last then run_form word clients (profile_of profile) true else None
 
+-- `dump FILE --follow`, or `run FILE CLIENTS_MAX`
+abbrev pub form_three : List ℕ → List ℕ → Option Form
+form_three word third =
+    if is_dump word then (if pointwise nat_eq third (codes "--follow") then Some (form.Dump None true) else None)
+    else run_form word third (Some One) false
+
+abbrev pub dump_by : Option ℕ → Bool → Option Form
+dump_by None follows = None
+dump_by (Some commit) follows = Some (form.Dump (Some commit) follows)
+
+-- `dump FILE --after COMMIT`
+abbrev pub dump_from : List ℕ → List ℕ → Bool → Option Form
+dump_from after commit follows = if pointwise nat_eq after (codes "--after") then dump_by (commit_of commit) follows else None
+
+abbrev pub form_four : List ℕ → List ℕ → List ℕ → Option Form
+form_four word third fourth = if is_dump word then dump_from third fourth false else run_four word third fourth
+
+-- `dump FILE --after COMMIT --follow`
+abbrev pub form_five : List ℕ → List ℕ → List ℕ → List ℕ → Option Form
+form_five word third fourth fifth =
+    if is_dump word then (if pointwise nat_eq fifth (codes "--follow") then dump_from third fourth true else None)
+    else run_five word third fourth fifth
+
 -- the form, whatever the word is that names the file
 abbrev pub form_by : List (List ℕ) → Option Form
 form_by [] = None
 form_by (word ∷ []) = form_alone word
 form_by (word ∷ file ∷ []) = form_over word
-form_by (word ∷ file ∷ clients ∷ []) = run_form word clients (Some One) false
-form_by (word ∷ file ∷ clients ∷ last ∷ []) = run_four word clients last
-form_by (word ∷ file ∷ clients ∷ profile ∷ last ∷ []) = run_five word clients profile last
-form_by (word ∷ file ∷ clients ∷ profile ∷ last ∷ more ∷ rest) = None
+form_by (word ∷ file ∷ third ∷ []) = form_three word third
+form_by (word ∷ file ∷ third ∷ fourth ∷ []) = form_four word third fourth
+form_by (word ∷ file ∷ third ∷ fourth ∷ fifth ∷ []) = form_five word third fourth fifth
+form_by (word ∷ file ∷ third ∷ fourth ∷ fifth ∷ more ∷ rest) = None
 
 -- the word that names the file
 abbrev pub file_word : List (List ℕ) → List ℕ
@@ -115,11 +142,15 @@ wrong_clients (word ∷ file ∷ clients ∷ profile ∷ last ∷ more ∷ rest)
 abbrev pub wrong_run : List (List ℕ) → Wrong
 wrong_run words = wrong_file words (wrong_clients words)
 
+-- what is wrong behind a word and its file
+abbrev pub wrong_behind : List ℕ → List ℕ
+wrong_behind word = if is_dump word then codes "only --after COMMIT and --follow may follow FILE" else codes "too many words"
+
 -- words that begin with one that takes a file, of which the second may name one
 abbrev pub wrong_count : List (List ℕ) → Wrong
 wrong_count [] = so_wrong [] (codes "no words")
 wrong_count (word ∷ []) = so_wrong (word ∷ []) (codes "FILE is missing")
-wrong_count (word ∷ file ∷ rest) = so_wrong (word ∷ []) (codes "too many words")
+wrong_count (word ∷ file ∷ rest) = so_wrong (word ∷ []) (wrong_behind word)
 
 -- words that begin with one that takes a file
 abbrev pub wrong_over : List (List ℕ) → Wrong
@@ -145,6 +176,9 @@ profile_one_is_the_default = refl
 
 pub a_start_is_reported : form_of (codes "run" ∷ codes "ledger" ∷ codes "2" ∷ codes "--progress" ∷ []) ≡ Some (form.Run 2 One true)
 a_start_is_reported = refl
+
+pub later_entries_are_followed : form_of (codes "dump" ∷ codes "ledger" ∷ codes "--after" ∷ codes "40" ∷ codes "--follow" ∷ []) ≡ Some (form.Dump (Some 40) true)
+later_entries_are_followed = refl
 
 pub no_profile_three : form_of (codes "run" ∷ codes "ledger" ∷ codes "2" ∷ codes "3" ∷ []) ≡ None
 no_profile_three = refl

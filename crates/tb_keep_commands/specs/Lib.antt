@@ -1,6 +1,8 @@
+pub mod Following
 pub mod Forms
 pub mod Hosts
 pub mod Kinds
+pub mod Live
 pub mod Naming
 pub mod Outcomes
 pub mod Outlets

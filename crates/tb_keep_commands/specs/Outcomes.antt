@@ -1,6 +1,6 @@
 -- What each form does, and how a command ends: its outcome, exit status and line.
 -- Cited by public contracts of: commands.
-use Rattle.std.specs.Prelude.{ℕ, Bool, true, ◌||◌, ◌≡◌, ◌-◌, List, [], length, Result, Ok, Err, IfOk}
+use Rattle.std.specs.Prelude.{ℕ, Bool, true, false, Option, None, ◌||◌, ◌≡◌, ◌-◌, List, [], length, Result, Ok, Err, IfOk}
 use Rattle.tb_records.specs.Transport.{Input, Output, Sent, CutOff}
 use Rattle.tb_journal.specs.declared.faults.Fault as journal
 use Rattle.tb_journal.specs.Device.{Disk, Looks, LeavesOnly}
@@ -26,6 +26,7 @@ use Rattle.tb_keep_commands.specs.declared.openers.OpeningFault.{OpeningFault}
 use Rattle.tb_keep_commands.specs.declared.summaries.Found.{Found}
 use Rattle.tb_keep_commands.specs.declared.summaries.Summary.{Summary}
 use Rattle.tb_keep_commands.specs.Statuses.{disk_fault, dumped_fault, started_fault, kept_fault, failed_pipe, fault_status, fault_line, SaysLine, TellsMade, TellsCut, TellsReading, TellsReady, TellsFrames}
+use Rattle.tb_keep_commands.specs.Following.{WritesPart}
 use Rattle.tb_keep_commands.specs.Naming.{Names, NamesAsked}
 use Rattle.tb_keep_commands.specs.Summaries.{ReadsWhole, IsSummary, summary_text}
 
@@ -91,6 +92,23 @@ module _ (tells : Type 0) {D : Type 0} (disk : D → Disk) (holds : D → List �
     pub whole : IsReadWhole found device between
     pub dumps : DumpsFound found outcome between after start written
 
+  -- where a file was found to be one history a part of it was written, and as long as more was waited for what came later; else nothing was
+  abbrev pub FollowsFound : Result Found StartFault → Option ℕ → Outcome → D → D → Output → Output → Type 0
+  FollowsFound (Err fault) from outcome device after start written = IsRefused fault outcome device after × (written ≡ start)
+  FollowsFound (Ok found) from outcome device after start written = OfFile device (λ file. WritesPart outcome from found.rules file start written)
+
+  -- a file was read to its end before a byte of a part of its dump was written: the entries above a commit number, or all
+  pub record FollowsFile (from : Option ℕ) (outcome : Outcome) (device after : D) (start written : Output) : Type 0 where
+    pub found : Result Found StartFault
+    pub between : D
+    pub whole : IsReadWhole found device between
+    pub follows : FollowsFound found from outcome between after start written
+
+  -- a dump, or a part of one
+  abbrev pub DumpsPart : Option ℕ → Bool → Outcome → D → D → Output → Output → Type 0
+  DumpsPart None false outcome device after start written = DumpsFile outcome device after start written
+  DumpsPart from follows outcome device after start written = FollowsFile from outcome device after start written
+
   -- where a file of so many bytes was found to be one history its summary was printed; else nothing was
   abbrev pub ChecksFound : Result Found StartFault → ℕ → Outcome → D → D → D → Output → Output → Type 0
   ChecksFound (Err fault) len outcome device between after start written = IsRefused fault outcome between after × (written ≡ start)
@@ -110,6 +128,12 @@ module _ (tells : Type 0) {D : Type 0} (disk : D → Disk) (holds : D → List �
     pub same : OfFile device (holds after)
     pub looks : tells → Looks len (disk device) (disk after)
 
+  -- a device was asked for the length of the whole file that it reads, which stays
+  pub record IsMeasured (len : Result ℕ journal.Fault) (device after : D) : Type 0 where
+    pub long : tells → IfOk len (λ n. n ≡ length (disk device).seen)
+    pub same : OfFile device (holds after)
+    pub looks : tells → Looks len (disk device) (disk after)
+
   abbrev pub ChecksBy : Result ℕ journal.Fault → Outcome → D → D → Output → Output → Type 0
   ChecksBy (Err fault) outcome device after start written = (outcome ≡ Err (disk_fault fault)) × (written ≡ start)
   ChecksBy (Ok len) outcome device after start written = ChecksLong len outcome device after start written
@@ -118,7 +142,7 @@ module _ (tells : Type 0) {D : Type 0} (disk : D → Disk) (holds : D → List �
   pub record ChecksFile (outcome : Outcome) (device after : D) (start written : Output) : Type 0 where
     pub len : Result ℕ journal.Fault
     pub between : D
-    pub asked : IsAsked len device between
+    pub asked : IsMeasured len device between
     pub checks : ChecksBy len outcome between after start written
 
   -- that its start made a file where there were no bytes was told, and what it cut off behind the records of one of so many bytes, and that
@@ -202,9 +226,9 @@ module _ (tells : Type 0) {D : Type 0} (disk : D → Disk) (holds : D → List �
     pub runs : Opens may left outcome ((last ≡ first) × (written ≡ start) × (told ≡ noted))
         (λ device. ServesFile tells disk holds outcome rules path reports device first last start written noted told)
 
-  abbrev pub DumpsOver : Outcome → Output → Output → Type 0
-  DumpsOver outcome start written =
-      Opens may left outcome (written ≡ start) (λ device. (after : D) × DumpsFile tells disk holds outcome device after start written)
+  abbrev pub DumpsOver : Option ℕ → Bool → Outcome → Output → Output → Type 0
+  DumpsOver from follows outcome start written =
+      Opens may left outcome (written ≡ start) (λ device. (after : D) × DumpsPart tells disk holds from follows outcome device after start written)
 
   abbrev pub ChecksOver : Outcome → Output → Output → Type 0
   ChecksOver outcome start written =
@@ -232,8 +256,8 @@ module _ (tells : Type 0) {D : Type 0} (disk : D → Disk) (holds : D → List �
   Performs (form.Run clients_max profile reports) outcome first last start written quiet told =
       RunsOver tells disk holds (makes before name) left outcome (rules_of profile clients_max) name (reports || ends.faults) ends.input
       first last start written quiet told
-  Performs form.Dump outcome first last start written quiet told =
-      (last ≡ first) × (told ≡ quiet) × DumpsOver tells_read disk_read holds_read (opens before name) left outcome start written
+  Performs (form.Dump from follows) outcome first last start written quiet told =
+      (last ≡ first) × (told ≡ quiet) × DumpsOver tells_read disk_read holds_read (opens before name) left from follows outcome start written
   Performs form.Check outcome first last start written quiet told =
       (last ≡ first) × (told ≡ quiet) × ChecksOver tells_read disk_read holds_read (opens before name) left outcome start written
   Performs form.Help outcome first last start written quiet told =

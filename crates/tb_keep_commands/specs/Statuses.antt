@@ -60,9 +60,9 @@ sync_fault fault = opening.SyncFailed
 
 abbrev pub opening_fault : FileFault → OpeningFault
 opening_fault file.Locked = opening.Locked
-opening_fault file.NotAFile = opening.Unopened
-opening_fault file.Exists = opening.Unopened
-opening_fault file.Dangling = opening.Unopened
+opening_fault file.NotAFile = opening.NotAFile
+opening_fault file.Exists = opening.Exists
+opening_fault file.Dangling = opening.Dangling
 opening_fault (file.Sync fault) = sync_fault fault
 opening_fault (file.System error) = opening_fault_of (error_kind error)
 
@@ -132,6 +132,9 @@ fault_status (Opening opening.Forbidden) = 1
 fault_status (Opening opening.NoMemory) = 1
 fault_status (Opening opening.SyncFailed) = 9
 fault_status (Opening opening.Unopened) = 1
+fault_status (Opening opening.Exists) = 2
+fault_status (Opening opening.NotAFile) = 1
+fault_status (Opening opening.Dangling) = 1
 fault_status Usage = 2
 fault_status (Request fault) = 2
 fault_status (NotAJournal kind) = 5
@@ -157,6 +160,9 @@ opening_text opening.Missing path = codes "Device: cannot find " ++ path
 opening_text opening.Forbidden path = codes "Device: no permission to open " ++ path
 opening_text opening.NoMemory path = codes "NoMemory"
 opening_text opening.SyncFailed path = sync_text
+opening_text opening.Exists path = codes "Usage: " ++ (path ++ codes " is there already")
+opening_text opening.NotAFile path = codes "Device: " ++ (path ++ codes " is no regular file")
+opening_text opening.Dangling path = codes "Device: " ++ (path ++ codes " is a link to nothing")
 opening_text opening.Unopened path = codes "Device: cannot open " ++ path
 
 -- what failed

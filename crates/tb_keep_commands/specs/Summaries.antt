@@ -1,6 +1,6 @@
 -- What is read of a whole file, and what `check` reports of it.
 -- Cited by public contracts of: summaries.
-use Rattle.std.specs.Prelude.{ℕ, ◌≡◌, ◌-◌, List, [], ◌∷◌, ◌++◌, length, codes, Result, Ok, Err, refl}
+use Rattle.std.specs.Prelude.{ℕ, ◌≡◌, ◌-◌, nat_eq, if◌then◌else◌, List, [], ◌∷◌, ◌++◌, length, codes, Result, Ok, Err, refl}
 use Rattle.std.specs.Fmt.{decimal, digits}
 use Rattle.tb_records.specs.declared.limits.Profile.TheVariants.{One}
 use Rattle.tb_records.specs.DumpBytes.{profile_number}
@@ -27,18 +27,18 @@ abbrev pub ReadsWhole : Result Found StartFault → List ℕ → Type 0
 ReadsWhole (Ok found) file = IsFound found file
 ReadsWhole (Err fault) file = IsNoHistory fault file
 
--- what stands in a file of so many bytes behind the closed gate is torn
+-- what stands in a file of so many bytes behind the closed latch is not committed yet, or torn
 abbrev pub summary_of : Found → ℕ → Summary
 summary_of found len = record {
   rules = found.rules;
   records = found.records;
   entries = found.entries;
   time = found.time;
-  torn = len - found.end - 1;
+  behind = len - found.end - 1;
 }
 
 -- the file stands for a history, and this is what is in it, if it has so many bytes: its records, its entries, the rules that it was made
--- with, the time of the last entry, and the bytes behind the records that a start would cut off
+-- with, the time of the last entry, and the bytes behind the records: a start would cut them off
 pub record IsSummary (len : ℕ) (s : Summary) (file : List ℕ) : Type 0 where
   pub history : History
   pub stands : IsLedger history file
@@ -47,11 +47,15 @@ pub record IsSummary (len : ℕ) (s : Summary) (file : List ℕ) : Type 0 where
   pub records : s.records ≡ length (recorded file)
   pub entries : s.entries ≡ length history.entries
   pub time : s.time ≡ (state_of history).books.time
-  pub torn : s.torn ≡ len - records_end (recorded file) - 1
+  pub behind : s.behind ≡ len - records_end (recorded file) - 1
 
 -- a number behind its name, before other lines
 abbrev pub line_before : List ℕ → ℕ → List ℕ → List ℕ
 line_before name number others = name ++ (decimal number ++ 10 ∷ others)
+
+-- what so many bytes behind the records are
+abbrev pub behind_text : ℕ → List ℕ
+behind_text bytes = if nat_eq bytes 0 then [] else codes ", not committed yet or torn"
 
 abbrev pub summary_text : Summary → List ℕ
 summary_text s =
@@ -60,11 +64,11 @@ summary_text s =
     (line_before (codes "profile ") (profile_number s.rules.profile)
     (line_before (codes "clients_max ") s.rules.clients_max
     (line_before (codes "last time ") s.time
-    (line_before (codes "torn bytes ") s.torn [])))))
+    (codes "bytes behind " ++ (decimal s.behind ++ (behind_text s.behind ++ 10 ∷ [])))))))
 
 -- rows
 
-pub two_entries : summary_text (record { rules = rules_of One 2; records = 3; entries = 2; time = 11; torn = 0 })
-    ≡ codes "records 3\nentries 2\nprofile 1\nclients_max 2\nlast time 11\ntorn bytes 0\n"
+pub two_entries : summary_text (record { rules = rules_of One 2; records = 3; entries = 2; time = 11; behind = 0 })
+    ≡ codes "records 3\nentries 2\nprofile 1\nclients_max 2\nlast time 11\nbytes behind 0\n"
 unfolding digits
 two_entries = refl

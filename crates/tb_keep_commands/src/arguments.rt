@@ -1,9 +1,9 @@
 //! What the words of the command line ask for, and what is wrong with words that ask for nothing.
 ghost use Rattle.std.specs.Prelude.{◌≡◌, map, take, string_bytes};
-ghost use Rattle.tb_keep_commands.specs.Forms.{form_alone, form_by, form_of, form_over, run_form, run_four, run_five, file_word, is_number, is_no_file, is_progress, wrong_last, wrong_five, wrong_clients, wrong_run, wrong_count, wrong_over, wrong};
+ghost use Rattle.tb_keep_commands.specs.Forms.{form_alone, form_by, form_of, form_over, form_three, form_four, form_five, dump_from, run_form, run_four, run_five, file_word, is_number, is_no_file, is_progress, wrong_last, wrong_five, wrong_clients, wrong_run, wrong_behind, wrong_count, wrong_over, wrong};
 ghost use Rattle.tb_commands.specs.Forms.{clients_of};
 
-use tb_commands::{read_clients_max, read_profile};
+use tb_commands::{number, read_clients_max, read_profile};
 use tb_records::{ClientsMax, Profile};
 
 /// What the program is asked to do.
@@ -11,8 +11,9 @@ use tb_records::{ClientsMax, Profile};
 pub enum Form {
     /// Serve requests over a file, which is made where there is none. The flag has its start reported.
     Run(ClientsMax, Profile, bool),
-    /// Write the history of a file as a dump.
-    Dump,
+    /// Write the history of a file as a dump: all of it, or the entries above a commit number, without a head. The flag has more waited
+    /// for.
+    Dump(Option<u64>, bool),
     /// Read a file, and tell what is in it.
     Check,
     /// The page of usage out.
@@ -26,7 +27,7 @@ fn form_over(word: &str) -> Option<Form>
     ensures { result ≡ form_over word.now }
 {
     match word {
-        "dump" => Some(Form::Dump),
+        "dump" => Some(Form::Dump(None, false)),
         "check" => Some(Form::Check),
         _ => None,
     }
@@ -89,31 +90,75 @@ fn run_five(word: &str, clients_max: &str, profile: &str, last: &str) -> Option<
     run_form(word, clients_max, read_profile(profile.as_bytes()), true)
 }
 
+/// What a word with a file and one more word asks for.
+fn form_three(word: &str, third: &str) -> Option<Form>
+    ensures { result ≡ form_three word.now third.now }
+{
+    if word == "dump" {
+        return if third == "--follow" {
+            Some(Form::Dump(None, true))
+        } else {
+            None
+        };
+    }
+    run_form(word, third, Some(Profile::One), false)
+}
+
+/// What `dump` with a file, a word and a commit number asks for.
+fn dump_from(after: &str, commit: &str, follows: bool) -> Option<Form>
+    ensures { result ≡ dump_from after.now commit.now follows }
+{
+    if after != "--after" {
+        return None;
+    }
+    Some(Form::Dump(
+        Some(number(commit.as_bytes(), 0, i64::MAX as u64)?),
+        follows,
+    ))
+}
+
+/// What a word with a file and two more words asks for.
+fn form_four(word: &str, third: &str, fourth: &str) -> Option<Form>
+    ensures { result ≡ form_four word.now third.now fourth.now }
+{
+    if word == "dump" {
+        return dump_from(third, fourth, false);
+    }
+    run_four(word, third, fourth)
+}
+
+/// What a word with a file and three more words asks for.
+fn form_five(word: &str, third: &str, fourth: &str, fifth: &str) -> Option<Form>
+    ensures { result ≡ form_five word.now third.now fourth.now fifth.now }
+{
+    if word == "dump" {
+        return if fifth == "--follow" {
+            dump_from(third, fourth, true)
+        } else {
+            None
+        };
+    }
+    run_five(word, third, fourth, fifth)
+}
+
 /// What the words ask for, whatever the word is that names the file.
+#[tactic(auto, using(crate::proofs::Lengths::six_no_form))]
 fn form_by(words: &[String]) -> Option<Form>
     ensures { result ≡ form_by (map string_bytes words.now) }
 {
     match words {
         [word] => form_alone(word.as_str()),
         [word, _file] => form_over(word.as_str()),
-        [word, _file, clients_max] => {
-            run_form(
-                word.as_str(),
-                clients_max.as_str(),
-                Some(Profile::One),
-                false,
-            )
-        }
-        [word, _file, clients_max, last] => {
-            run_four(word.as_str(), clients_max.as_str(), last.as_str())
-        }
-        [word, _file, clients_max, profile, last] => run_five(
+        [word, _file, third] => form_three(word.as_str(), third.as_str()),
+        [word, _file, third, fourth] => form_four(word.as_str(), third.as_str(), fourth.as_str()),
+        [word, _file, third, fourth, fifth] => form_five(
             word.as_str(),
-            clients_max.as_str(),
-            profile.as_str(),
-            last.as_str(),
+            third.as_str(),
+            fourth.as_str(),
+            fifth.as_str(),
         ),
-        _ => None,
+        [] => None,
+        [_, _, _, _, _, _, ..] => None,
     }
 }
 
@@ -216,6 +261,16 @@ fn wrong_run(words: &[String]) -> (&[String], &'static str)
     wrong_clients(words)
 }
 
+/// What is wrong with words behind a word and its file.
+fn wrong_behind(word: &str) -> &'static str
+    ensures { result.now ≡ wrong_behind word.now }
+{
+    if word == "dump" {
+        return "only --after COMMIT and --follow may follow FILE";
+    }
+    "too many words"
+}
+
 /// What is wrong with words that begin with one that takes a file, of which the second may name one, and those of them that are
 /// shown before it.
 fn wrong_count(words: &[String]) -> (&[String], &'static str)
@@ -225,7 +280,7 @@ fn wrong_count(words: &[String]) -> (&[String], &'static str)
     match words {
         [] => (words, "no words"),
         [_] => (words, "FILE is missing"),
-        [_, ..] => (&words[..1], "too many words"),
+        [word, ..] => (&words[..1], wrong_behind(word.as_str())),
     }
 }
 

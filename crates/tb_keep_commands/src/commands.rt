@@ -3,11 +3,12 @@ ghost use Rattle.std.specs.Prelude.{◌≡◌, ◌||◌, None, Some, map, string
 ghost use Rattle.tb_keep_commands.specs.declared.arguments.Form.{Form};
 ghost use Rattle.tb_keep_commands.specs.Forms.{form_of, file_word};
 ghost use Rattle.tb_keep_commands.specs.Statuses.{SaysLine, usage_lines};
-ghost use Rattle.tb_keep_commands.specs.Outcomes.{Performs, Prints, RunsOver, DumpsOver, ChecksOver, Finishes, Exits};
+ghost use Rattle.tb_keep_commands.specs.Outcomes.{Performs, Prints, RunsOver, DumpsPart, DumpsOver, ChecksOver, Finishes, Exits};
 
 use crate::arguments::{Form, file_word, read_form};
 use crate::faults::{Failed, Fault};
 use crate::files::{check, dump};
+use crate::following::{Part, follow};
 use crate::help::{USAGE, VERSION};
 use crate::lines::{tell, tell_frames, tell_usage};
 use crate::openers::Opener;
@@ -49,21 +50,39 @@ fn run_over<O: Opener, R: Source, W: Sink, E: Sink>(
     }
 }
 
-/// Writes the dump of the device of a name.
-fn dump_over<O: Opener, W: Sink>(
+/// Writes a dump of a device, or the part of one that was asked for.
+fn dump_part<O: Opener, W: Outlet>(
+    alloc: Global,
+    opener: &O,
+    device: &mut O::Reading,
+    writer: &mut W,
+    part: Part,
+) -> Result<(), Fault>
+    ensures { DumpsPart O.Reading.tells O.Reading.disk O.Reading.holds part.after part.follows result device.old device.new
+        (W.output writer.old) (W.output writer.new) }
+{
+    match (part.after, part.follows) {
+        (None, false) => dump(alloc, device, writer),
+        _ => follow(alloc, opener, device, writer, part),
+    }
+}
+
+/// Writes the dump of the device of a name, or the part of one that was asked for.
+fn dump_over<O: Opener, W: Outlet>(
     alloc: Global,
     opener: &mut O,
     name: &str,
     writer: &mut W,
+    part: Part,
 ) -> Result<(), Fault>
-    ensures { DumpsOver O.Reading.tells O.Reading.disk O.Reading.holds (O.opens opener.old name.now) opener.new result
-        (W.output writer.old) (W.output writer.new) }
+    ensures { DumpsOver O.Reading.tells O.Reading.disk O.Reading.holds (O.opens opener.old name.now) opener.new
+        part.after part.follows result (W.output writer.old) (W.output writer.new) }
 {
     let opened = opener.open(name);
     match opened {
         Ok(device) => {
             let mut device = device;
-            let dumped = dump(alloc, &mut device, writer);
+            let dumped = dump_part(alloc, opener, &mut device, writer, part);
             drop(device);
             dumped
         }
@@ -111,7 +130,7 @@ fn is_reported(reports: bool, terminals: Terminals) -> bool
 }
 
 /// Does what the form asks for, over the device of a name.
-fn perform<O: Opener, R: Source, W: Sink, E: Sink>(
+fn perform<O: Opener, R: Source, W: Outlet, E: Sink>(
     alloc: Global,
     opener: &mut O,
     form: Form,
@@ -139,7 +158,9 @@ fn perform<O: Opener, R: Source, W: Sink, E: Sink>(
             let talks = terminals.input;
             run_over(alloc, opener, rules, &told, talks, reader, writer, faults)
         }
-        Form::Dump => dump_over(alloc, opener, name, writer),
+        Form::Dump(after, follows) => {
+            dump_over(alloc, opener, name, writer, Part { after, follows })
+        }
         Form::Check => check_over(alloc, opener, name, writer),
         Form::Help => print(writer, USAGE),
         Form::Version => print(writer, VERSION),

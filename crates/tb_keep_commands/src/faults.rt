@@ -114,7 +114,7 @@ fn refused_fault(why: Refusal) -> Fault
 }
 
 /// The fault of a journal that is not read or opened.
-fn opened_fault(fault: OpenFault) -> Fault
+pub(crate) fn opened_fault(fault: OpenFault) -> Fault
     ensures { result ≡ opened_fault fault }
 {
     match fault {
@@ -189,8 +189,8 @@ impl Fault {
         match self {
             Fault::Opening(OpeningFault::Locked) => 4,
             Fault::Opening(OpeningFault::SyncFailed) | Fault::SyncFailed => 9,
+            Fault::Opening(OpeningFault::Exists) | Fault::Usage | Fault::Request(_) => 2,
             Fault::Device(_) | Fault::NoMemory | Fault::Opening(_) => 1,
-            Fault::Usage | Fault::Request(_) => 2,
             Fault::NotAJournal(_) | Fault::NoHead => 5,
             Fault::Damaged(_) => 6,
             Fault::OtherRules(_) => 7,

@@ -6,6 +6,7 @@ ghost use Rattle.tb_keep_commands.specs.Summaries.{ReadsWhole};
 ghost use Rattle.tb_keep_commands.specs.Outcomes.{DumpsFound, DumpsFile, ChecksLong, ChecksFile, Reports};
 
 use crate::faults::{Failed, Fault, disk_fault, dumped_fault};
+use crate::live::Live;
 use crate::naming::named;
 use crate::summaries::{Found, Summary};
 use std::alloc::Global;
@@ -16,7 +17,7 @@ use tb_records::{Sink, put_all};
 
 /// Reads a whole file, whose records are those of one history.
 #[tactic(auto, using(crate::proofs::Wholes::found_is))]
-fn read_whole<D: Device>(alloc: Global, device: &mut D) -> Result<Found, StartFault>
+pub(crate) fn read_whole<D: Device>(alloc: Global, device: &mut D) -> Result<Found, StartFault>
     ensures found { (file : List ℕ) → D.holds device.old file → ReadsWhole result file }
     ensures same { (file : List ℕ) → D.holds device.old file → D.holds device.new file }
     ensures untouched { D.tells → IsUntouched (D.disk device.old) (D.disk device.new) }
@@ -98,8 +99,8 @@ fn check_long<D: Device, W: Sink>(
     }
 }
 
-/// Reads a whole file, and writes what is in it. Nobody else writes to it meanwhile, since it is locked.
-pub(crate) fn check<D: Device, W: Sink>(
+/// Reads a whole file, and writes what is in it, and how many bytes are behind that in the file by now.
+pub(crate) fn check<D: Live, W: Sink>(
     alloc: Global,
     device: &mut D,
     writer: &mut W,
@@ -107,7 +108,7 @@ pub(crate) fn check<D: Device, W: Sink>(
     ensures { ChecksFile D.tells D.disk D.holds result device.old device.new (W.output writer.old)
         (W.output writer.new) }
 {
-    match device.len() {
+    match device.file_len() {
         Ok(len) => check_long(alloc, device, len, writer),
         Err(fault) => Err(disk_fault(fault)),
     }

@@ -27,7 +27,7 @@ fn capacities(form: Option<Form>) -> (usize, usize)
 {
     match form {
         Some(Form::Run(_, _, _)) => (INPUT, 0),
-        Some(Form::Dump) => (0, OUTPUT),
+        Some(Form::Dump(_, _)) => (0, OUTPUT),
         _ => (0, 0),
     }
 }

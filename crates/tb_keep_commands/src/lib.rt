@@ -4,6 +4,7 @@
 //!
 //! - `arguments`: what the words of the command line ask for, and what is wrong with words that ask for nothing.
 //! - `help`: the page of usage.
+//! - `live`: `Live`, a file that is read while another program may append to it.
 //! - `openers`: `Opener`, what opens the device of a name, and why it does not.
 //! - `outlets`: `Outlet`, a writer that says at its end whether all that was put went out.
 //! - `kinds`: what a file is that holds no ledger, by its first bytes.
@@ -13,6 +14,7 @@
 //! - `summaries`: what `check` reports of a file.
 //! - `naming`: what there is to say of a file that is refused.
 //! - `files`: `dump` and `check`, a file read without a write.
+//! - `following`: the entries of a file above a commit number, as it grows.
 //! - `serving`: `run`, a ledger over a file served.
 //! - `commands`: `command`, each form, and the exit status of each outcome.
 //! - `host`: `serve`, from a program's arguments, input and output to `command`.
@@ -25,10 +27,12 @@ mod arguments;
 mod commands;
 mod faults;
 mod files;
+mod following;
 mod help;
 mod host;
 mod kinds;
 mod lines;
+mod live;
 mod naming;
 mod openers;
 mod outlets;
@@ -43,6 +47,7 @@ pub use help::{USAGE, VERSION};
 pub use host::{refuse, serve};
 pub use kinds::Kind;
 pub use lines::{tell, tell_usage};
+pub use live::Live;
 pub use openers::{Opener, OpeningFault, opening_fault};
 pub use outlets::{Outgoing, Outlet};
 pub use reports::Reported;

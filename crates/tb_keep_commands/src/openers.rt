@@ -3,6 +3,7 @@ ghost use Rattle.std.specs.Prelude.{◌≡◌, true, ℕ, List, Result, IfOk};
 ghost use Rattle.tb_keep_commands.specs.declared.openers.OpeningFault.{OpeningFault};
 ghost use Rattle.tb_keep_commands.specs.Statuses.{opening_fault};
 
+use crate::live::Live;
 use std::io::ErrorKind;
 use tb_journal::{Device, Fault, FileFault};
 
@@ -19,7 +20,13 @@ pub enum OpeningFault {
     NoMemory,
     /// A sync of it failed.
     SyncFailed,
-    /// It cannot be opened: it is no regular file or a link to nothing, or the system refuses it.
+    /// There is one of this name, and it was to be made.
+    Exists,
+    /// It is a folder, a pipe or a device of the system.
+    NotAFile,
+    /// It is a symbolic link to nothing.
+    Dangling,
+    /// It cannot be opened.
     Unopened,
 }
 
@@ -29,9 +36,9 @@ pub fn opening_fault(fault: &FileFault) -> OpeningFault
 {
     match fault {
         FileFault::Locked => OpeningFault::Locked,
-        FileFault::NotAFile => OpeningFault::Unopened,
-        FileFault::Exists => OpeningFault::Unopened,
-        FileFault::Dangling => OpeningFault::Unopened,
+        FileFault::NotAFile => OpeningFault::NotAFile,
+        FileFault::Exists => OpeningFault::Exists,
+        FileFault::Dangling => OpeningFault::Dangling,
         FileFault::Sync(Fault::Memory) => OpeningFault::NoMemory,
         FileFault::Sync(_) => OpeningFault::SyncFailed,
         FileFault::System(error) => match error.kind() {
@@ -49,7 +56,7 @@ pub trait Opener {
     type File: Device + Drop;
 
     /// A file that is read alone, as it stood at some moment: another program may serve it meanwhile.
-    type Reading: Device + Drop;
+    type Reading: Live + Drop;
 
     /// An opening may answer this, where what is not there is made. Anything, where an opener does not say it.
     ghost makes: { Self → List ℕ → Result Self.File OpeningFault → Self → Type 0 } = { λ before name answer after. Unit {0} };
@@ -65,4 +72,7 @@ pub trait Opener {
     /// Opens the device of this name, which is there, for reading alone.
     fn open(&mut self, name: &str) -> Result<Self::Reading, OpeningFault>
         ensures { opens self.old name.now result self.new };
+
+    /// Waits a moment for more commits; false where nobody waits for any.
+    fn pause(&self) -> bool;
 }

@@ -1,7 +1,7 @@
 //! What `check` reports of a file.
 ghost use Rattle.std.specs.Prelude.{◌≡◌, ◌-◌};
 ghost use Rattle.tb_records.specs.DumpBytes.{profile_number};
-ghost use Rattle.tb_keep_commands.specs.Summaries.{summary_of};
+ghost use Rattle.tb_keep_commands.specs.Summaries.{summary_of, behind_text};
 
 use std::fmt;
 use tb_keep::Rules;
@@ -29,7 +29,7 @@ impl Found {
             records: self.records,
             entries: self.entries,
             time: self.time,
-            torn: len.saturating_sub(self.end).saturating_sub(1),
+            behind: len.saturating_sub(self.end).saturating_sub(1),
         }
     }
 }
@@ -43,8 +43,8 @@ pub struct Summary {
     pub entries: u64,
     /// The time of the last entry, in nanoseconds.
     pub time: u64,
-    /// The bytes that a start would cut off.
-    pub torn: usize,
+    /// The bytes behind the records: not committed yet, or torn. A start would cut them off.
+    pub behind: usize,
 }
 
 /// The number of a profile.
@@ -57,6 +57,17 @@ pub(crate) fn profile_number(profile: Profile) -> u8
     }
 }
 
+/// What so many bytes behind the records are.
+fn behind_text(bytes: usize) -> &'static str
+    ensures { result.now ≡ behind_text bytes }
+{
+    if bytes == 0 {
+        ""
+    } else {
+        ", not committed yet or torn"
+    }
+}
+
 impl fmt::Display for Summary {
     ghost use Rattle.std.specs.Prelude.{Some};
     ghost use Rattle.tb_keep_commands.specs.Summaries.{summary_text};
@@ -66,10 +77,11 @@ impl fmt::Display for Summary {
     fn fmt<W: fmt::Write>(&self, f: &mut fmt::Formatter<W>) -> fmt::Result {
         let profile = profile_number(self.rules.profile);
         let clients_max = self.rules.clients_max.get();
+        let what = behind_text(self.behind);
         write!(
             f,
-            "records {}\nentries {}\nprofile {profile}\nclients_max {clients_max}\nlast time {}\ntorn bytes {}\n",
-            self.records, self.entries, self.time, self.torn
+            "records {}\nentries {}\nprofile {profile}\nclients_max {clients_max}\nlast time {}\nbytes behind {}{what}\n",
+            self.records, self.entries, self.time, self.behind
         )
     }
 }

@@ -5,6 +5,7 @@ ghost use Rattle.tb_keep.specs.Keeping.{IsFresh, IsUsable};
 
 use crate::frames::{dump, script};
 use std::alloc::Global;
+use std::cell::Cell;
 use std::process::Abort;
 use tb_journal::Memory;
 use tb_keep::{Keeper, Rules, keep};
@@ -138,6 +139,8 @@ pub struct Folder {
     file: Option<Vec<u8>>,
     fault: Option<OpeningFault>,
     fails_at: u64,
+    /// How often more commits are waited for.
+    pauses: Cell<u32>,
     /// How often a file was made that was not there.
     pub made: u32,
 }
@@ -159,6 +162,7 @@ impl Folder {
             file,
             fault,
             fails_at,
+            pauses: Cell::new(2),
             made: 0,
         }
     }
@@ -197,5 +201,11 @@ impl Opener for Folder {
             return Err(OpeningFault::Missing);
         }
         self.opened(name)
+    }
+
+    fn pause(&self) -> bool {
+        let left = self.pauses.get();
+        self.pauses.set(left.saturating_sub(1));
+        left > 0
     }
 }

@@ -88,3 +88,10 @@ pub fn empty_dump(rt: &impl Abort, alloc: Global) -> Vec<u8> {
     put(rt, &mut bytes, &[&HEAD]);
     bytes
 }
+
+/// The second entry of that dump, without a head.
+pub fn later(rt: &impl Abort, alloc: Global) -> Vec<u8> {
+    let mut bytes = Vec::new(alloc);
+    put(rt, &mut bytes, &[&SECOND, &LOOK_UP]);
+    bytes
+}

@@ -46,13 +46,13 @@ type Words = &'static [&'static str];
 
 type Line = &'static str;
 
-const ALL: &str = "records 3\nentries 2\nprofile 1\nclients_max 2\nlast time 11\ntorn bytes 0\n";
+const ALL: &str = "records 3\nentries 2\nprofile 1\nclients_max 2\nlast time 11\nbytes behind 0\n";
 
 const ALL_AND_TORN: &str =
-    "records 3\nentries 2\nprofile 1\nclients_max 2\nlast time 11\ntorn bytes 5\n";
+    "records 3\nentries 2\nprofile 1\nclients_max 2\nlast time 11\nbytes behind 5, not committed yet or torn\n";
 
 const ALL_AND_MORE: &str =
-    "records 3\nentries 2\nprofile 1\nclients_max 2\nlast time 11\ntorn bytes 4194305\n";
+    "records 3\nentries 2\nprofile 1\nclients_max 2\nlast time 11\nbytes behind 4194305, not committed yet or torn\n";
 
 const MADE: &str = "tbd: made ledger\n";
 
@@ -68,6 +68,31 @@ const DONE: &[(Words, Has, Out, Line)] = &[
     ),
     (DUMP, Has::Entries, Out::Dump, ""),
     (DUMP, Has::Torn, Out::Dump, ""),
+    (&["dump", "ledger", "--follow"], Has::Torn, Out::Dump, ""),
+    (
+        &["dump", "ledger", "--after", "1", "--follow"],
+        Has::Entries,
+        Out::Later,
+        "",
+    ),
+    (
+        &["dump", "ledger", "--after", "1"],
+        Has::Entries,
+        Out::Later,
+        "",
+    ),
+    (
+        &["dump", "ledger", "--after", "2"],
+        Has::Entries,
+        Out::Nothing,
+        "",
+    ),
+    (
+        &["dump", "ledger", "--after", "9223372036854775807"],
+        Has::Entries,
+        Out::Nothing,
+        "",
+    ),
     (CHECK, Has::Entries, Out::Text(ALL), ""),
     (CHECK, Has::Torn, Out::Text(ALL_AND_TORN), ""),
     (CHECK, Has::TornLong, Out::Text(ALL_AND_MORE), ""),

@@ -43,7 +43,7 @@ fn unflushed(words: Words, has: Has, out: Out, line: &'static str) -> Row {
 }
 
 const SUMMARY: &str =
-    "records 3\nentries 2\nprofile 1\nclients_max 2\nlast time 11\ntorn bytes 0\n";
+    "records 3\nentries 2\nprofile 1\nclients_max 2\nlast time 11\nbytes behind 0\n";
 
 const CUT: &[(Words, Has, usize, Out, &str)] = &[
     (&["run", "ledger", "2"], Has::NoByte, 0, Out::Nothing, MADE),

@@ -1,6 +1,6 @@
 //! What a command is run on, and what it must answer.
 use crate::files::{Folder, Has};
-use crate::frames::{dump, empty_dump, replies, script};
+use crate::frames::{dump, empty_dump, later, replies, script};
 use crate::pipes::Pipe;
 use std::alloc::Global;
 use std::io::Read;
@@ -16,6 +16,8 @@ pub enum Out {
     Replies,
     /// The dump of what the script makes.
     Dump,
+    /// Its second entry, without a head.
+    Later,
     /// That of a ledger without entries.
     EmptyDump,
     /// This text.
@@ -78,6 +80,7 @@ fn is_out(rt: &impl Abort, alloc: Global, out: Out, found: &[u8]) -> bool {
         Out::Nothing => found.is_empty(),
         Out::Replies => same(found, &replies(rt, alloc)),
         Out::Dump => same(found, &dump(rt, alloc)),
+        Out::Later => same(found, &later(rt, alloc)),
         Out::EmptyDump => same(found, &empty_dump(rt, alloc)),
         Out::Text(text) => same(found, text.as_bytes()),
         Out::Prefix(text) => text.as_bytes().starts_with(found),

@@ -63,6 +63,18 @@ const WRONG: &[(&[&str], &str)] = &[
         "tbd: Usage: run ledger 64 3 --progress: PROFILE is 1 or 2\n",
     ),
     (&["dump"], "tbd: Usage: dump: FILE is missing\n"),
+    (
+        &["dump", "ledger", "--after"],
+        "tbd: Usage: dump: only --after COMMIT and --follow may follow FILE\n",
+    ),
+    (
+        &["dump", "ledger", "--after", "9223372036854775808"],
+        "tbd: Usage: dump: only --after COMMIT and --follow may follow FILE\n",
+    ),
+    (
+        &["dump", "ledger", "--follow", "--after", "1"],
+        "tbd: Usage: dump: only --after COMMIT and --follow may follow FILE\n",
+    ),
     (&["check"], "tbd: Usage: check: FILE is missing\n"),
     (
         &["check", "ledger", "2"],

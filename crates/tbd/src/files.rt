@@ -1,6 +1,8 @@
 //! The files of the system, by their paths.
 use std::io::{BufWriter, Stderr};
-use tb_journal::{FileFault, Real};
+use std::thread;
+use std::time::Duration;
+use tb_journal::{Fault, FileFault, Real, Snapshot};
 use tb_keep_commands::{Opener, OpeningFault, Reported, opening_fault};
 use tb_records::Counting;
 
@@ -39,7 +41,7 @@ fn reported(
 impl<'a> Opener for SystemFiles<'a> {
     type File = Reported<Real, Counting<BufWriter<Stderr>>>;
 
-    type Reading = Real;
+    type Reading = Snapshot<Real>;
 
     fn make(&mut self, name: &str) -> Result<Self::File, OpeningFault> {
         match Real::make(self.rt, name) {
@@ -48,7 +50,28 @@ impl<'a> Opener for SystemFiles<'a> {
         }
     }
 
-    fn open(&mut self, name: &str) -> Result<Real, OpeningFault> {
-        Real::open(self.rt, name).map_err(|fault| opening_fault(&fault))
+    fn open(&mut self, name: &str) -> Result<Snapshot<Real>, OpeningFault> {
+        match Real::look(self.rt, name) {
+            Ok(real) => {
+                Snapshot::new(self.rt.alloc(), real).map_err(|fault| reading_fault(fault))
+            }
+            Err(fault) => Err(opening_fault(&fault)),
+        }
+    }
+
+    fn pause(&self) -> bool {
+        thread::sleep(self.rt, Duration::from_millis(PAUSE));
+        true
+    }
+}
+
+/// How long more commits are waited for at a time, in milliseconds.
+const PAUSE: u64 = 50;
+
+/// The fault of a file whose first snapshot was not taken.
+fn reading_fault(fault: Fault) -> OpeningFault {
+    match fault {
+        Fault::Memory => OpeningFault::NoMemory,
+        _ => OpeningFault::Unopened,
     }
 }

@@ -4,7 +4,7 @@ use Rattle.tb_keep_commands.proofs.files.check.Goals as goal
 pub returns-in-Ok : goal.returns-in-Ok
 returns-in-Ok g c = record {
   len = Ok c.in-Ok.len;
-  between = c.len.new.self;
+  between = c.file_len.new.self;
   asked = record { long = c.in-Ok.ensures.bytes; same = c.in-Ok.ensures.same; looks = c.in-Ok.ensures.looks };
   checks = c.check_long.ensures;
 }
@@ -12,7 +12,7 @@ returns-in-Ok g c = record {
 pub returns-in-Err : goal.returns-in-Err
 returns-in-Err g c = record {
   len = Err c.in-Err.fault;
-  between = c.len.new.self;
+  between = c.file_len.new.self;
   asked = record { long = c.in-Err.ensures.bytes; same = c.in-Err.ensures.same; looks = c.in-Err.ensures.looks };
   checks = (rw c.disk_fault.ensures refl, refl);
 }

@@ -1,0 +1,130 @@
+-- The entries that are written of a file as it grows.
+use Rattle.std.proofs.Common.{◌≡◌, ℕ, List, [], ◌∷◌, ◌++◌, Option, Result, Ok, Err, refl, sym, subst, ◌∙◌, inl, inr, ⊎_elim, append-nil, append_assoc}
+use Rattle.tb_journal.specs.Contents.{Records, contents}
+use Rattle.tb_journal.specs.Growing.{Later}
+use Rattle.tb_journal.specs.Scans.{BeginsWith, HasRead, Place}
+use Rattle.tb_records.specs.Transport.{Output, Sent, CutOff}
+use Rattle.tb_records.specs.declared.faults.FrameFault.{FrameFault}
+use Rattle.tb_records.specs.declared.faults.FrameFault.TheVariants as frame
+use Rattle.tb_records.proofs.Sendings.{sent_rest, sent_few}
+use Rattle.tb_keep.specs.declared.faults.DumpFault.{DumpFault}
+use Rattle.tb_keep.specs.declared.faults.DumpFault.TheVariants as dump
+use Rattle.tb_keep.specs.declared.heads.Rules.{Rules}
+use Rattle.tb_keep.specs.Following.{entries_above, WritesEntries}
+use Rattle.tb_journal.proofs.Growths.{later_same, later_then}
+use Rattle.tb_keep.proofs.Dumping.{entries_once}
+use Rattle.tb_keep_commands.specs.declared.faults.Fault.{Fault}
+use Rattle.tb_keep_commands.specs.declared.faults.Fault.TheVariants.{Device}
+use Rattle.tb_keep_commands.specs.declared.faults.Failed.TheVariants as failed
+use Rattle.tb_keep_commands.specs.Statuses.{dumped_fault}
+use Rattle.tb_keep_commands.specs.Following.{EndsBy, SendsRound, Grown, Breaks, GrowsBy, EndsRounds, WritesRead, WritesSome, WritesPart, part_of, start_of, floor_of}
+
+-- two parts that were sent
+pub both : (xs ys : List ℕ) (old mid new : Output) → Sent xs old mid → Sent ys mid new → Sent (xs ++ ys) old new
+both xs ys old mid new one two = sent_rest xs ys old mid new (xs ++ ys) refl one (Ok tt) two
+
+-- one that was sent, and a prefix of the next
+pub then_cut : (xs ys : List ℕ) (old mid new : Output) → Sent xs old mid → CutOff ys mid new → CutOff (xs ++ ys) old new
+then_cut xs ys old mid new one two = (sent_rest xs ys old mid new (xs ++ ys) refl one (Err frame.Device) (refl, two)).1
+
+-- one that was sent, before what ends by a fault
+pub behind_ends : (fault : Fault) (xs ys : List ℕ) (old mid new : Output) → Sent xs old mid → EndsBy fault ys mid new → EndsBy fault (xs ++ ys) old new
+behind_ends fault xs ys old mid new one two =
+    ⊎_elim (λ sent. inl (both xs ys old mid new one sent)) (λ cut. inr (cut.0, then_cut xs ys old mid new one cut.1)) two
+
+-- what was sent is a prefix of it that the output held back and lost
+pub lost_held : (fault : Fault) (xs : List ℕ) (old mid new : Output) → fault ≡ Device failed.Output → Sent xs old mid → CutOff [] mid new → EndsBy fault xs old new
+lost_held fault xs old mid new is one two = inr (is, subst (λ (l : List ℕ). CutOff l old new) (append-nil xs) (then_cut xs [] old mid new one two))
+
+-- and this all of it
+pub sent_held : (xs : List ℕ) (old mid new : Output) → Sent xs old mid → Sent [] mid new → Sent xs old new
+sent_held xs old mid new one two = subst (λ (l : List ℕ). Sent l old new) (append-nil xs) (both xs [] old mid new one two)
+
+-- one round of entries was written, and went out
+pub round_done : (after : ℕ) (read : List (List ℕ)) (file : List ℕ) (scan : Place) (count : ℕ) (old mid new : Output)
+    → WritesEntries (Ok count) after read file scan old mid → Sent [] mid new → SendsRound (Ok tt) after read file scan old new
+round_done after read file scan count old mid new (more, whole, place, counted, sent) held = (more, whole, place, sent_held _ old mid new sent held)
+
+pub round_lost : (after : ℕ) (read : List (List ℕ)) (file : List ℕ) (scan : Place) (count : ℕ) (fault : Fault) (old mid new : Output)
+    → fault ≡ Device failed.Output → WritesEntries (Ok count) after read file scan old mid → CutOff [] mid new → SendsRound (Err fault) after read file scan old new
+round_lost after read file scan count fault old mid new is (more, whole, place, counted, sent) held = (more, place.begins, lost_held fault _ old mid new is sent held)
+
+pub round_broken : (after : ℕ) (read : List (List ℕ)) (file : List ℕ) (scan : Place) (cause : DumpFault) (fault : Fault) (old new : Output)
+    → fault ≡ dumped_fault cause → WritesEntries (Err cause) after read file scan old new → SendsRound (Err fault) after read file scan old new
+round_broken after read file scan (dump.Journal cause) fault old new is (refuses, (more, begins, sent)) = (more, begins, inl sent)
+round_broken after read file scan (dump.Writer cause) fault old new is (device, (more, begins, cut)) = (more, begins, inr (is, cut))
+
+-- one more round behind those that were written
+module _ {D : Type 0} (holds : D → List ℕ → Type 0) (after : ℕ) (file : List ℕ) (start : Output) where
+  pub once_more : (records : List (List ℕ)) (now : List ℕ) (device : D) (scan : Place) (result : Result (Unit {0}) Fault) (mid new : Output)
+      → Later file now → holds device now → Sent (entries_above after [] records) start mid → SendsRound result after records now scan mid new
+      → GrowsBy holds result after file device scan start new
+  once_more records now device scan (Ok done) mid new since held sent (more, whole, place, also) = record {
+    later = now;
+    since = since;
+    held = held;
+    records = records ++ more;
+    whole = whole;
+    place = place;
+    sent = subst (λ (l : List ℕ). Sent l start new) (entries_once after [] records more) (both _ _ start mid new sent also);
+  }
+  once_more records now device scan (Err fault) mid new since held sent (more, begins, ends) = record {
+    later = now;
+    since = since;
+    records = records ++ more;
+    begins = begins;
+    ends = subst (λ (l : List ℕ). EndsBy fault l start new) (entries_once after [] records more) (behind_ends fault _ _ start mid new sent ends);
+  }
+
+  -- no round more: the file could not be read on
+  pub no_more : (fault : Fault) (device : D) (scan : Place) (mid : Output) → Grown holds after file device scan start mid → Breaks fault after file start mid
+  no_more fault device scan mid g = record { later = g.later; since = g.since; records = g.records; begins = g.place.begins; ends = inl g.sent }
+
+  pub reached : (device : D) (scan : Place) (mid : Output) → Grown holds after file device scan start mid → EndsRounds (Ok tt) after file start mid
+  reached device scan mid g = record { later = g.later; since = g.since; records = g.records; whole = g.whole; sent = g.sent }
+
+-- the entries, behind what stands before them
+module _ (after : Option ℕ) (rules : Rules) (file : List ℕ) (old mid new : Output) where
+  pub part_sent : (result : Result (Unit {0}) Fault) → Sent (start_of after rules) old mid → EndsRounds result (floor_of after) file mid new
+      → WritesPart result after rules file old new
+  part_sent (Ok done) one two = record {
+    later = two.later;
+    since = two.since;
+    records = two.records;
+    whole = two.whole;
+    sent = both _ _ old mid new one two.sent;
+  }
+  part_sent (Err fault) one two = inr (record {
+    later = two.later;
+    since = two.since;
+    records = two.records;
+    begins = two.begins;
+    ends = behind_ends fault _ _ old mid new one two.ends;
+  })
+
+-- what stands before the entries was cut off
+pub start_cut : (after : Option ℕ) (rules : Rules) (file : List ℕ) (old new : Output) (fault : Fault)
+    → fault ≡ Device failed.Output → CutOff (start_of after rules) old new → BeginsWith [] file → WritesPart (Err fault) after rules file old new
+start_cut after rules file old new fault is cut begins = inr (record {
+  later = file;
+  since = later_same file;
+  records = [];
+  begins = begins;
+  ends = inr (is, sent_few _ _ _ old new refl cut);
+})
+
+-- the first round, of a file of which nothing was read
+module _ {D : Type 0} (holds : D → List ℕ → Type 0) (after : ℕ) (file : List ℕ) (start written : Output) where
+  pub first_round : (device : D) (scan : Place) → holds device file → SendsRound (Ok tt) after [] file scan start written → Grown holds after file device scan start written
+  first_round device scan held (more, whole, place, sent) = record {
+    later = file;
+    since = later_same file;
+    held = held;
+    records = more;
+    whole = whole;
+    place = place;
+    sent = sent;
+  }
+
+  pub first_broken : (fault : Fault) (scan : Place) → SendsRound (Err fault) after [] file scan start written → Breaks fault after file start written
+  first_broken fault scan (more, begins, ends) = record { later = file; since = later_same file; records = more; begins = begins; ends = ends }

@@ -1,0 +1,200 @@
+//! The entries of a file above a commit number, written as the file grows.
+ghost use Rattle.std.specs.Prelude.{◌≡◌, ℕ, List, [], ◌∷◌};
+ghost use Rattle.tb_records.specs.Transport.{Output};
+ghost use Rattle.tb_journal.specs.Scans.{HasRead};
+ghost use Rattle.tb_keep_commands.specs.Following.{floor_of, start_of, SendsRound, Grown, GrowsBy, EndsRounds, WritesPart};
+ghost use Rattle.tb_keep_commands.specs.Outcomes.{Prints, FollowsFile};
+
+use crate::faults::{Failed, Fault, disk_fault, dumped_fault, opened_fault};
+use crate::files::read_whole;
+use crate::live::Live;
+use crate::naming::named;
+use crate::openers::Opener;
+use crate::outlets::Outlet;
+use std::alloc::Global;
+use tb_journal::{Device, Scan};
+use tb_keep::{Rules, write_entries};
+use tb_records::dumps::send_head;
+use tb_records::{DumpHead, Sink};
+
+/// Which part of a history is written.
+#[derive(Clone, Copy)]
+pub(crate) struct Part {
+    /// The entries above this commit number, without a head; else all, as a dump.
+    pub after: Option<u64>,
+    /// Whether more are waited for.
+    pub follows: bool,
+}
+
+/// Writes the entries that are left of a file and have a commit number above `after`, and sends out what is held back.
+fn send_round<D: Device, W: Outlet>(
+    scan: &mut Scan,
+    device: &mut D,
+    writer: &mut W,
+    after: u64,
+) -> Result<(), Fault>
+    ensures sends { (file : List ℕ) (read : List (List ℕ)) → D.holds device.old file → HasRead read file scan.old
+        → SendsRound result after read file scan.new (W.output writer.old) (W.output writer.new) }
+    ensures same { (file : List ℕ) → D.holds device.old file → D.holds device.new file }
+{
+    match write_entries(scan, device, writer, after) {
+        Ok(_) => match writer.finish() {
+            Ok(()) => Ok(()),
+            Err(_) => Err(Fault::Device(Failed::Output)),
+        },
+        Err(fault) => Err(dumped_fault(fault)),
+    }
+}
+
+/// Goes on to what has been committed by now, and writes the entries of it.
+fn send_more<D: Live, W: Outlet>(
+    scan: &mut Scan,
+    device: &mut D,
+    writer: &mut W,
+    after: u64,
+) -> Result<(), Fault>
+    ensures { (file : List ℕ) (start : Output) → Grown D.holds after file device.old scan.old start (W.output writer.old)
+        → GrowsBy D.holds result after file device.new scan.new start (W.output writer.new) }
+{
+    match device.refresh() {
+        Ok(()) => {
+            scan.go_on();
+            send_round(scan, device, writer, after)
+        }
+        Err(fault) => Err(disk_fault(fault)),
+    }
+}
+
+/// As long as more entries are waited for, writes those that were committed meanwhile.
+fn send_on<O: Opener, W: Outlet>(
+    opener: &O,
+    scan: &mut Scan,
+    device: &mut O::Reading,
+    writer: &mut W,
+    after: u64,
+) -> Result<(), Fault>
+    ensures { (file : List ℕ) (start : Output)
+        → Grown O.Reading.holds after file device.old scan.old start (W.output writer.old)
+        → EndsRounds result after file start (W.output writer.new) }
+{
+    for _ in 0..u64::MAX {
+        if !opener.pause() {
+            return Ok(());
+        }
+        match send_more(scan, device, writer, after) {
+            Ok(()) => {}
+            Err(fault) => return Err(fault),
+        }
+    }
+    Ok(())
+}
+
+/// Writes the entries of a file of which nothing was read, and those that are committed meanwhile where more are waited for.
+fn send_entries<O: Opener, W: Outlet>(
+    opener: &O,
+    scan: &mut Scan,
+    device: &mut O::Reading,
+    writer: &mut W,
+    after: u64,
+    follows: bool,
+) -> Result<(), Fault>
+    ensures { (file : List ℕ) → O.Reading.holds device.old file → HasRead [] file scan.old
+        → EndsRounds result after file (W.output writer.old) (W.output writer.new) }
+{
+    match send_round(scan, device, writer, after) {
+        Ok(()) => {
+            if follows {
+                send_on(opener, scan, device, writer, after)
+            } else {
+                Ok(())
+            }
+        }
+        Err(fault) => Err(fault),
+    }
+}
+
+/// Writes the head of a dump of these rules, where all entries are written.
+fn send_start<W: Sink>(writer: &mut W, rules: Rules, after: Option<u64>) -> Result<(), Fault>
+    ensures { Prints (start_of after rules) result (W.output writer.old) (W.output writer.new) }
+{
+    if after.is_some() {
+        return Ok(());
+    }
+    let head = DumpHead {
+        profile: rules.profile,
+        clients_max: rules.clients_max,
+    };
+    match send_head(writer, head) {
+        Ok(()) => Ok(()),
+        Err(_) => Err(Fault::Device(Failed::Output)),
+    }
+}
+
+/// The commit number above which entries are written: of all where none is given.
+fn floor_of(after: Option<u64>) -> u64
+    ensures { result ≡ floor_of after }
+{
+    after.unwrap_or(0)
+}
+
+/// Writes the part of a file's history that was asked for, of a file of these rules of which nothing was read.
+fn send_part<O: Opener, W: Outlet>(
+    opener: &O,
+    scan: &mut Scan,
+    device: &mut O::Reading,
+    rules: Rules,
+    writer: &mut W,
+    part: Part,
+) -> Result<(), Fault>
+    ensures { (file : List ℕ) → O.Reading.holds device.old file → HasRead [] file scan.old
+        → WritesPart result part.after rules file (W.output writer.old) (W.output writer.new) }
+{
+    match send_start(writer, rules, part.after) {
+        Ok(()) => {
+            let after = floor_of(part.after);
+            send_entries(opener, scan, device, writer, after, part.follows)
+        }
+        Err(fault) => Err(fault),
+    }
+}
+
+/// Writes the part of a file's history that was asked for, of a file of these rules.
+fn part_found<O: Opener, W: Outlet>(
+    alloc: Global,
+    opener: &O,
+    device: &mut O::Reading,
+    rules: Rules,
+    writer: &mut W,
+    part: Part,
+) -> Result<(), Fault>
+    ensures { (file : List ℕ) → O.Reading.holds device.old file
+        → WritesPart result part.after rules file (W.output writer.old) (W.output writer.new) }
+{
+    match Scan::start(alloc, device) {
+        Ok(scan) => {
+            let mut scan = scan;
+            let sent = send_part(opener, &mut scan, device, rules, writer, part);
+            drop(scan);
+            sent
+        }
+        Err(fault) => Err(opened_fault(fault)),
+    }
+}
+
+/// Writes the part of a file's history that was asked for: once, or as long as more is waited for. Before anything is written all of
+/// the file was read.
+pub(crate) fn follow<O: Opener, W: Outlet>(
+    alloc: Global,
+    opener: &O,
+    device: &mut O::Reading,
+    writer: &mut W,
+    part: Part,
+) -> Result<(), Fault>
+    ensures { FollowsFile O.Reading.tells O.Reading.disk O.Reading.holds part.after result device.old device.new (W.output writer.old)
+        (W.output writer.new) }
+{
+    match read_whole(alloc, device) {
+        Ok(found) => part_found(alloc, opener, device, found.rules, writer, part),
+        Err(fault) => Err(named(device, fault)),
+    }
+}
