@@ -170,7 +170,8 @@ def sockets():
         try:
             case(
                 "the page's listener",
-                listener.stderr.readline() == "tb_listen: listens on ledger.sock\n",
+                [listener.stderr.readline() for _ in range(2)]
+                == ["tb_listen: tbd: made ledger.journal\n", "tb_listen: listens on ledger.sock\n"],
             )
             output = script(
                 "the page's Python over a socket",

@@ -342,10 +342,11 @@ class Reports(unittest.TestCase):
                 text=True,
             )
             with listener.stderr as lines:
-                it = json.loads(lines.readline())
+                made, it = (json.loads(lines.readline()) for _ in range(2))
                 listener.terminate()
                 listener.wait(20)
             self.assertEqual((it["level"], it["program"]), ("info", "tb_listen"))
+            self.assertIn("tbd: made", made["text"])
             self.assertIn("listens on", it["text"])
             self.assertRegex(it["time"], r"^\d{4}-\d\d-\d\dT\d\d:\d\d:\d\d\.\d{3}\+00:00$")
 

@@ -50,9 +50,7 @@ def is_gone(process):
     return True
 
 
-def plain(line):
-    """A line without the last one of a server that made its file, which says so and no fault."""
-    return re.sub(r" \(tbd: made [^)]*\)", "", line)
+NEWS = "tb_listen: tbd: made ", "tb_listen: tbd: reading ", "tb_listen: tbd: cut "
 
 
 class Running:
@@ -81,7 +79,9 @@ class Running:
         self.process = subprocess.Popen(
             words, stderr=subprocess.PIPE, text=True, env={**os.environ, "FAIL": fail}
         )
-        self.said = [self.process.stderr.readline()]
+        self.news = []  # what the server told of its start
+        self.said = []
+        self.tells()
         found = re.fullmatch(r"tb_listen: listens on (.*):([0-9]+)\n", self.said[0])
         self.address = (found[1].strip("[]"), int(found[2])) if found else self.path
 
@@ -102,7 +102,8 @@ class Running:
     def ended(self):
         """The status and the lines on standard error, once it has ended."""
         status = self.process.wait(20)
-        self.said += map(plain, self.process.stderr.read().splitlines(keepends=True))
+        for line in self.process.stderr:
+            (self.news if line.startswith(NEWS) else self.said).append(line)
         return status
 
     def server(self):
@@ -118,9 +119,11 @@ class Running:
         os.kill(self.server(), signal.SIGKILL)
 
     def tells(self):
-        """Its next line."""
-        self.said.append(plain(self.process.stderr.readline()))
-        return self.said[-1]
+        """Its next line, without news."""
+        while (line := self.process.stderr.readline()).startswith(NEWS):
+            self.news.append(line)
+        self.said.append(line)
+        return line
 
     def call(self):
         if isinstance(self.address, tuple):
@@ -705,6 +708,71 @@ class Ends(unittest.TestCase):
             self.assertEqual(listener.wait(20), 0)
             with listener.stderr as said:
                 self.assertEqual(said.read().splitlines()[-1], f"tb_listen: listens on {path}")
+
+    def slow(self, folder, when):
+        """A server that takes three seconds more where a condition of the shell holds."""
+        return ["sh", "-c", f'cd {folder}; {when} && sleep 3; exec "$@"', "sh", *KEEPER]
+
+    def starting(self, command, folder):
+        """A listener whose server does not serve yet."""
+        path, file = os.path.join(folder, "ledger.sock"), os.path.join(folder, "ledger.journal")
+        words = [os.path.join(HERE, "tb_listen.py"), "--unix", path, "--", *command]
+        listener = subprocess.Popen(
+            [sys.executable, "-B", *words, "run", file, "64"], stderr=subprocess.PIPE, text=True
+        )
+        self.addCleanup(listener.stderr.close)
+        until = time.monotonic() + 20
+        while not os.path.exists(path):
+            self.assertLess(time.monotonic(), until)
+            time.sleep(0.01)
+        with socket.socket(socket.AF_UNIX, socket.SOCK_STREAM) as it:
+            it.connect(path)
+            it.sendall(register(1))
+            self.assertEqual(told(it), b"tb_listen: Starting\n")
+        return listener
+
+    def test_a_request_that_comes_while_the_ledger_is_checked(self):
+        with tempfile.TemporaryDirectory() as folder:
+            with Running(folder=folder) as listener, Session.register(Socket(listener.path)):
+                pass
+            listener = self.starting(self.slow(folder, 'test "$2" = check'), folder)
+            with Session.register(Socket(os.path.join(folder, "ledger.sock"), timeout=20)) as it:
+                self.assertEqual(it.session, 2)
+            listener.terminate()
+            self.assertEqual(listener.wait(20), 0)
+
+    def test_an_end_before_it_serves(self):
+        """Nothing was asked of the server: it is not waited for."""
+        with tempfile.TemporaryDirectory() as folder:
+            with Running(folder=folder) as listener, Session.register(Socket(listener.path)):
+                pass
+            for form in ("run", "check"):
+                listener = self.starting(self.slow(folder, f'test "$2" = {form}'), folder)
+                began = time.monotonic()
+                listener.terminate()
+                self.assertEqual((listener.wait(20), listener.stderr.read()), (0, ""), form)
+                self.assertLess(time.monotonic() - began, 2)
+
+    def test_a_server_that_is_slow_to_start_again(self):
+        """Who asks meanwhile is told that nothing was done, and comes again until it is served."""
+        with tempfile.TemporaryDirectory() as folder:
+            place = os.path.join(folder, "status")
+            slow = self.slow(folder, "test -e slow")
+            with Running("--status", place, command=slow, folder=folder) as listener:
+                it = Session.register(Socket(listener.path, timeout=20))
+                with open(os.path.join(folder, "slow"), "w"):
+                    listener.kill_server()
+                self.assertIn("ended by SIGKILL, and is started again", listener.tells())
+                with self.assertRaises(tb.CannotConnect):
+                    Session.register(Socket(listener.path, timeout=1.5), attempts=1)
+                with socket.socket(socket.AF_UNIX, socket.SOCK_STREAM) as status:
+                    status.connect(place)
+                    self.assertIn(b'"state": "starting"', told(status))
+                with it:
+                    self.assertEqual(it.lookup_accounts([1]), [])
+                self.assertEqual(listener.end(), 0)
+                self.assertEqual(len(listener.said), 2, listener.said)
+                self.assertEqual(listener.news, [f"tb_listen: tbd: made {listener.file}\n"])
 
     def test_what_it_said_before_a_signal_is_shown(self):
         ended = (
@@ -1377,6 +1445,9 @@ class Words(unittest.TestCase):
             ("tbd run ledger 64 2", 2),
             ("sh -c x tbd run ledger 64", 5),
             ("tbd run run 64", 2),
+            ("tbd run ledger 64 --progress", 2),
+            ("tbd run ledger 64 2 --progress", 2),
+            ("tbd run ledger 64 --progress 2", None),
             ("tbd run ./64 64", 2),
             ("tbd run ledger 64 x", None),
             ("tbs run 64", None),

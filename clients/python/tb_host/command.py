@@ -6,26 +6,30 @@ import collections
 import contextlib
 import os
 import re
-import secrets
 import struct
-from typing import Deque, Optional, Sequence, Tuple
+import time
+from typing import Deque, List, Optional, Sequence, Tuple
 
-from tb_client.frames import asker, reply_fault, reply_length, request_frame
+from tb_client.frames import asker, reply_fault, reply_length
 from tb_client.layout import HEADER
-from tb_client.names import Operation
 
 from .arguments import is_number
-from .lines import Ended, Told
-from .moments import Moments
-from .process import ServerProcess, end_of, kill, last_line, started
+from .lines import Ended, Told, say
+from .moments import SECOND, Moments
+from .process import ServerProcess, came, end_of, first, kill, last_line, started
 
 EMPTY = 10  # bytes below which a journal's file has no entry
+PROGRESS = "--progress"  # the word that has `tbd run` tell when it serves
+# what it tells besides faults
+NEWS = re.compile(r"[\w./-]+: (?:made |reading |cut |(ready)$)")
+PATIENCE = 1.0  # seconds for which a request waits for a server that is started again
 
 
 def journal_at(words: Sequence[str]) -> Optional[int]:
     """Which word of a command is the file that it keeps its ledger in: FILE of `run FILE
-    CLIENTS_MAX [PROFILE]` at its end. None where there is no such word, as in `tbs run CLIENTS_MAX
-    [PROFILE]`."""
+    CLIENTS_MAX [PROFILE] [--progress]` at its end. None where there is no such word, as in `tbs run
+    CLIENTS_MAX [PROFILE]`."""
+    words = words[:-1] if words[-1:] == [PROGRESS] else words
     for at in (len(words) - 2, len(words) - 3):
         if (
             at > 1
@@ -63,30 +67,82 @@ async def last_time(words: Sequence[str], at: int) -> int:
 
 class Command(ServerProcess):
     """The command as a process. Pairs go to it in one order, and its replies come back in that
-    order."""
+    order. One that keeps its ledger takes requests once it has told that it is ready."""
 
-    def __init__(self, words: Sequence[str], moments: Moments, patience: float) -> None:
-        super().__init__(words, patience, journal_at(words) is not None)
-        self.moments = moments
+    def __init__(self, words: List[str], patience: float, ahead: float = 0.0) -> None:
+        self.file_at = journal_at(words)
+        keeps = self.file_at is not None
+        reported = [*words, PROGRESS] if keeps and words[-1] != PROGRESS else words
+        super().__init__(reported, patience, keeps)
+        self.ahead = ahead  # how far the ledger's last time may lie ahead of the clock, in seconds
+        self.moments = Moments(0)
         self.waiting: Deque[Tuple[bytes, asyncio.Future[bytes]]] = collections.deque()
         self.sending = asyncio.Lock()
+        self.away_since = time.monotonic()
+
+    async def run(self) -> None:
+        looking = asyncio.ensure_future(self._look())
+        stopping = asyncio.ensure_future(self.stopping.wait())
+        try:
+            await first(looking, stopping)
+            if not looking.done():
+                return
+            looking.result()
+        except Ended:
+            self.is_over = True
+            self.ready.set()
+            raise
+        finally:
+            for it in (looking, stopping):
+                it.cancel()
+            await asyncio.wait([looking, stopping])
+        await super().run()
+
+    async def _look(self) -> None:
+        """Takes moments that go on where the ledger is. Raises `Ended` where it lies ahead of the
+        clock, and more than was allowed."""
+        last = 0 if self.file_at is None else await last_time(self.words, self.file_at)
+        is_ahead = (last - time.time_ns()) / SECOND
+        if is_ahead > self.ahead:
+            raise Ended(
+                f"the ledger's last time is {is_ahead:.3f} s ahead of this computer's clock: set "
+                "the clock right, or allow it by --ahead SECONDS",
+                1,
+            )
+        self.moments = Moments(last)
+
+    def began(self) -> None:
+        if not self.keeps:
+            self.ready.set()
+
+    def is_news(self, line: str) -> bool:
+        """Takes a line of `tbd run --progress`: of its start, or that it serves."""
+        found = NEWS.match(line) if self.keeps else None
+        if found is None:
+            return False
+        if not found[1]:
+            say(line)
+        elif self.process is not None:
+            self.ready.set()
+        return True
 
     def lost(self) -> None:
+        self.away_since = time.monotonic()
         while self.waiting:
             _drop(self.waiting.popleft()[1], self.ended_as)
 
     def lag(self) -> float:
         return self.moments.lag()
 
+    def is_serving(self) -> bool:
+        return self.ready.is_set() and not self.is_over
+
     async def begun(self) -> None:
-        """Comes when a ledger's file was read: the command answers a request then. The request is
-        one of a client that nobody has, so it is refused, and the ledger stays as it was."""
+        """Comes when the command serves: when it has read its ledger's file."""
         if self.keeps:
-            client = secrets.randbits(127) + 1
-            with contextlib.suppress(Told):
-                await self.ask(request_frame(client, 1, 1, Operation.lookup_accounts, b""))
-                return
-            await asyncio.Event().wait()  # its end is seen where it runs
+            await self.ready.wait()
+            if self.is_over:
+                await asyncio.Event().wait()  # its end is seen where it runs
 
     async def read_replies(
         self, process: asyncio.subprocess.Process, stdout: asyncio.StreamReader
@@ -105,20 +161,29 @@ class Command(ServerProcess):
             raise Ended(f"{self.words[0]} wrote what is no reply to a request that it was given", 1)
 
     async def ask(self, frame: bytes) -> bytes:
-        """The reply to a request. Raises `Told` where the command ended before it came."""
+        """The reply to a request. Raises `Told` where the command ended before it came, or does
+        not serve again soon."""
         async with self.sending:
-            while self.process is None:
-                if self.is_over:
-                    raise Told(self.ended_as)
-                await self.ready.wait()
-            stdin = self.process.stdin
-            assert stdin is not None
+            stdin = await self._input()
             reply: asyncio.Future[bytes] = asyncio.get_running_loop().create_future()
             self.waiting.append((asker(frame), reply))
             stdin.write(struct.pack("<Q", self.moments.next()) + frame)
             with contextlib.suppress(OSError):  # its end is seen where replies are read
                 await stdin.drain()
         return await reply
+
+    async def _input(self) -> asyncio.StreamWriter:
+        """Where requests are written, once the command serves."""
+        while self.process is None or not self.ready.is_set():
+            if self.is_over:
+                raise Told(self.ended_as)
+            left = self.away_since + PATIENCE - time.monotonic()
+            if not self.keeps:
+                await self.ready.wait()
+            elif not await came(self.ready, max(left, 0.0)):
+                raise Told("Starting")
+        assert self.process.stdin is not None
+        return self.process.stdin
 
 
 def _drop(reply: asyncio.Future[bytes], why: str) -> None:

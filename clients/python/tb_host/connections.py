@@ -143,7 +143,7 @@ class Listener:
             fault = request_fault(header)
             if fault:
                 raise Told(fault, peer.shown)
-            if not self.counts.is_ready:
+            if not self.counts.has_begun:
                 raise Told("Starting", peer.shown)
             self.access.test(peer, u128_at(header, 0))
             length = reply_length(header) - HEADER

@@ -6,7 +6,7 @@ import collections
 import json
 import os
 import time
-from typing import Any, Counter, Dict, List, Optional, Tuple
+from typing import Any, Callable, Counter, Dict, List, Optional, Tuple
 
 from tb_client.names import Operation, Status
 
@@ -17,15 +17,19 @@ BUCKETS = (0.0005, 0.001, 0.0025, 0.005, 0.01, 0.025, 0.05, 0.1, 0.25, 0.5, 1.0,
 class Counts:
     """Counts of one run of a host."""
 
-    def __init__(self, file: Optional[str]) -> None:
-        self.file = file
+    def __init__(self, file: Optional[str], is_serving: Callable[[], bool]) -> None:
+        self.file, self.is_serving = file, is_serving
         self.began = time.monotonic()
-        self.is_ready = False
+        self.has_begun = False  # it has served
         self.requests: Counter[Tuple[int, int]] = collections.Counter()
         self.latencies: List[int] = [0] * (len(BUCKETS) + 1)
         self.seconds = 0.0
         self.connections = self.taken = self.evictions = 0
         self.closed: Counter[str] = collections.Counter()
+
+    @property
+    def is_ready(self) -> bool:
+        return self.has_begun and self.is_serving()
 
     def answered(self, operation: int, status: int, seconds: float) -> None:
         self.requests[operation, status] += 1

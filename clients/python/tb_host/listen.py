@@ -9,10 +9,12 @@ each connection, gives each its moment, and brings each reply to the connection 
 docs/use/CLIENTS.md says how to use it; `tb_client.Socket` is the client's side.
 
 A command that ends in the words `run FILE CLIENTS_MAX [PROFILE]`, as that of `tbd`, keeps its
-ledger in FILE (a name of digits alone is given with its folder, as ./64). Where a signal ended it,
-it is started again. Before it is started for the first time, the same command with `check FILE` in
-their place tells the ledger's last time, which must not lie ahead of the clock. Any other command
-is taken for one that keeps its ledger in memory: it is never started again.
+ledger in FILE (a name of digits alone is given with its folder, as ./64). It is given the word
+`--progress`, and tells `ready` on its standard error when it has read FILE; until then each request
+is told `Starting`. Where a signal ended it, it is started again. Before it is started for the first
+time, the same command with `check FILE` in their place tells the ledger's last time, which must not
+lie ahead of the clock. Any other command is taken for one that keeps its ledger in memory: it is
+never started again.
 
 What a client may do wrong ends its own connection alone. Before it is closed it is told why, by a
 line of fewer bytes than a frame has: `tb_listen: ` and a name. Status 0: ended by SIGTERM or
@@ -25,45 +27,25 @@ from __future__ import annotations
 import argparse
 import asyncio
 import sys
-import time
 from typing import Sequence
 
 from .access import add_access
 from .arguments import add_command, add_places, add_times, ahead, settle_places
-from .command import Command, journal_at, last_time
+from .command import Command
 from .evictions import clients_max_of
 from .lines import Ended, say, speak_json
-from .moments import SECOND, Moments
 from .reports import add_reports
-from .serving import listen_on, stop_signals, until
+from .serving import listen_on, stop_signals
 from .sockets import bound, make_room
 from .tls import add_tls, test_tls
 
 
-async def begin(given: argparse.Namespace) -> Moments:
-    """Moments that go on where the ledger is. Raises `Ended` where it lies ahead of the clock,
-    and more than was allowed."""
-    at = journal_at(given.command)
-    last = 0 if at is None else await last_time(given.command, at)
-    is_ahead = (last - time.time_ns()) / SECOND
-    if is_ahead > given.ahead:
-        raise Ended(
-            f"the ledger's last time is {is_ahead:.3f} s ahead of this computer's clock: set the "
-            "clock right, or allow it by --ahead SECONDS",
-            1,
-        )
-    return Moments(last)
-
-
 async def listen(given: argparse.Namespace) -> None:
     """Listens before the command, until a signal comes or the command ends."""
-    stopping, beginning = stop_signals(), asyncio.ensure_future(begin(given))
+    stopping = stop_signals()
     try:
-        if not await until(beginning, stopping):
-            return
-        command = Command(given.command, beginning.result(), given.slow)
-        at = journal_at(given.command)
-        file = None if at is None else given.command[at]
+        command = Command(given.command, given.slow, given.ahead)
+        file = None if command.file_at is None else given.command[command.file_at]
         with bound(given) as places:
             clients_max = clients_max_of(given.command)
             await listen_on(places, command, given, stopping, file, clients_max)

@@ -8,7 +8,7 @@ import os
 import re
 import signal
 import time
-from typing import Any, List, Optional, Sequence, Tuple
+from typing import Any, Callable, List, Optional, Sequence, Tuple
 
 from .lines import LINES, Ended, Wanting, say
 
@@ -79,8 +79,10 @@ class ServerProcess:
         self.words, self.patience, self.keeps = words, patience, keeps
         # while pairs may be written to it
         self.process: Optional[asyncio.subprocess.Process] = None
+        # it takes requests; the host is to end
         self.ready, self.stopping = asyncio.Event(), asyncio.Event()
         self.is_closed = self.is_over = False
+        self.is_given_up = False  # it was killed before it took a request
         self.ended_as = "ProgramEnded"  # what who waits for a reply is told at its end
 
     async def read_replies(
@@ -88,6 +90,14 @@ class ServerProcess:
     ) -> None:
         """Reads what the process writes, until there is no more."""
         raise NotImplementedError
+
+    def began(self) -> None:
+        """The process has started."""
+        self.ready.set()
+
+    def is_news(self, line: str) -> bool:
+        """Takes a line of its standard error. Says that it is no fault."""
+        return False
 
     def lost(self) -> None:
         """The process has ended: what was asked of it has no reply yet."""
@@ -102,7 +112,7 @@ class ServerProcess:
                 began = time.monotonic()
                 try:
                     status, line = await self._run_once()
-                    if self.is_closed and status == 0:
+                    if self.is_closed and (status == 0 or self.is_given_up):
                         return
                     ended = self._end_by_signal(status, line)
                     lives += 1
@@ -139,13 +149,13 @@ class ServerProcess:
         """Runs the command once. Answers its status and its last line on standard error."""
         process = await started(self.words, asyncio.subprocess.PIPE)
         assert process.stdin and process.stdout and process.stderr
-        telling = asyncio.ensure_future(tail(process.stderr))
+        telling = asyncio.ensure_future(tail(process.stderr, self.is_news))
         reading = asyncio.ensure_future(self.read_replies(process, process.stdout))
         watching = asyncio.ensure_future(exited(process))
         if self.is_closed:
             process.stdin.close()
         self.process = process
-        self.ready.set()
+        self.began()
         try:
             await first(reading, watching)
             await asyncio.wait(
@@ -183,10 +193,14 @@ class ServerProcess:
         await asyncio.wait([watching, *pipes])
 
     def close(self) -> None:
-        """Ends the script. The command then answers what it has, and ends."""
+        """Ends the script. The command then answers what it has, and ends. One that takes no
+        requests yet is killed."""
         self.is_closed = True
         self.stopping.set()
-        if self.process is not None and self.process.stdin is not None:
+        if self.process is not None and not self.ready.is_set():
+            self.is_given_up = True
+            kill(self.process)
+        elif self.process is not None and self.process.stdin is not None:
             self.process.stdin.close()
 
     def kill(self) -> None:
@@ -194,13 +208,19 @@ class ServerProcess:
             kill(self.process)
 
 
-async def tail(stream: asyncio.StreamReader) -> bytes:
-    """The last bytes of a stream, once it has ended or is waited for no longer."""
-    kept = b""
+async def tail(
+    stream: asyncio.StreamReader, is_news: Callable[[str], bool] = lambda line: False
+) -> bytes:
+    """The last lines of a stream, without news, once it has ended or is waited for no longer."""
+    kept = rest = b""
     with contextlib.suppress(asyncio.CancelledError):
         while more := await stream.read(LINES):
-            kept = (kept + more)[-LINES:]
-    return kept
+            *lines, rest = (rest + more).split(b"\n")
+            for line in lines:
+                if not is_news(line.decode(errors="replace")):
+                    kept = (kept + line + b"\n")[-LINES:]
+            rest = rest[-LINES:]
+    return (kept + rest)[-LINES:]
 
 
 async def drain(stream: asyncio.StreamReader) -> None:

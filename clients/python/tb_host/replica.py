@@ -108,6 +108,9 @@ class Replica:
         told `Starting`, and goes to another replica."""
         await self.served.wait()
 
+    def is_serving(self) -> bool:
+        return self.served.is_set()
+
     def lag(self) -> float:
         return self.moments.lag()
 

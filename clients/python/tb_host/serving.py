@@ -29,6 +29,9 @@ class Server(Asked, Protocol):
     async def begun(self) -> None:
         """Comes when it serves: when a ledger's file was read."""
 
+    def is_serving(self) -> bool:
+        """Whether it serves now: it may be started again."""
+
     def lag(self) -> float:
         """How many seconds its moments lie behind the clock."""
 
@@ -72,7 +75,7 @@ async def listen_on(
     """Takes connections at these places and answers their requests, until a signal comes or the
     command ends. `file` is the ledger's, where it has one, and `clients_max` how many sessions it
     has at most, where all requests come through this host."""
-    counts = Counts(file)
+    counts = Counts(file, command.is_serving)
     listener = Listener(command, given, access_of(given), counts, Evictions(clients_max))
     async with reported(given, counts, command.lag):
         await _serve_until(places, command, listener, stopping)
@@ -114,7 +117,7 @@ async def _serve_until(
 async def _begin(places: List[Place], command: Server, listener: Listener) -> None:
     """Says where it listens once it serves. Until then each request is told `Starting`."""
     await command.begun()
-    listener.counts.is_ready = True
+    listener.counts.has_begun = True
     for place in places:
         say(f"listens on {place.shown}")
     notify("READY=1")
