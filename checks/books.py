@@ -8,8 +8,8 @@ loads      eight loads through `tbd run`, the scripts of bench/make_script.py an
            and lookup_transfers answer, field by field, and each pending transfer has the state that
            a void of it meets. `tb-sql check` passes each
 kills      loads that are killed and run again are equal to one that was not
-live       `tb-sql load --follow` while `tbd run` adds to the file
-server     `tb-sql check --server` over a socket, and with a wrong balance
+live       `tb-sql load --follow` while `tbd run` adds to the file; both are killed amid that
+server     `tb-sql check --server` over a socket while money moves, and with a wrong code
 speed      events a CPU second, and the time of a statement and of the pages
 tests      the tests of clients/sql, and its types where mypy is installed
 pages      its pages in Chromium
@@ -31,6 +31,7 @@ import sqlite3
 import subprocess
 import sys
 import tempfile
+import threading
 import time
 
 import frames
@@ -396,35 +397,66 @@ def tables(path):
 
 
 def part_live(given, room):
-    """A file that grows while it is followed."""
+    """A file that is followed while a server adds to it. The load and the server are killed amid
+    that, and begin again."""
     path, whole = str(room / "live.sqlite"), str(room / "whole.sqlite")
     ledger = Ledger(str(room / "live.tbk"))
-    retried(ledger, failing(100, 1))
+    run(ledger.words, b"")
     words = [*TB_SQL, "load", path, "--ledger", ledger.path, "--follow", "--quiet"]
     words += ["--tbd", program("tbd"), "--tbt", program("tbt")]
+    script = list(frames.pairs(failing(given.size, 1)))
+    began = time.monotonic()
+    load(whole, ledger.path)
+    seconds = time.monotonic() - began
+    feeding = threading.Thread(target=feed, args=(ledger, script, 10 * seconds / len(script)))
+    feeding.start()
+    kills, seen, rng = 0, set(), random.Random(4)
+    while feeding.is_alive() or kills < given.kills // 4:
+        process = subprocess.Popen(words)
+        time.sleep(rng.uniform(0.5, 2.5) * seconds)
+        process.kill()
+        process.wait(PATIENCE)
+        kills += 1
+        seen.add(reached(path))
+    feeding.join()
     process = subprocess.Popen(words)
-    for client in range(5):
-        time.sleep(1)
-        retried(ledger, pair(0, 100 + client, 0, 0, Operation.register))
     deadline = time.monotonic() + PATIENCE
     while reached(path) < ledger.commit and time.monotonic() < deadline:
         time.sleep(0.2)
     process.send_signal(signal.SIGTERM)
     status = process.wait(PATIENCE)
     load(whole, ledger.path)
-    same = status == 0 and tables(path) == tables(whole)
-    tried.case("a file that is followed", same, f"status {status}, {reached(path)} entries")
+    same = status == 0 and ledger.commit == len(script) and tables(path) == tables(whole)
+    said = f"status {status}, {reached(path)} of {len(script)} entries, {kills} kills of loads"
+    tried.case("a file that is followed", same, f"{said}, which ended at {sorted(seen)}")
+    amid = sum(0 < it < len(script) for it in seen)
+    tried.case("kills of a load that follows, amid the work", amid, sorted(seen))
 
 
-def retried(ledger, script):
-    """Serves a script, once no other process has the file open."""
-    for _ in range(100):
-        ran = subprocess.run(ledger.words, input=script, capture_output=True, timeout=PATIENCE)
-        if ran.returncode != 4:
-            break
-        time.sleep(0.3)
-    commits = [it.commit for it in replies_of(ran.stdout)]
-    ledger.commit = max([ledger.commit, *commits])
+def feed(ledger, script, pause):
+    """Sends requests to a server one by one, each after a pause. It is killed amid two of them and
+    started again, which then are sent again."""
+    process = started_server(ledger)
+    for number, (moment, frame) in enumerate(script):
+        ends = number in (len(script) // 3, len(script) // 2)
+        for is_killed in (True, False) if ends else (False,):
+            process.stdin.write(frames.little(moment) + frame)
+            process.stdin.flush()
+            if is_killed:
+                process.kill()
+                process.wait(PATIENCE)
+                process = started_server(ledger)
+                continue
+            header = process.stdout.read(frames.HEADER)
+            reply = header + process.stdout.read(frames.length_of(header) - len(header))
+            ledger.commit = max(ledger.commit, tb_client.Reply.from_bytes(reply).commit)
+        time.sleep(pause)
+    process.stdin.close()
+    process.wait(PATIENCE)
+
+
+def started_server(ledger):
+    return subprocess.Popen(ledger.words, stdin=subprocess.PIPE, stdout=subprocess.PIPE)
 
 
 def reached(path):
@@ -446,49 +478,35 @@ def part_server(given, room):
             with contextlib.closing(sqlite3.connect(path)) as connection:
                 connection.execute("UPDATE accounts SET code = code + 1 WHERE rowid % 7 = 3")
                 connection.commit()
-        ended = checked_by_server(ledger, path, socket)
+        ended, moved = checked_by_server(ledger, path, socket)
         good = ended[0] == 0 and "are those of the server" in ended[1]
         bad = ended[0] == 1 and ", code at entry" in ended[1]
-        tried.case(
-            f"check --server{', a wrong code' if wrong else ''}", bad if wrong else good, ended
-        )
+        name = f"check --server{', a wrong code' if wrong else ''}, while {moved} transfers come"
+        tried.case(name, moved and (bad if wrong else good), ended)
 
 
 def checked_by_server(ledger, path, socket):
-    """Runs the check against a listener. The tables reach the lookup's entry once the listener has
-    ended."""
+    """Runs the check against a listener while another client moves money, so that balances become
+    other ones than at the lookup's entry. Its result, and how many transfers came meanwhile."""
     listen = [sys.executable, "-B", str(ROOT / "clients" / "python" / "tb_listen.py")]
     listener = subprocess.Popen([*listen, "--unix", socket, "--", *ledger.words])
-    deadline = time.monotonic() + PATIENCE
-    while not os.path.exists(socket) and time.monotonic() < deadline:
-        time.sleep(0.1)
-    words = [*TB_SQL, "check", path, "--server", socket, "--wait", str(PATIENCE)]
-    checking = subprocess.Popen(words, stdout=subprocess.PIPE, stderr=subprocess.STDOUT, text=True)
-    size = os.path.getsize(ledger.path)
-    before = size
-    while checking.poll() is None and time.monotonic() < deadline:
-        time.sleep(1)
-        now = os.path.getsize(ledger.path)
-        if now != size and now == before:
-            break
-        before = now
+    words = [*TB_SQL, "check", path, "--server", socket, "--ledger", ledger.path]
+    words += ["--tbd", program("tbd"), "--tbt", program("tbt"), "--wait", str(PATIENCE)]
+    plain = [it for it, row in rows(path, "accounts").items() if not row["flags"] & 0b100110]
+    moved = 0
+    with tb_client.Session.register(tb_client.Socket(socket, timeout=PATIENCE)) as session:
+        checking = subprocess.Popen(
+            words, stdout=subprocess.PIPE, stderr=subprocess.STDOUT, text=True
+        )
+        while checking.poll() is None:
+            it = Transfer((1 << 101) + moved, *plain[:2], 5, ledger=700, code=10)
+            tb_client.require_ok(session.create_transfers([it]))
+            moved += 1
+            time.sleep(0.02)
+        said = checking.communicate(timeout=PATIENCE)[0]
     listener.send_signal(signal.SIGTERM)
     listener.wait(PATIENCE)
-    go_on(ledger, f"{path}.later")
-    load(path, ledger.path)
-    said = checking.communicate(timeout=PATIENCE)[0]
-    return checking.returncode, said.strip()
-
-
-def go_on(ledger, path):
-    """Moves money behind the lookup's entry, so that balances are other ones than there."""
-    load(path, ledger.path)
-    ledger.commit = reached(path)
-    plain = [it for it, row in rows(path, "accounts").items() if not row["flags"] & 0b100110]
-    debit, credit = plain[:2]
-    moved = Transfer(1 << 101, debit, credit, 5, ledger=700, code=10)
-    results = ledger.ask(PROBER, [(Operation.create_transfers, [moved])])
-    tried.case("a transfer behind the lookup", results == [[]], results, quietly=True)
+    return (checking.returncode, said.strip()), moved
 
 
 def cpu_of(words, input):
@@ -602,7 +620,7 @@ def typed():
 
 def part_tests(given, room):
     typed()
-    tested("loading, views and checks", ["test_load", "test_views", "test_check"])
+    tested("loading, views and checks", ["test_load", "test_sources", "test_views", "test_check"])
     tested("the pages without a browser", ["test_pages"], ["flask"])
 
 

@@ -5,6 +5,7 @@ from __future__ import annotations
 import json
 import os
 import select
+import time
 from typing import Any, Callable, Dict, Iterator, List, Optional, Union
 
 from .errors import Refused
@@ -15,6 +16,7 @@ from .sqlite_store import SqliteStore
 Store = Union[SqliteStore, PostgresStore]
 
 EVENTS_MAX = 40_000  # of a transaction, and those of the entry that reaches it
+STALE = 1.0  # seconds after which what is whole is written, though more comes
 IDLE = 0.2  # seconds without a line, after which what is whole is written
 CHUNK = 1 << 20
 ENTRY = b'{"commit":"'
@@ -80,7 +82,7 @@ class Loading:
         self, lines: Iterator[Optional[bytes]], tell: Callable[[], None] = lambda: None
     ) -> None:
         """Enters lines to their end. What is whole is written, also where a line is cut off."""
-        is_cut = False
+        is_cut, written = False, time.monotonic()
         for line in lines:
             if line is None:
                 self.write()
@@ -89,9 +91,13 @@ class Loading:
             else:
                 self.line += 1
                 self.take(line)
-                if self._books and self._books.changes.events >= EVENTS_MAX:
+                now = time.monotonic()
+                if self._books and (
+                    self._books.changes.events >= EVENTS_MAX or now - written > STALE
+                ):
                     self.write()
                     tell()
+                    written = now
             if self.is_done:
                 break
         self.write()
@@ -104,17 +110,15 @@ class Loading:
         """Refuses a whole history that ends before the kept entries do."""
         if not self._has_begun:
             raise Refused("the input has no head: it is no audit of a dump")
-        if not self._is_met and self._before:
-            raise Refused(
-                f"this history ends before entry {self._before.commit_number}, the last one in "
-                f"{self.store.path}: it is another ledger's, or an older copy. {AGAIN}"
-            )
+        if not self._is_met:
+            self.ends_before()
 
-    def again(self) -> None:
-        """Says that the next line is the first one of a history that was read before."""
-        self._has_begun, self._expired, self._batch = False, [], None
-        self.line = 0
-        self._is_met = self.commit_number == 0
+    def ends_before(self) -> None:
+        """Refuses a history that ends before the last entry that is kept."""
+        raise Refused(
+            f"this history ends before entry {self.commit_number}, the last one in "
+            f"{self.store.path}: it is another ledger's, or an older copy. {AGAIN}"
+        )
 
     def write(self) -> None:
         """Writes what was entered since the last time."""

@@ -351,8 +351,7 @@ class Server:
         ledger = Ledger(self.given.ledger, self.given.tbd, self.given.tbt)
         store = store_of(self.given.file)
         try:
-            if not ledger.read(Loading(store, until=commit), lambda: None):
-                time.sleep(PAUSE)
+            ledger.read(Loading(store, until=commit), lambda: None)
         except Refused as error:
             raise Difference(str(error)) from None
         finally:

@@ -90,14 +90,11 @@ def read(loading: Loading, ledger: Optional[Ledger], follow: bool, progress: Pro
         loading.read(lines_of(sys.stdin.fileno()), progress.tell)
         loading.ended()
     elif not follow:
-        if not ledger.read(loading, progress.tell):
-            raise Failed(
-                f"another process has {ledger.path} open: end it first, or wait by --follow"
-            )
+        ledger.read(loading, progress.tell)
     else:
         signal.signal(signal.SIGTERM, signal.default_int_handler)
         try:
-            ledger.follow(loading, progress.tell)
+            ledger.read(loading, progress.tell, follow=True)
         except KeyboardInterrupt:
             pass
 

@@ -2,12 +2,14 @@
 
 from __future__ import annotations
 
+import ctypes
 import os
 import pathlib
+import re
 import shutil
+import signal
 import subprocess
-import time
-from typing import Callable, Optional, Tuple
+from typing import IO, Callable, List, Optional, Tuple, Union
 
 from .audits import Loading, lines_of
 from .errors import Failed, Refused
@@ -15,8 +17,8 @@ from .errors import Failed, Refused
 Process = subprocess.Popen  # of bytes
 
 CLONE = pathlib.Path(__file__).resolve().parents[3]
-LOCKED = 4  # the status of tbd where another process has the file open
-PAUSE = 0.2  # seconds between two looks at a file that is followed
+LOST = "standard output"  # what a dump says at last that nobody reads
+END_WITH_PARENT = 1  # of Linux: the number of PR_SET_PDEATHSIG
 
 
 def program(name: str, given: Optional[str] = None) -> str:
@@ -33,8 +35,17 @@ def program(name: str, given: Optional[str] = None) -> str:
     return found
 
 
+def end_with_parent() -> None:
+    """Has the system end this process when the one that started it has ended, where it can: a
+    program that follows a file would wait for its next entry."""
+    try:
+        ctypes.CDLL(None).prctl(END_WITH_PARENT, signal.SIGTERM)
+    except (OSError, AttributeError):
+        pass
+
+
 class Ledger:
-    """A kept ledger's file, and the programs that read it."""
+    """A kept ledger's file, and the programs that read it, also while it is served."""
 
     def __init__(self, path: str, tbd: Optional[str] = None, tbt: Optional[str] = None) -> None:
         if not os.path.isfile(path):
@@ -42,10 +53,13 @@ class Ledger:
         self.path = path
         self._tbd, self._tbt = program("tbd", tbd), program("tbt", tbt)
 
-    def read(self, loading: Loading, tell: Callable[[], None]) -> bool:
-        """Enters all that the file holds. False where another process has it open."""
+    def read(self, loading: Loading, tell: Callable[[], None], follow: bool = False) -> None:
+        """Enters what the file holds, and what comes later where it is followed. Of the entries
+        that the tables have only the last one is read, to be compared."""
+        if follow and self._entries() < loading.commit_number:
+            loading.ends_before()
         try:
-            dump, audit = self._start()
+            dump, audit = self._start(follow, loading.commit_number - 1)
         except OSError as error:
             raise Failed(f"a program does not start: {error}") from None
         refused: Optional[Refused] = None
@@ -57,16 +71,14 @@ class Ledger:
                 refused = error
             finally:
                 audit.stdout.close()
-                if refused or loading.is_done:
+                if follow or refused or loading.is_done:
                     dump.kill()
                 audit.wait()
                 dump.wait()
             said = [
                 it.read().decode(errors="replace").strip() for it in (dump.stderr, audit.stderr)
             ]
-        if dump.returncode == LOCKED:
-            return False
-        if dump.returncode > 1:
+        if dump.returncode > 0 and not said[0].endswith(LOST):
             raise Failed(said[0] or f"tbd dump {self.path} ended with {dump.returncode}")
         if refused:
             raise refused
@@ -75,25 +87,38 @@ class Ledger:
                 if process.returncode != 0:
                     raise Failed(words or f"{process.args!r} ended with {process.returncode}")
             loading.ended()
-        return True
 
-    def _start(self) -> "Tuple[Process[bytes], Process[bytes]]":
-        pipe = subprocess.PIPE
-        dump = subprocess.Popen([self._tbd, "dump", self.path], stdout=pipe, stderr=pipe)
+    def _entries(self) -> int:
+        """How many entries the file has now: the number of the last one."""
+        try:
+            ran = subprocess.run([self._tbd, "check", self.path], capture_output=True, check=False)
+        except OSError as error:
+            raise Failed(f"a program does not start: {error}") from None
+        found = re.search(rb"^entries ([0-9]+)$", ran.stdout, re.M)
+        if ran.returncode or not found:
+            said = ran.stderr.decode(errors="replace").strip()
+            raise Failed(said or f"tbd check {self.path} ended with {ran.returncode}")
+        return int(found[1])
+
+    def _start(self, follow: bool, after: int) -> "Tuple[Process[bytes], Process[bytes]]":
+        """The programs. An audit needs all of a dump, and leaves out the lines of its first
+        entries."""
+        more = ["--follow"] if follow else []
+        dump = _started([self._tbd, "dump", self.path, *more], subprocess.DEVNULL)
         assert dump.stdout
-        audit = subprocess.Popen([self._tbt, "audit"], stdin=dump.stdout, stdout=pipe, stderr=pipe)
-        dump.stdout.close()
+        since = ["--after", str(after)] if after > 0 else []
+        try:
+            audit = _started([self._tbt, "audit", *since, *more], dump.stdout)
+        except OSError:
+            dump.kill()
+            raise
+        finally:
+            dump.stdout.close()
         return dump, audit
 
-    def follow(self, loading: Loading, tell: Callable[[], None]) -> None:
-        """Enters what the file holds, again and again where it has changed. It never ends by
-        itself. At most half the time is spent on reading."""
-        seen: Optional[Tuple[int, int]] = None
-        while True:
-            found, began = os.stat(self.path), time.monotonic()
-            now = found.st_size, found.st_mtime_ns
-            if now != seen and self.read(loading, tell):
-                seen = now
-            loading.again()
-            tell()
-            time.sleep(max(PAUSE, time.monotonic() - began))
+
+def _started(words: List[str], stdin: Union[int, IO[bytes]]) -> "Process[bytes]":
+    pipe = subprocess.PIPE
+    return subprocess.Popen(
+        words, stdin=stdin, stdout=pipe, stderr=pipe, preexec_fn=end_with_parent
+    )

@@ -1,0 +1,169 @@
+"""A kept ledger's file: the programs that read it, once and as it grows, their faults and ends."""
+
+import contextlib
+import os
+import pathlib
+import signal
+import sqlite3
+import subprocess
+import sys
+import time
+import unittest
+
+from audits import Audit, account, transfer
+from support import COMMAND, HERE, Tables
+
+SECONDS = 60  # on a busy machine
+
+
+def history():
+    audit = Audit().register().accounts(account(1), account(2))
+    for number in range(1, 6):
+        audit.transfers(transfer(number, 1, 2, 10))
+    return audit
+
+
+class Sources(Tables):
+    """Loads from a file by stand-ins for `tbd` and `tbt`."""
+
+    def setUp(self):
+        super().setUp()
+        self.file = self.room / "ledger.tbk"
+        self.given = ["load", self.path, "--ledger", str(self.file)]
+        self.environment = {**os.environ, "WORDS": str(self.room / "words")}
+        for name in ("tbd", "tbt"):
+            program = self.room / name
+            stand_in = f"{sys.executable} -SE {HERE}/stand_ins.py {name}"
+            program.write_text(f'#!/bin/sh\nexec {stand_in} "$@"\n')
+            program.chmod(0o700)
+            self.given += [f"--{name}", str(program)]
+
+    def write(self, audit, count=None):
+        """The file with the first lines of an audit."""
+        lines = audit.bytes.splitlines(keepends=True)
+        self.file.write_bytes(b"".join(lines[:count]))
+
+    def loaded(self, *more, fault=""):
+        """A load to its end: the status and what it said on standard error."""
+        ran = subprocess.run(
+            [*COMMAND, *self.given, *more],
+            env={**self.environment, "FAULT": fault},
+            capture_output=True,
+            text=True,
+            timeout=SECONDS,
+        )
+        return ran.returncode, ran.stderr
+
+    def words(self):
+        """The words of the programs that were started since the last time."""
+        path = pathlib.Path(self.environment["WORDS"])
+        found = path.read_text().splitlines() if path.exists() else []
+        path.unlink(missing_ok=True)
+        return sorted(it.replace(str(self.file), "FILE") for it in found)
+
+    def follow(self):
+        it = subprocess.Popen([*COMMAND, *self.given, "--follow", "--quiet"], env=self.environment)
+        self.addCleanup(it.wait)
+        self.addCleanup(it.kill)
+        return it
+
+    def reaches(self, commit):
+        """Waits until the tables have an entry."""
+        until = time.monotonic() + SECONDS
+        while time.monotonic() < until:
+            with contextlib.suppress(sqlite3.Error):
+                if self.rows("SELECT commit_number FROM position") == [(commit,)]:
+                    return
+            time.sleep(0.05)
+        raise AssertionError(f"the tables have no entry {commit}")
+
+    def end(self, process, number, wanted):
+        """Ends a load, and what it started."""
+        below = children(process.pid)
+        self.assertEqual(len(below), 2)
+        process.send_signal(number)
+        self.assertEqual(process.wait(SECONDS), wanted)
+        until = time.monotonic() + SECONDS
+        while not all(map(is_gone, below)):
+            self.assertLess(time.monotonic(), until, "a program goes on")
+            time.sleep(0.02)
+
+    def test_words(self):
+        """Behind the entries that are kept only the last one of them is read again."""
+        self.write(history())
+        self.assertEqual(self.loaded(), (0, ""))
+        self.assertEqual(self.words(), ["tbd dump FILE", "tbt audit"])
+        before = self.contents()
+        self.assertEqual(self.loaded(), (0, ""))
+        self.assertEqual(self.words(), ["tbd dump FILE", "tbt audit --after 6"])
+        self.assertEqual(self.contents(), before)
+
+    def test_what_is_followed(self):
+        """A load that is ended amid an entry goes on where it was."""
+        audit = history()
+        head, *entries = [f"{it}\n".encode() for it in audit.lines]
+        self.file.write_bytes(head)
+        for number, end in ((2, signal.SIGTERM), (4, signal.SIGKILL), (7, signal.SIGINT)):
+            process = self.follow()
+            rest = b"".join(entries[: number + 1])[:-9]
+            self.file.write_bytes(head + (rest if number < 7 else b"".join(entries)))
+            self.reaches(number)
+            self.end(process, end, -end if end == signal.SIGKILL else 0)
+        followed = self.contents()
+        os.unlink(self.path)
+        self.assertEqual(self.loaded(), (0, ""))
+        self.assertEqual(self.contents(), followed)
+
+    def test_words_of_a_follow(self):
+        self.write(history())
+        self.assertEqual(self.loaded()[0], 0)
+        self.words()
+        process = self.follow()
+        until = time.monotonic() + SECONDS
+        while len(children(process.pid)) < 2 or not os.path.exists(self.environment["WORDS"]):
+            self.assertLess(time.monotonic(), until)
+            time.sleep(0.02)
+        time.sleep(1)
+        self.end(process, signal.SIGTERM, 0)
+        wanted = ["tbd check FILE", "tbd dump FILE --follow", "tbt audit --after 6 --follow"]
+        self.assertEqual(self.words(), wanted)
+
+    def test_histories_that_are_shorter(self):
+        """An older copy is refused, and is not waited for."""
+        self.write(history())
+        self.assertEqual(self.loaded()[0], 0)
+        self.write(history(), 6)
+        for more in ([], ["--follow"]):
+            status, said = self.loaded(*more)
+            self.assertEqual(status, 2, said)
+            self.assertIn("ends before entry 7", said)
+            self.assertEqual(said.count("\n"), 1, said)
+
+    def test_faults(self):
+        """What a program said last is told."""
+        self.write(history())
+        for fault, wanted in (
+            ("tbd:6:tbd: Damaged: FILE at byte 9", "tbd: Damaged: FILE at byte 9"),
+            ("tbd:1:tbd: Device: FILE", "tbd: Device: FILE"),
+            ("tbt:1:tbt: NoMemory", "tbt: NoMemory"),
+        ):
+            self.assertEqual(self.loaded(fault=fault), (1, f"tb-sql: {wanted}\n"))
+            os.unlink(self.path)
+
+
+def children(process):
+    with open(f"/proc/{process}/task/{process}/children") as file:
+        return [int(it) for it in file.read().split()]
+
+
+def is_gone(process):
+    """Whether a process has ended, though nobody may have asked for its status."""
+    try:
+        with open(f"/proc/{process}/stat") as file:
+            return file.read().rpartition(")")[2].split()[0] == "Z"
+    except OSError:
+        return True
+
+
+if __name__ == "__main__":
+    unittest.main()
