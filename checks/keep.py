@@ -516,9 +516,9 @@ def told_by_check(tbd, folder):
 
 
 def rounds_until(ledger, process, stop):
-    """Rounds of all clients, until they are to stop."""
+    """Rounds of all clients, until they are to stop: no more than a hundred a second, so that a file stays short on a slow machine."""
     while not stop.is_set() and ledger.round(process, ledger.clients):
-        pass
+        stop.wait(0.01)
 
 
 def dumped(tbd, folder, path, **how):
@@ -535,7 +535,7 @@ def looks(tbd, folder):
     load = threading.Thread(target=rounds_until, args=(ledger, process, stop))
     load.start()
     dumps, told = [], []
-    for _ in range(30):
+    for _ in range(12):
         dumps.append(dumped(tbd, folder, ledger.file))
         told.append(check(tbd, ledger.file))
     stop.set()
@@ -543,12 +543,30 @@ def looks(tbd, folder):
     process.stdin.close()
     ended(process)
     dumps.append(dumped(tbd, folder, ledger.file))
-    case("dumps next to a server", None not in dumps and dumps[0] != dumps[-1], [it and len(it) for it in dumps])
-    grows = all(later.startswith(earlier) for earlier, later in zip(dumps, dumps[1:])) if None not in dumps else False
-    case("each dump is a prefix of the next", grows)
+    well = None not in dumps and dumps[0] != dumps[-1]
+    case("dumps next to a server", well, [it and len(it) for it in dumps])
+    case("each dump is a prefix of the next", well and all(later.startswith(it) for it, later in zip(dumps, dumps[1:])))
+    case("no dump ends within an entry", well and all(entry_ends(it)[-1] == len(it) for it in dumps))
     case("checks next to a server", all(it["status"] == 0 and it["said"] == "" for it in told), told[:2])
     entries = [it.get("entries", 0) for it in told]
     case("each check finds what the one before found", entries == sorted(entries), entries)
+
+
+READ_ONLY = 'mount --bind "$1" "$1" && mount -o remount,bind,ro "$1" && shift && exec "$@"'
+NOBODY = 65534
+
+
+def on_a_read_only_mount(tbd, place, wanted):
+    """The same on a mount that is read-only for everyone, in a namespace of its own."""
+    words = ["unshare", "-rm", "sh", "-c", READ_ONLY, "sh", place]
+    tried_out = [*words, "sh", "-c", "! touch \"$0\"", f"{place}/kept.tbk"]
+    if not shutil.which("unshare") or subprocess.run(tried_out, capture_output=True, check=False).returncode:
+        print("passed over: a read-only mount: none can be made here")
+        return
+    told = told_of(words[0], place, [*words[1:], tbd, "dump", f"{place}/kept.tbk"])
+    case("a dump on a read-only mount", told == (0, wanted, ""), told)
+    told = told_of(words[0], place, [*words[1:], tbd, "check", f"{place}/kept.tbk"])
+    case("a check on a read-only mount", told[0] == 0 and told[2] == "", told)
 
 
 def read_only(tbd, folder):
@@ -563,15 +581,23 @@ def read_only(tbd, folder):
     os.chmod(copy, 0o755)
     os.chmod(folder, 0o755)
     if os.geteuid() == 0:
-        how = {"user": 65534, "group": 65534, "extra_groups": []}
-    os.chmod(path, 0o444)
+        how = {"user": NOBODY, "group": NOBODY, "extra_groups": []}
     os.chmod(place, 0o555)
-    case("a dump of what may only be read", wanted and dumped(copy, place, "kept.tbk", **how) == wanted)
-    told = told_of(copy, place, ["check", "kept.tbk"], **how)
-    case("a check of what may only be read", told[0] == 0 and told[2] == "", told)
-    told = told_of(copy, place, ["run", "kept.tbk", "3"], **how)
-    case("what may only be read is not served", told == (1, b"", "tbd: Device: no permission to open kept.tbk\n"), told)
+    # the file of another user, and one of the reader's own
+    for owner, mode in ((0, 0o444), (NOBODY, 0o400)):
+        if how:
+            os.chown(path, owner, owner)
+        os.chmod(path, mode)
+        case(f"a dump of a file of mode {mode:o}", wanted and dumped(copy, place, "kept.tbk", **how) == wanted)
+        told = told_of(copy, place, ["check", "kept.tbk"], **how)
+        case(f"a check of a file of mode {mode:o}", told[0] == 0 and told[2] == "", told)
+        told = told_of(copy, place, ["run", "kept.tbk", "3"], **how)
+        case(f"a file of mode {mode:o} is not served", told == (1, b"", "tbd: Device: no permission to open kept.tbk\n"), told)
     os.chmod(place, 0o755)
+    if how:
+        os.chown(path, 0, 0)
+    os.chmod(path, 0o600)
+    on_a_read_only_mount(tbd, place, wanted)
 
 
 def names(tbd, folder):
