@@ -412,8 +412,12 @@ def part_live(given, room):
     feeding.start()
     kills, seen, rng = 0, set(), random.Random(4)
     while feeding.is_alive() or kills < given.kills // 4:
-        process = subprocess.Popen(words)
-        time.sleep(rng.uniform(0.5, 2.5) * seconds)
+        process, before = subprocess.Popen(words), reached(path)
+        if kills % 2:  # behind a transaction
+            while reached(path) == before and feeding.is_alive():
+                time.sleep(0.02)
+        else:
+            time.sleep(rng.uniform(0.5, 2.5) * seconds)
         process.kill()
         process.wait(PATIENCE)
         kills += 1

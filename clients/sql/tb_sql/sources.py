@@ -56,10 +56,11 @@ class Ledger:
     def read(self, loading: Loading, tell: Callable[[], None], follow: bool = False) -> None:
         """Enters what the file holds, and what comes later where it is followed. Of the entries
         that the tables have only the last one is read, to be compared."""
-        if follow and self._entries() < loading.commit_number:
+        kept = loading.commit_number
+        if follow and kept and self._entries() < kept:
             loading.ends_before()
         try:
-            dump, audit = self._start(follow, loading.commit_number - 1)
+            dump, audit = self._start(follow, kept - 1)
         except OSError as error:
             raise Failed(f"a program does not start: {error}") from None
         refused: Optional[Refused] = None
