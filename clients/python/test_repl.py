@@ -219,6 +219,14 @@ class Completion(unittest.TestCase):
         self.assertEqual(lines.words_at("create_transfers id=1 amount="), ["amount_max"])
         self.assertEqual(lines.words_at("lookup_accounts "), ["id="])
 
+    def test_the_file_of_words(self):
+        """The words that `rlwrap -f` completes are those of statements."""
+        wanted = {*statements.OPERATIONS, *statements.HEAD_FIELDS, "amount_max"}
+        wanted.update(*lines.FIELDS.values())
+        wanted.update(it.name for flags in lines.FLAGS.values() for it in flags)
+        with open(os.path.join(os.path.dirname(lines.__file__), "words")) as file:
+            self.assertEqual(file.read().split(), sorted(wanted))
+
 
 class Command(unittest.TestCase):
     def fault(self, *words):
