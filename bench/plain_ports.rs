@@ -9,6 +9,9 @@ use std::time::Instant;
 #[path = "plain.rs"]
 mod plain;
 
+/// The accounts of two transfers that follow on each other are so far apart.
+const STRIDE: u64 = 40_503;
+
 /// The most events of a request.
 const EVENTS_MAX: u64 = 8190;
 
@@ -35,7 +38,7 @@ fn account(id: u64) -> [u8; 128] {
 
 /// A transfer between two of so many accounts.
 fn transfer(id: u64, accounts: u64) -> [u8; 128] {
-    let (mut record, debit) = (account(id), id % accounts);
+    let (mut record, debit) = (account(id), id * STRIDE % accounts);
     record[16..24].copy_from_slice(&(debit + 1).to_le_bytes());
     record[32..40].copy_from_slice(&(accounts - debit).to_le_bytes());
     record[48] = 1;

@@ -26,9 +26,17 @@ TAKES = (
     (("eights", 50), "take of a transfer, a show for eight", 50000, 3.4),
 )
 NUMBERS = {1: "one", 8: "eight"}
-# Ports, requests an order, and the most that the time may be of that behind a Mutex.
-PORTS = ((1, 1, 2.2), (1, 8, 2.2), (2, 1, 1.5), (2, 8, 1.5), (4, 1, 1.5), (4, 8, 1.5))
-REQUESTS, ACCOUNTS = 400_000, 1000
+# Ports, requests an order, accounts, and the most that the time may be of that behind a Mutex.
+PORTS = (
+    (1, 1, 1000, 2.2),
+    (1, 8, 1000, 2.2),
+    (2, 1, 1000, 1.5),
+    (2, 8, 1000, 1.5),
+    (4, 1, 1000, 1.5),
+    (4, 8, 1000, 1.5),
+    (4, 8, 100_000, 1.5),
+)
+REQUESTS = 400_000
 
 
 def run(program, words):
@@ -65,7 +73,7 @@ def bench(subject, peer, size, ratio, turns, unit="ratio of CPU time", note=""):
     return rows.row("bench", subject, peer, size, f"{ratio:.2f}", unit, note)
 
 
-def takes(turns, _folder):
+def takes(turns, _folder, _requests):
     print("\n| Takes compared with applies | take, us | apply, us | ratio |\n|---|---|---|---|")
     for words, label, each, most in TAKES:
         (told,) = least(turns, (BENCH, words))
@@ -77,7 +85,7 @@ def takes(turns, _folder):
         yield bench(label, "apply", "", ratio, turns)
 
 
-def reads(turns, folder):
+def reads(turns, folder, _requests):
     plain = measure.build("plain_threads", folder)
     print(
         "\nNanoseconds a read in each thread, and in brackets million reads a second of all "
@@ -119,24 +127,30 @@ def reads(turns, folder):
                 )
 
 
-def ports(turns, folder):
+def label(count, each):
+    """How a row of ports is called."""
+    return f"{count} port{'s' if count > 1 else ''}, {NUMBERS[each]} an order"
+
+
+def ports(turns, folder, requests):
     plain = measure.build("plain_ports", folder)
     print(
-        "\n| Ports | thousand requests a second | behind a Mutex | time to the Mutex's |"
-        "\n|---|---|---|---|"
+        "\n| Ports | accounts | thousand requests a second | behind a Mutex | time to the "
+        "Mutex's |\n|---|---|---|---|---|"
     )
-    for count, each, most in PORTS:
-        words = (count, REQUESTS // count // each, each)
-        ours, theirs = least(turns, (BENCH, ("ports", *words)), (plain, (*words, ACCOUNTS)))
-        rates = [REQUESTS * 1_000_000 / it["orders"] for it in (ours, theirs)]
+    for count, each, accounts, most in PORTS:
+        words = (count, requests // count // each, each, accounts)
+        ours, theirs = least(turns, (BENCH, ("ports", *words)), (plain, words))
+        rates = [requests * 1_000_000 / it["orders"] for it in (ours, theirs)]
         ratio = ours["orders"] / theirs["orders"]
-        label = f"{count} port{'s' if count > 1 else ''}, {NUMBERS[each]} an order"
-        print(f"| {label} | {rates[0]:.0f} | {rates[1]:.0f} | {marked(ratio, most)} |", flush=True)
+        subject = label(count, each)
+        numbers = f"{accounts:,} | {rates[0]:.0f} | {rates[1]:.0f} | {marked(ratio, most)}"
+        print(f"| {subject} | {numbers} |", flush=True)
         said = f"{rates[0]:.0f} against {rates[1]:.0f} thousand requests a second"
-        yield bench(label, "Mutex", ACCOUNTS, ratio, turns, "ratio of time", said)
+        yield bench(subject, "Mutex", accounts, ratio, turns, "ratio of time", said)
 
 
-def memory(turns, _folder):
+def memory(turns, _folder, _requests):
     sizes = {
         (kind, size): min(run(BENCH, (kind, size))[1] for _ in range(turns))
         for kind in ("take", "memory")
@@ -155,10 +169,10 @@ def memory(turns, _folder):
 TABLES = {it.__name__: it for it in (takes, reads, ports, memory)}
 
 
-def measure_tables(names, turns, folder):
-    """Prints these tables; their rows."""
+def measure_tables(names, turns, folder, requests=REQUESTS):
+    """Prints these tables; their rows. Through ports go so many requests."""
     tried.built(BENCH, how="build it first: (cd crates/tb_bench && rt run)")
-    return [row for name in names for row in TABLES[name](turns, folder)]
+    return [row for name in names for row in TABLES[name](turns, folder, requests)]
 
 
 def main():
@@ -174,8 +188,7 @@ def main():
     with measure.work_folder(given.work) as folder:
         found = measure_tables(given.tables or [*TABLES], given.turns, folder)
     if given.rows:
-        for kind in ("bench", "reads"):
-            rows.write([it for it in found if it["kind"] == kind])
+        rows.write(found)
     return 0
 
 
