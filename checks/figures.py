@@ -43,6 +43,7 @@ KINDS = {
     "bench",
     "bound",
     "growth",
+    "profile",
     "instructions",
     "reads",
     "check",

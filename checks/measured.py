@@ -1,23 +1,39 @@
+#!/usr/bin/env python3
 """What docs/work/runs.csv has of the benchmarks, and the blocks of docs/work/PERFORMANCE.md.
 
+    checks/measured.py           tries the bounds; ends in 'N passed, 0 failed'
+    checks/measured.py --list    prints each bound, what was measured, and whether it holds
+
 A figure of `ns an event` is of one server; a ratio of CPU time is that of tbs to a peer's. A row of
-kind `bound` has what a ratio, or a figure, may be at most.
+kind `bound` has what a ratio, or a figure, may be at most; of events a CPU second, at least.
+
+The trial gives each bound a figure of its own: it has to hold at the bound, to be missed a step
+over it, and not to hold unmeasured. A bound of time that is missed needs a profile, of
+bench/samples.py.
 """
 import csv
 import functools
 import pathlib
+import sys
+from typing import Optional
+from unittest import mock
+
+import tried
 
 ROOT = pathlib.Path(__file__).resolve().parent.parent
 RUNS = ROOT / "docs/work/runs.csv"
-EACH = "ns an event"
+EACH, EACH_SECOND = "ns an event", "events a CPU second"
+AT_LEAST = (EACH_SECOND,)
 PEERS = {
     "hash.rs": "hash maps",
     "plain.rs": "BTreeMap",
     "lean.rs": "lean.rs",
     "sqlite.c": "SQLite",
 }
+BEFORE, HUGE = "before", "tbs in huge pages"
 # The kinds that are measured together: of one commit and one machine.
-TOGETHER = ("bench", "growth", "reads")
+TOGETHER = ("bench", "growth", "reads", "instructions", "profile")
+FIGURES = ("bench", "growth", "instructions")
 
 
 @functools.cache
@@ -36,7 +52,7 @@ def table(head: str, lines: list[str]) -> str:
     return "\n".join([head, "|" + "---|" * columns, *lines]) + "\n"
 
 
-def value(kind: str, **wanted: str):
+def value(kind: str, **wanted: str) -> Optional[float]:
     """The value of the newest row of a kind with these columns, or None."""
     found = [row for row in of_kind(kind) if all(row[name] == it for name, it in wanted.items())]
     return float(found[0]["value"]) if found else None
@@ -51,42 +67,95 @@ def loads() -> list[str]:
     return distinct(row["subject"] for row in of_kind("bench") if row["unit"] == EACH)
 
 
-def each(load: str, server: str = "tbs"):
+def each(load: str, server: str = "tbs") -> Optional[float]:
     """The nanoseconds of an event of a load in a server, or None."""
     return value("bench", subject=load, peer=server, unit=EACH)
 
 
-def ratio(load: str, peer: str):
-    """The CPU time of a load in tbs, over that in a peer or of another load; or None."""
-    ours = each(load)
-    theirs = each(peer) if peer in loads() else each(load, peer)
+def ratio(ours: Optional[float], theirs: Optional[float]) -> Optional[float]:
     return ours / theirs if ours and theirs else None
 
 
-def found_for(bound: dict[str, str]):
+# Bounds
+
+
+def compares_loads(bound: dict[str, str]) -> bool:
+    """Whether a bound is over another load of tbs."""
+    return bound["peer"] in {it["subject"] for it in of_kind("bound")}
+
+
+def found_for(bound: dict[str, str]) -> Optional[float]:
     """What was measured of a bound's subject, rounded as it is shown; or None."""
-    of = ratio(bound["subject"], bound["peer"]) if bound["subject"] in loads() else None
-    if of is None:
+    subject, peer = bound["subject"], bound["peer"]
+    if compares_loads(bound):
+        of = ratio(each(subject), each(peer))
+    elif peer in (*PEERS, BEFORE):
+        of = ratio(each(subject), each(subject, peer))
+    else:
         columns = {name: bound[name] for name in ("subject", "peer", "size", "unit")}
-        kinds = ("bench", "growth", "instructions")
-        of = next((it for kind in kinds if (it := value(kind, **columns)) is not None), None)
+        of = next((it for kind in FIGURES if (it := value(kind, **columns)) is not None), None)
     return None if of is None else round(of, 2)
 
 
-def most(subject: str, peer: str, size: str = ""):
-    """The bound of a figure, or None."""
-    return value("bound", subject=subject, peer=peer, **({"size": size} if size else {}))
-
-
-def against(found, bound) -> str:
-    """A figure as a table shows it: bold where it is over its bound."""
+def holds(found: Optional[float], bound: dict[str, str]) -> bool:
+    limit = float(bound["value"])
     if found is None:
-        return ""
-    return f"**{found:.2f}**" if bound is not None and round(found, 2) > bound else f"{found:.2f}"
+        return False
+    return found >= limit if bound["unit"] in AT_LEAST else found <= limit
+
+
+def missed() -> list[dict[str, str]]:
+    """The bounds that were measured and do not hold."""
+    found = [(it, found_for(it)) for it in of_kind("bound")]
+    return [it for it, of in found if of is not None and not holds(of, it)]
+
+
+def family(subject: str) -> str:
+    """What has one profile: all ports, all takes, all serving from a file, all starts over it."""
+    if subject == "run, single":
+        return "single requests of 60 clients"
+    kinds = ("port", "take", "tbd run", "tbd start")
+    return next((it for it in kinds if it in subject[:9]), subject)
+
+
+def excess(bound: dict[str, str]) -> float:
+    """How far a bound is missed, as a share of it."""
+    return (found_for(bound) or 0) / float(bound["value"])
+
+
+def bound_of(subject: str, peer: Optional[str] = None, size: Optional[str] = None):
+    """The bound of a figure, or None."""
+    for it in of_kind("bound"):
+        if it["subject"] == subject and peer in (None, it["peer"]) and size in (None, it["size"]):
+            return it
+    return None
+
+
+def most(subject: str, peer: str, size: Optional[str] = None) -> Optional[float]:
+    """The value of a figure's bound, or None."""
+    bound = bound_of(subject, peer, size)
+    return float(bound["value"]) if bound else None
 
 
 def shown(figure: float) -> str:
     return f"{figure:,.0f}" if figure >= 100 else f"{figure:g}"
+
+
+def against(found: Optional[float], bound: Optional[dict[str, str]]) -> str:
+    """A figure as a table shows it, with its bound in brackets: bold where that does not hold."""
+    if found is None:
+        return ""
+    said = f"{found:.2f}" if found < 10 else shown(found)
+    if bound is None:
+        return said
+    said = said if holds(round(found, 2), bound) else f"**{said}**"
+    return f"{said} ({shown(float(bound['value']))})"
+
+
+def figure_of(subject: str, peer: Optional[str] = None) -> str:
+    """What was measured of a bound's subject, and the bound; a question mark where nothing was."""
+    bound = bound_of(subject, peer)
+    return against(found_for(bound), bound) or f"? ({shown(float(bound['value']))})"
 
 
 # The blocks
@@ -99,43 +168,30 @@ def where() -> str:
         return "Not measured yet."
     newest = max(found, key=lambda it: it["date"])
     return (
-        f"All figures: commit {newest['commit']}, proved and built by kit {newest['kit']}, "
-        f"{newest['date']}, on a quiet virtual machine with 4 cores ({newest['machine']})."
+        f"Commit {newest['commit']}, proved and built by kit {newest['kit']}, {newest['date']}, on "
+        f"a quiet virtual machine with 4 cores ({newest['machine']})."
     )
 
 
-def measured() -> str:
-    """Where the figures are from, how many bounds hold, and the figures that no table has."""
-    found = [(found_for(it), float(it["value"])) for it in of_kind("bound")]
-    kept = sum(it is not None and it <= limit for it, limit in found)
-    unmeasured = sum(it is None for it, _ in found)
-    left = f" Not measured: {unmeasured}." if unmeasured else ""
-    said = " ".join(ALONE_SAID.format(*alone()).split())
-    return f"{where()}\n{kept} of {len(found)} bounds hold.{left} {said}\n"
-
-
-# Bounds that no table has: the subject and the peer of each, and a sentence with the figures.
-ALONE = (
-    ("bulk, 1,000,000 accounts", "bulk, 10,000 accounts"),
-    ("rising ids", "tbs"),
-    ("old posts and voids, 1,000,000 accounts", "before"),
-    ("run, single", "tbs"),
-)
-ALONE_SAID = """
+ALONE = """
 A bulk transfer at 1,000,000 accounts costs {} of one at 10,000, and takes {} bytes. Old posts and
 voids take {} of the time before searches overlapped. A single request runs {} instructions.
 """
 
 
-def alone():
-    """The figures of ALONE, each with its bound; bold where it is over it."""
-    for subject, peer in ALONE:
-        wanted = (subject, peer)
-        bound = next(it for it in of_kind("bound") if (it["subject"], it["peer"]) == wanted)
-        found, limit = found_for(bound), float(bound["value"])
-        said = "?" if found is None else shown(found)
-        said = f"**{said}**" if found is not None and found > limit else said
-        yield f"{said} (bound {shown(limit)})"
+def measured() -> str:
+    """Where the figures are from, how many bounds hold, and the figures that no table has."""
+    found = [(found_for(it), it) for it in of_kind("bound")]
+    kept = sum(holds(*it) for it in found)
+    unmeasured = sum(of is None for of, _ in found)
+    left = f" Not measured: {unmeasured}." if unmeasured else ""
+    said = ALONE.format(
+        figure_of("bulk, 1,000,000 accounts", "bulk, 10,000 accounts"),
+        figure_of("rising ids"),
+        figure_of("old posts and voids, 1,000,000 accounts"),
+        figure_of("run, single"),
+    )
+    return f"{where()}\n{kept} of {len(found)} bounds hold.{left}{said}"
 
 
 def peers() -> str:
@@ -144,90 +200,109 @@ def peers() -> str:
     for load in loads():
         cells = [f"{each(load):,.0f}"]
         for peer in PEERS:
-            limit = most(load, peer)
-            found = against(ratio(load, peer), limit)
-            cells.append(f"{found} ({limit:g})" if limit else found)
+            cells.append(against(ratio(each(load), each(load, peer)), bound_of(load, peer)))
         lines.append(f"| {load} | {' | '.join(cells)} |")
-    return table(
-        "| Load | ns an event | over hash maps (bound) | over BTreeMap (bound) | over lean.rs "
-        "| over SQLite |",
-        lines,
-    )
+    over = " | ".join(f"over {it}" for it in PEERS.values())
+    return table(f"| Load | ns an event | {over} |", lines)
 
 
-def grown(server: str, size: str, unit: str) -> str:
-    found = value("growth", peer=server, size=size, unit=unit)
-    return "" if found is None else f"{found:,.0f}"
+def grown(server: str, size: str) -> str:
+    units = ("ns a transfer", "bytes a transfer")
+    found = [value("growth", peer=server, size=size, unit=it) for it in units]
+    return ", ".join(shown(it) for it in found if it is not None)
 
 
 def growth() -> str:
-    """What an account and a transfer cost as a ledger grows."""
+    """What a transfer costs as a ledger grows."""
     servers = distinct(row["peer"] for row in of_kind("growth"))
     sizes = sorted({row["size"] for row in of_kind("growth")}, key=int)
-    lines = []
-    for size in sizes:
-        for unit in ("ns a transfer", "bytes a transfer"):
-            cells = " | ".join(grown(server, size, unit) for server in servers)
-            lines.append(f"| {int(size):,} | {unit} | {cells} |")
+    lines = [
+        f"| {int(size):,} | {' | '.join(grown(server, size) for server in servers)} |"
+        for size in sizes
+    ]
     head = " | ".join(PEERS.get(server, server) for server in servers)
-    return table(f"| Accounts, transfers | | {head} |", lines)
+    return table(f"| Of each | {head} |", lines)
 
 
-def bounded(row: dict[str, str]) -> str:
-    """A ratio, with its bound where it has one."""
-    limit = most(row["subject"], row["peer"], row["size"])
-    found = against(float(row["value"]), limit)
-    return f"{found} ({limit:g})" if limit else found
-
-
-def threads() -> str:
-    """Takes and ports: what their time is compared with, and the bound."""
-    lines = []
-    for it in of_kind("bench"):
-        if it["peer"] in ("apply", "Mutex"):
-            accounts = f", {int(it['size']):,} accounts" if it["size"] else ""
-            lines.append(f"| {it['subject']}{accounts} | {bounded(it)} |")
-    alone = value("bench", subject="one machine", unit="bytes a transfer") or 0
-    took = value("bench", subject="a publisher", unit="bytes a transfer") or 0
+def takes() -> str:
+    """What a take costs, and the bytes of a transfer in a publisher."""
+    said = [
+        f"{it['subject']} {against(float(it['value']), bound_of(it['subject'], 'apply'))}"
+        for it in of_kind("bench")
+        if it["peer"] == "apply"
+    ]
+    unit, kinds = "bytes a transfer", ("one machine", "a publisher")
+    bytes_each = [value("bench", subject=it, unit=unit) for it in kinds]
+    alone, took = ("?" if it is None else shown(it) for it in bytes_each)
     return (
-        table("| Takes: CPU time over an apply's. Ports: time over the Mutex's | (bound) |", lines)
-        + f"\nA transfer takes {shown(alone)} bytes in one machine, {shown(took)} in a publisher: "
-        "its history, machine and two copies.\n"
+        f"CPU time over that of an apply: {'; '.join(said)}. A transfer takes {alone} bytes in one "
+        f"machine, {took} in a publisher: its history, machine and two copies.\n"
     )
 
 
-def range_of(ratios: list[float], limit: str = "") -> str:
-    least, most_of = min(ratios), max(ratios)
-    said = f"{least:.2f} to {most_of:.2f}"
-    return f"**{said}**" if limit and most_of > float(limit) else said
+def ports() -> str:
+    """The time of requests through ports over that behind a Mutex: a row for each number of ports,
+    a column for each number of requests an order and of accounts."""
+    found = {}
+    for it in of_kind("bench"):
+        if it["peer"] == "Mutex":
+            many, order = it["subject"].split(", ")
+            column = f"{int(it['size']):,} accounts, {order}"
+            figure = against(float(it["value"]), bound_of(it["subject"], "Mutex", it["size"]))
+            found.setdefault(many, {})[column] = figure
+    columns = distinct(column for cells in found.values() for column in cells)
+    lines = [
+        f"| {many} | {' | '.join(cells.get(it, '') for it in columns)} |"
+        for many, cells in found.items()
+    ]
+    return table(f"| | {' | '.join(columns)} |", lines)
+
+
+def range_of(found: list[dict[str, str]]) -> str:
+    """The range of some ratios over tbs run, and their bound."""
+    ratios = [float(it["value"]) for it in found]
+    said = f"{min(ratios):.2f} to {max(ratios):.2f}"
+    bounds = [(it, bound_of(it["subject"], it["peer"])) for it in found]
+    if all(holds(float(it["value"]), bound) for it, bound in bounds if bound):
+        return said + next((f" ({bound['value']})" for _, bound in bounds if bound), "")
+    return f"**{said}** ({bounds[0][1]['value']})"
 
 
 def kept() -> str:
     """A ledger in a file, compared with one in memory."""
-    groups: dict[str, list[float]] = {}
-    limits: dict[str, str] = {}
+    groups: dict[str, list[dict[str, str]]] = {}
     for it in of_kind("bench"):
         if it["peer"] == "tbs run":
-            limit = most(it["subject"], "tbs run")
-            serving = "serving batches" if limit else "small requests"
+            serving = "batches" if most(it["subject"], "tbs run") else "small requests"
             group = "a start" if it["subject"].startswith("tbd start") else serving
-            limits[group] = f"{limit:g}" if limit else ""
-            groups.setdefault(group, []).append(float(it["value"]))
-    said = [
-        f"{group} {range_of(ratios, limits[group])}"
-        f"{f' (bound {limits[group]})' if limits[group] else ''}"
-        for group, ratios in groups.items()
-    ]
+            groups.setdefault(group, []).append(it)
+    said = [f"{group} {range_of(found)}" for group, found in groups.items()]
     return f"CPU time over that of `tbs run`: {'; '.join(said)}.\n"
+
+
+def books() -> str:
+    """What reading the books costs."""
+    audits = [it for it in of_kind("bound") if it["subject"].startswith("tbt audit")]
+    ratios = " and ".join(
+        f"{figure_of(it['subject'])} ({it['subject'].rpartition(', ')[2]})" for it in audits
+    )
+    speed = value("bench", subject=audits[0]["subject"], unit=EACH_SECOND) or 0
+    return (
+        f"Over 1,000,000 transfers `tbt audit` takes {ratios} of the CPU time of `tbs replay`: "
+        f"{speed:,.0f} events a second. `tb-sql load` takes "
+        f"{figure_of('tb-sql load, rising')} events a CPU second, a statement "
+        f"{figure_of('statement of an account')} ms, the overview page "
+        f"{figure_of('the overview page')} ms.\n"
+    )
 
 
 UNITS = ("instructions an event", "L2 misses an event", "mispredicted branches an event")
 
 
 def instructions() -> str:
-    """What an event takes in each server, by callgrind."""
+    """What an event takes, by callgrind."""
     found = of_kind("instructions")
-    servers = distinct(it["peer"] for it in found)
+    servers = ("tbs", "hash.rs", "plain.rs")
     lines = []
     for load in distinct(it["subject"] for it in found):
         cells = []
@@ -238,4 +313,100 @@ def instructions() -> str:
     return table(f"| Load | {' | '.join(servers)} |", lines)
 
 
-WRITERS = {it.__name__: it for it in (measured, peers, instructions, growth, threads, kept)}
+def profiles() -> str:
+    """Where the time goes of what misses a bound."""
+    found = of_kind("profile")
+    lines = [f"| {it['subject']} | {it['note']} |" for it in found]
+    return table("| Missed | Samples, per cent |", lines) if found else "No bound is missed.\n"
+
+
+def huge_pages() -> str:
+    """What huge pages give."""
+    load = "bulk, 1,000,000 accounts"
+    of = ratio(each(load, HUGE), each(load))
+    said = "?" if of is None else f"{of:.2f}"
+    return f"In huge pages a bulk transfer at 1,000,000 accounts takes {said} of the time.\n"
+
+
+BLOCKS = (
+    measured,
+    peers,
+    instructions,
+    growth,
+    takes,
+    ports,
+    kept,
+    books,
+    profiles,
+    huge_pages,
+)
+WRITERS = {it.__name__: it for it in BLOCKS}
+
+
+# The trial
+
+
+def row(bound: dict[str, str], kind: str, figure: float, **columns: str) -> dict[str, str]:
+    return {**bound, "kind": kind, "value": str(figure), **columns}
+
+
+def rows_with(bound: dict[str, str], figure: float) -> list[dict[str, str]]:
+    """Rows by which a bound's subject has this figure."""
+    if compares_loads(bound):
+        other = {"subject": bound["peer"], "peer": "tbs", "unit": EACH}
+        ours = row(bound, "bench", figure * 1000, peer="tbs", unit=EACH)
+        return [ours, row(bound, "bench", 1000, **other)]
+    if bound["peer"] in (*PEERS, BEFORE):
+        ours = row(bound, "bench", figure * 1000, peer="tbs", unit=EACH)
+        return [ours, row(bound, "bench", 1000, unit=EACH)]
+    return [row(bound, "bench", figure)]
+
+
+def says(bound: dict[str, str], rows_found: list[dict[str, str]]) -> tuple[bool, bool]:
+    """Whether a bound holds by these rows, and whether it is missed."""
+    with mock.patch(f"{__name__}.rows", return_value=[*of_kind("bound"), *rows_found]):
+        return holds(found_for(bound), bound), bound in missed()
+
+
+def try_bound(bound: dict[str, str]) -> None:
+    limit = float(bound["value"])
+    step = 0.01 if limit < 10 else 1
+    over = limit - step if bound["unit"] in AT_LEAST else limit + step
+    figures = [rows_with(bound, limit), rows_with(bound, over), []]
+    told = [says(bound, found) for found in figures]
+    tried.case(
+        f"bound: {bound['subject']}, {bound['peer']}: {limit:g}",
+        told == [(True, False), (False, True), (False, False)],
+        f"at it, over it, unmeasured: {told}",
+        quietly=True,
+    )
+
+
+def is_of_time(bound: dict[str, str]) -> bool:
+    return bound["unit"].startswith(("ratio", "instructions"))
+
+
+def main() -> int:
+    parser = tried.arguments(__doc__)
+    parser.add_argument("--list", action="store_true", help="print the bounds alone")
+    if parser.parse_args().list:
+        for it in of_kind("bound"):
+            found = found_for(it)
+            told = "not measured" if found is None else "holds" if holds(found, it) else "MISSED"
+            print(f"{told:12} {found or '':>9} ({it['value']}) {it['subject']}, {it['peer']}")
+        return 0
+    for it in of_kind("bound"):
+        try_bound(it)
+    sampled = {family(it["subject"]) for it in of_kind("profile")}
+    for it in filter(is_of_time, missed()):
+        tried.case(
+            f"missed: {it['subject']}, {it['peer']}",
+            family(it["subject"]) in sampled,
+            "no profile: bench/all.py --rows profiles",
+            quietly=True,
+        )
+    return tried.status()
+
+
+if __name__ == "__main__":
+    sys.exit(main())
