@@ -111,7 +111,7 @@ fn put_opening<E: Sink>(faults: &mut E, fault: OpeningFault, path: &str) -> Resu
             faults,
             b"SyncFailed: restart the machine or copy the file before the next start",
         ),
-        OpeningFault::Exists => put_named(faults, "Usage: ", path, " is there already"),
+        OpeningFault::Exists => put_named(faults, "Usage: ", path, " exists"),
         OpeningFault::NotAFile => put_named(faults, "Device: ", path, " is no regular file"),
         OpeningFault::Dangling => put_named(faults, "Device: ", path, " is a link to nothing"),
         OpeningFault::Unopened => put_both(faults, "Device: cannot open ", path),
