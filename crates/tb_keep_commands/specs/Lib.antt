@@ -1,3 +1,4 @@
+pub mod DumpLaws
 pub mod Following
 pub mod Forms
 pub mod Hosts
