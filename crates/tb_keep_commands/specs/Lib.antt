@@ -1,3 +1,5 @@
+pub mod Copies
+pub mod Exits
 pub mod Following
 pub mod Forms
 pub mod Hosts
