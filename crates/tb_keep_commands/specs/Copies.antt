@@ -100,7 +100,7 @@ module _ (tells : Type 0) {E : Type 0} (disk : E → Disk) (holds : E → List �
     pub untouched : tells → IsUntouched (disk from) (disk after)
     pub cause : tells → HasStartCause rules (disk from) (disk after)
 
-module _ (tells : Type 0) {E : Type 0} (disk : E → Disk) (holds : E → List ℕ → Type 0) (tells_new : Type 0) {D : Type 0} (disk_new : D → Disk) where
+module _ (tells : Type 0) {E : Type 0} (disk : E → Disk) (holds whole_read : E → List ℕ → Type 0) (tells_new : Type 0) {D : Type 0} (disk_new : D → Disk) where
   -- a file was read once, and stays; what a crash at any moment may leave of the new one, and why it is not read or written on
   pub record IsCopying (result : Result (Salvaged D) (NotSalvaged D)) (into : D) (from after : E) : Type 0 where
     pub unsalvaged : (file : List ℕ) → holds from file → IfErr result (λ failed. IsUnsalvaged failed.fault file)
@@ -134,7 +134,7 @@ module _ (tells : Type 0) {E : Type 0} (disk : E → Disk) (holds : E → List �
   pub record CopiesFile (whole : Bool) (outcome : Outcome) (into : D) (from after : E) (start written : Output) : Type 0 where
     pub len : Result ℕ journal.Fault
     pub between : E
-    pub asked : IsMeasured tells disk holds len from between
+    pub asked : IsMeasured tells disk holds whole_read len from between
     pub copies : CopiesMeasured len whole outcome into between after start written
 
   -- the new file was made, and a file was copied into it; or it was not, and nothing was read

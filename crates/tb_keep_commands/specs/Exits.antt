@@ -30,7 +30,7 @@ abbrev pub Tells : Outcome → List ℕ → List ℕ → Output → Output → T
 Tells (Ok done) file new before after = after ≡ before
 Tells (Err fault) file new before after = SaysLine (fault_line fault (fault_path fault file new)) before after
 
-module _ (tells : Type 0) {D : Type 0} (disk : D → Disk) (holds : D → List ℕ → Type 0) (tells_read : Type 0) {E : Type 0} (disk_read : E → Disk) (holds_read : E → List ℕ → Type 0) {O : Type 0} (makes : O → List ℕ → Result D OpeningFault → O → Type 0) (opens : O → List ℕ → Result E OpeningFault → O → Type 0) (makes_new : O → List ℕ → Result D OpeningFault → O → Type 0) (ends : Terminals) (before : O) (name new : List ℕ) (left : O) where
+module _ (tells : Type 0) {D : Type 0} (disk : D → Disk) (holds : D → List ℕ → Type 0) (tells_read : Type 0) {E : Type 0} (disk_read : E → Disk) (holds_read whole_read : E → List ℕ → Type 0) {O : Type 0} (makes : O → List ℕ → Result D OpeningFault → O → Type 0) (opens : O → List ℕ → Result E OpeningFault → O → Type 0) (makes_new : O → List ℕ → Result D OpeningFault → O → Type 0) (ends : Terminals) (before : O) (name new : List ℕ) (left : O) where
   -- what a form does over what opens devices: `run` has the device of a name made where there is none, `dump` and `check` open one that is
   -- there, `salvage` and `backup` open one and make another, and the other forms open none. What it tells while it goes on stands before
   -- the line of its outcome
@@ -41,13 +41,13 @@ module _ (tells : Type 0) {D : Type 0} (disk : D → Disk) (holds : D → List �
   Performs (form.Dump from follows) outcome first last start written quiet told =
       (last ≡ first) × (told ≡ quiet) × DumpsOver tells_read disk_read holds_read (opens before name) left from follows outcome start written
   Performs form.Check outcome first last start written quiet told =
-      (last ≡ first) × (told ≡ quiet) × ChecksOver tells_read disk_read holds_read (opens before name) left outcome start written
+      (last ≡ first) × (told ≡ quiet) × ChecksOver tells_read disk_read holds_read (opens before name) left whole_read outcome start written
   Performs form.Salvage outcome first last start written quiet told =
       (last ≡ first) × (told ≡ quiet)
-      × CopiesOver tells_read disk_read holds_read tells disk (opens before name) makes_new new left false outcome start written
+      × CopiesOver tells_read disk_read holds_read whole_read tells disk (opens before name) makes_new new left false outcome start written
   Performs form.Backup outcome first last start written quiet told =
       (last ≡ first) × (told ≡ quiet)
-      × CopiesOver tells_read disk_read holds_read tells disk (opens before name) makes_new new left true outcome start written
+      × CopiesOver tells_read disk_read holds_read whole_read tells disk (opens before name) makes_new new left true outcome start written
   Performs form.Help outcome first last start written quiet told =
       (left ≡ before) × (last ≡ first) × (told ≡ quiet) × Prints USAGE.now outcome start written
   Performs form.Version outcome first last start written quiet told =

@@ -4,6 +4,7 @@ use Rattle.std.specs.Prelude.{ℕ, Bool, true, false, Option, None, ◌≡◌, �
 use Rattle.tb_records.specs.Transport.{Input, Output, Sent, CutOff}
 use Rattle.tb_journal.specs.declared.faults.Fault as journal
 use Rattle.tb_journal.specs.Device.{Disk, Looks, LeavesOnly}
+use Rattle.tb_journal.specs.Growing.{Grown}
 use Rattle.tb_keep.specs.declared.faults.DumpFault.{DumpFault}
 use Rattle.tb_keep.specs.declared.faults.KeepFault.{KeepFault}
 use Rattle.tb_keep.specs.declared.faults.StartFault.{StartFault}
@@ -89,21 +90,22 @@ module _ (tells : Type 0) {D : Type 0} (disk : D → Disk) (holds : D → List �
     pub dumps : DumpsFound found outcome between after start written
 
   -- where a file was found to be one history a part of it was written, and as long as more was waited for what came later; else nothing was
-  abbrev pub FollowsFound : Result Found StartFault → Option ℕ → Outcome → D → D → Output → Output → Type 0
-  FollowsFound (Err fault) from outcome device after start written = IsRefused fault outcome device after × (written ≡ start)
-  FollowsFound (Ok found) from outcome device after start written = OfFile device (λ file. WritesPart outcome from found.rules file start written)
+  abbrev pub FollowsFound : Result Found StartFault → Option ℕ → Bool → Outcome → D → D → Output → Output → Type 0
+  FollowsFound (Err fault) from follows outcome device after start written = IsRefused fault outcome device after × (written ≡ start)
+  FollowsFound (Ok found) from follows outcome device after start written =
+      OfFile device (λ file. WritesPart outcome follows from found.rules file start written)
 
   -- a file was read to its end before a byte of a part of its dump was written: the entries above a commit number, or all
-  pub record FollowsFile (from : Option ℕ) (outcome : Outcome) (device after : D) (start written : Output) : Type 0 where
+  pub record FollowsFile (from : Option ℕ) (follows : Bool) (outcome : Outcome) (device after : D) (start written : Output) : Type 0 where
     pub found : Result Found StartFault
     pub between : D
     pub whole : IsReadWhole found device between
-    pub follows : FollowsFound found from outcome between after start written
+    pub writes : FollowsFound found from follows outcome between after start written
 
   -- a dump, or a part of one
   abbrev pub DumpsPart : Option ℕ → Bool → Outcome → D → D → Output → Output → Type 0
   DumpsPart None false outcome device after start written = DumpsFile outcome device after start written
-  DumpsPart from follows outcome device after start written = FollowsFile from outcome device after start written
+  DumpsPart from follows outcome device after start written = FollowsFile from follows outcome device after start written
 
   -- where a file of so many bytes was found to be one history its summary was printed; else nothing was
   abbrev pub ChecksFound : Result Found StartFault → ℕ → Outcome → D → D → D → Output → Output → Type 0
@@ -124,9 +126,11 @@ module _ (tells : Type 0) {D : Type 0} (disk : D → Disk) (holds : D → List �
     pub same : OfFile device (holds after)
     pub looks : tells → Looks len (disk device) (disk after)
 
-  -- a device was asked for the length of the whole file that it reads, which stays
-  pub record IsMeasured (len : Result ℕ journal.Fault) (device after : D) : Type 0 where
-    pub long : tells → IfOk len (λ n. n ≡ length (disk device).seen)
+  -- a device was asked for the length of the whole file of which it holds a part: that at some moment of the call. What it holds stays
+  pub record IsMeasured (whole : D → List ℕ → Type 0) (len : Result ℕ journal.Fault) (device after : D) : Type 0 where
+    pub long : (file : List ℕ) → whole device file → Grown (whole after) file (λ later. IfOk len (λ n. n ≡ length later))
+    -- nobody else appends to the file of a device that tells what its calls do
+    pub told : tells → IfOk len (λ n. n ≡ length (disk device).seen)
     pub same : OfFile device (holds after)
     pub looks : tells → Looks len (disk device) (disk after)
 
@@ -135,10 +139,10 @@ module _ (tells : Type 0) {D : Type 0} (disk : D → Disk) (holds : D → List �
   ChecksBy (Ok len) outcome device after start written = ChecksLong len outcome device after start written
 
   -- a file's length was asked for, and then it was checked
-  pub record ChecksFile (outcome : Outcome) (device after : D) (start written : Output) : Type 0 where
+  pub record ChecksFile (whole : D → List ℕ → Type 0) (outcome : Outcome) (device after : D) (start written : Output) : Type 0 where
     pub len : Result ℕ journal.Fault
     pub between : D
-    pub asked : IsMeasured len device between
+    pub asked : IsMeasured whole len device between
     pub checks : ChecksBy len outcome between after start written
 
   -- that its start made a file where there were no bytes was told, and what it cut off behind the records of one of so many bytes, and that
@@ -226,6 +230,6 @@ module _ (tells : Type 0) {D : Type 0} (disk : D → Disk) (holds : D → List �
   DumpsOver from follows outcome start written =
       Opens may left outcome (written ≡ start) (λ device. (after : D) × DumpsPart tells disk holds from follows outcome device after start written)
 
-  abbrev pub ChecksOver : Outcome → Output → Output → Type 0
-  ChecksOver outcome start written =
-      Opens may left outcome (written ≡ start) (λ device. (after : D) × ChecksFile tells disk holds outcome device after start written)
+  abbrev pub ChecksOver : (D → List ℕ → Type 0) → Outcome → Output → Output → Type 0
+  ChecksOver whole outcome start written =
+      Opens may left outcome (written ≡ start) (λ device. (after : D) × ChecksFile tells disk holds whole outcome device after start written)

@@ -99,8 +99,8 @@ fn check_over<O: Opener, W: Sink>(
     name: &str,
     writer: &mut W,
 ) -> Result<(), Fault>
-    ensures { ChecksOver O.Reading.tells O.Reading.disk O.Reading.holds (O.opens opener.old name.now) opener.new result
-        (W.output writer.old) (W.output writer.new) }
+    ensures { ChecksOver O.Reading.tells O.Reading.disk O.Reading.holds (O.opens opener.old name.now) opener.new O.Reading.whole
+        result (W.output writer.old) (W.output writer.new) }
 {
     let found = opener.open(name);
     match found {
@@ -149,7 +149,7 @@ fn perform<O: Opener, R: Source, W: Outlet, E: Sink>(
     writer: &mut W,
     faults: &mut E,
 ) -> Result<(), Fault>
-    ensures { Performs O.File.tells O.File.disk O.File.holds O.Reading.tells O.Reading.disk O.Reading.holds
+    ensures { Performs O.File.tells O.File.disk O.File.holds O.Reading.tells O.Reading.disk O.Reading.holds O.Reading.whole
         O.makes O.opens O.makes_new terminals opener.old paths.now.file.now paths.now.new.now opener.new form
         result (R.input reader.old) (R.input reader.new) (W.output writer.old) (W.output writer.new)
         (E.output faults.old) (E.output faults.new) }
@@ -203,7 +203,7 @@ fn exit<O: Opener, R: Source, W: Outlet, E: Sink>(
     writer: &mut W,
     faults: &mut E,
 ) -> u8
-    ensures { Exits O.File.tells O.File.disk O.File.holds O.Reading.tells O.Reading.disk O.Reading.holds
+    ensures { Exits O.File.tells O.File.disk O.File.holds O.Reading.tells O.Reading.disk O.Reading.holds O.Reading.whole
         O.makes O.opens O.makes_new terminals opener.old paths.now.file.now paths.now.new.now opener.new
         (W.gone writer.new) form result (R.input reader.old) (R.input reader.new) (W.output writer.old)
         (W.output writer.new) (E.output faults.old) (E.output faults.new) }
@@ -239,7 +239,7 @@ pub fn command<O: Opener, R: Source, W: Outlet, E: Sink>(
     ensures told { let said = map string_bytes words.now in
         form_of said ≡ None → SaysLine (usage_lines said) (E.output faults.old) (E.output faults.new) }
     ensures served { (form : Form) → form_of (map string_bytes words.now) ≡ Some form
-        → Exits O.File.tells O.File.disk O.File.holds O.Reading.tells O.Reading.disk O.Reading.holds
+        → Exits O.File.tells O.File.disk O.File.holds O.Reading.tells O.Reading.disk O.Reading.holds O.Reading.whole
         O.makes O.opens O.makes_new terminals opener.old
         (file_word (map string_bytes words.now)) (new_word (map string_bytes words.now)) opener.new (W.gone writer.new) form result
         (R.input reader.old) (R.input reader.new) (W.output writer.old) (W.output writer.new)
