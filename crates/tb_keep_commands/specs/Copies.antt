@@ -1,5 +1,5 @@
 -- What is copied of a file into a new one, up to its first damage, and what is reported of it.
--- Cited by public contracts of: commands.
+-- Cited by public contracts of: copies.
 use Rattle.std.specs.Prelude.{ℕ, Bool, true, false, ◌≡◌, ◌-◌, List, [], ◌∷◌, ◌++◌, length, codes, Option, None, Some, Result, Ok, Err, IfErr, refl}
 use Rattle.std.specs.Fmt.{decimal, digits}
 use Rattle.tb_records.specs.Transport.{Output}

@@ -1,5 +1,5 @@
 -- What each form does, and its outcome.
--- Cited by public contracts of: commands.
+-- Public contracts reach it through: Copies, Exits.
 use Rattle.std.specs.Prelude.{ℕ, Bool, true, false, Option, None, ◌≡◌, ◌-◌, List, length, Result, Ok, Err, IfOk}
 use Rattle.tb_records.specs.Transport.{Input, Output, Sent, CutOff}
 use Rattle.tb_journal.specs.declared.faults.Fault as journal
