@@ -1,3 +1,4 @@
+pub mod CopiedFiles
 pub mod FirstBytes
 pub mod Lengths
 pub mod Lives

@@ -51,6 +51,13 @@ impl<'a> Opener for SystemFiles<'a> {
         }
     }
 
+    fn make_new(&mut self, name: &str) -> Result<Self::File, OpeningFault> {
+        match Real::make_new(self.rt, name) {
+            Ok(real) => reported(self.rt, real, name, false),
+            Err(fault) => Err(opening_fault(&fault)),
+        }
+    }
+
     fn open(&mut self, name: &str) -> Result<Snapshot<Real>, OpeningFault> {
         match Real::look(self.rt, name) {
             Ok(real) => {
