@@ -116,7 +116,7 @@ fn history_behind<D: Device>(
         → HasStartCause result (D.disk device.old) (D.disk device.new) }
 {
     let same = rules;
-    match entered_behind(global, same, scan, device) {
+    match entered_behind(global, global, same, scan, device) {
         Ok((machine, extent)) => Ok((rules, machine, extent)),
         Err(fault) => Err(fault),
     }

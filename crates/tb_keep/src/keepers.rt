@@ -1,17 +1,18 @@
 //! A keeper: a machine, and the journal that its entries stand in.
 ghost use Rattle.std.specs.Prelude.{◌≡◌, true};
 
-use std::alloc::Global;
+use std::alloc::{Allocator, Global};
 use std::marker::Model;
 use tb_journal::{Device, Journal};
 use tb_machine::Machine;
 
-/// A machine, and the journal that its entries stand in. After a fault it cannot serve any more: the file is opened again.
+/// A machine, and the journal that its entries stand in. After a fault it cannot serve any more: the file is opened again. The
+/// machine's records take their memory of `A`, all else of the global allocator.
 #[derive(Drop)]
-pub struct Keeper<D: Device> {
+pub struct Keeper<D: Device, A: Allocator + Clone = Global> {
     pub(crate) global: Global,
     pub(crate) journal: Journal<D>,
-    pub(crate) machine: Machine<Global>,
+    pub(crate) machine: Machine<A>,
     // Room for the record of the next entry.
     pub(crate) buffer: Vec<u8>,
     // The torn bytes that the start cut off.
@@ -20,7 +21,7 @@ pub struct Keeper<D: Device> {
     pub(crate) usable: bool,
 }
 
-impl<D: Device> Model for Keeper<D> {
+impl<D: Device, A: Allocator + Clone> Model for Keeper<D, A> {
     ghost use Rattle.tb_keep.specs.Keeping.{Keeping};
 
     ghost Value = { Keeping D };
@@ -28,14 +29,14 @@ impl<D: Device> Model for Keeper<D> {
     ghost view = { λ k. record { journal = k.journal; state = k.machine; cut = k.cut; usable = k.usable } };
 }
 
-impl<D: Device> Keeper<D> {
+impl<D: Device, A: Allocator + Clone> Keeper<D, A> {
     /// A keeper of a machine that stands after the journal's entries. So many torn bytes were cut off.
     pub(crate) fn new(
         global: Global,
         journal: Journal<D>,
-        machine: Machine<Global>,
+        machine: Machine<A>,
         cut: u64,
-    ) -> Keeper<D>
+    ) -> Keeper<D, A>
         ensures journal { result.journal ≡ journal }
         ensures state { result.state ≡ machine }
         ensures cut { result.cut ≡ cut }
@@ -80,7 +81,7 @@ impl<D: Device> Keeper<D> {
     }
 
     /// The machine, as it stands after all entries.
-    pub fn machine(&self) -> &Machine<Global>
+    pub fn machine(&self) -> &Machine<A>
         ensures { result.now ≡ self.now.state }
     {
         &self.machine

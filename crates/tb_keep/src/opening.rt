@@ -17,7 +17,7 @@ use crate::heads::{Rules, write_head};
 use crate::keepers::Keeper;
 use crate::restoring::restored;
 use crate::serving::BATCH_BYTES_MAX;
-use std::alloc::Global;
+use std::alloc::{Allocator, Global};
 use tb_journal::{Device, Extent, Fault, Journal, NotOpened, OpenFault};
 use tb_machine::Machine;
 
@@ -112,8 +112,13 @@ fn create_headed<D: Device>(
 }
 
 /// Creates a kept ledger without entries in an empty file. Where something stands in the file the fault is NotEmpty, and the
-/// file is as it was.
-pub fn create<D: Device>(global: Global, device: D, rules: Rules) -> Result<Keeper<D>, NotKept<D>>
+/// file is as it was. The machine's records take their memory of `alloc`, here and in `open` and `start`.
+pub fn create<D: Device, A: Allocator + Clone>(
+    global: Global,
+    alloc: A,
+    device: D,
+    rules: Rules,
+) -> Result<Keeper<D, A>, NotKept<D>>
     // Where no sync has failed before.
     ensures kept { D.tells → (D.disk device).sound ≡ true
         → IfOk result (Keeps D.disk (history_of rules.profile rules.clients_max [])) }
@@ -135,7 +140,7 @@ pub fn create<D: Device>(global: Global, device: D, rules: Rules) -> Result<Keep
     ensures handed { (file : List ℕ) → D.holds device file → CreatesIn D.holds result file }
 {
     let _clients = rules.clients_max.get();
-    let Ok(machine) = Machine::new_in(global, global, rules.profile, rules.clients_max) else {
+    let Ok(machine) = Machine::new_in(global, alloc, rules.profile, rules.clients_max) else {
         return Err(NotKept {
             device,
             fault: StartFault::NoMemory,
@@ -180,14 +185,14 @@ fn open_headed<D: Device>(
 }
 
 /// The keeper of a file that was read to this extent, from which a machine was restored. So many torn bytes are cut off.
-fn open_restored<D: Device>(
+fn open_restored<D: Device, A: Allocator + Clone>(
     global: Global,
     device: D,
     rules: Rules,
     extent: Extent,
-    machine: Machine<Global>,
+    machine: Machine<A>,
     cut: u64,
-) -> Result<Keeper<D>, NotKept<D>>
+) -> Result<Keeper<D, A>, NotKept<D>>
     requires few { extent.count ≤ extent.end }
     requires kept { D.tells → (D.disk device).sound ≡ true → IsOnDisk (D.disk device) }
     requires restored { D.tells
@@ -228,13 +233,13 @@ pub(crate) fn torn_behind<D: Device>(device: &mut D, extent: Extent) -> Result<u
 
 /// The keeper of a file that was read to this extent, from which a machine was restored. Where more torn bytes stand behind its
 /// records than one batch can have, it is refused.
-fn open_short<D: Device>(
+fn open_short<D: Device, A: Allocator + Clone>(
     global: Global,
     device: D,
     rules: Rules,
     extent: Extent,
-    machine: Machine<Global>,
-) -> Result<Keeper<D>, NotKept<D>>
+    machine: Machine<A>,
+) -> Result<Keeper<D, A>, NotKept<D>>
     requires few { extent.count ≤ extent.end }
     requires kept { D.tells → (D.disk device).sound ≡ true → IsOnDisk (D.disk device) }
     requires restored { D.tells
@@ -274,11 +279,16 @@ fn open_short<D: Device>(
     }
 }
 
-impl<D: Device> Keeper<D> {
+impl<D: Device, A: Allocator + Copy> Keeper<D, A> {
     /// Opens a kept ledger: its machine stands after the entries that the file has. It is read in pieces, and each record is
     /// entered before the next is read. A file without records gets a head. What a crash left behind the records is cut off, if
     /// it is no more than one batch can have: more is damage, and the file stays as it was (TornTooLong).
-    pub fn open(global: Global, device: D, rules: Rules) -> Result<Keeper<D>, NotKept<D>>
+    pub fn open(
+        global: Global,
+        alloc: A,
+        device: D,
+        rules: Rules,
+    ) -> Result<Keeper<D, A>, NotKept<D>>
         // Where no sync has failed before.
         ensures opened { D.tells → (D.disk device).sound ≡ true
             → IfOk result (IsOpened D.disk rules.profile rules.clients_max (D.disk device).seen) }
@@ -301,14 +311,19 @@ impl<D: Device> Keeper<D> {
     {
         let mut device = device;
         let same = rules;
-        match restored(global, same, &mut device) {
+        match restored(global, alloc, same, &mut device) {
             Ok((machine, extent)) => open_short(global, device, rules, extent, machine),
             Err(fault) => Err(NotKept { device, fault }),
         }
     }
 
     /// Creates a kept ledger in an empty file, and opens that of any other one.
-    pub fn start(global: Global, device: D, rules: Rules) -> Result<Keeper<D>, NotKept<D>>
+    pub fn start(
+        global: Global,
+        alloc: A,
+        device: D,
+        rules: Rules,
+    ) -> Result<Keeper<D, A>, NotKept<D>>
         // Where no sync has failed before.
         ensures started { D.tells → (D.disk device).sound ≡ true
             → IfOk result (IsStarted D.disk rules.profile rules.clients_max (D.disk device).seen) }
@@ -327,11 +342,11 @@ impl<D: Device> Keeper<D> {
             → StartsFile result rules.profile rules.clients_max file }
     {
         let same = rules;
-        match create(global, device, same) {
+        match create(global, alloc, device, same) {
             Ok(keeper) => Ok(keeper),
             Err(failed) => match failed.fault {
                 StartFault::Journal(OpenFault::Device(Fault::NotEmpty)) => {
-                    Keeper::open(global, failed.device, rules)
+                    Keeper::open(global, alloc, failed.device, rules)
                 }
                 _ => Err(failed),
             },

@@ -14,13 +14,17 @@ ghost use Rattle.tb_keep.specs.Entering.{StaysKept, ReadCause, ReadsHead, Enters
 
 use crate::faults::StartFault;
 use crate::heads::{Rules, check_head};
-use std::alloc::Global;
+use std::alloc::{Allocator, Global};
 use tb_journal::{Device, Extent, OpenFault, Scan};
 use tb_machine::{Entry, Machine, Unfit, read_entry, restore};
 use tb_records::FrameFault;
 
 /// Reads the record that stands behind the entries of a machine.
-fn read_next(global: Global, machine: &Machine<Global>, bytes: &[u8]) -> Result<Entry, StartFault>
+fn read_next<A: Allocator + Clone>(
+    global: Global,
+    machine: &Machine<A>,
+    bytes: &[u8],
+) -> Result<Entry, StartFault>
     ensures { ReadsRecord result machine.now bytes.now }
 {
     let place = machine.commit() + 1;
@@ -32,7 +36,11 @@ fn read_next(global: Global, machine: &Machine<Global>, bytes: &[u8]) -> Result<
 }
 
 /// Enters the next entry into a machine.
-fn restore_next(machine: &mut Machine<Global>, bytes: &[u8], entry: Entry) -> Result<(), StartFault>
+fn restore_next<A: Allocator + Clone>(
+    machine: &mut Machine<A>,
+    bytes: &[u8],
+    entry: Entry,
+) -> Result<(), StartFault>
     requires { IsRecord bytes.now entry }
     ensures { RestoresRecord result machine.old bytes.now machine.new }
 {
@@ -46,9 +54,9 @@ fn restore_next(machine: &mut Machine<Global>, bytes: &[u8], entry: Entry) -> Re
 }
 
 /// Enters the entry of a record into a machine. On a fault the machine is as it was.
-pub(crate) fn restore_record(
+pub(crate) fn restore_record<A: Allocator + Clone>(
     global: Global,
-    machine: &mut Machine<Global>,
+    machine: &mut Machine<A>,
     bytes: &[u8],
 ) -> Result<(), StartFault>
     ensures { RestoresRecord result machine.old bytes.now machine.new }
@@ -93,9 +101,9 @@ fn read_first<D: Device>(scan: &mut Scan, device: &mut D, rules: Rules) -> Resul
 }
 
 /// Reads the next record and enters its entry into a machine: false where there is none. On a fault the machine is as it was.
-fn enter_next<D: Device>(
+fn enter_next<D: Device, A: Allocator + Clone>(
     global: Global,
-    machine: &mut Machine<Global>,
+    machine: &mut Machine<A>,
     scan: &mut Scan,
     device: &mut D,
 ) -> Result<bool, StartFault>
@@ -118,9 +126,9 @@ fn enter_next<D: Device>(
 
 /// Enters the entries of the records that are left into a machine, each before the next is read. On a fault it stands after
 /// those before.
-fn enter_all<D: Device>(
+fn enter_all<D: Device, A: Allocator + Clone>(
     global: Global,
-    machine: &mut Machine<Global>,
+    machine: &mut Machine<A>,
     scan: &mut Scan,
     device: &mut D,
 ) -> Result<(), StartFault>
@@ -140,12 +148,13 @@ fn enter_all<D: Device>(
 }
 
 /// The machine after the entries of a file of these rules of which the head was read, and where its records end.
-pub(crate) fn entered_behind<D: Device>(
+pub(crate) fn entered_behind<D: Device, A: Allocator + Clone>(
     global: Global,
+    alloc: A,
     rules: Rules,
     scan: &mut Scan,
     device: &mut D,
-) -> Result<(Machine<Global>, Extent), StartFault>
+) -> Result<(Machine<A>, Extent), StartFault>
     ensures found { (file : List ℕ) → D.holds device.old file
         → HasRead (head_record rules.profile rules.clients_max ∷ []) file scan.old → FindsBehind result rules file }
     ensures few { IfOk result (λ found. found.1.count ≤ found.1.end) }
@@ -156,7 +165,7 @@ pub(crate) fn entered_behind<D: Device>(
         → HasStartCause result (D.disk device.old) (D.disk device.new) }
 {
     let _clients = rules.clients_max.get();
-    let Ok(mut machine) = Machine::new_in(global, global, rules.profile, rules.clients_max) else {
+    let Ok(mut machine) = Machine::new_in(global, alloc, rules.profile, rules.clients_max) else {
         return Err(StartFault::NoMemory);
     };
     match enter_all(global, &mut machine, scan, device) {
@@ -166,11 +175,12 @@ pub(crate) fn entered_behind<D: Device>(
 }
 
 /// The machine of a file without records.
-fn without_entries(
+fn without_entries<A: Allocator + Clone>(
     global: Global,
+    alloc: A,
     rules: Rules,
     extent: Extent,
-) -> Result<(Machine<Global>, Extent), StartFault>
+) -> Result<(Machine<A>, Extent), StartFault>
     requires few { extent.count ≤ extent.end }
     ensures found { (file : List ℕ) → contents file ≡ Records [] → BeginsWith [] file
         → extent_of (contents file) ≡ Ok extent → Restores result rules.profile rules.clients_max file }
@@ -178,19 +188,20 @@ fn without_entries(
     ensures few { IfOk result (λ found. found.1.count ≤ found.1.end) }
 {
     let _clients = rules.clients_max.get();
-    match Machine::new_in(global, global, rules.profile, rules.clients_max) {
+    match Machine::new_in(global, alloc, rules.profile, rules.clients_max) {
         Ok(machine) => Ok((machine, extent)),
         Err(_) => Err(StartFault::NoMemory),
     }
 }
 
 /// The machine after the entries of a file of which nothing was read.
-fn restored_by<D: Device>(
+fn restored_by<D: Device, A: Allocator + Clone>(
     global: Global,
+    alloc: A,
     rules: Rules,
     scan: &mut Scan,
     device: &mut D,
-) -> Result<(Machine<Global>, Extent), StartFault>
+) -> Result<(Machine<A>, Extent), StartFault>
     ensures found { (file : List ℕ) → D.holds device.old file → HasRead [] file scan.old
         → Restores result rules.profile rules.clients_max file }
     ensures few { IfOk result (λ found. found.1.count ≤ found.1.end) }
@@ -201,20 +212,22 @@ fn restored_by<D: Device>(
 {
     let same = rules;
     match read_first(scan, device, same) {
-        Ok(true) => entered_behind(global, rules, scan, device),
-        Ok(false) => without_entries(global, rules, scan.extent()),
+        Ok(true) => entered_behind(global, alloc, rules, scan, device),
+        Ok(false) => without_entries(global, alloc, rules, scan.extent()),
         Err(fault) => Err(fault),
     }
 }
 
 /// Reads a file of these rules record by record, and enters each before the next is read: the machine after its entries, and
 /// where its records end. The machine is that of the empty history where the file has no record. What was read is on the
-/// disk; nothing is written. The first record of the file that is damaged, or none of the next entry, is told.
-pub fn restored<D: Device>(
+/// disk; nothing is written. The first record of the file that is damaged, or none of the next entry, is told. The machine's records
+/// take their memory of `alloc`.
+pub fn restored<D: Device, A: Allocator + Clone>(
     global: Global,
+    alloc: A,
     rules: Rules,
     device: &mut D,
-) -> Result<(Machine<Global>, Extent), StartFault>
+) -> Result<(Machine<A>, Extent), StartFault>
     // Of any device, by the file that its reads are of.
     ensures found { (file : List ℕ) → D.holds device.old file → Restores result rules.profile rules.clients_max file }
     ensures few { IfOk result (λ found. found.1.count ≤ found.1.end) }
@@ -226,7 +239,7 @@ pub fn restored<D: Device>(
     ensures cause { D.tells → HasStartCause result (D.disk device.old) (D.disk device.new) }
 {
     match Scan::start(global, device) {
-        Ok(mut scan) => restored_by(global, rules, &mut scan, device),
+        Ok(mut scan) => restored_by(global, alloc, rules, &mut scan, device),
         Err(fault) => Err(StartFault::Journal(fault)),
     }
 }

@@ -291,7 +291,7 @@ fn salvage_behind<D: Device, N: Device>(
         → HasStartCause (why_old result) (D.disk from.old) (D.disk from.new) }
 {
     let _clients = rules.clients_max.get();
-    let mut keeper = match create(global, into, rules) {
+    let mut keeper = match create(global, global, into, rules) {
         Ok(keeper) => keeper,
         Err(failed) => {
             return Err(NotSalvaged {

@@ -12,7 +12,7 @@ ghost use Rattle.tb_keep.specs.Steps.{IsRefusal, Appends, HoldsReply, KeepsPair,
 use crate::faults::KeepFault;
 use crate::keepers::Keeper;
 use crate::replies::Replies;
-use std::alloc::Global;
+use std::alloc::{Allocator, Global};
 use tb_journal::{Device, Journal};
 use tb_machine::{Entry, Machine, RunFault, serve_pair, write_entry};
 use tb_records::streams::read_timed_from;
@@ -48,8 +48,8 @@ fn append_entry<D: Device>(
 }
 
 /// Lets the entry of a new request wait for the next commit, and gives the request back.
-fn append_new<D: Device>(
-    keeper: &mut Keeper<D>,
+fn append_new<D: Device, A: Allocator + Clone>(
+    keeper: &mut Keeper<D, A>,
     moment: u64,
     request: Request,
 ) -> Result<Request, KeepFault>
@@ -67,8 +67,8 @@ fn append_new<D: Device>(
 }
 
 /// Serves a pair, and holds the reply to it. Memory takes a reply, or there is none left.
-fn hold_reply(
-    machine: &mut Machine<Global>,
+fn hold_reply<A: Allocator + Clone>(
+    machine: &mut Machine<A>,
     moment: u64,
     request: Request,
     replies: &mut Replies,
@@ -84,8 +84,8 @@ fn hold_reply(
 }
 
 /// Serves a request that comes at a moment: the record of a new one waits for the next commit, and the reply is held.
-fn keep_pair<D: Device>(
-    keeper: &mut Keeper<D>,
+fn keep_pair<D: Device, A: Allocator + Clone>(
+    keeper: &mut Keeper<D, A>,
     replies: &mut Replies,
     moment: u64,
     request: Request,
@@ -117,8 +117,8 @@ fn hand_out<W: Sink>(replies: &mut Replies, writer: &mut W) -> Result<(), KeepFa
 }
 
 /// Commits the entries that wait, and then tells the replies that rest on them.
-fn tell<D: Device, W: Sink>(
-    keeper: &mut Keeper<D>,
+fn tell<D: Device, A: Allocator + Clone, W: Sink>(
+    keeper: &mut Keeper<D, A>,
     replies: &mut Replies,
     writer: &mut W,
 ) -> Result<(), KeepFault>
@@ -133,8 +133,8 @@ fn tell<D: Device, W: Sink>(
 
 /// Tells the replies where the next pair may have to be waited for, where they are many, or where the batch may have no room
 /// for one more entry.
-fn tell_before_waiting<D: Device, R: Source, W: Sink>(
-    keeper: &mut Keeper<D>,
+fn tell_before_waiting<D: Device, A: Allocator + Clone, R: Source, W: Sink>(
+    keeper: &mut Keeper<D, A>,
     replies: &mut Replies,
     reader: &R,
     writer: &mut W,
@@ -161,8 +161,8 @@ fn is_end_of_time(fault: KeepFault) -> bool
 }
 
 /// Tells what is held before a fault ends serving, and answers the fault that ends it.
-fn tell_and_stop<D: Device, W: Sink>(
-    keeper: &mut Keeper<D>,
+fn tell_and_stop<D: Device, A: Allocator + Clone, W: Sink>(
+    keeper: &mut Keeper<D, A>,
     replies: &mut Replies,
     writer: &mut W,
     stop: KeepFault,
@@ -180,9 +180,9 @@ fn tell_and_stop<D: Device, W: Sink>(
 
 /// Reads and serves the next pair: false where there is none. Where a frame is none, or there is no time for a pair, what is
 /// held is told before the fault is answered.
-fn keep_next<D: Device, R: Source, W: Sink>(
+fn keep_next<D: Device, A: Allocator + Clone, R: Source, W: Sink>(
     alloc: Global,
-    keeper: &mut Keeper<D>,
+    keeper: &mut Keeper<D, A>,
     replies: &mut Replies,
     reader: &mut R,
     writer: &mut W,
@@ -211,9 +211,9 @@ fn keep_next<D: Device, R: Source, W: Sink>(
 }
 
 /// Serves pairs until they end, and answers the number of replies told.
-fn keep_all<D: Device, R: Source, W: Sink>(
+fn keep_all<D: Device, A: Allocator + Clone, R: Source, W: Sink>(
     alloc: Global,
-    keeper: &mut Keeper<D>,
+    keeper: &mut Keeper<D, A>,
     reader: &mut R,
     writer: &mut W,
 ) -> Result<u64, KeepFault>
@@ -239,9 +239,9 @@ fn keep_all<D: Device, R: Source, W: Sink>(
 /// was told when the entries that it rests on were in the file. Where a frame is none, or the end of time leaves no time for
 /// a request, all before it is answered. After any other fault nothing more is told: what was read since the last commit is
 /// not answered. After any fault the keeper cannot serve any more.
-pub fn keep<D: Device, R: Source, W: Sink>(
+pub fn keep<D: Device, A: Allocator + Clone, R: Source, W: Sink>(
     alloc: Global,
-    keeper: &mut Keeper<D>,
+    keeper: &mut Keeper<D, A>,
     reader: &mut R,
     writer: &mut W,
 ) -> Result<u64, KeepFault>

@@ -23,7 +23,7 @@ fn started(rt: &impl Abort, alloc: Global, left: &[u8]) -> Keeper<Memory>
     ensures usable { IsUsable result }
 {
     let file = file_of(rt, alloc, left);
-    sure(rt, Keeper::start(alloc, file, rules(rt)))
+    sure(rt, Keeper::start(alloc, alloc, file, rules(rt)))
 }
 
 /// The number of its entries.
@@ -141,7 +141,7 @@ fn served_by(rt: &impl Abort, alloc: Global, keeper: Keeper<Memory>) -> (Vec<u8>
 fn served_failing(rt: &impl Abort, alloc: Global, number: u64) -> (Vec<u8>, Vec<u8>) {
     let mut file = file_of(rt, alloc, &[]);
     file.fail_at(number);
-    match create(alloc, file, rules(rt)) {
+    match create(alloc, alloc, file, rules(rt)) {
         Ok(keeper) => served_by(rt, alloc, keeper),
         Err(failed) => (bytes_left(rt, alloc, failed), Vec::new(alloc)),
     }
@@ -188,7 +188,7 @@ fn expect_opening(
 ) {
     let mut file = file_of(rt, alloc, bytes);
     file.fail_at(number);
-    let (found, left) = outcome(rt, alloc, Keeper::open(alloc, file, rules(rt)));
+    let (found, left) = outcome(rt, alloc, Keeper::open(alloc, alloc, file, rules(rt)));
     expect(rt, found == want);
     expect(rt, entries_in(rt, alloc, &left) == 4);
 }
@@ -217,7 +217,7 @@ const SYNCS: [(u64, usize); 4] = [(2, 0), (4, 0), (6, 48), (8, 48)];
 fn ended_by(rt: &impl Abort, alloc: Global, number: u64) -> (Result<u64, KeepFault>, usize) {
     let mut file = file_of(rt, alloc, &[]);
     file.fail_at(number);
-    let mut keeper = sure(rt, create(alloc, file, rules(rt)));
+    let mut keeper = sure(rt, create(alloc, alloc, file, rules(rt)));
     let (result, told) = answered(alloc, &mut keeper, &script(rt, alloc, 6));
     drop(keeper);
     (result, told.len())

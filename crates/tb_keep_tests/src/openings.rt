@@ -78,7 +78,7 @@ fn a_new_file(rt: HostRuntime) {
 /// A file of these bytes is refused, and is as it was.
 pub fn expect_fault(rt: &impl Abort, alloc: Global, bytes: &[u8], rules: Rules, fault: StartFault) {
     let file = file_of(rt, alloc, bytes);
-    let (found, left) = outcome(rt, alloc, Keeper::open(alloc, file, rules));
+    let (found, left) = outcome(rt, alloc, Keeper::open(alloc, alloc, file, rules));
     expect(rt, found == Some(fault));
     expect(rt, same(&left, bytes));
 }
@@ -297,7 +297,7 @@ fn expect_start_over(
     bytes: &[u8],
     want: Option<StartFault>,
 ) {
-    let (found, left) = outcome(rt, alloc, Keeper::start(alloc, file, rules(rt)));
+    let (found, left) = outcome(rt, alloc, Keeper::start(alloc, alloc, file, rules(rt)));
     expect(rt, found == want);
     expect(rt, is_kept_or_new(&left, bytes, want.is_none()));
 }
@@ -320,7 +320,7 @@ fn starts(rt: HostRuntime) {
 /// No ledger is created in a file of these bytes, which is as it was.
 fn expect_not_created(rt: &impl Abort, alloc: Global, bytes: &[u8]) {
     let file = file_of(rt, alloc, bytes);
-    let (found, left) = outcome(rt, alloc, create(alloc, file, rules(rt)));
+    let (found, left) = outcome(rt, alloc, create(alloc, alloc, file, rules(rt)));
     let not_empty = StartFault::Journal(OpenFault::Device(Fault::NotEmpty));
     expect(rt, found == Some(not_empty));
     expect(rt, same(&left, bytes));

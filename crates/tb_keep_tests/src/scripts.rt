@@ -3,7 +3,7 @@ ghost use Rattle.std.specs.Prelude.{◌≡◌, true, Ok};
 ghost use Rattle.tb_journal.specs.Memory.{memory_disk};
 ghost use Rattle.tb_keep.specs.Keeping.{IsFresh, IsUsable};
 
-use std::alloc::Global;
+use std::alloc::{Allocator, Global};
 use std::process::Abort;
 use tb_journal::Memory;
 use tb_keep::{KeepFault, Keeper, NotKept, Rules, StartFault, create, keep};
@@ -161,11 +161,15 @@ pub fn created(rt: &impl Abort, alloc: Global) -> Keeper<Memory>
     ensures usable { IsUsable result }
 {
     let file = file_of(rt, alloc, &[]);
-    sure(rt, create(alloc, file, rules(rt)))
+    sure(rt, create(alloc, alloc, file, rules(rt)))
 }
 
 /// The bytes of a keeper's file. The keeper is let go.
-pub fn bytes_of(rt: &impl Abort, alloc: Global, keeper: Keeper<Memory>) -> Vec<u8> {
+pub fn bytes_of<A: Allocator + Clone>(
+    rt: &impl Abort,
+    alloc: Global,
+    keeper: Keeper<Memory, A>,
+) -> Vec<u8> {
     let bytes = Vec::from_slice(alloc, keeper.journal().device().bytes());
     drop(keeper);
     sure(rt, bytes)
@@ -194,9 +198,9 @@ pub fn outcome(
 }
 
 /// What serving over a keeper answers, and the replies.
-pub fn answered(
+pub fn answered<A: Allocator + Clone>(
     alloc: Global,
-    keeper: &mut Keeper<Memory>,
+    keeper: &mut Keeper<Memory, A>,
     script: &[u8],
 ) -> (Result<u64, KeepFault>, Vec<u8>)
     requires fresh { IsFresh memory_disk keeper.old }
@@ -209,7 +213,11 @@ pub fn answered(
 }
 
 /// Whether serving over a keeper ends well, and the replies.
-pub fn serve(alloc: Global, keeper: &mut Keeper<Memory>, script: &[u8]) -> (bool, Vec<u8>)
+pub fn serve<A: Allocator + Clone>(
+    alloc: Global,
+    keeper: &mut Keeper<Memory, A>,
+    script: &[u8],
+) -> (bool, Vec<u8>)
     requires fresh { IsFresh memory_disk keeper.old }
     requires usable { IsUsable keeper.old }
 {

@@ -7,6 +7,7 @@ use crate::scripts::{
     LOOK_UP, TRANSFER, bytes_of, change, created, expect, file_of, kept, put_pair, replies, rules,
     same, script, serve, sure,
 };
+use bumpalo::Bump;
 use std::alloc::Global;
 use std::io::BufReader;
 use std::process::Abort;
@@ -31,7 +32,7 @@ fn sent_again(rt: &impl Abort, alloc: Global, bytes: &[u8]) -> (Vec<u8>, Vec<u8>
     let mut last = Vec::new(alloc);
     put_pair(rt, &mut last, &[&LOOK_UP]);
     let file = file_of(rt, alloc, bytes);
-    let mut again = sure(rt, Keeper::open(alloc, file, rules(rt)));
+    let mut again = sure(rt, Keeper::open(alloc, alloc, file, rules(rt)));
     let (well, told) = serve(alloc, &mut again, &last);
     expect(rt, well);
     (told, bytes_of(rt, alloc, again))
@@ -42,6 +43,34 @@ fn a_repeat_after_an_opening_gets_its_first_reply(rt: HostRuntime) {
     let alloc = rt.alloc();
     let (told, bytes) = kept(&rt, alloc, &script(&rt, alloc, 6));
     let (again, left) = sent_again(&rt, alloc, &bytes);
+    expect(&rt, same(&left, &bytes));
+    expect(&rt, told.ends_with(&again));
+}
+
+/// What serving a script over a file tells, with the machine's records in a pool, and the bytes of the file then.
+fn kept_in_pool(rt: &impl Abort, alloc: Global, bytes: &[u8], script: &[u8]) -> (Vec<u8>, Vec<u8>) {
+    let file = file_of(rt, alloc, bytes);
+    let pool = Bump::new(alloc);
+    let mut keeper = sure(rt, Keeper::start(alloc, &pool, file, rules(rt)));
+    let (well, told) = serve(alloc, &mut keeper, script);
+    expect(rt, well);
+    let left = bytes_of(rt, alloc, keeper);
+    drop(pool);
+    (told, left)
+}
+
+#[test]
+fn a_machine_in_a_pool_tells_and_keeps_the_same(rt: HostRuntime) {
+    let alloc = rt.alloc();
+    let script = script(&rt, alloc, 6);
+    let (told, bytes) = kept_in_pool(&rt, alloc, &[], &script);
+    let (want, file) = kept(&rt, alloc, &script);
+    expect(&rt, same(&told, &want));
+    expect(&rt, same(&bytes, &file));
+    // Opened in another pool: the last request is a repeat.
+    let mut last = Vec::new(alloc);
+    put_pair(&rt, &mut last, &[&LOOK_UP]);
+    let (again, left) = kept_in_pool(&rt, alloc, &bytes, &last);
     expect(&rt, same(&left, &bytes));
     expect(&rt, told.ends_with(&again));
 }

@@ -20,7 +20,7 @@ fn torn(rt: &impl Abort, alloc: Global, count: usize, byte: u8) -> Vec<u8> {
 fn expect_cut(rt: &impl Abort, alloc: Global, count: usize, byte: u8) {
     let whole = bytes_of(rt, alloc, created(rt, alloc));
     let file = file_of(rt, alloc, &torn(rt, alloc, count, byte));
-    let keeper = sure(rt, Keeper::start(alloc, file, rules(rt)));
+    let keeper = sure(rt, Keeper::start(alloc, alloc, file, rules(rt)));
     let cut = keeper.cut_bytes();
     let left = bytes_of(rt, alloc, keeper);
     expect(rt, cut == count as u64);
