@@ -8,7 +8,8 @@ ghost use Rattle.tb_keep_commands.specs.Statuses.{failed_pipe};
 use crate::faults::{Failed, Fault, disk_fault, kept_fault};
 use crate::lines::{tell_cut, tell_made, tell_reading, tell_ready};
 use crate::naming::named_asked;
-use std::alloc::Global;
+use bumpalo::Bump;
+use std::alloc::{Allocator, Global};
 use tb_journal::Device;
 use tb_keep::{KeepFault, Keeper, NotKept, Rules, keep};
 use tb_records::{Sink, Source};
@@ -54,9 +55,9 @@ fn kept_outcome(kept: Result<u64, KeepFault>, pipe: Failed) -> Result<(), Fault>
 
 /// Serves pairs over a ledger until they end. What its start made of the file of this path is told first: where it had no bytes
 /// it was made, and else what was cut off behind the records; and then that it is done, where that is reported.
-fn serve<D: Device + Drop, R: Source, W: Sink, E: Sink>(
+fn serve<D: Device + Drop, A: Allocator + Clone, R: Source, W: Sink, E: Sink>(
     alloc: Global,
-    keeper: Keeper<D>,
+    keeper: Keeper<D, A>,
     told: &Told,
     len: usize,
     reader: &mut R,
@@ -81,9 +82,10 @@ fn serve<D: Device + Drop, R: Source, W: Sink, E: Sink>(
 }
 
 /// Opens a ledger over a device, or creates one, and serves pairs until they end: each reply is told when the entry that it
-/// rests on is in the file. So many bytes were in the file before.
-fn start<D: Device + Drop, R: Source, W: Sink, E: Sink>(
+/// rests on is in the file. The machine's records take their memory of the pool. So many bytes were in the file before.
+fn start<D: Device + Drop, A: Allocator + Copy, R: Source, W: Sink, E: Sink>(
     alloc: Global,
+    pool: A,
     device: D,
     rules: Rules,
     told: &Told,
@@ -98,13 +100,13 @@ fn start<D: Device + Drop, R: Source, W: Sink, E: Sink>(
 {
     tell_reading(told.reports, told.path, len, faults);
     let asked = rules;
-    match Keeper::start(alloc, device, rules) {
+    match Keeper::start(alloc, pool, device, rules) {
         Ok(keeper) => serve(alloc, keeper, told, len, reader, writer, faults),
         Err(failed) => Err(refused(alloc, failed, asked)),
     }
 }
 
-/// Serves pairs over the device of a path, whose length is asked for first.
+/// Serves pairs over the device of a path, whose length is asked for first. The machine has its records in a pool.
 pub(crate) fn run<D: Device + Drop, R: Source, W: Sink, E: Sink>(
     alloc: Global,
     device: D,
@@ -120,7 +122,21 @@ pub(crate) fn run<D: Device + Drop, R: Source, W: Sink, E: Sink>(
 {
     let mut device = device;
     match device.len() {
-        Ok(len) => start(alloc, device, rules, told, len, reader, writer, faults),
+        Ok(len) => {
+            // A node of a pool over three others begins at a cache line, as in `run` of tb_machine.
+            let first = Bump::new(alloc);
+            let second = Bump::new(&first);
+            let third = Bump::new(&second);
+            let pool = Bump::new(&third);
+            let served = start(
+                alloc, &pool, device, rules, told, len, reader, writer, faults,
+            );
+            drop(pool);
+            drop(third);
+            drop(second);
+            drop(first);
+            served
+        }
         Err(fault) => {
             drop(device);
             Err(disk_fault(fault))

@@ -72,7 +72,7 @@ fn started(rt: &impl Abort, alloc: Global) -> Keeper<Memory>
     ensures usable { IsUsable result }
 {
     let file = sure(rt, Memory::new(alloc, Vec::new(alloc)));
-    sure(rt, Keeper::start(alloc, file, rules(rt)))
+    sure(rt, Keeper::start(alloc, alloc, file, rules(rt)))
 }
 
 /// The bytes of the file that the script makes.
