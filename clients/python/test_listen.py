@@ -26,7 +26,6 @@ import example_sockets
 import tb_client as tb
 import tb_listen
 from tb_client import Session, Socket
-from tb_host.listen import take_the_quicker_loop
 from test_sharing import closed_in_a_child, in_threads
 from test_tb_client import PROGRAM, account, has_program, transfer, wrong_replies
 
@@ -1459,14 +1458,6 @@ class Words(unittest.TestCase):
             ("tbd run 64 64 1 1", None),
         ):
             self.assertEqual(tb_listen.journal_at(words.split()), at, words)
-
-    def test_uvloop_is_taken_where_it_is_installed(self):
-        uvloop = unittest.mock.Mock()
-        with unittest.mock.patch.dict(sys.modules, {"uvloop": uvloop}):
-            take_the_quicker_loop()
-        uvloop.install.assert_called_once_with()
-        with unittest.mock.patch.dict(sys.modules, {"uvloop": None}):
-            take_the_quicker_loop()
 
     def test_where_it_cannot_listen(self):
         with tempfile.TemporaryDirectory() as folder:
