@@ -735,7 +735,7 @@ class Ends(unittest.TestCase):
         with tempfile.TemporaryDirectory() as folder:
             with Running(folder=folder) as listener, Session.register(Socket(listener.path)):
                 pass
-            listener = self.starting(self.slow(folder, 'test "$2" = check'), folder)
+            listener = self.starting(self.slow(folder, "echo $* | grep -q ' check '"), folder)
             with Session.register(Socket(os.path.join(folder, "ledger.sock"), timeout=20)) as it:
                 self.assertEqual(it.session, 2)
             listener.terminate()
@@ -747,7 +747,8 @@ class Ends(unittest.TestCase):
             with Running(folder=folder) as listener, Session.register(Socket(listener.path)):
                 pass
             for form in ("run", "check"):
-                listener = self.starting(self.slow(folder, f'test "$2" = {form}'), folder)
+                slow = self.slow(folder, f"echo $* | grep -q ' {form} '")
+                listener = self.starting(slow, folder)
                 began = time.monotonic()
                 listener.terminate()
                 self.assertEqual((listener.wait(20), listener.stderr.read()), (0, ""), form)
