@@ -26,7 +26,6 @@ import example_sockets
 import tb_client as tb
 import tb_listen
 from tb_client import Session, Socket
-from tb_host.listen import take_the_quicker_loop
 from test_sharing import closed_in_a_child, in_threads
 from test_tb_client import PROGRAM, account, has_program, transfer, wrong_replies
 
@@ -710,9 +709,9 @@ class Ends(unittest.TestCase):
             with listener.stderr as said:
                 self.assertEqual(said.read().splitlines()[-1], f"tb_listen: listens on {path}")
 
-    def slow(self, folder, when):
-        """A server that takes three seconds more where a condition of the shell holds."""
-        return ["sh", "-c", f'cd {folder}; {when} && sleep 3; exec "$@"', "sh", *KEEPER]
+    def slow(self, folder, when, seconds=3):
+        """A server that takes some seconds more where a condition of the shell holds."""
+        return ["sh", "-c", f'cd {folder}; {when} && sleep {seconds}; exec "$@"', "sh", *KEEPER]
 
     def starting(self, command, folder):
         """A listener whose server does not serve yet."""
@@ -736,7 +735,7 @@ class Ends(unittest.TestCase):
         with tempfile.TemporaryDirectory() as folder:
             with Running(folder=folder) as listener, Session.register(Socket(listener.path)):
                 pass
-            listener = self.starting(self.slow(folder, 'test "$2" = check'), folder)
+            listener = self.starting(self.slow(folder, "echo $* | grep -q ' check '"), folder)
             with Session.register(Socket(os.path.join(folder, "ledger.sock"), timeout=20)) as it:
                 self.assertEqual(it.session, 2)
             listener.terminate()
@@ -748,11 +747,12 @@ class Ends(unittest.TestCase):
             with Running(folder=folder) as listener, Session.register(Socket(listener.path)):
                 pass
             for form in ("run", "check"):
-                listener = self.starting(self.slow(folder, f'test "$2" = {form}'), folder)
+                slow = self.slow(folder, f"echo $* | grep -q ' {form} '", 60)
+                listener = self.starting(slow, folder)
                 began = time.monotonic()
                 listener.terminate()
-                self.assertEqual((listener.wait(20), listener.stderr.read()), (0, ""), form)
-                self.assertLess(time.monotonic() - began, 2)
+                self.assertEqual((listener.wait(40), listener.stderr.read()), (0, ""), form)
+                self.assertLess(time.monotonic() - began, 40)
 
     def test_a_server_that_is_slow_to_start_again(self):
         """Who asks meanwhile is told that nothing was done, and comes again until it is served."""
@@ -1459,14 +1459,6 @@ class Words(unittest.TestCase):
             ("tbd run 64 64 1 1", None),
         ):
             self.assertEqual(tb_listen.journal_at(words.split()), at, words)
-
-    def test_uvloop_is_taken_where_it_is_installed(self):
-        uvloop = unittest.mock.Mock()
-        with unittest.mock.patch.dict(sys.modules, {"uvloop": uvloop}):
-            take_the_quicker_loop()
-        uvloop.install.assert_called_once_with()
-        with unittest.mock.patch.dict(sys.modules, {"uvloop": None}):
-            take_the_quicker_loop()
 
     def test_where_it_cannot_listen(self):
         with tempfile.TemporaryDirectory() as folder:
