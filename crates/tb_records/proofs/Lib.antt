@@ -9,6 +9,7 @@ pub mod ItemBytes
 pub mod NumberBytes
 pub mod OneBody
 pub mod OneSpelling
+pub mod PairAtHand
 pub mod Pieces
 pub mod ReplyFaults
 pub mod ReplyHeaderBytes

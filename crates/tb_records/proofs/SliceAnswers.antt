@@ -1,16 +1,17 @@
 -- What is read from a slice, by where its reading ended.
 use Rattle.std.proofs.Common.{◌≡◌, ℕ, ◌+◌, ◌-◌, ◌<◌, ◌≤◌, List, [], ◌∷◌, ◌++◌, length, take, drop, Option, Some, None, Err, refl, sym, ap, ◌∙◌, arith, length-append, length-take, length-drop, append-nil}
 use Rattle.std.proofs.Math.Seq.{take-add}
+use Rattle.std.specs.Io.KnownBytes.{Consumes}
 use Rattle.std.specs.List.{between}
 use Rattle.tb_records.specs.declared.faults.FrameFault.{FrameFault}
 use Rattle.tb_records.specs.declared.faults.FrameFault.TheVariants.{Short}
 use Rattle.tb_records.specs.declared.headers.Header.{Header}
 use Rattle.tb_records.specs.Messages.{Message, operation}
 use Rattle.tb_records.specs.Frames.{header_bytes, body_bytes, request_fault, header_fault, Spells}
-use Rattle.tb_records.specs.HeaderFields.{HeaderOf, HeaderSpelled, ReadsRequest}
+use Rattle.tb_records.specs.HeaderFields.{HeaderOf, HeaderSpelled, ReadsRequest, body_length}
 use Rattle.tb_records.specs.Inputs.{Found}
 use Rattle.tb_records.proofs.FrameFaults.{is_of_header, cut_header, header_first, cut_body, whole_frame}
-use Rattle.tb_records.proofs.StreamAnswers.{header_of_request, read_length}
+use Rattle.tb_records.proofs.StreamAnswers.{header_of_request, read_length, length_of}
 
 -- the header has a fault
 pub bad_slice : (fault : FrameFault) (bytes : List ℕ) → 48 ≤ length bytes → header_fault bytes ≡ Some fault → Found (Err fault) bytes
@@ -53,6 +54,16 @@ slice_request bytes part h r (Some rest) long of spelled whole at read =
         is = read.is;
       },
     )
+
+-- all bytes are read
+pub all_read : (bytes spelled : List ℕ) → spelled ≡ bytes → Consumes (Some bytes) (Some []) spelled
+all_read bytes spelled same = sym same ∙ sym (append-nil spelled)
+
+-- the length of the bytes behind a header
+pub part_long : (bytes : List ℕ) (h : Header) → HeaderOf bytes h → h.length ≤ length bytes - 48 → length (between 48 (48 + h.length) bytes) ≡ body_length h
+part_long bytes h of whole =
+    let slice : length (between 48 (48 + h.length) bytes) ≡ h.length = simp (length-take, length-drop) (omega arith) in
+    slice ∙ of.length ∙ sym (length_of bytes h of)
 
 -- where no request is read
 pub ruleset slice_faults = (cut_header, bad_slice, cut_slice, whole_slice)

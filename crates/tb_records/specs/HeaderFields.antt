@@ -1,5 +1,5 @@
 -- What a header without a fault says.
--- Cited by private contracts alone, of: headers, requests, streams.
+-- Cited by private contracts alone, of: headers, reading, requests, streams.
 use Rattle.std.specs.Prelude.{ℕ, length, Result, Ok, Err, Bool, ◌&&◌, ◌==◌, ◌*◌, not, nat_lt, [], ◌∷◌, take, ◌≡◌, ◌/◌, ◌^◌, ◌<◌, List, Option, Some, None}
 use Rattle.tb_records.specs.declared.headers.Header.{Header}
 use Rattle.std.specs.Io.KnownBytes.{Consumes}

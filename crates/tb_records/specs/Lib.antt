@@ -26,4 +26,5 @@ pub mod Sizes
 pub mod HeaderFields
 pub mod ReplyHeaders
 pub mod Reading
+pub mod PairAtHand
 pub mod DumpNumbers

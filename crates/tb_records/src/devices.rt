@@ -1,5 +1,5 @@
 //! Readers and writers that count their failures, and the loops that fill and empty buffers.
-ghost use Rattle.std.specs.Prelude.{false, ◌≡◌, ◌≤◌, ◌<◌, ◌+◌, ◌*◌, ◌++◌, ℕ, [], List, Option, MatchResult, IfSome, OnOk, All, length, take, flat_map, vec_len, vec_capacity};
+ghost use Rattle.std.specs.Prelude.{false, ◌≡◌, ◌≤◌, ◌<◌, ◌+◌, ◌*◌, ◌++◌, ℕ, [], List, Option, MatchResult, IfSome, OnOk, All, length, take, drop, flat_map, vec_len, vec_capacity};
 ghost use Rattle.std.specs.Io.{ReadsAtMost, WritesAtMost, StartsWith};
 ghost use Rattle.std.specs.Io.Buffered.{reader_buffer, reader_remaining};
 ghost use Rattle.std.specs.Io.KnownBytes.{Consumes, ReadConsumes, WriteAppends};
@@ -11,7 +11,7 @@ use crate::layout::Item;
 use crate::lists::Items;
 use std::alloc::Global;
 use std::io;
-use std::io::{BufReader, Read, Write};
+use std::io::{BufRead, BufReader, Read, Write};
 use std::marker::Model;
 
 /// A reader that counts the errors that it answers.
@@ -35,6 +35,14 @@ pub trait Source {
     fn at_hand(&self) -> &[u8]
         ensures exact { result.now ≡ (input self.now).at_hand }
         ensures first { IfSome (input self.now).left (λ bytes. StartsWith bytes result.now) };
+
+    /// Consumes the first n of the bytes at hand.
+    fn skip(&mut self, n: usize)
+        requires { n ≤ length (input self.old).at_hand }
+        ensures bytes { Consumes (input self.old).left (input self.new).left (take n (input self.old).at_hand) }
+        ensures rest { (input self.new).at_hand ≡ drop n (input self.old).at_hand }
+        ensures counted { (input self.new).failed ≡ (input self.old).failed }
+        ensures last { (input self.new).halted ≡ (input self.old).halted };
 }
 
 /// A writer that counts the errors that it answers.
@@ -132,6 +140,9 @@ impl<T: Read> Source for Counting<T> {
     fn at_hand(&self) -> &[u8] {
         &[]
     }
+
+    // No byte of it is at hand.
+    fn skip(&mut self, _: usize) {}
 }
 
 impl<T: Write> Sink for Counting<T> {
@@ -216,6 +227,20 @@ impl<R: Read> Source for Buffered<R> {
     fn at_hand(&self) -> &[u8] {
         self.inner.inner.buffer()
     }
+
+    fn skip(&mut self, n: usize) {
+        skip_buffered(&mut self.inner.inner, n);
+    }
+}
+
+/// Consumes the first n bytes of a reader's buffer.
+fn skip_buffered<R: Read>(reader: &mut BufReader<R>, n: usize)
+    requires { n ≤ length (reader_buffer reader.old) }
+    ensures bytes { Consumes (reader_remaining R.remaining reader.old)
+        (reader_remaining R.remaining reader.new) (take n (reader_buffer reader.old)) }
+    ensures rest { reader_buffer reader.new ≡ drop n (reader_buffer reader.old) }
+{
+    reader.consume(n);
 }
 
 /// Fills the buffer, and answers how many of its bytes were filled: fewer than all only at the end of the input.

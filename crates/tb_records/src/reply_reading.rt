@@ -109,9 +109,14 @@ fn is_long(operation: u8, status: u8, len: u32) -> bool
 }
 
 /// The items that the bytes spell, one behind the other.
-fn items_in<T: Item>(alloc: Global, bytes: &[u8], count: usize) -> Result<Items<T>, AllocError>
+pub(crate) fn items_in<T: Item>(
+    alloc: Global,
+    bytes: &[u8],
+    count: usize,
+) -> Result<Items<T>, AllocError>
     requires { length bytes.now ≡ T.SIZE * count }
-    ensures { IfOk result (λ items. SpelledItems T.spelling T.Fits items bytes.now) }
+    ensures spelled { IfOk result (λ items. SpelledItems T.spelling T.Fits items bytes.now) }
+    ensures long { IfOk result (λ items. length items ≡ count) }
 {
     let mut items = Vec::with_capacity(alloc, count)?;
     push_items(bytes, count, &mut items);

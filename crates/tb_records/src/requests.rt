@@ -47,6 +47,9 @@ pub(crate) fn check_numbers(register: bool, session: u64, request: u32) -> Resul
 impl Request {
     /// The first of ClientZero, RegisterNumbers (a register with session or request not 0), RequestZero (any other
     /// with request 0) and TooMany (more than 8190 items) that holds; else the request.
+    ///
+    /// It is compiled into its callers, so that a request is not copied on its way out.
+    #[inline(always)]
     pub fn new(client: u128, session: u64, request: u32, body: Body) -> Result<Request, FrameFault>
         ensures { let r = asked client session request body in
             MatchOption (number_fault r) (result ≡ Ok r) (λ f. result ≡ Err f) }

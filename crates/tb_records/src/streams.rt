@@ -7,6 +7,7 @@ ghost use Rattle.tb_records.specs.Inputs.{opened, fault_in, Answers, IsTimed, Ti
 ghost use Rattle.tb_records.specs.Transport.{Counts};
 ghost use Rattle.tb_records.specs.AtHand.{holds_frame, holds_pair};
 ghost use Rattle.tb_records.specs.Reading.{BodyFault, MomentAnswers};
+ghost use Rattle.tb_records.specs.PairAtHand.{BeginsWithPair, BeginsWithHeader};
 
 use crate::bodies::Body;
 use crate::devices::{Source, fill, items_from};
@@ -14,8 +15,9 @@ use crate::encoding::{u32_at, u64_at};
 use crate::faults::FrameFault;
 use crate::headers::{Header, request_header};
 use crate::operations::Operation;
+use crate::reading::read;
 use crate::requests::Request;
-use std::alloc::Global;
+use std::alloc::{AllocError, Global};
 use std::marker::Model;
 
 /// The requests of a reader, one by one. After a fault it answers that fault and reads nothing.
@@ -135,7 +137,7 @@ fn body_from<S: Source>(
 }
 
 /// Reads the body behind a header, and makes the request.
-pub(crate) fn request_behind<S: Source>(
+fn request_behind<S: Source>(
     alloc: Global,
     source: &mut S,
     header: &Header,
@@ -187,7 +189,10 @@ pub(crate) fn request_from<S: Source>(
 /// Reads a moment of 8 bytes, and the request behind it. None where the input ends before the first byte; Short where it
 /// ends in the moment or in the frame, or between the two. Just the bytes of what is answered are read; after a fault of
 /// the header the body is unread.
-#[tactic(auto, using(crate::proofs::StreamAnswers::no_frame, crate::proofs::StreamAnswers::bad_frame))]
+///
+/// It is compiled into its callers, so that a request is not copied on its way out.
+#[inline(always)]
+#[tactic(auto, using(crate::proofs::PairAtHand::pair_read, crate::proofs::PairAtHand::pair_refused))]
 pub fn read_timed_from<R: Source>(
     alloc: Global,
     source: &mut R,
@@ -195,6 +200,47 @@ pub fn read_timed_from<R: Source>(
     ensures answer { TimedAnswers result (R.input source.old).left (R.input source.new).left }
     ensures right { IfOk result (λ read. IfSome read IsTimed) }
     ensures counted { Counts result (R.input source.old) (R.input source.new) }
+{
+    match pair_in(alloc, source.at_hand()) {
+        Ok(Some((moment, request, length))) => {
+            source.skip(length);
+            Ok(Some((moment, request)))
+        }
+        Ok(None) => timed_by_parts(alloc, source),
+        Err(AllocError) => {
+            source.skip(56);
+            Err(FrameFault::NoMemory)
+        }
+    }
+}
+
+/// The moment and the request that bytes begin with, and how many bytes they are; None where that is no whole pair, or where the
+/// request's header has a fault.
+#[inline(always)]
+#[tactic(auto, using(crate::proofs::PairAtHand::pair_found))]
+fn pair_in(alloc: Global, bytes: &[u8]) -> Result<Option<(u64, Request, usize)>, AllocError>
+    ensures { MatchResult result (λ found. IfSome found (λ pair. BeginsWithPair pair.0 pair.1 pair.2 bytes.now))
+        (λ _. BeginsWithHeader bytes.now) }
+{
+    if !holds_pair(bytes) {
+        return Ok(None);
+    }
+    match read(alloc, &bytes[8..]) {
+        Ok((request, length)) => Ok(Some((u64_at(bytes, 0), request, 8 + length))),
+        Err(FrameFault::NoMemory) => Err(AllocError),
+        Err(_) => Ok(None),
+    }
+}
+
+/// As `read_timed_from`, by a read for each part of the pair.
+#[tactic(auto, using(crate::proofs::StreamAnswers::no_frame, crate::proofs::StreamAnswers::bad_frame))]
+fn timed_by_parts<S: Source>(
+    alloc: Global,
+    source: &mut S,
+) -> Result<Option<(u64, Request)>, FrameFault>
+    ensures answer { TimedAnswers result (S.input source.old).left (S.input source.new).left }
+    ensures right { IfOk result (λ read. IfSome read IsTimed) }
+    ensures counted { Counts result (S.input source.old) (S.input source.new) }
 {
     let Some(moment) = moment_from(source)? else {
         return Ok(None)

@@ -3,11 +3,11 @@ use crate::comparing::holds;
 use crate::vectors::{CREATION, REGISTER, account, creation, first, lookup, record, with};
 use std::alloc::{AllocError, Global};
 use std::io;
-use std::io::{Error, ErrorKind, Read};
+use std::io::{BufReader, Error, ErrorKind, Read};
 use std::process::Abort;
 use tb_records::{
-    Account, Body, Counting, FrameFault, Operation, Request, RequestStream, Source, Transfer,
-    read_request, read_timed_from,
+    Account, Body, Buffered, Counting, FrameFault, Operation, Request, RequestStream, Source,
+    Transfer, read_request, read_timed_from,
 };
 
 /// A register, a creation and a lookup, one behind the other.
@@ -357,6 +357,33 @@ fn timed_frames() -> [u8; 472] {
     bytes[368] = 10;
     bytes[376..].copy_from_slice(&lookup());
     bytes
+}
+
+#[test]
+fn pairs_of_a_buffer(rt: HostRuntime) {
+    let bytes = timed_frames();
+    for capacity in [1, 56, 400, 4096] {
+        let reader = BufReader::with_capacity(rt.alloc(), capacity, &bytes[..]);
+        let mut source = Buffered::new(reader.expect(&rt, "a buffer"));
+        for answer in [Some((10, 1)), Some((10, 2)), Some((10, 3)), None] {
+            let read = timed_frame(read_timed_from(rt.alloc(), &mut source));
+            holds(&rt, read == Ok(answer), &"a pair");
+        }
+    }
+}
+
+#[test]
+fn bytes_that_are_skipped(rt: HostRuntime) {
+    let bytes = timed_frames();
+    let reader = BufReader::with_capacity(rt.alloc(), 400, &bytes[..]);
+    let mut source = Buffered::new(reader.expect(&rt, "a buffer"));
+    let first = timed_frame(read_timed_from(rt.alloc(), &mut source));
+    holds(&rt, first == Ok(Some((10, 1))), &"a pair");
+    holds(&rt, source.at_hand() == &bytes[56..400], &"bytes at hand");
+    source.skip(312);
+    holds(&rt, source.at_hand() == &bytes[368..400], &"bytes at hand");
+    let last = timed_frame(read_timed_from(rt.alloc(), &mut source));
+    holds(&rt, last == Ok(Some((10, 3))), &"a pair");
 }
 
 /// How many of these three pairs come of a stream that is asked five times, and whether its end does. What else comes is the
