@@ -1,28 +1,25 @@
 -- The entries that are written of a file as it grows.
-use Rattle.std.proofs.Common.{◌≡◌, ℕ, Bool, true, false, List, [], ◌∷◌, ◌++◌, Option, Result, Ok, Err, refl, sym, subst, ◌∙◌, inl, inr, ⊎_elim, append-nil, append_assoc}
+use Rattle.std.proofs.Common.{◌≡◌, ℕ, Bool, true, false, List, [], ◌++◌, Option, Result, Ok, Err, refl, subst, inl, inr, ⊎_elim, append-nil}
 use Rattle.tb_journal.specs.declared.opening.OpenFault.{OpenFault}
 use Rattle.tb_journal.specs.declared.opening.OpenFault.TheVariants as open_faults
-use Rattle.tb_journal.specs.declared.reading.Refusal.{Refusal}
 use Rattle.tb_journal.specs.declared.faults.Fault as journal
-use Rattle.tb_journal.specs.Contents.{Records, contents}
 use Rattle.tb_journal.specs.Growing.{Later}
 use Rattle.tb_journal.specs.Opening.{RefusesFile}
-use Rattle.tb_journal.specs.Scans.{BeginsWith, HasRead, Place, Starts}
+use Rattle.tb_journal.specs.Scans.{BeginsWith, Place, Starts}
 use Rattle.tb_records.specs.Transport.{Output, Sent, CutOff}
-use Rattle.tb_records.specs.declared.faults.FrameFault.{FrameFault}
 use Rattle.tb_records.specs.declared.faults.FrameFault.TheVariants as frame
 use Rattle.tb_records.proofs.Sendings.{sent_rest, sent_few}
 use Rattle.tb_keep.specs.declared.faults.DumpFault.{DumpFault}
 use Rattle.tb_keep.specs.declared.faults.DumpFault.TheVariants as dump
 use Rattle.tb_keep.specs.declared.heads.Rules.{Rules}
 use Rattle.tb_keep.specs.Following.{entries_above, WritesEntries}
-use Rattle.tb_journal.proofs.Growths.{later_same, later_then}
+use Rattle.tb_journal.proofs.Growths.{later_same}
 use Rattle.tb_keep.proofs.Dumping.{entries_once}
 use Rattle.tb_keep_commands.specs.declared.faults.Fault.{Fault}
 use Rattle.tb_keep_commands.specs.declared.faults.Fault.TheVariants.{Device}
 use Rattle.tb_keep_commands.specs.declared.faults.Failed.TheVariants as failed
 use Rattle.tb_keep_commands.specs.Statuses.{disk_fault, opened_fault, dumped_fault}
-use Rattle.tb_keep_commands.specs.Following.{GrowsTo, StopsReading, EndsBy, SendsRound, Grown, Breaks, GrowsBy, EndsRounds, WritesRead, WritesSome, WritesPart, part_of, start_of, floor_of}
+use Rattle.tb_keep_commands.specs.Following.{GrowsTo, StopsReading, EndsBy, SendsRound, Grown, Breaks, GrowsBy, EndsRounds, WritesPart, start_of, floor_of}
 
 -- two parts that were sent
 pub both : (xs ys : List ℕ) (old mid new : Output) → Sent xs old mid → Sent ys mid new → Sent (xs ++ ys) old new

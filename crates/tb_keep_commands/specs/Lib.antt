@@ -1,4 +1,5 @@
 pub mod Copies
+pub mod DumpLaws
 pub mod Exits
 pub mod Following
 pub mod Forms

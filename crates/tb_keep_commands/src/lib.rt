@@ -5,6 +5,7 @@
 //! - `arguments`: what the words of the command line ask for, and what is wrong with words that ask for nothing.
 //! - `help`: the page of usage.
 //! - `live`: `Live`, a file that is read while another program may append to it.
+//! - `laws`: what holds of every dump of a file that grows.
 //! - `openers`: `Opener`, what opens the device of a name, and why it does not.
 //! - `outlets`: `Outlet`, a writer that says at its end whether all that was put went out.
 //! - `kinds`: what a file is that holds no ledger, by its first bytes.
@@ -35,6 +36,7 @@ mod following;
 mod help;
 mod host;
 mod kinds;
+pub mod laws;
 mod lines;
 mod live;
 mod naming;
