@@ -1,5 +1,5 @@
 //! The ledger: its books, kept in rows.
-ghost use Rattle.std.specs.Prelude.{◌≡◌, ◌+◌, ◌<◌, ◌≤◌, ◌++◌, max, length, IfOk, OnOk, OnErr, vec_len, vec_capacity};
+ghost use Rattle.std.specs.Prelude.{◌≡◌, ◌↔◌, ◌+◌, ◌<◌, ◌≤◌, ◌++◌, max, length, IsTrue, IfOk, OnOk, OnErr, vec_len, vec_capacity};
 ghost use Rattle.tb_records.specs.declared.limits.TheConstants.{ITEMS_MAX};
 ghost use Rattle.tb_ledger.specs.Batches.{account_events, batch_after, results, transfer_events};
 ghost use Rattle.tb_ledger.specs.Books.{account_now, empty_books, found_accounts, found_transfers, moved_to_two, profile_of, transfer_at};
@@ -149,6 +149,23 @@ impl<A: Allocator + Clone> Ledger<A> {
         match row {
             Some(row) => (Some(row.as_it_stands()), visits),
             None => (None, visits),
+        }
+    }
+
+    /// Accounts are so many that a search for one waits for memory at most of its levels.
+    pub fn has_many_accounts(&self) -> bool
+        ensures { IsTrue result ↔ 65536 ≤ length self.now.accounts }
+    {
+        self.work.rows.accounts.is_large()
+    }
+
+    /// Brings the accounts of eight ids into the cache, for calls that need them next. Their searches go on interleaved, so that
+    /// waits for memory overlap. Where accounts are few, nothing is searched for. The books stay.
+    pub fn touch(&mut self, ids: &[u128; 8])
+        ensures { self.new ≡ self.old }
+    {
+        if self.has_many_accounts() {
+            self.work.rows.accounts.touch(ids);
         }
     }
 

@@ -1,5 +1,5 @@
 //! The machine: a ledger and the sessions of its clients, which entries move on.
-ghost use Rattle.std.specs.Prelude.{◌≡◌, ◌+◌, ◌≤◌, ◌<◌, max, true, false, IfOk, IfErr, MatchOption, MatchResult, OnOk, OnErr, IsTrue, None, Some};
+ghost use Rattle.std.specs.Prelude.{◌≡◌, ◌↔◌, ◌+◌, ◌≤◌, ◌<◌, max, length, true, false, IfOk, IfErr, MatchOption, MatchResult, OnOk, OnErr, IsTrue, None, Some};
 ghost use Rattle.std.specs.Option.{option_map};
 ghost use Rattle.tb_records.specs.Messages.{IsLawful};
 ghost use Rattle.tb_ledger.specs.Books.{account_now, profile_of, transfer_at, found_accounts, found_transfers};
@@ -195,6 +195,21 @@ impl<A: Allocator + Clone> Machine<A> {
         ensures { result ≡ account_now self.now.books id }
     {
         self.ledger.account(id)
+    }
+
+    /// Accounts are so many that a search for one waits for memory at most of its levels.
+    pub fn has_many_accounts(&self) -> bool
+        ensures { IsTrue result ↔ 65536 ≤ length self.now.books.accounts }
+    {
+        self.ledger.has_many_accounts()
+    }
+
+    /// Brings the accounts of eight ids into the cache, for entries that need them next. Where accounts are few, nothing is
+    /// searched for. The machine stays.
+    pub fn touch(&mut self, ids: &[u128; 8])
+        ensures { self.new ≡ self.old }
+    {
+        self.ledger.touch(ids);
     }
 
     /// The transfer as it was recorded; None where there is none with this id.

@@ -8,6 +8,7 @@
 //! - `faults`: what became of a request that was taken, why a call is refused.
 //! - `front`: `Front`, a prefix of the history as a token over a book that counts entries; `HistoryHead`, the head of the
 //!   history, which alone adds to it.
+//! - `ahead`: the accounts that the next requests need, searched for beforehand where accounts are many.
 //! - `replica`: `Replica`, a copy, which is a machine and a front; `Posted`, what the writer hands to the copies.
 //! - `rule`: the rule of the copies: all that any reader has seen is a prefix of what is shown.
 //! - `looking`: how a reader looks at the copy that is shown.
@@ -22,6 +23,7 @@
 //! - `laws`: what follows of what seats have seen: functions that do nothing.
 #![tactic(auto)]
 
+mod ahead;
 mod copies;
 mod entering;
 mod faults;

@@ -37,3 +37,20 @@ pub(crate) fn next_posted<J: Naming>(
     }
     Some(Posted::new(entry, offered.front().again()))
 }
+
+/// Has the copies search for the accounts of the posted entry that waits, the last of `count` entries, and of those after it.
+pub(crate) fn look_ahead<J: Naming>(
+    global: Global,
+    history: &[Entry],
+    count: u64,
+    waiting: &mut Option<Posted<J>>,
+)
+    ensures { waiting.new ≡ waiting.old }
+{
+    let Some((_, later)) = history.split_at_checked(count as usize) else {
+        return;
+    };
+    if let Some(posted) = waiting {
+        posted.look_ahead(global, later);
+    }
+}

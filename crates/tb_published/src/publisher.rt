@@ -4,13 +4,14 @@ ghost use mathlib.Core.List.{IsPrefix};
 ghost use Rattle.tb_published.specs.Openings.{LegalIn, after_in, OneBegins};
 ghost use Rattle.tb_published.specs.Taking.{Enters, TakesRequest, ShowsAll};
 
+use crate::ahead::touch_eight;
 use crate::copies::Copies;
 use crate::entering::enter_into;
 use crate::faults::{OpenFault, TakeFault, Taken};
 use crate::front::HistoryHead;
 use crate::limits::SeatCount;
 use crate::naming::Naming;
-use crate::offering::next_posted;
+use crate::offering::{look_ahead, next_posted};
 use crate::opening::Opening;
 use crate::replica::{Posted, Replica};
 use crate::seat::Seat;
@@ -138,6 +139,14 @@ impl<J: Naming> Publisher<J> {
         self.tell().holds(seat)
     }
 
+    /// Brings the accounts of the first eight requests into the cache, for calls of [`Publisher::enter`] that come next. Where accounts
+    /// are few, or there is one request, nothing is searched for. The publisher stays.
+    pub fn touch(&mut self, requests: &[Request])
+        ensures { self.new ≡ self.old }
+    {
+        touch_eight(&mut self.machine, requests);
+    }
+
     /// Enters a request that comes at a moment, and leaves what the copies show.
     pub fn enter(&mut self, request: Request, now: u64) -> Result<Taken, TakeFault>
         ensures history { Enters J.opening self.old.history request now result self.new.history }
@@ -209,18 +218,21 @@ impl<J: Naming> Publisher<J> {
     fn offer_all(&mut self)
         ensures { self.new ≡ self.old }
     {
-        for _ in 0..=self.history.len() {
-            if !self.offer_next() {
+        for n in 0..=self.history.len() {
+            if !self.offer_next(n % 4 == 0) {
                 break;
             }
         }
     }
 
-    /// Offers the next entry; false where there is none, or no memory.
-    fn offer_next(&mut self) -> bool
+    /// Offers the next entry, the first of four or another; false where there is none, or no memory.
+    fn offer_next(&mut self, is_first: bool) -> bool
         ensures { self.new ≡ self.old }
     {
         self.pick_one();
+        if is_first {
+            self.look_ahead();
+        }
         self.hand_over()
     }
 
@@ -232,6 +244,18 @@ impl<J: Naming> Publisher<J> {
             let next = next_posted(self.global, &mut self.offered, self.history.as_slice());
             drop(replace(&mut self.waiting, next));
         }
+    }
+
+    /// Has the copies search for the accounts of the next four entries, where accounts are many.
+    fn look_ahead(&mut self)
+        ensures { self.new ≡ self.old }
+    {
+        if !self.machine.has_many_accounts() {
+            return;
+        }
+        let count = self.offered.front().len();
+        let history = self.history.as_slice();
+        look_ahead(self.global, history, count, &mut self.waiting);
     }
 
     /// Hands over the posted entry that waits; false where none does, or there is no room for it.

@@ -3,6 +3,7 @@ ghost use Rattle.std.specs.Prelude.{◌≡◌, ◌+◌, ◌==◌, [], length, If
 ghost use Rattle.tb_machine.specs.Histories.{fits, step};
 ghost use Rattle.tb_published.specs.Prefixes.{prefix, state_of, with_entry, EndsWith};
 
+use crate::ahead::accounts_of_entries;
 use crate::front::Front;
 use crate::naming::Naming;
 use left_right::Absorb;
@@ -15,6 +16,8 @@ use tb_machine::{Entry, Machine};
 pub struct Posted<J: Naming> {
     entry: Entry,
     front: Front,
+    /// The accounts that this entry and the next three need: a copy searches for them before it takes this one in.
+    ahead: Option<Box<[u128; 8]>>,
     of: PhantomData<J>,
 }
 
@@ -40,7 +43,21 @@ impl<J: Naming> Posted<J> {
         Posted {
             entry,
             front,
+            ahead: None,
             of: PhantomData,
+        }
+    }
+
+    /// Has the copies search for the accounts of this entry and of the next three before they take it in. Where no other comes next,
+    /// or there is no memory, they search for none.
+    pub(crate) fn look_ahead(&mut self, global: Global, later: &[Entry])
+        ensures { self.new ≡ self.old }
+    {
+        if later.is_empty() {
+            return;
+        }
+        if let Ok(ids) = Box::new(global, accounts_of_entries(&self.entry, later)) {
+            self.ahead = Some(ids);
         }
     }
 }
@@ -95,6 +112,15 @@ impl<J: Naming> Replica<J> {
         &self.front
     }
 
+    /// Brings the accounts that a posted entry names into the cache.
+    fn touch(&mut self, ahead: &Option<Box<[u128; 8]>>)
+        ensures { self.new ≡ self.old }
+    {
+        if let Some(ids) = ahead {
+            self.machine.touch(&**ids);
+        }
+    }
+
     /// Says that a posted entry is the one behind the copy's. The writer sends no other.
     fn comes_next(&self, posted: &Posted<J>) -> bool
         ensures one { result ≡ (length posted.now.front.list == length self.now.list + 1) }
@@ -123,6 +149,7 @@ impl<J: Naming> Absorb<Posted<J>> for Replica<J> {
 
     /// The first copy takes in an entry by a copy of its own.
     fn absorb_first(&mut self, posted: &Posted<J>, _other: &Replica<J>) -> Result<(), AllocError> {
+        self.touch(&posted.ahead);
         if !self.comes_next(posted) {
             return Ok(());
         }
@@ -133,6 +160,7 @@ impl<J: Naming> Absorb<Posted<J>> for Replica<J> {
 
     /// The second copy takes the posted entry itself.
     fn absorb_second(&mut self, posted: Posted<J>, _other: &Replica<J>) -> Result<(), Posted<J>> {
+        self.touch(&posted.ahead);
         if !self.comes_next(&posted) {
             drop(posted);
             return Ok(());
@@ -140,8 +168,10 @@ impl<J: Naming> Absorb<Posted<J>> for Replica<J> {
         let Posted {
             entry,
             front,
+            ahead,
             of: _,
         } = posted;
+        drop(ahead);
         match self.machine.enter(entry) {
             Ok(()) => {
                 self.front = front;

@@ -76,6 +76,13 @@ impl<J: Naming, W: Wait + Drop, M: Moments + Drop, G: Gate + Drop> Clerk<J, W, M
         }
     }
 
+    /// Has the publisher bring the accounts that requests need into the cache.
+    fn touch(&mut self, requests: &[Request])
+        ensures { self.new ≡ self.old }
+    {
+        self.held.publisher.touch(requests);
+    }
+
     /// The requests of an order have their turns.
     pub fn serve_order(&mut self, order: Order)
         requires { HasCapacity 8 self.old }
@@ -88,7 +95,10 @@ impl<J: Naming, W: Wait + Drop, M: Moments + Drop, G: Gate + Drop> Clerk<J, W, M
         let Order { port, what } = order;
         match what {
             What::One(request) => self.serve(port, request),
-            What::Many(batch) => self.serve_all(port, batch.requests),
+            What::Many(batch) => {
+                self.touch(batch.requests.as_slice());
+                self.serve_all(port, batch.requests);
+            }
             What::Close => {}
         }
     }

@@ -1,5 +1,5 @@
 //! A finite map: rows by rising key, in a balanced tree.
-ghost use Rattle.std.specs.Prelude.{◌≡◌, ◌≢◌, ◌⊎◌, ℕ, ◌+◌, ◌-◌, ◌<◌, ◌≤◌, ◌==◌, max, List, [], length, map, None, find, OnOk, IfSome, IfNone};
+ghost use Rattle.std.specs.Prelude.{◌≡◌, ◌≢◌, ◌⊎◌, ◌↔◌, ℕ, ◌+◌, ◌-◌, ◌<◌, ◌≤◌, ◌==◌, max, List, [], length, map, None, find, IsTrue, OnOk, IfSome, IfNone};
 ghost use Rattle.std.specs.Option.{option_copied};
 ghost use Rattle.std.specs.Map.{values_of};
 ghost use Rattle.tb_records.specs.Ordered.{put, replaced, taken_out, Rising};
@@ -133,7 +133,9 @@ impl<V: Keyed, A: Allocator + Clone> Table<V, A> {
     }
 
     /// The rows are so many that touching those needed next saves more than it costs.
-    pub fn is_large(&self) -> bool {
+    pub fn is_large(&self) -> bool
+        ensures { IsTrue result ↔ 65536 ≤ length self.now.items }
+    {
         match &self.rows {
             Some(rows) => LARGE <= rows.len(),
             None => false,

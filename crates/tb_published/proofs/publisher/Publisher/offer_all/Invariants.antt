@@ -1,5 +1,5 @@
 use Rattle.std.proofs.Common.{◌≡◌}
 use Rattle.tb_published.proofs.publisher.Publisher.offer_all.Given as goal
 
-abbrev pub invariant-loop : goal.invariant-loop
-invariant-loop g l = l.self ≡ l.initial.self
+abbrev pub invariant-loop-n : goal.invariant-loop-n
+invariant-loop-n g l = l.self ≡ l.initial.self
