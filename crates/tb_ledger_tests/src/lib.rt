@@ -7,6 +7,7 @@
 //! - `runs`: a ledger that one request after another moves on.
 //! - `lookups`: what is found and filled in.
 //! - `searches`: how far a search goes.
+//! - `touching`: accounts that are brought into the cache.
 //! - `profiles`: the step from profile 1 to 2.
 #![tactic(auto)]
 
@@ -20,3 +21,5 @@ mod profiles;
 mod runs;
 #[cfg(test)]
 mod searches;
+#[cfg(test)]
+mod touching;
