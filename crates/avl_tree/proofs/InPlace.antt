@@ -1,5 +1,5 @@
 -- A change of a value in one side of a tree is a change in the tree.
-use Rattle.std.proofs.Common.{Bool, true, false, List, Option, None, Some, ap, ◌∙◌}
+use Rattle.std.proofs.Common.{Bool, true, false, List, Option, None, Some, IsSome, IfSome, ap, ◌∙◌}
 use Rattle.std.specs.declared.cmp.Ordering.{Ordering}
 use Rattle.std.specs.Fn.{Mut, CalledAtMut}
 use Rattle.std.specs.BTreeMap.{is_at}
@@ -26,3 +26,8 @@ module _ {K V A : Type 0} {cmp : K → K → Ordering} {k : K} {t side : Tree K 
 pub changes_here : {F K V A R : Type 0} (c : Mut F (MutBor V × Unit {0}) (R × (MutBor V × Unit {0}))) {cmp : K → K → Ordering} {k : K} {t : Tree K V A} {n : Node K V A} {put : V → Tree K V A} → StandsHere cmp k t n put → (r : R) (v : V) (f f' : F) → CalledAtMut c f n.value r f' v → Changes c (is_at (cmp k)) t f (Some r) f' (put v)
 changes_here c {n = n} w r v f f' called =
     (record { value = n.value; left = v; found = w.found; called = called; written = w.written v }, w.keeps v)
+
+-- the same of an answer that was put into its place
+pub changes_into : {F K V A R : Type 0} (c : Mut F (MutBor V × Unit {0}) (R × (MutBor V × Unit {0}))) {cmp : K → K → Ordering} {k : K} {t : Tree K V A} {n : Node K V A} {put : V → Tree K V A} → StandsHere cmp k t n put → (o : Option R) (v : V) (f f' : F) → IsSome o → IfSome o (λ r. CalledAtMut c f n.value r f' v) → Changes c (is_at (cmp k)) t f o f' (put v)
+changes_into c w (Some r) v f f' some called = changes_here c w r v f f' called
+changes_into c w None v f f' some called = absurd (cc)

@@ -30,7 +30,7 @@ fn call_both<V, R, F: FnMut(&mut V, &mut V) -> R>(
 }
 
 /// Puts the closure's answer into its place.
-fn answer<R>(out: &mut Option<R>, given: R)
+pub(crate) fn answer<R>(out: &mut Option<R>, given: R)
     requires { out.old ≡ None }
     ensures { out.new ≡ Some given }
 {
