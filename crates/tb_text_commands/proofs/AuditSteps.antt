@@ -1,5 +1,5 @@
 -- What an audit has told so far, and one step more.
-use Rattle.std.proofs.Common.{◌≡◌, ℕ, ◌+◌, ◌<◌, ◌≤◌, ⊎_elim, get_or, drop, length, add-one, drop-cons, arith, Bool, true, false, IsTrue, List, [], ◌∷◌, ◌++◌, Option, Some, None, Result, Ok, Err, inl, inr, refl, sym, ap, subst, ◌∙◌, append_assoc, append-nil}
+use Rattle.std.proofs.Common.{◌≡◌, ℕ, ◌+◌, ◌<◌, ◌≤◌, ⊎_elim, get_or, drop, length, add-one, drop-cons, arith, Bool, true, false, IsTrue, List, [], ◌∷◌, ◌++◌, Option, Some, None, Result, Ok, Err, IfErr, IfOk, inl, inr, refl, sym, ap, subst, ◌∙◌, append_assoc, append-nil}
 use Rattle.std.proofs.lemmas.Bool.{false≢true}
 use Rattle.std.specs.List.{filter}
 use Rattle.std.proofs.lemmas.List.{length-append, map_push}
@@ -9,15 +9,16 @@ use Rattle.tb_records.specs.declared.records.Account.{Account}
 use Rattle.tb_records.specs.declared.records.EventResult.{EventResult}
 use Rattle.tb_records.specs.declared.records.Transfer.{Transfer}
 use Rattle.tb_records.specs.DumpBytes.{HeadAnswers}
-use Rattle.tb_records.specs.Transport.{Input, Output}
+use Rattle.tb_records.specs.Transport.{CutOff, Input, Output}
 use Rattle.tb_machine.specs.declared.entries.Entry.{Entry}
 use Rattle.tb_machine.specs.Histories.{State, fits, step}
 use Rattle.tb_machine.proofs.Rows.{each_snoc}
 use Rattle.tb_machine.proofs.Running.{sends_none, sends_then}
 use Rattle.tb_text_commands.specs.declared.faults.Fault.{Fault}
-use Rattle.tb_text_commands.specs.declared.faults.Fault.TheVariants.{NoMemory}
+use Rattle.tb_text_commands.specs.declared.faults.Fault.TheVariants.{Usage, Device, Reader, Writer, NoMemory, TimeExhausted, TooLong, Frame, Dump, Arguments, Text, Late}
+use Rattle.tb_text_commands.specs.AuditLines.{IsJsonLine}
 use Rattle.tb_text_commands.specs.Audits.{NoneIsDue, TakesDue, Waiting, waits_behind}
-use Rattle.tb_text_commands.specs.AuditRuns.{AreLines, Audited, AuditsAll, AuditsEntry, AuditsItems, AuditsNext, AuditsOne, Finds, GivesUp, Goes, IsCut, PutsLine, RefusesEntry, ShowsAccount, StopsTelling, Telling, Tells, TellsAccount, TellsDue, account_of, entry_told, events_told, expiry_of, next_told}
+use Rattle.tb_text_commands.specs.AuditRuns.{AreLines, Audited, AuditsAll, AuditsEntry, AuditsItems, AuditsNext, AuditsOne, Finds, GivesUp, Goes, IsCut, PutsAll, PutsNothing, RefusesEntry, ShowsAccount, StopsTelling, Telling, Tells, TellsAccount, TellsDue, account_of, entry_told, events_told, expiry_of, next_told}
 use Rattle.tb_text_commands.specs.Results.{result_at}
 use Rattle.tb_text_commands.specs.Wanted.{Told, expires}
 use Rattle.tb_text_commands.specs.Whole.{IsDump, IsItem, Parts, WasWhole}
@@ -93,25 +94,45 @@ module _ (IsLine : Told → List ℕ → Type 0) (wants : Told → Bool) where
   telling_join (Ok done) xs ys a b d one two = tells_join xs ys a b d one two
   telling_join (Err f) xs ys a b d one two = stops_join f xs ys a b d one two
 
--- a line of which nothing is said
-abbrev pub AnyLine : Told → List ℕ → Type 0
-AnyLine told line = Unit {0}
+-- no other fault comes of writing
+by_device : (f : Fault) (bytes : List ℕ) (a b : Output) → PutsAll (Err f) bytes a b → (f ≡ Device) × CutOff bytes a b
+by_device Device bytes a b cut = (refl, cut)
+by_device Usage bytes a b none = absurd none
+by_device Reader bytes a b none = absurd none
+by_device Writer bytes a b none = absurd none
+by_device NoMemory bytes a b none = absurd none
+by_device TimeExhausted bytes a b none = absurd none
+by_device TooLong bytes a b none = absurd none
+by_device (Frame f) bytes a b none = absurd none
+by_device (Dump f) bytes a b none = absurd none
+by_device (Arguments line) bytes a b none = absurd none
+by_device (Text lines) bytes a b none = absurd none
+by_device (Late line) bytes a b none = absurd none
 
 module _ (wants : Told → Bool) where
-  pub told_unwanted : (t : Told) (o : Output) → wants t ≡ false → Tells AnyLine wants (t ∷ []) o o
+  pub told_unwanted : (t : Told) (o : Output) → wants t ≡ false → Tells IsJsonLine wants (t ∷ []) o o
   told_unwanted t o left_out = record { bytes = []; lines = rw left_out refl; sent = sends_none o }
 
-  pub told_one : (r : Result (Unit {0}) Fault) (t : Told) (a b : Output) → wants t ≡ true → PutsLine r a b → Telling AnyLine wants r (t ∷ []) a b
-  told_one (Ok done) t a b wanted (line, sent) = record { bytes = line; lines = rw wanted (line, [], tt, refl, sym (append-nil line)); sent = sent }
-  told_one (Err f) t a b wanted (inl (memory, same)) = record { front = []; rest = t ∷ []; told_is = refl; made = a; tells = tells_none AnyLine wants a; stops = inl (inl memory, same) }
-  told_one (Err f) t a b wanted (inr (line, device, cut)) = record {
+  told_line : (r : Result (Unit {0}) Fault) (t : Told) (line : List ℕ) (a b : Output) → wants t ≡ true → IsJsonLine t line → PutsAll r line a b → Telling IsJsonLine wants r (t ∷ []) a b
+  told_line (Ok done) t line a b wanted is sent = record { bytes = line; lines = rw wanted (line, [], is, refl, sym (append-nil line)); sent = sent }
+  told_line (Err f) t line a b wanted is put = record {
     front = [];
     rest = t ∷ [];
     told_is = refl;
     made = a;
-    tells = tells_none AnyLine wants a;
-    stops = inr (record { next = t; behind = []; rest_is = refl; wanted = wanted; line = line; is_line = tt; device = device; cut = cut });
+    tells = tells_none IsJsonLine wants a;
+    stops = inr (record { next = t; behind = []; rest_is = refl; wanted = wanted; line = line; is_line = is; device = (by_device f line a b put).0; cut = (by_device f line a b put).1 });
   }
+
+  told_nothing : (r : Result (Unit {0}) Fault) (t : Told) (a b : Output) → PutsNothing r a b → Telling IsJsonLine wants r (t ∷ []) a b
+  told_nothing (Ok done) t a b nothing = absurd nothing
+  told_nothing (Err f) t a b (memory, same) = record { front = []; rest = t ∷ []; told_is = refl; made = a; tells = tells_none IsJsonLine wants a; stops = inl (inl memory, same) }
+
+  -- a line was made, or there was no memory for it
+  pub told_one : {L E : Type 0} (bytes : L → List ℕ) (made : Result L E) (r : Result (Unit {0}) Fault) (t : Told) (a b : Output) → wants t ≡ true
+      → IfOk made (λ line. IsJsonLine t (bytes line)) → IfOk made (λ line. PutsAll r (bytes line) a b) → IfErr made (λ refused. PutsNothing r a b) → Telling IsJsonLine wants r (t ∷ []) a b
+  told_one bytes (Ok line) r t a b wanted is put none = told_line r t (bytes line) a b wanted is put
+  told_one bytes (Err refused) r t a b wanted is put none = told_nothing r t a b none
 
 -- what has expired
 

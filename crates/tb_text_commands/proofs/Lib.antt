@@ -6,3 +6,4 @@ pub mod Taking
 pub mod TypedParts
 pub mod Watching
 pub mod AuditSteps
+pub mod AuditTexts

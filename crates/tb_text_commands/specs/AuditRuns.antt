@@ -25,6 +25,7 @@ use Rattle.tb_machine.specs.Histories.{State, body_at, fits, step, to_two}
 use Rattle.tb_machine.specs.Replays.{ReadsNext}
 use Rattle.tb_text_commands.specs.declared.faults.Fault.{Fault}
 use Rattle.tb_text_commands.specs.declared.faults.Fault.TheVariants.{Arguments, Device, Dump, NoMemory, TooLong}
+use Rattle.tb_text_commands.specs.AuditLines.{IsJsonLine}
 use Rattle.tb_text_commands.specs.Audits.{NoneIsDue, Waiting, waits_behind}
 use Rattle.tb_text_commands.specs.Ends.{outcome_status}
 use Rattle.tb_text_commands.specs.Results.{result_at, results_in}
@@ -40,10 +41,10 @@ PutsAll (Ok done) bytes before after = Sent bytes before after
 PutsAll (Err Device) bytes before after = CutOff bytes before after
 PutsAll (Err fault) bytes before after = ⊥
 
--- a line was written, or there was no memory for it, or the device cut it off
-abbrev pub PutsLine : Result (Unit {0}) Fault → Output → Output → Type 0
-PutsLine (Ok done) before after = (line : List ℕ) × Sent line before after
-PutsLine (Err fault) before after = ((fault ≡ NoMemory) × (after ≡ before)) ⊎ ((line : List ℕ) × (fault ≡ Device) × CutOff line before after)
+-- nothing was, since there was no memory for a line
+abbrev pub PutsNothing : Result (Unit {0}) Fault → Output → Output → Type 0
+PutsNothing (Ok done) before after = ⊥
+PutsNothing (Err fault) before after = (fault ≡ NoMemory) × (after ≡ before)
 
 -- there was no memory for the next line, or there are too many
 abbrev pub GivesUp : Fault → List Told → Type 0
@@ -288,8 +289,8 @@ module _ (IsLine : Told → List ℕ → Type 0) (wants : Told → Bool) where
   AuditRan (Ok done) account before after start written = Audits (Ok done) account before after start written
   AuditRan (Err fault) account before after start written = HeadFails fault before after start written ⊎ Audits (Err fault) account before after start written
 
--- an audit of what is wanted ended with the status of its outcome, whatever its lines say of what they tell
+-- an audit of what is wanted ended with the status of its outcome
 pub record AuditedBy (wanted : Wanted) (status : ℕ) (before after : Input) (start written : Output) : Type 0 where
   pub outcome : Result (Unit {0}) Fault
   pub status_is : status ≡ outcome_status outcome
-  pub ran : AuditRan (λ told line. Unit {0}) (is_wanted wanted) outcome wanted.account before after start written
+  pub ran : AuditRan IsJsonLine (is_wanted wanted) outcome wanted.account before after start written

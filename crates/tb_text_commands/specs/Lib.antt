@@ -1,4 +1,5 @@
 pub mod Answered
+pub mod AuditLines
 pub mod Audits
 pub mod AuditRuns
 pub mod Audited

@@ -1,5 +1,5 @@
 -- What the lines of an audit tell, and which of them are wanted.
--- Public contracts reach it through: AuditRuns.
+-- Public contracts reach it through: AuditLines, AuditRuns.
 use Rattle.std.specs.Prelude.{ℕ, Bool, true, false, not, ◌&&◌, ◌||◌, ◌==◌, nat_le, Option, Some, None, if◌then◌else◌, unwrap_or}
 use Rattle.std.specs.Option.{option_map_or}
 use Rattle.tb_records.specs.declared.dumps.DumpHead.{DumpHead}

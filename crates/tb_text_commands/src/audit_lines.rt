@@ -1,12 +1,12 @@
 //! What writes the lines of an audit.
 ghost use Rattle.std.specs.Prelude.{[], ◌∷◌, Bool, List, ℕ};
+ghost use Rattle.tb_text_commands.specs.AuditLines.{IsJsonLine};
 ghost use Rattle.tb_text_commands.specs.AuditRuns.{Telling};
 ghost use Rattle.tb_text_commands.specs.Ends.{Written};
 ghost use Rattle.tb_text_commands.specs.Wanted.{Told, begins, enters, expires, is_wanted, moves, opens, resolved_by, settles, stands};
 
-use crate::audit_json::Times;
+use crate::audit_json::{Times, head_line, mark_line};
 use crate::faults::Fault;
-use crate::lines::{head_line, mark_line};
 use crate::scripts::put_line;
 use crate::wanted::Wanted;
 use std::alloc::Global;
@@ -112,8 +112,7 @@ impl JsonLines {
 }
 
 impl Teller for JsonLines {
-    // What stands in a line of JSON is not said.
-    ghost IsLine = { λ told line. Unit {0} };
+    ghost IsLine = { IsJsonLine };
 
     ghost wants = { λ lines told. is_wanted lines.wanted told };
 

@@ -4,6 +4,7 @@ ghost use Rattle.tb_machine.specs.Histories.{start};
 ghost use Rattle.avl_tree.specs.Map.{entries};
 ghost use Rattle.tb_text_commands.specs.Audits.{Enters, GoesOver, NoneIsDue, waits_behind, watched_of};
 ghost use Rattle.tb_text_commands.specs.Results.{stored_results};
+ghost use Rattle.tb_text_commands.specs.AuditLines.{IsJsonLine};
 ghost use Rattle.tb_text_commands.specs.AuditRuns.{AuditRan, AuditsEntry, AuditsItem, AuditsItems, AuditsMark, AuditsNext, Changes, Finds, HeadFails, HeadTold, RefusesEntry, Telling, TellsAccount, TellsDue, account_of, audited_from, batch_told, entry_told, events_told};
 ghost use Rattle.tb_text_commands.specs.Audited.{audited};
 ghost use Rattle.tb_text_commands.specs.Ends.{Converts, Ended, IsOfInput, Written};
@@ -405,7 +406,7 @@ pub fn audit<R: Source, W: Sink>(
 ) -> Result<(), Fault>
     ensures converts { Converts IsDump result (R.input reader.old) (R.input reader.new)
         (W.output writer.old) (W.output writer.new) }
-    ensures ran { AuditRan (λ told line. Unit {0}) (is_wanted wanted) result wanted.account
+    ensures ran { AuditRan IsJsonLine (is_wanted wanted) result wanted.account
         (R.input reader.old) (R.input reader.new) (W.output writer.old) (W.output writer.new) }
 {
     let account = wanted.account;

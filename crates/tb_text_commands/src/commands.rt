@@ -2,6 +2,7 @@
 ghost use Rattle.std.specs.Prelude.{◌≡◌, ◌<◌, false, None, OnOk, Option, Some, map, string_bytes, ℕ};
 ghost use Rattle.tb_text_commands.specs.declared.arguments.Form.{Form};
 ghost use Rattle.tb_text_commands.specs.declared.wanted.Wanted.{Wanted};
+ghost use Rattle.tb_text_commands.specs.AuditLines.{IsJsonLine};
 ghost use Rattle.tb_text_commands.specs.AuditRuns.{AuditRan, AuditedBy};
 ghost use Rattle.tb_text_commands.specs.Ends.{Converts, Exits};
 ghost use Rattle.tb_text_commands.specs.Explanations.{Explained};
@@ -40,7 +41,7 @@ fn perform<C: Clock, R: Source, W: Sink, E: Sink>(
         (W.output writer.old) (W.output writer.new) }
     ensures silent { is_typed form talks ≡ false → faults.new ≡ faults.old }
     ensures audited { (wanted : Wanted) → form ≡ Form.Audit wanted
-        → AuditRan (λ told line. Unit {0}) (is_wanted wanted) result wanted.account
+        → AuditRan IsJsonLine (is_wanted wanted) result wanted.account
         (R.input reader.old) (R.input reader.new) (W.output writer.old) (W.output writer.new) }
     ensures explained { form ≡ Form.Explain → OnOk result
         (Explained (R.input reader.old) (W.output writer.old) (W.output writer.new)) }

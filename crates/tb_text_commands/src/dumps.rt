@@ -7,9 +7,10 @@ ghost use Rattle.tb_text_commands.specs.Ends.{Converts, Ended, Written};
 ghost use Rattle.tb_text_commands.specs.Taken.{TakesNext};
 ghost use Rattle.tb_text_commands.specs.Whole.{IsDump, IsItem, Parts};
 
+use crate::audit_json::{head_line, mark_line};
 use crate::converting::{Converter, Next, convert};
 use crate::faults::Fault;
-use crate::lines::{entry_line, head_line, mark_line};
+use crate::lines::entry_line;
 use crate::scripts::{put_line, put_pair};
 use std::alloc::Global;
 use tb_machine::Entry;

@@ -5,11 +5,11 @@ ghost use Rattle.tb_records.specs.Operations.{operation_code, operation_name};
 ghost use Rattle.tb_text_commands.specs.Names.{status_word};
 
 use crate::lists::{EventResults, Ids, List, Records};
-use crate::objects::{Object, Plain, Shown};
+use crate::objects::{Object, Shown};
 use serde::{Described, Serialize, Serializer};
 use std::alloc::{AllocError, Global};
 use tb_machine::Entry;
-use tb_records::{Body, DumpHead, Operation, Profile, Reply, ReplyBody, Status};
+use tb_records::{Body, Operation, Reply, ReplyBody, Status};
 
 /// The events of a register, and the results of its reply.
 const NO_IDS: &[u128] = &[];
@@ -124,22 +124,4 @@ pub fn entry_line(alloc: Global, entry: &Entry) -> Result<Vec<u8>, AllocError> {
         last: &Events(request.body()),
     };
     line(alloc, &object)
-}
-
-/// The line of a dump's head.
-pub fn head_line(alloc: Global, head: &DumpHead) -> Result<Vec<u8>, AllocError> {
-    let profile = match head.profile {
-        Profile::One => 1,
-        Profile::Two => 2,
-    };
-    let fields = [
-        ("profile", Shown::Number(profile)),
-        ("clients_max", Shown::Number(head.clients_max.get())),
-    ];
-    line(alloc, &Plain(&fields))
-}
-
-/// The line of a mark.
-pub fn mark_line(alloc: Global) -> Result<Vec<u8>, AllocError> {
-    line(alloc, &Plain(&[("profile", Shown::Number(2))]))
 }

@@ -1,6 +1,6 @@
 //! Records, ids and results as JSON objects: the fields by their names, numbers of 64 and 128 bits as strings, flags and
 //! results by name.
-ghost use Rattle.std.specs.Prelude.{◌≡◌, Option};
+ghost use Rattle.std.specs.Prelude.{◌≡◌, Option, ℕ};
 ghost use Rattle.tb_machine.specs.Histories.{State};
 
 use serde::{Described, Serialize, Serializer};
@@ -117,10 +117,17 @@ impl<T: Serialize> Serialize for Object<'_, T> {
 
 /// A record that is shown as an object.
 pub trait Record: Copy {
+    // Its id.
+    ghost id: { Self → ℕ };
+
     // The record with the same id in a state.
     ghost kept: { Self → State → Option Self };
 
-    /// Its fields.
+    /// Its id.
+    fn id(&self) -> u128
+        ensures { result ≡ id self.now };
+
+    /// Its fields. The first one is its id.
     fn fields(&self) -> [Field; 13];
 
     /// The record with the same id that a machine has.
@@ -131,7 +138,13 @@ pub trait Record: Copy {
 impl Record for Account {
     ghost use Rattle.tb_ledger.specs.Books.{account_now};
 
+    ghost id = { λ account. account.id };
+
     ghost kept = { λ account state. account_now state.books account.id };
+
+    fn id(&self) -> u128 {
+        self.id
+    }
 
     fn fields(&self) -> [Field; 13] {
         [
@@ -159,7 +172,13 @@ impl Record for Account {
 impl Record for Transfer {
     ghost use Rattle.tb_ledger.specs.Books.{transfer_at};
 
+    ghost id = { λ transfer. transfer.id };
+
     ghost kept = { λ transfer state. transfer_at state.books transfer.id };
+
+    fn id(&self) -> u128 {
+        self.id
+    }
 
     fn fields(&self) -> [Field; 13] {
         [

@@ -1,5 +1,6 @@
 //! The forms between statements, scripts and replies.
-ghost use Rattle.tb_text_commands.specs.AuditRuns.{PutsAll, PutsLine};
+ghost use Rattle.std.specs.Prelude.{IfErr, IfOk};
+ghost use Rattle.tb_text_commands.specs.AuditRuns.{PutsAll, PutsNothing};
 ghost use Rattle.tb_text_commands.specs.Ends.{Written};
 ghost use Rattle.tb_text_commands.specs.Taken.{waiting};
 ghost use Rattle.tb_text_commands.specs.Whole.{IsPair, IsReplyFrame, IsStatement};
@@ -28,7 +29,10 @@ pub fn put<W: Sink>(writer: &mut W, bytes: &[u8]) -> Result<(), Fault>
 /// Writes a line, where there was memory for it.
 pub fn put_line<W: Sink>(writer: &mut W, line: Result<Vec<u8>, AllocError>) -> Result<(), Fault>
     ensures written { Written result (W.output writer.old) (W.output writer.new) }
-    ensures put { PutsLine result (W.output writer.old) (W.output writer.new) }
+    ensures put { IfOk line
+        (λ line. PutsAll result line.items (W.output writer.old) (W.output writer.new)) }
+    ensures refused { IfErr line
+        (λ refused. PutsNothing result (W.output writer.old) (W.output writer.new)) }
 {
     put(writer, line?.as_slice())
 }
