@@ -7,6 +7,7 @@
 //! - `comparing`: what is compared, in one place.
 //! - `rows`: the first requests, their bytes, and what the seat looks up.
 //! - `showing`: what is entered and not yet shown.
+//! - `touching`: orders over many accounts.
 //! - `progress`: all that was entered is shown by the next call that shows.
 //! - `learning`: two seats, and what a seat learns.
 //! - `refusals`: what earlier requests have refused.
@@ -34,3 +35,5 @@ mod showing;
 mod threads;
 #[cfg(test)]
 mod times;
+#[cfg(test)]
+mod touching;
