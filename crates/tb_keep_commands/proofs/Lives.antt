@@ -1,8 +1,7 @@
 -- A file that is read on after others appended to it.
-use Rattle.std.proofs.Common.{◌≡◌, ℕ, List, Result, Ok, Err, MatchResult, OnOk, OnErr}
+use Rattle.std.proofs.Common.{ℕ, List, Result, Ok, Err, MatchResult, OnOk, OnErr}
 use Rattle.tb_journal.specs.declared.faults.Fault.{Fault}
-use Rattle.tb_journal.specs.Growing.{Later}
-use Rattle.tb_journal.specs.Snapshots.{Snapped, IsHeld, Takes, Refreshes}
+use Rattle.tb_journal.specs.Snapshots.{Snapped, IsHeld, Refreshes}
 use Rattle.tb_journal.proofs.Growths.{later_same}
 use Rattle.tb_keep_commands.specs.Live.{HoldsLater}
 

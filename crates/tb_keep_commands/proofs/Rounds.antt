@@ -1,23 +1,25 @@
 -- The entries that are written of a file as it grows.
-use Rattle.std.proofs.Common.{◌≡◌, ℕ, List, [], ◌∷◌, ◌++◌, Option, Result, Ok, Err, refl, sym, subst, ◌∙◌, inl, inr, ⊎_elim, append-nil, append_assoc}
-use Rattle.tb_journal.specs.Contents.{Records, contents}
+use Rattle.std.proofs.Common.{◌≡◌, ℕ, Bool, true, false, List, [], ◌++◌, Option, Result, Ok, Err, refl, subst, inl, inr, ⊎_elim, append-nil}
+use Rattle.tb_journal.specs.declared.opening.OpenFault.{OpenFault}
+use Rattle.tb_journal.specs.declared.opening.OpenFault.TheVariants as open_faults
+use Rattle.tb_journal.specs.declared.faults.Fault as journal
 use Rattle.tb_journal.specs.Growing.{Later}
-use Rattle.tb_journal.specs.Scans.{BeginsWith, HasRead, Place}
+use Rattle.tb_journal.specs.Opening.{RefusesFile}
+use Rattle.tb_journal.specs.Scans.{BeginsWith, Place, Starts}
 use Rattle.tb_records.specs.Transport.{Output, Sent, CutOff}
-use Rattle.tb_records.specs.declared.faults.FrameFault.{FrameFault}
 use Rattle.tb_records.specs.declared.faults.FrameFault.TheVariants as frame
 use Rattle.tb_records.proofs.Sendings.{sent_rest, sent_few}
 use Rattle.tb_keep.specs.declared.faults.DumpFault.{DumpFault}
 use Rattle.tb_keep.specs.declared.faults.DumpFault.TheVariants as dump
 use Rattle.tb_keep.specs.declared.heads.Rules.{Rules}
 use Rattle.tb_keep.specs.Following.{entries_above, WritesEntries}
-use Rattle.tb_journal.proofs.Growths.{later_same, later_then}
+use Rattle.tb_journal.proofs.Growths.{later_same}
 use Rattle.tb_keep.proofs.Dumping.{entries_once}
 use Rattle.tb_keep_commands.specs.declared.faults.Fault.{Fault}
 use Rattle.tb_keep_commands.specs.declared.faults.Fault.TheVariants.{Device}
 use Rattle.tb_keep_commands.specs.declared.faults.Failed.TheVariants as failed
-use Rattle.tb_keep_commands.specs.Statuses.{dumped_fault}
-use Rattle.tb_keep_commands.specs.Following.{EndsBy, SendsRound, Grown, Breaks, GrowsBy, EndsRounds, WritesRead, WritesSome, WritesPart, part_of, start_of, floor_of}
+use Rattle.tb_keep_commands.specs.Statuses.{disk_fault, opened_fault, dumped_fault}
+use Rattle.tb_keep_commands.specs.Following.{GrowsTo, StopsReading, EndsBy, SendsRound, Grown, Breaks, GrowsBy, EndsRounds, WritesPart, start_of, floor_of}
 
 -- two parts that were sent
 pub both : (xs ys : List ℕ) (old mid new : Output) → Sent xs old mid → Sent ys mid new → Sent (xs ++ ys) old new
@@ -27,14 +29,21 @@ both xs ys old mid new one two = sent_rest xs ys old mid new (xs ++ ys) refl one
 pub then_cut : (xs ys : List ℕ) (old mid new : Output) → Sent xs old mid → CutOff ys mid new → CutOff (xs ++ ys) old new
 then_cut xs ys old mid new one two = (sent_rest xs ys old mid new (xs ++ ys) refl one (Err frame.Device) (refl, two)).1
 
+-- a fault of a file that is not read on, with what went out before it
+pub stopped : (fault : Fault) (file : List ℕ) (P Q : Type 0) → (P → Q) → StopsReading fault file P → StopsReading fault file Q
+stopped fault file P Q f stops = record { why = stops.why; named = stops.named; refuses = stops.refuses; went = f stops.went }
+
 -- one that was sent, before what ends by a fault
-pub behind_ends : (fault : Fault) (xs ys : List ℕ) (old mid new : Output) → Sent xs old mid → EndsBy fault ys mid new → EndsBy fault (xs ++ ys) old new
-behind_ends fault xs ys old mid new one two =
-    ⊎_elim (λ sent. inl (both xs ys old mid new one sent)) (λ cut. inr (cut.0, then_cut xs ys old mid new one cut.1)) two
+pub behind_ends : (fault : Fault) (file xs ys : List ℕ) (old mid new : Output) → Sent xs old mid → EndsBy fault file ys mid new → EndsBy fault file (xs ++ ys) old new
+behind_ends fault file xs ys old mid new one two =
+    ⊎_elim (λ stops. inl (stopped fault file (Sent ys mid new) (Sent (xs ++ ys) old new) (both xs ys old mid new one) stops))
+    (λ cut. inr (cut.0, then_cut xs ys old mid new one cut.1)) two
 
 -- what was sent is a prefix of it that the output held back and lost
-pub lost_held : (fault : Fault) (xs : List ℕ) (old mid new : Output) → fault ≡ Device failed.Output → Sent xs old mid → CutOff [] mid new → EndsBy fault xs old new
-lost_held fault xs old mid new is one two = inr (is, subst (λ (l : List ℕ). CutOff l old new) (append-nil xs) (then_cut xs [] old mid new one two))
+pub lost_held : (fault : Fault) (file xs : List ℕ) (old mid new : Output) → fault ≡ Device failed.Output → Sent xs old mid → CutOff [] mid new
+    → EndsBy fault file xs old new
+lost_held fault file xs old mid new is one two =
+    inr (is, subst (λ (l : List ℕ). CutOff l old new) (append-nil xs) (then_cut xs [] old mid new one two))
 
 -- and this all of it
 pub sent_held : (xs : List ℕ) (old mid new : Output) → Sent xs old mid → Sent [] mid new → Sent xs old new
@@ -47,11 +56,13 @@ round_done after read file scan count old mid new (more, whole, place, counted, 
 
 pub round_lost : (after : ℕ) (read : List (List ℕ)) (file : List ℕ) (scan : Place) (count : ℕ) (fault : Fault) (old mid new : Output)
     → fault ≡ Device failed.Output → WritesEntries (Ok count) after read file scan old mid → CutOff [] mid new → SendsRound (Err fault) after read file scan old new
-round_lost after read file scan count fault old mid new is (more, whole, place, counted, sent) held = (more, place.begins, lost_held fault _ old mid new is sent held)
+round_lost after read file scan count fault old mid new is (more, whole, place, counted, sent) held =
+    (more, place.begins, lost_held fault file _ old mid new is sent held)
 
 pub round_broken : (after : ℕ) (read : List (List ℕ)) (file : List ℕ) (scan : Place) (cause : DumpFault) (fault : Fault) (old new : Output)
     → fault ≡ dumped_fault cause → WritesEntries (Err cause) after read file scan old new → SendsRound (Err fault) after read file scan old new
-round_broken after read file scan (dump.Journal cause) fault old new is (refuses, (more, begins, sent)) = (more, begins, inl sent)
+round_broken after read file scan (dump.Journal cause) fault old new is (refuses, (more, begins, sent)) =
+    (more, begins, inl (record { why = cause; named = is; refuses = refuses; went = sent }))
 round_broken after read file scan (dump.Writer cause) fault old new is (device, (more, begins, cut)) = (more, begins, inr (is, cut))
 
 -- one more round behind those that were written
@@ -73,20 +84,27 @@ module _ {D : Type 0} (holds : D → List ℕ → Type 0) (after : ℕ) (file : 
     since = since;
     records = records ++ more;
     begins = begins;
-    ends = subst (λ (l : List ℕ). EndsBy fault l start new) (entries_once after [] records more) (behind_ends fault _ _ start mid new sent ends);
+    ends = subst (λ (l : List ℕ). EndsBy fault now l start new) (entries_once after [] records more) (behind_ends fault now _ _ start mid new sent ends);
   }
 
   -- no round more: the file could not be read on
-  pub no_more : (fault : Fault) (device : D) (scan : Place) (mid : Output) → Grown holds after file device scan start mid → Breaks fault after file start mid
-  no_more fault device scan mid g = record { later = g.later; since = g.since; records = g.records; begins = g.place.begins; ends = inl g.sent }
+  pub no_more : (cause : journal.Fault) (fault : Fault) (device : D) (scan : Place) (mid : Output) → fault ≡ disk_fault cause → Grown holds after file device scan start mid
+      → Breaks fault true after file start mid
+  no_more cause fault device scan mid is g = record {
+    later = g.later;
+    since = g.since;
+    records = g.records;
+    begins = g.place.begins;
+    ends = inl (record { why = open_faults.Device cause; named = is; refuses = tt; went = g.sent });
+  }
 
-  pub reached : (device : D) (scan : Place) (mid : Output) → Grown holds after file device scan start mid → EndsRounds (Ok tt) after file start mid
+  pub reached : (device : D) (scan : Place) (mid : Output) → Grown holds after file device scan start mid → EndsRounds (Ok tt) true after file start mid
   reached device scan mid g = record { later = g.later; since = g.since; records = g.records; whole = g.whole; sent = g.sent }
 
 -- the entries, behind what stands before them
-module _ (after : Option ℕ) (rules : Rules) (file : List ℕ) (old mid new : Output) where
-  pub part_sent : (result : Result (Unit {0}) Fault) → Sent (start_of after rules) old mid → EndsRounds result (floor_of after) file mid new
-      → WritesPart result after rules file old new
+module _ (follows : Bool) (after : Option ℕ) (rules : Rules) (file : List ℕ) (old mid new : Output) where
+  pub part_sent : (result : Result (Unit {0}) Fault) → Sent (start_of after rules) old mid → EndsRounds result follows (floor_of after) file mid new
+      → WritesPart result follows after rules file old new
   part_sent (Ok done) one two = record {
     later = two.later;
     since = two.since;
@@ -99,15 +117,20 @@ module _ (after : Option ℕ) (rules : Rules) (file : List ℕ) (old mid new : O
     since = two.since;
     records = two.records;
     begins = two.begins;
-    ends = behind_ends fault _ _ old mid new one two.ends;
+    ends = behind_ends fault two.later _ _ old mid new one two.ends;
   })
 
+-- a file that nobody has appended to yet
+pub grows_same : (follows : Bool) (file : List ℕ) → GrowsTo follows file file
+grows_same false file = refl
+grows_same true file = later_same file
+
 -- what stands before the entries was cut off
-pub start_cut : (after : Option ℕ) (rules : Rules) (file : List ℕ) (old new : Output) (fault : Fault)
-    → fault ≡ Device failed.Output → CutOff (start_of after rules) old new → BeginsWith [] file → WritesPart (Err fault) after rules file old new
-start_cut after rules file old new fault is cut begins = inr (record {
+pub start_cut : (follows : Bool) (after : Option ℕ) (rules : Rules) (file : List ℕ) (old new : Output) (fault : Fault)
+    → fault ≡ Device failed.Output → CutOff (start_of after rules) old new → BeginsWith [] file → WritesPart (Err fault) follows after rules file old new
+start_cut follows after rules file old new fault is cut begins = inr (record {
   later = file;
-  since = later_same file;
+  since = grows_same follows file;
   records = [];
   begins = begins;
   ends = inr (is, sent_few _ _ _ old new refl cut);
@@ -126,5 +149,22 @@ module _ {D : Type 0} (holds : D → List ℕ → Type 0) (after : ℕ) (file : 
     sent = sent;
   }
 
-  pub first_broken : (fault : Fault) (scan : Place) → SendsRound (Err fault) after [] file scan start written → Breaks fault after file start written
-  first_broken fault scan (more, begins, ends) = record { later = file; since = later_same file; records = more; begins = begins; ends = ends }
+-- and no other
+pub one_round : (after : ℕ) (file : List ℕ) (scan : Place) (start written : Output) → SendsRound (Ok tt) after [] file scan start written
+    → EndsRounds (Ok tt) false after file start written
+one_round after file scan start written (more, whole, place, sent) = record { later = file; since = refl; records = more; whole = whole; sent = sent }
+
+-- or a fault in it
+pub first_broken : (follows : Bool) (after : ℕ) (file : List ℕ) (scan : Place) (start written : Output) (fault : Fault)
+    → SendsRound (Err fault) after [] file scan start written → EndsRounds (Err fault) follows after file start written
+first_broken follows after file scan start written fault (more, begins, ends) =
+    record { later = file; since = grows_same follows file; records = more; begins = begins; ends = ends }
+
+-- a file of which nothing is read
+pub unread : (follows : Bool) (after : Option ℕ) (rules : Rules) (file : List ℕ) (cause : OpenFault) (fault : Fault) (old : Output)
+    → fault ≡ opened_fault cause → Starts (Err cause) file → WritesPart (Err fault) follows after rules file old old
+unread follows after rules file cause fault old is starts = inl (record { why = cause; named = is; refuses = refused cause starts; went = refl })
+  where
+    refused : (cause : OpenFault) → Starts (Err cause) file → RefusesFile cause file
+    refused (open_faults.Refused why) starts = starts
+    refused (open_faults.Device failure) starts = tt

@@ -1,22 +1,19 @@
 -- What is written of the entries of a file above a commit number, as the file grows.
--- Cited by public contracts of: commands, live.
-use Rattle.std.specs.Prelude.{ℕ, ◌≡◌, ◌⊎◌, List, [], ◌++◌, Option, Some, None, Result, Ok, Err}
+-- Public contracts reach it through: Outcomes.
+use Rattle.std.specs.Prelude.{ℕ, ◌≡◌, ◌⊎◌, Bool, true, false, List, [], ◌++◌, Option, Some, None, Result, Ok, Err}
 use Rattle.tb_records.specs.Transport.{Output, Sent, CutOff}
 use Rattle.tb_records.specs.DumpBytes.{head_bytes}
+use Rattle.tb_journal.specs.declared.opening.OpenFault.{OpenFault}
 use Rattle.tb_journal.specs.Contents.{Records, contents}
 use Rattle.tb_journal.specs.Growing.{Later}
+use Rattle.tb_journal.specs.Opening.{RefusesFile}
 use Rattle.tb_journal.specs.Scans.{BeginsWith, HasRead, Place}
 use Rattle.tb_keep.specs.declared.heads.Rules.{Rules}
 use Rattle.tb_keep.specs.Following.{entries_above}
 use Rattle.tb_keep_commands.specs.declared.faults.Fault.{Fault}
 use Rattle.tb_keep_commands.specs.declared.faults.Fault.TheVariants.{Device}
 use Rattle.tb_keep_commands.specs.declared.faults.Failed.TheVariants as failed
-
--- a device holds a file that is later than this one
-pub record HoldsLater {D : Type 0} (holds : D → List ℕ → Type 0) (device : D) (file : List ℕ) : Type 0 where
-  pub later : List ℕ
-  pub since : Later file later
-  pub held : holds device later
+use Rattle.tb_keep_commands.specs.Statuses.{opened_fault}
 
 -- above which commit number entries are written: all where none is given
 abbrev pub floor_of : Option ℕ → ℕ
@@ -32,9 +29,45 @@ start_of (Some after) rules = []
 abbrev pub part_of : Option ℕ → Rules → List (List ℕ) → List ℕ
 part_of after rules records = start_of after rules ++ entries_above (floor_of after) [] records
 
--- these bytes went out; or standard output failed, and a prefix of them did
-abbrev pub EndsBy : Fault → List ℕ → Output → Output → Type 0
-EndsBy fault bytes start written = Sent bytes start written ⊎ ((fault ≡ Device failed.Output) × CutOff bytes start written)
+-- the file itself, or, where more is waited for, a later one
+abbrev pub GrowsTo : Bool → List ℕ → List ℕ → Type 0
+GrowsTo false file later = later ≡ file
+GrowsTo true file later = Later file later
+
+-- the file was not read on for the reason that the fault names, and before that this went out
+pub record StopsReading (fault : Fault) (file : List ℕ) (Went : Type 0) : Type 0 where
+  pub why : OpenFault
+  pub named : fault ≡ opened_fault why
+  pub refuses : RefusesFile why file
+  pub went : Went
+
+-- the file was not read on, and these bytes went out; or standard output failed, and a prefix of them did
+abbrev pub EndsBy : Fault → List ℕ → List ℕ → Output → Output → Type 0
+EndsBy fault file bytes start written =
+    StopsReading fault file (Sent bytes start written) ⊎ ((fault ≡ Device failed.Output) × CutOff bytes start written)
+
+-- all of a file was read, the file itself or, where more was waited for, what it had become; and the part of its records went out
+pub record WritesRead (follows : Bool) (after : Option ℕ) (rules : Rules) (file : List ℕ) (start written : Output) : Type 0 where
+  pub later : List ℕ
+  pub since : GrowsTo follows file later
+  pub records : List (List ℕ)
+  pub whole : contents later ≡ Records records
+  pub sent : Sent (part_of after rules records) start written
+
+-- or, at a fault, that of the records that were read until then
+pub record WritesSome (fault : Fault) (follows : Bool) (after : Option ℕ) (rules : Rules) (file : List ℕ) (start written : Output) : Type 0 where
+  pub later : List ℕ
+  pub since : GrowsTo follows file later
+  pub records : List (List ℕ)
+  pub begins : BeginsWith records later
+  pub ends : EndsBy fault later (part_of after rules records) start written
+
+abbrev pub WritesPart : Result (Unit {0}) Fault → Bool → Option ℕ → Rules → List ℕ → Output → Output → Type 0
+WritesPart (Ok done) follows after rules file start written = WritesRead follows after rules file start written
+WritesPart (Err fault) follows after rules file start written =
+    StopsReading fault file (written ≡ start) ⊎ WritesSome fault follows after rules file start written
+
+-- what private functions alone cite
 
 -- the entries behind the records that were read were read and written, to the end of the file; or some of them
 abbrev pub SendsRound : Result (Unit {0}) Fault → ℕ → List (List ℕ) → List ℕ → Place → Output → Output → Type 0
@@ -42,7 +75,7 @@ SendsRound (Ok done) after read file scan start written =
     (more : List (List ℕ)) × (contents file ≡ Records (read ++ more)) × HasRead (read ++ more) file scan
     × Sent (entries_above after read more) start written
 SendsRound (Err fault) after read file scan start written =
-    (more : List (List ℕ)) × BeginsWith (read ++ more) file × EndsBy fault (entries_above after read more) start written
+    (more : List (List ℕ)) × BeginsWith (read ++ more) file × EndsBy fault file (entries_above after read more) start written
 
 -- a file that has grown meanwhile was read to its end, and of its entries those were written
 pub record Grown {D : Type 0} (holds : D → List ℕ → Type 0) (after : ℕ) (file : List ℕ) (device : D) (scan : Place) (start written : Output) : Type 0 where
@@ -55,45 +88,26 @@ pub record Grown {D : Type 0} (holds : D → List ℕ → Type 0) (after : ℕ) 
   pub sent : Sent (entries_above after [] records) start written
 
 -- a fault ends the writing of the entries of a file that grows: of records that it begins with
-pub record Breaks (fault : Fault) (after : ℕ) (file : List ℕ) (start written : Output) : Type 0 where
+pub record Breaks (fault : Fault) (follows : Bool) (after : ℕ) (file : List ℕ) (start written : Output) : Type 0 where
   pub later : List ℕ
-  pub since : Later file later
+  pub since : GrowsTo follows file later
   pub records : List (List ℕ)
   pub begins : BeginsWith records later
-  pub ends : EndsBy fault (entries_above after [] records) start written
+  pub ends : EndsBy fault later (entries_above after [] records) start written
 
 -- one more round
 abbrev pub GrowsBy : {D : Type 0} → (D → List ℕ → Type 0) → Result (Unit {0}) Fault → ℕ → List ℕ → D → Place → Output → Output → Type 0
 GrowsBy holds (Ok done) after file device scan start written = Grown holds after file device scan start written
-GrowsBy holds (Err fault) after file device scan start written = Breaks fault after file start written
+GrowsBy holds (Err fault) after file device scan start written = Breaks fault true after file start written
 
 -- all rounds: nobody waits for more, or a fault
-pub record Reaches (after : ℕ) (file : List ℕ) (start written : Output) : Type 0 where
+pub record Reaches (follows : Bool) (after : ℕ) (file : List ℕ) (start written : Output) : Type 0 where
   pub later : List ℕ
-  pub since : Later file later
+  pub since : GrowsTo follows file later
   pub records : List (List ℕ)
   pub whole : contents later ≡ Records records
   pub sent : Sent (entries_above after [] records) start written
 
-abbrev pub EndsRounds : Result (Unit {0}) Fault → ℕ → List ℕ → Output → Output → Type 0
-EndsRounds (Ok done) after file start written = Reaches after file start written
-EndsRounds (Err fault) after file start written = Breaks fault after file start written
-
--- what went out of a file: the part of the records that were read so far. While a file is followed each round ends so
-pub record WritesRead (after : Option ℕ) (rules : Rules) (file : List ℕ) (start written : Output) : Type 0 where
-  pub later : List ℕ
-  pub since : Later file later
-  pub records : List (List ℕ)
-  pub whole : contents later ≡ Records records
-  pub sent : Sent (part_of after rules records) start written
-
-pub record WritesSome (fault : Fault) (after : Option ℕ) (rules : Rules) (file : List ℕ) (start written : Output) : Type 0 where
-  pub later : List ℕ
-  pub since : Later file later
-  pub records : List (List ℕ)
-  pub begins : BeginsWith records later
-  pub ends : EndsBy fault (part_of after rules records) start written
-
-abbrev pub WritesPart : Result (Unit {0}) Fault → Option ℕ → Rules → List ℕ → Output → Output → Type 0
-WritesPart (Ok done) after rules file start written = WritesRead after rules file start written
-WritesPart (Err fault) after rules file start written = (written ≡ start) ⊎ WritesSome fault after rules file start written
+abbrev pub EndsRounds : Result (Unit {0}) Fault → Bool → ℕ → List ℕ → Output → Output → Type 0
+EndsRounds (Ok done) follows after file start written = Reaches follows after file start written
+EndsRounds (Err fault) follows after file start written = Breaks fault follows after file start written

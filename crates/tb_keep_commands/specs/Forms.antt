@@ -51,10 +51,29 @@ run_four word clients last =
 abbrev pub run_five : List ℕ → List ℕ → List ℕ → List ℕ → Option Form
 run_five word clients profile last = if is_progress last then run_form word clients (profile_of profile) true else None
 
--- `dump FILE --follow`, or `run FILE CLIENTS_MAX`
+-- one digit or more, and nothing else
+abbrev pub is_number : List ℕ → Bool
+is_number word = nat_lt 0 (length word) && list_all is_ascii_digit word
+
+-- the first byte is `-`
+abbrev pub is_option : List ℕ → Bool
+is_option [] = false
+is_option (first ∷ rest) = first == 45
+
+-- a word that names no file: a number, or an option. `./64` names the file `64`
+abbrev pub is_no_file : List ℕ → Bool
+is_no_file word = is_option word || is_number word
+
+-- `salvage FILE NEW` or `backup FILE NEW`
+abbrev pub copy_form : Form → List ℕ → Option Form
+copy_form asked new = if is_no_file new then None else Some asked
+
+-- `dump FILE --follow`, `salvage FILE NEW`, `backup FILE NEW`, or `run FILE CLIENTS_MAX`
 abbrev pub form_three : List ℕ → List ℕ → Option Form
 form_three word third =
     if is_dump word then (if pointwise nat_eq third (codes "--follow") then Some (form.Dump None true) else None)
+    else if pointwise nat_eq word (codes "salvage") then copy_form form.Salvage third
+    else if pointwise nat_eq word (codes "backup") then copy_form form.Backup third
     else run_form word third (Some One) false
 
 abbrev pub dump_by : Option ℕ → Bool → Option Form
@@ -90,18 +109,12 @@ file_word [] = []
 file_word (word ∷ []) = []
 file_word (word ∷ file ∷ rest) = file
 
--- one digit or more, and nothing else
-abbrev pub is_number : List ℕ → Bool
-is_number word = nat_lt 0 (length word) && list_all is_ascii_digit word
-
--- the first byte is `-`
-abbrev pub is_option : List ℕ → Bool
-is_option [] = false
-is_option (first ∷ rest) = first == 45
-
--- a word that names no file: a number, or an option. `./64` names the file `64`
-abbrev pub is_no_file : List ℕ → Bool
-is_no_file word = is_option word || is_number word
+-- the word that names the new file
+abbrev pub new_word : List (List ℕ) → List ℕ
+new_word [] = []
+new_word (word ∷ []) = []
+new_word (word ∷ file ∷ []) = []
+new_word (word ∷ file ∷ new ∷ rest) = new
 
 abbrev pub form_of : List (List ℕ) → Option Form
 form_of words = if is_no_file (file_word words) then None else form_by words
@@ -156,6 +169,20 @@ wrong_count (word ∷ file ∷ rest) = so_wrong (word ∷ []) (wrong_behind word
 abbrev pub wrong_over : List (List ℕ) → Wrong
 wrong_over words = wrong_file words (wrong_count words)
 
+-- words that copy a file into a new one, of which the second may name a file
+abbrev pub wrong_new : List (List ℕ) → Wrong
+wrong_new [] = so_wrong [] (codes "no words")
+wrong_new (word ∷ []) = so_wrong (word ∷ []) (codes "FILE and NEW are missing")
+wrong_new (word ∷ file ∷ []) = so_wrong (word ∷ file ∷ []) (codes "NEW is missing")
+wrong_new (word ∷ file ∷ new ∷ []) = so_wrong (word ∷ file ∷ new ∷ []) (codes "NEW is a number or begins with -; write ./NEW")
+wrong_new (word ∷ file ∷ new ∷ more ∷ rest) = so_wrong (word ∷ []) (codes "too many words")
+
+abbrev pub wrong_copy : List (List ℕ) → Wrong
+wrong_copy words = wrong_file words (wrong_new words)
+
+abbrev pub is_copy : List ℕ → Bool
+is_copy word = pointwise nat_eq word (codes "salvage") || pointwise nat_eq word (codes "backup")
+
 -- words that begin with another: one of a form without a file, or none
 abbrev pub wrong_alone : Option Form → List ℕ → Wrong
 wrong_alone (Some form) word = so_wrong (word ∷ []) (codes "too many words")
@@ -167,7 +194,10 @@ wrong_by None word rest = wrong_alone (form_alone word) word
 
 abbrev pub wrong : List (List ℕ) → Wrong
 wrong [] = so_wrong [] (codes "no words")
-wrong (word ∷ rest) = if pointwise nat_eq word (codes "run") then wrong_run (word ∷ rest) else wrong_by (form_over word) word rest
+wrong (word ∷ rest) =
+    if pointwise nat_eq word (codes "run") then wrong_run (word ∷ rest)
+    else if is_copy word then wrong_copy (word ∷ rest)
+    else wrong_by (form_over word) word rest
 
 -- rows
 
@@ -179,6 +209,12 @@ a_start_is_reported = refl
 
 pub later_entries_are_followed : form_of (codes "dump" ∷ codes "ledger" ∷ codes "--after" ∷ codes "40" ∷ codes "--follow" ∷ []) ≡ Some (form.Dump (Some 40) true)
 later_entries_are_followed = refl
+
+pub a_file_is_salvaged : form_of (codes "salvage" ∷ codes "ledger" ∷ codes "./64" ∷ []) ≡ Some form.Salvage
+a_file_is_salvaged = refl
+
+pub no_option_is_new : form_of (codes "backup" ∷ codes "ledger" ∷ codes "-o" ∷ []) ≡ None
+no_option_is_new = refl
 
 pub no_profile_three : form_of (codes "run" ∷ codes "ledger" ∷ codes "2" ∷ codes "3" ∷ []) ≡ None
 no_profile_three = refl

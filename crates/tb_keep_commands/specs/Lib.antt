@@ -1,3 +1,6 @@
+pub mod Copies
+pub mod DumpLaws
+pub mod Exits
 pub mod Following
 pub mod Forms
 pub mod Hosts

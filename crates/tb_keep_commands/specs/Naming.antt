@@ -1,5 +1,5 @@
 -- What is said of a file that is refused: what it is, by its first bytes, and the rules that it was made with.
--- Public contracts reach it through: Outcomes.
+-- Public contracts reach it through: Copies, Outcomes.
 use Rattle.std.specs.Prelude.{ℕ, ◌≡◌, List, Option, Some, None, Result, Ok, Err}
 use Rattle.tb_journal.specs.declared.faults.Fault as journal
 use Rattle.tb_journal.specs.Device.{Disk, Looks}

@@ -1,9 +1,10 @@
--- What each form does, and how a command ends: its outcome, exit status and line.
--- Cited by public contracts of: commands.
-use Rattle.std.specs.Prelude.{ℕ, Bool, true, false, Option, None, ◌||◌, ◌≡◌, ◌-◌, List, [], length, Result, Ok, Err, IfOk}
+-- What each form does, and its outcome.
+-- Public contracts reach it through: Copies, Exits.
+use Rattle.std.specs.Prelude.{ℕ, Bool, true, false, Option, None, ◌≡◌, ◌-◌, List, length, Result, Ok, Err, IfOk}
 use Rattle.tb_records.specs.Transport.{Input, Output, Sent, CutOff}
 use Rattle.tb_journal.specs.declared.faults.Fault as journal
 use Rattle.tb_journal.specs.Device.{Disk, Looks, LeavesOnly}
+use Rattle.tb_journal.specs.Growing.{Grown}
 use Rattle.tb_keep.specs.declared.faults.DumpFault.{DumpFault}
 use Rattle.tb_keep.specs.declared.faults.KeepFault.{KeepFault}
 use Rattle.tb_keep.specs.declared.faults.StartFault.{StartFault}
@@ -11,21 +12,17 @@ use Rattle.tb_keep.specs.declared.heads.Rules.{Rules}
 use Rattle.tb_keep.specs.declared.opening.NotKept.{NotKept}
 use Rattle.tb_keep.specs.Keeping.{Keeping}
 use Rattle.tb_keep.specs.Opening.{IsStarted, StartsFile, IsStartRefused, MayBeStarted, HasEitherCause, device_left, why_left}
-use Rattle.tb_keep.specs.Reading.{Dumps, HasDumpCause, rules_of}
+use Rattle.tb_keep.specs.Reading.{Dumps, HasDumpCause}
 use Rattle.tb_keep.specs.Restoration.{HasStartCause}
 use Rattle.tb_keep.specs.Rounds.{Served}
-use Rattle.tb_keep_commands.specs.declared.arguments.Form.{Form}
-use Rattle.tb_keep_commands.specs.declared.arguments.Form.TheVariants as form
 use Rattle.tb_keep_commands.specs.declared.faults.Fault.{Fault}
 use Rattle.tb_keep_commands.specs.declared.faults.Fault.TheVariants.{Device, NoMemory, Opening}
 use Rattle.tb_keep_commands.specs.declared.faults.Failed.{Failed}
 use Rattle.tb_keep_commands.specs.declared.faults.Failed.TheVariants as failed
-use Rattle.tb_keep_commands.specs.declared.commands.Terminals.{Terminals}
-use Rattle.tb_keep_commands.specs.declared.help.TheConstants.{USAGE, VERSION}
 use Rattle.tb_keep_commands.specs.declared.openers.OpeningFault.{OpeningFault}
 use Rattle.tb_keep_commands.specs.declared.summaries.Found.{Found}
 use Rattle.tb_keep_commands.specs.declared.summaries.Summary.{Summary}
-use Rattle.tb_keep_commands.specs.Statuses.{disk_fault, dumped_fault, started_fault, kept_fault, failed_pipe, fault_status, fault_line, SaysLine, TellsMade, TellsCut, TellsReading, TellsReady, TellsFrames}
+use Rattle.tb_keep_commands.specs.Statuses.{disk_fault, dumped_fault, started_fault, kept_fault, failed_pipe, TellsMade, TellsCut, TellsReading, TellsReady, TellsFrames}
 use Rattle.tb_keep_commands.specs.Following.{WritesPart}
 use Rattle.tb_keep_commands.specs.Naming.{Names, NamesAsked}
 use Rattle.tb_keep_commands.specs.Summaries.{ReadsWhole, IsSummary, summary_text}
@@ -93,21 +90,22 @@ module _ (tells : Type 0) {D : Type 0} (disk : D → Disk) (holds : D → List �
     pub dumps : DumpsFound found outcome between after start written
 
   -- where a file was found to be one history a part of it was written, and as long as more was waited for what came later; else nothing was
-  abbrev pub FollowsFound : Result Found StartFault → Option ℕ → Outcome → D → D → Output → Output → Type 0
-  FollowsFound (Err fault) from outcome device after start written = IsRefused fault outcome device after × (written ≡ start)
-  FollowsFound (Ok found) from outcome device after start written = OfFile device (λ file. WritesPart outcome from found.rules file start written)
+  abbrev pub FollowsFound : Result Found StartFault → Option ℕ → Bool → Outcome → D → D → Output → Output → Type 0
+  FollowsFound (Err fault) from follows outcome device after start written = IsRefused fault outcome device after × (written ≡ start)
+  FollowsFound (Ok found) from follows outcome device after start written =
+      OfFile device (λ file. WritesPart outcome follows from found.rules file start written)
 
   -- a file was read to its end before a byte of a part of its dump was written: the entries above a commit number, or all
-  pub record FollowsFile (from : Option ℕ) (outcome : Outcome) (device after : D) (start written : Output) : Type 0 where
+  pub record FollowsFile (from : Option ℕ) (follows : Bool) (outcome : Outcome) (device after : D) (start written : Output) : Type 0 where
     pub found : Result Found StartFault
     pub between : D
     pub whole : IsReadWhole found device between
-    pub follows : FollowsFound found from outcome between after start written
+    pub writes : FollowsFound found from follows outcome between after start written
 
   -- a dump, or a part of one
   abbrev pub DumpsPart : Option ℕ → Bool → Outcome → D → D → Output → Output → Type 0
   DumpsPart None false outcome device after start written = DumpsFile outcome device after start written
-  DumpsPart from follows outcome device after start written = FollowsFile from outcome device after start written
+  DumpsPart from follows outcome device after start written = FollowsFile from follows outcome device after start written
 
   -- where a file of so many bytes was found to be one history its summary was printed; else nothing was
   abbrev pub ChecksFound : Result Found StartFault → ℕ → Outcome → D → D → D → Output → Output → Type 0
@@ -128,9 +126,11 @@ module _ (tells : Type 0) {D : Type 0} (disk : D → Disk) (holds : D → List �
     pub same : OfFile device (holds after)
     pub looks : tells → Looks len (disk device) (disk after)
 
-  -- a device was asked for the length of the whole file that it reads, which stays
-  pub record IsMeasured (len : Result ℕ journal.Fault) (device after : D) : Type 0 where
-    pub long : tells → IfOk len (λ n. n ≡ length (disk device).seen)
+  -- a device was asked for the length of the whole file of which it holds a part: that at some moment of the call. What it holds stays
+  pub record IsMeasured (whole : D → List ℕ → Type 0) (len : Result ℕ journal.Fault) (device after : D) : Type 0 where
+    pub long : (file : List ℕ) → whole device file → Grown (whole after) file (λ later. IfOk len (λ n. n ≡ length later))
+    -- nobody else appends to the file of a device that tells what its calls do
+    pub told : tells → IfOk len (λ n. n ≡ length (disk device).seen)
     pub same : OfFile device (holds after)
     pub looks : tells → Looks len (disk device) (disk after)
 
@@ -139,10 +139,10 @@ module _ (tells : Type 0) {D : Type 0} (disk : D → Disk) (holds : D → List �
   ChecksBy (Ok len) outcome device after start written = ChecksLong len outcome device after start written
 
   -- a file's length was asked for, and then it was checked
-  pub record ChecksFile (outcome : Outcome) (device after : D) (start written : Output) : Type 0 where
+  pub record ChecksFile (whole : D → List ℕ → Type 0) (outcome : Outcome) (device after : D) (start written : Output) : Type 0 where
     pub len : Result ℕ journal.Fault
     pub between : D
-    pub asked : IsMeasured len device between
+    pub asked : IsMeasured whole len device between
     pub checks : ChecksBy len outcome between after start written
 
   -- that its start made a file where there were no bytes was told, and what it cut off behind the records of one of so many bytes, and that
@@ -230,48 +230,6 @@ module _ (tells : Type 0) {D : Type 0} (disk : D → Disk) (holds : D → List �
   DumpsOver from follows outcome start written =
       Opens may left outcome (written ≡ start) (λ device. (after : D) × DumpsPart tells disk holds from follows outcome device after start written)
 
-  abbrev pub ChecksOver : Outcome → Output → Output → Type 0
-  ChecksOver outcome start written =
-      Opens may left outcome (written ≡ start) (λ device. (after : D) × ChecksFile tells disk holds outcome device after start written)
-
--- what was held back went out where all was done; where it does not go out, that is the outcome
-abbrev pub Finishes : Type 0 → Outcome → Outcome → Output → Output → Type 0
-Finishes gone (Ok done) (Ok finished) middle written = gone × Sent [] middle written
-Finishes gone (Ok done) (Err fault) middle written = (fault ≡ Device failed.Output) × CutOff [] middle written
-Finishes gone (Err fault) outcome middle written = (outcome ≡ Err fault) × (written ≡ middle)
-
-abbrev pub outcome_status : Outcome → ℕ
-outcome_status (Ok done) = 0
-outcome_status (Err fault) = fault_status fault
-
--- nothing is told of a form that was done, and of a fault its line
-abbrev pub Tells : Outcome → List ℕ → Output → Output → Type 0
-Tells (Ok done) path before after = after ≡ before
-Tells (Err fault) path before after = SaysLine (fault_line fault path) before after
-
-module _ (tells : Type 0) {D : Type 0} (disk : D → Disk) (holds : D → List ℕ → Type 0) (tells_read : Type 0) {E : Type 0} (disk_read : E → Disk) (holds_read : E → List ℕ → Type 0) {O : Type 0} (makes : O → List ℕ → Result D OpeningFault → O → Type 0) (opens : O → List ℕ → Result E OpeningFault → O → Type 0) (ends : Terminals) (before : O) (name : List ℕ) (left : O) where
-  -- what a form does over what opens devices: `run` has the device of a name made where there is none, `dump` and `check` open one that is
-  -- there, and the other forms open none. What it tells while it goes on stands before the line of its outcome
-  abbrev pub Performs : Form → Outcome → Input → Input → Output → Output → Output → Output → Type 0
-  Performs (form.Run clients_max profile reports) outcome first last start written quiet told =
-      RunsOver tells disk holds (makes before name) left outcome (rules_of profile clients_max) name (reports || ends.faults) ends.input
-      first last start written quiet told
-  Performs (form.Dump from follows) outcome first last start written quiet told =
-      (last ≡ first) × (told ≡ quiet) × DumpsOver tells_read disk_read holds_read (opens before name) left from follows outcome start written
-  Performs form.Check outcome first last start written quiet told =
-      (last ≡ first) × (told ≡ quiet) × ChecksOver tells_read disk_read holds_read (opens before name) left outcome start written
-  Performs form.Help outcome first last start written quiet told =
-      (left ≡ before) × (last ≡ first) × (told ≡ quiet) × Prints USAGE.now outcome start written
-  Performs form.Version outcome first last start written quiet told =
-      (left ≡ before) × (last ≡ first) × (told ≡ quiet) × Prints VERSION.now outcome start written
-
-  -- a form was done, or not to its end; what it wrote went out; and the exit status and the line are those of the outcome
-  pub record Exits (gone : Type 0) (form : Form) (status : ℕ) (first last : Input) (start written quiet told : Output) : Type 0 where
-    pub performed : Outcome
-    pub middle : Output
-    pub noted : Output
-    pub performs : Performs form performed first last start middle quiet noted
-    pub outcome : Outcome
-    pub finishes : Finishes gone performed outcome middle written
-    pub status_is : status ≡ outcome_status outcome
-    pub line : Tells outcome name noted told
+  abbrev pub ChecksOver : (D → List ℕ → Type 0) → Outcome → Output → Output → Type 0
+  ChecksOver whole outcome start written =
+      Opens may left outcome (written ≡ start) (λ device. (after : D) × ChecksFile tells disk holds whole outcome device after start written)

@@ -1,5 +1,5 @@
 -- The exit status of each fault, and the line that names it.
--- Cited by public contracts of: commands, faults, host, lines, openers.
+-- Cited by public contracts of: commands, copies, faults, host, lines, openers.
 use Rattle.std.specs.Prelude.{ℕ, zero, suc, Bool, true, false, ◌≡◌, ◌==◌, ◌/◌, ◌&&◌, nat_le, nat_eq, ◌++◌, List, [], ◌∷◌, Option, Some, None, if◌then◌else◌, flat_map, codes, refl}
 use Rattle.std.specs.Fmt.{decimal, digits}
 use Rattle.std.specs.IoError.{error_kind}
@@ -33,9 +33,9 @@ use Rattle.tb_keep.specs.declared.heads.Rules.{Rules}
 use Rattle.tb_keep_commands.specs.declared.faults.Damage.{Damage}
 use Rattle.tb_keep_commands.specs.declared.faults.Damage.TheVariants.{Block, Record, Entry, Torn}
 use Rattle.tb_keep_commands.specs.declared.faults.Fault.{Fault}
-use Rattle.tb_keep_commands.specs.declared.faults.Fault.TheVariants.{Usage, Device, Opening, NoMemory, Request, NotAJournal, NoHead, Damaged, OtherRules, Full, SyncFailed}
+use Rattle.tb_keep_commands.specs.declared.faults.Fault.TheVariants.{Usage, Device, Opening, Making, NoMemory, Request, NotAJournal, NoHead, Damaged, OtherRules, Full, SyncFailed}
 use Rattle.tb_keep_commands.specs.declared.faults.Failed.{Failed}
-use Rattle.tb_keep_commands.specs.declared.faults.Failed.TheVariants.{Input, Output as OutputSide, File}
+use Rattle.tb_keep_commands.specs.declared.faults.Failed.TheVariants.{Input, Output as OutputSide, File, New}
 use Rattle.tb_keep_commands.specs.declared.faults.Mismatch.{Mismatch}
 use Rattle.tb_keep_commands.specs.declared.faults.Numbers.{Numbers}
 use Rattle.tb_keep_commands.specs.declared.kinds.Kind.{Kind}
@@ -103,6 +103,18 @@ abbrev pub dumped_fault : DumpFault → Fault
 dumped_fault (dump.Journal fault) = opened_fault fault
 dumped_fault (dump.Writer fault) = Device OutputSide
 
+-- a fault of the file, where that is the new one
+abbrev pub new_fault : Fault → Fault
+new_fault (Device File) = Device New
+new_fault (NotAJournal kind) = Making opening.Exists
+new_fault fault = fault
+
+-- the path that a fault is printed with
+abbrev pub fault_path : Fault → List ℕ → List ℕ → List ℕ
+fault_path (Making fault) file new = new
+fault_path (Device New) file new = new
+fault_path fault file new = file
+
 -- where a pipe failed, this one
 abbrev pub read_fault : Failed → RunFault → Fault
 read_fault pipe (run.Frame frame.Device) = Device pipe
@@ -122,19 +134,19 @@ failed_pipe before now = if before == now then OutputSide else Input
 abbrev pub numbers_of : Rules → Numbers
 numbers_of rules = record { clients_max = rules.clients_max; profile = profile_number rules.profile }
 
+-- of a file that is not opened or made
+abbrev pub opening_status : OpeningFault → ℕ
+opening_status opening.Locked = 4
+opening_status opening.SyncFailed = 9
+opening_status opening.Exists = 2
+opening_status fault = 1
+
 -- 1 a device or memory failed, 2 the arguments are wrong or a request is none, and from 4 on why the file is not served
 abbrev pub fault_status : Fault → ℕ
 fault_status (Device which) = 1
 fault_status NoMemory = 1
-fault_status (Opening opening.Locked) = 4
-fault_status (Opening opening.Missing) = 1
-fault_status (Opening opening.Forbidden) = 1
-fault_status (Opening opening.NoMemory) = 1
-fault_status (Opening opening.SyncFailed) = 9
-fault_status (Opening opening.Unopened) = 1
-fault_status (Opening opening.Exists) = 2
-fault_status (Opening opening.NotAFile) = 1
-fault_status (Opening opening.Dangling) = 1
+fault_status (Opening fault) = opening_status fault
+fault_status (Making fault) = opening_status fault
 fault_status Usage = 2
 fault_status (Request fault) = 2
 fault_status (NotAJournal kind) = 5
@@ -160,7 +172,7 @@ opening_text opening.Missing path = codes "Device: cannot find " ++ path
 opening_text opening.Forbidden path = codes "Device: no permission to open " ++ path
 opening_text opening.NoMemory path = codes "NoMemory"
 opening_text opening.SyncFailed path = sync_text
-opening_text opening.Exists path = codes "Usage: " ++ (path ++ codes " is there already")
+opening_text opening.Exists path = codes "Usage: " ++ (path ++ codes " exists")
 opening_text opening.NotAFile path = codes "Device: " ++ (path ++ codes " is no regular file")
 opening_text opening.Dangling path = codes "Device: " ++ (path ++ codes " is a link to nothing")
 opening_text opening.Unopened path = codes "Device: cannot open " ++ path
@@ -170,6 +182,7 @@ abbrev pub failed_text : Failed → List ℕ → List ℕ
 failed_text Input path = codes "Device: standard input"
 failed_text OutputSide path = codes "Device: standard output"
 failed_text File path = codes "Device: " ++ path
+failed_text New path = codes "Device: " ++ path
 
 -- a file that is no ledger, and what it is; nothing more where it was not looked at
 abbrev pub kind_text : Kind → List ℕ → List ℕ
@@ -196,6 +209,7 @@ abbrev pub fault_text : Fault → List ℕ → List ℕ
 fault_text Usage path = codes "Usage"
 fault_text (Device which) path = failed_text which path
 fault_text (Opening fault) path = opening_text fault path
+fault_text (Making fault) path = opening_text fault path
 fault_text NoMemory path = codes "NoMemory"
 fault_text (Request fault) path = run_fault_name fault
 fault_text (NotAJournal kind) path = kind_text kind path
@@ -281,6 +295,9 @@ line_of_a_block = refl
 
 pub line_of_a_name : fault_line (Opening opening.Missing) (codes "ledger") ≡ codes "tbd: Device: cannot find ledger\n"
 line_of_a_name = refl
+
+pub line_of_a_new_name : fault_line (Making opening.Exists) (codes "new") ≡ codes "tbd: Usage: new exists\n"
+line_of_a_new_name = refl
 
 pub line_of_a_cut : cut_line 5 182 ≡ codes "tbd: cut 5 bytes of a batch that was not committed, behind byte 182\n"
 unfolding digits

@@ -1,6 +1,6 @@
 //! What the words of the command line ask for, and what is wrong with words that ask for nothing.
 ghost use Rattle.std.specs.Prelude.{◌≡◌, map, take, string_bytes};
-ghost use Rattle.tb_keep_commands.specs.Forms.{form_alone, form_by, form_of, form_over, form_three, form_four, form_five, dump_from, run_form, run_four, run_five, file_word, is_number, is_no_file, is_progress, wrong_last, wrong_five, wrong_clients, wrong_run, wrong_behind, wrong_count, wrong_over, wrong};
+ghost use Rattle.tb_keep_commands.specs.Forms.{form_alone, form_by, form_of, form_over, form_three, form_four, form_five, dump_from, run_form, run_four, run_five, file_word, new_word, copy_form, is_copy, wrong_new, wrong_copy, is_number, is_no_file, is_progress, wrong_last, wrong_five, wrong_clients, wrong_run, wrong_behind, wrong_count, wrong_over, wrong};
 ghost use Rattle.tb_commands.specs.Forms.{clients_of};
 
 use tb_commands::{number, read_clients_max, read_profile};
@@ -16,6 +16,10 @@ pub enum Form {
     Dump(Option<u64>, bool),
     /// Read a file, and tell what is in it.
     Check,
+    /// Copy the longest legal history that a file begins with into a new file.
+    Salvage,
+    /// Copy a file that is whole into a new file.
+    Backup,
     /// The page of usage out.
     Help,
     /// The program's version out.
@@ -101,7 +105,18 @@ fn form_three(word: &str, third: &str) -> Option<Form>
             None
         };
     }
-    run_form(word, third, Some(Profile::One), false)
+    match word {
+        "salvage" => copy_form(Form::Salvage, third),
+        "backup" => copy_form(Form::Backup, third),
+        _ => run_form(word, third, Some(Profile::One), false),
+    }
+}
+
+/// The form, where the word names a new file.
+fn copy_form(form: Form, new: &str) -> Option<Form>
+    ensures { result ≡ copy_form form new.now }
+{
+    if is_no_file(new) { None } else { Some(form) }
 }
 
 /// What `dump` with a file, a word and a commit number asks for.
@@ -172,6 +187,16 @@ pub fn file_word(words: &[String]) -> &str
     }
 }
 
+/// The word that names the new file, the third one; an empty one where there is none.
+pub fn new_word(words: &[String]) -> &str
+    ensures { result.now ≡ new_word (map string_bytes words.now) }
+{
+    match words {
+        [_, _, new, ..] => new.as_str(),
+        _ => "",
+    }
+}
+
 /// Says that a word is digits alone.
 fn is_number(word: &[u8]) -> bool
     ensures { result ≡ is_number word.now }
@@ -219,6 +244,9 @@ fn wrong_five(clients_max: &str, last: &str) -> &'static str
     }
     "only --progress may follow PROFILE"
 }
+
+/// What is wrong with a word that names no new file.
+const NO_NEW: &str = "NEW is a number or begins with -; write ./NEW";
 
 /// What is wrong with a word that names no file.
 const NO_FILE: &str = "FILE is a number or begins with -; write ./FILE";
@@ -295,6 +323,39 @@ fn wrong_over(words: &[String]) -> (&[String], &'static str)
     wrong_count(words)
 }
 
+/// Says that a word copies a file into a new one.
+fn is_copy(word: &str) -> bool
+    ensures { result ≡ is_copy word.now }
+{
+    word == "salvage" || word == "backup"
+}
+
+/// What is wrong with words that copy a file into a new one, of which the second may name a file, and those of them that are shown
+/// before it.
+fn wrong_new(words: &[String]) -> (&[String], &'static str)
+    ensures shown { map string_bytes result.0.now ≡ (wrong_new (map string_bytes words.now)).shown }
+    ensures what { result.1.now ≡ (wrong_new (map string_bytes words.now)).what }
+{
+    match words {
+        [] => (words, "no words"),
+        [_] => (words, "FILE and NEW are missing"),
+        [_, _] => (words, "NEW is missing"),
+        [_, _, _] => (words, NO_NEW),
+        [_, ..] => (&words[..1], "too many words"),
+    }
+}
+
+/// What is wrong with words that copy a file into a new one, and those of them that are shown before it.
+fn wrong_copy(words: &[String]) -> (&[String], &'static str)
+    ensures shown { map string_bytes result.0.now ≡ (wrong_copy (map string_bytes words.now)).shown }
+    ensures what { result.1.now ≡ (wrong_copy (map string_bytes words.now)).what }
+{
+    if is_no_file(file_word(words)) {
+        return (up_to_file(words), NO_FILE);
+    }
+    wrong_new(words)
+}
+
 /// What is wrong with words that are none of the program's forms, and those of them that are shown before it.
 pub fn wrong(words: &[String]) -> (&[String], &'static str)
     ensures shown { map string_bytes result.0.now ≡ (wrong (map string_bytes words.now)).shown }
@@ -306,6 +367,9 @@ pub fn wrong(words: &[String]) -> (&[String], &'static str)
     let word = first.as_str();
     if word == "run" {
         return wrong_run(words);
+    }
+    if is_copy(word) {
+        return wrong_copy(words);
     }
     match form_over(word) {
         Some(_) => wrong_over(words),

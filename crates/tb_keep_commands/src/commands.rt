@@ -1,11 +1,13 @@
 //! The program's forms, over what opens devices, any reader and any writer, and the exit status of each outcome.
 ghost use Rattle.std.specs.Prelude.{◌≡◌, ◌||◌, None, Some, map, string_bytes};
 ghost use Rattle.tb_keep_commands.specs.declared.arguments.Form.{Form};
-ghost use Rattle.tb_keep_commands.specs.Forms.{form_of, file_word};
+ghost use Rattle.tb_keep_commands.specs.Forms.{form_of, file_word, new_word};
 ghost use Rattle.tb_keep_commands.specs.Statuses.{SaysLine, usage_lines};
-ghost use Rattle.tb_keep_commands.specs.Outcomes.{Performs, Prints, RunsOver, DumpsPart, DumpsOver, ChecksOver, Finishes, Exits};
+ghost use Rattle.tb_keep_commands.specs.Exits.{Performs, Finishes, Exits};
+ghost use Rattle.tb_keep_commands.specs.Outcomes.{Prints, RunsOver, DumpsPart, DumpsOver, ChecksOver};
 
-use crate::arguments::{Form, file_word, read_form};
+use crate::arguments::{Form, file_word, new_word, read_form};
+use crate::copying::copy_over;
 use crate::faults::{Failed, Fault};
 use crate::files::{check, dump};
 use crate::following::{Part, follow};
@@ -97,8 +99,8 @@ fn check_over<O: Opener, W: Sink>(
     name: &str,
     writer: &mut W,
 ) -> Result<(), Fault>
-    ensures { ChecksOver O.Reading.tells O.Reading.disk O.Reading.holds (O.opens opener.old name.now) opener.new result
-        (W.output writer.old) (W.output writer.new) }
+    ensures { ChecksOver O.Reading.tells O.Reading.disk O.Reading.holds (O.opens opener.old name.now) opener.new O.Reading.whole
+        result (W.output writer.old) (W.output writer.new) }
 {
     let found = opener.open(name);
     match found {
@@ -129,22 +131,30 @@ fn is_reported(reports: bool, terminals: Terminals) -> bool
     reports || terminals.faults
 }
 
+/// The paths that the words name.
+#[derive(Clone, Copy)]
+struct Paths<'a> {
+    file: &'a str,
+    new: &'a str,
+}
+
 /// Does what the form asks for, over the device of a name.
 fn perform<O: Opener, R: Source, W: Outlet, E: Sink>(
     alloc: Global,
     opener: &mut O,
     form: Form,
     terminals: Terminals,
-    name: &str,
+    paths: &Paths,
     reader: &mut R,
     writer: &mut W,
     faults: &mut E,
 ) -> Result<(), Fault>
-    ensures { Performs O.File.tells O.File.disk O.File.holds O.Reading.tells O.Reading.disk O.Reading.holds
-        O.makes O.opens terminals opener.old name.now opener.new form
+    ensures { Performs O.File.tells O.File.disk O.File.holds O.Reading.tells O.Reading.disk O.Reading.holds O.Reading.whole
+        O.makes O.opens O.makes_new terminals opener.old paths.now.file.now paths.now.new.now opener.new form
         result (R.input reader.old) (R.input reader.new) (W.output writer.old) (W.output writer.new)
         (E.output faults.old) (E.output faults.new) }
 {
+    let name = paths.file;
     match form {
         Form::Run(clients_max, profile, reports) => {
             let rules = Rules {
@@ -162,6 +172,8 @@ fn perform<O: Opener, R: Source, W: Outlet, E: Sink>(
             dump_over(alloc, opener, name, writer, Part { after, follows })
         }
         Form::Check => check_over(alloc, opener, name, writer),
+        Form::Salvage => copy_over(alloc, opener, name, paths.new, false, writer),
+        Form::Backup => copy_over(alloc, opener, name, paths.new, true, writer),
         Form::Help => print(writer, USAGE),
         Form::Version => print(writer, VERSION),
     }
@@ -186,21 +198,23 @@ fn exit<O: Opener, R: Source, W: Outlet, E: Sink>(
     opener: &mut O,
     form: Form,
     terminals: Terminals,
-    name: &str,
+    paths: &Paths,
     reader: &mut R,
     writer: &mut W,
     faults: &mut E,
 ) -> u8
-    ensures { Exits O.File.tells O.File.disk O.File.holds O.Reading.tells O.Reading.disk O.Reading.holds
-        O.makes O.opens terminals opener.old name.now opener.new
+    ensures { Exits O.File.tells O.File.disk O.File.holds O.Reading.tells O.Reading.disk O.Reading.holds O.Reading.whole
+        O.makes O.opens O.makes_new terminals opener.old paths.now.file.now paths.now.new.now opener.new
         (W.gone writer.new) form result (R.input reader.old) (R.input reader.new) (W.output writer.old)
         (W.output writer.new) (E.output faults.old) (E.output faults.new) }
 {
-    let done = perform(alloc, opener, form, terminals, name, reader, writer, faults);
+    let done = perform(
+        alloc, opener, form, terminals, paths, reader, writer, faults,
+    );
     match finish(done, writer) {
         Ok(()) => 0,
         Err(fault) => {
-            tell(fault, name, faults);
+            tell(fault, fault.path(paths.file, paths.new), faults);
             fault.status()
         }
     }
@@ -225,23 +239,22 @@ pub fn command<O: Opener, R: Source, W: Outlet, E: Sink>(
     ensures told { let said = map string_bytes words.now in
         form_of said ≡ None → SaysLine (usage_lines said) (E.output faults.old) (E.output faults.new) }
     ensures served { (form : Form) → form_of (map string_bytes words.now) ≡ Some form
-        → Exits O.File.tells O.File.disk O.File.holds O.Reading.tells O.Reading.disk O.Reading.holds
-        O.makes O.opens terminals opener.old
-        (file_word (map string_bytes words.now)) opener.new (W.gone writer.new) form result
+        → Exits O.File.tells O.File.disk O.File.holds O.Reading.tells O.Reading.disk O.Reading.holds O.Reading.whole
+        O.makes O.opens O.makes_new terminals opener.old
+        (file_word (map string_bytes words.now)) (new_word (map string_bytes words.now)) opener.new (W.gone writer.new) form result
         (R.input reader.old) (R.input reader.new) (W.output writer.old) (W.output writer.new)
         (E.output faults.old) (E.output faults.new) }
 {
     match read_form(words) {
-        Some(form) => exit(
-            alloc,
-            opener,
-            form,
-            terminals,
-            file_word(words),
-            reader,
-            writer,
-            faults,
-        ),
+        Some(form) => {
+            let paths = Paths {
+                file: file_word(words),
+                new: new_word(words),
+            };
+            exit(
+                alloc, opener, form, terminals, &paths, reader, writer, faults,
+            )
+        }
         None => {
             tell_usage(words, faults);
             Fault::Usage.status()

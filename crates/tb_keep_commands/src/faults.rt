@@ -1,6 +1,6 @@
 //! Why a command ends with a status other than 0.
 ghost use Rattle.std.specs.Prelude.{◌≡◌, ◌<◌};
-ghost use Rattle.tb_keep_commands.specs.Statuses.{fault_status, numbers_of, opened_fault, read_fault, refused_fault, disk_fault, dumped_fault, started_fault, kept_fault, words_fault};
+ghost use Rattle.tb_keep_commands.specs.Statuses.{fault_path, fault_status, opening_status, new_fault, numbers_of, opened_fault, read_fault, refused_fault, disk_fault, dumped_fault, started_fault, kept_fault, words_fault};
 
 use crate::kinds::Kind;
 use crate::openers::OpeningFault;
@@ -21,6 +21,8 @@ pub enum Failed {
     Output,
     /// The file.
     File,
+    /// The new file.
+    New,
 }
 
 /// The rules of a ledger, in numbers.
@@ -71,6 +73,8 @@ pub enum Fault {
     Device(Failed),
     /// The file was not opened.
     Opening(OpeningFault),
+    /// The new file was not made.
+    Making(OpeningFault),
     /// There is no memory.
     NoMemory,
     /// A request is none, or no time is left for it.
@@ -148,6 +152,17 @@ pub fn dumped_fault(fault: DumpFault) -> Fault
     }
 }
 
+/// A fault of the file, where that is the new one.
+pub(crate) fn new_fault(fault: Fault) -> Fault
+    ensures { result ≡ new_fault fault }
+{
+    match fault {
+        Fault::Device(Failed::File) => Fault::Device(Failed::New),
+        Fault::NotAJournal(_) => Fault::Making(OpeningFault::Exists),
+        fault => fault,
+    }
+}
+
 /// The fault of reading a request, or of writing replies, where this pipe failed if one did.
 fn read_fault(fault: RunFault, pipe: Failed) -> Fault
     ensures { result ≡ read_fault pipe fault }
@@ -180,17 +195,42 @@ pub fn words_fault(error: &io::Error) -> Fault
     }
 }
 
+impl OpeningFault {
+    /// The exit status.
+    pub(crate) fn status(self) -> u8
+        ensures failing { 0 < result }
+        ensures value { result ≡ opening_status self }
+    {
+        match self {
+            OpeningFault::Locked => 4,
+            OpeningFault::SyncFailed => 9,
+            OpeningFault::Exists => 2,
+            _ => 1,
+        }
+    }
+}
+
 impl Fault {
+    /// The path that is printed with it: that of the file, or of the new one.
+    pub(crate) fn path<'a>(self, file: &'a str, new: &'a str) -> &'a str
+        ensures { result.now ≡ fault_path self file.now new.now }
+    {
+        match self {
+            Fault::Making(_) | Fault::Device(Failed::New) => new,
+            _ => file,
+        }
+    }
+
     /// The exit status.
     pub fn status(self) -> u8
         ensures failing { 0 < result }
         ensures value { result ≡ fault_status self }
     {
         match self {
-            Fault::Opening(OpeningFault::Locked) => 4,
-            Fault::Opening(OpeningFault::SyncFailed) | Fault::SyncFailed => 9,
-            Fault::Opening(OpeningFault::Exists) | Fault::Usage | Fault::Request(_) => 2,
-            Fault::Device(_) | Fault::NoMemory | Fault::Opening(_) => 1,
+            Fault::Opening(fault) | Fault::Making(fault) => fault.status(),
+            Fault::SyncFailed => 9,
+            Fault::Usage | Fault::Request(_) => 2,
+            Fault::Device(_) | Fault::NoMemory => 1,
             Fault::NotAJournal(_) | Fault::NoHead => 5,
             Fault::Damaged(_) => 6,
             Fault::OtherRules(_) => 7,

@@ -105,7 +105,7 @@ pub(crate) fn check<D: Live, W: Sink>(
     device: &mut D,
     writer: &mut W,
 ) -> Result<(), Fault>
-    ensures { ChecksFile D.tells D.disk D.holds result device.old device.new (W.output writer.old)
+    ensures { ChecksFile D.tells D.disk D.holds D.whole result device.old device.new (W.output writer.old)
         (W.output writer.new) }
 {
     match device.file_len() {

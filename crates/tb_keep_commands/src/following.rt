@@ -1,5 +1,5 @@
 //! The entries of a file above a commit number, written as the file grows.
-ghost use Rattle.std.specs.Prelude.{◌≡◌, ℕ, List, [], ◌∷◌};
+ghost use Rattle.std.specs.Prelude.{◌≡◌, ℕ, true, List, []};
 ghost use Rattle.tb_records.specs.Transport.{Output};
 ghost use Rattle.tb_journal.specs.Scans.{HasRead};
 ghost use Rattle.tb_keep_commands.specs.Following.{floor_of, start_of, SendsRound, Grown, GrowsBy, EndsRounds, WritesPart};
@@ -75,7 +75,7 @@ fn send_on<O: Opener, W: Outlet>(
 ) -> Result<(), Fault>
     ensures { (file : List ℕ) (start : Output)
         → Grown O.Reading.holds after file device.old scan.old start (W.output writer.old)
-        → EndsRounds result after file start (W.output writer.new) }
+        → EndsRounds result true after file start (W.output writer.new) }
 {
     for _ in 0..u64::MAX {
         if !opener.pause() {
@@ -99,7 +99,7 @@ fn send_entries<O: Opener, W: Outlet>(
     follows: bool,
 ) -> Result<(), Fault>
     ensures { (file : List ℕ) → O.Reading.holds device.old file → HasRead [] file scan.old
-        → EndsRounds result after file (W.output writer.old) (W.output writer.new) }
+        → EndsRounds result follows after file (W.output writer.old) (W.output writer.new) }
 {
     match send_round(scan, device, writer, after) {
         Ok(()) => {
@@ -147,7 +147,7 @@ fn send_part<O: Opener, W: Outlet>(
     part: Part,
 ) -> Result<(), Fault>
     ensures { (file : List ℕ) → O.Reading.holds device.old file → HasRead [] file scan.old
-        → WritesPart result part.after rules file (W.output writer.old) (W.output writer.new) }
+        → WritesPart result part.follows part.after rules file (W.output writer.old) (W.output writer.new) }
 {
     match send_start(writer, rules, part.after) {
         Ok(()) => {
@@ -168,7 +168,7 @@ fn part_found<O: Opener, W: Outlet>(
     part: Part,
 ) -> Result<(), Fault>
     ensures { (file : List ℕ) → O.Reading.holds device.old file
-        → WritesPart result part.after rules file (W.output writer.old) (W.output writer.new) }
+        → WritesPart result part.follows part.after rules file (W.output writer.old) (W.output writer.new) }
 {
     match Scan::start(alloc, device) {
         Ok(scan) => {
@@ -190,7 +190,7 @@ pub(crate) fn follow<O: Opener, W: Outlet>(
     writer: &mut W,
     part: Part,
 ) -> Result<(), Fault>
-    ensures { FollowsFile O.Reading.tells O.Reading.disk O.Reading.holds part.after result device.old device.new (W.output writer.old)
+    ensures { FollowsFile O.Reading.tells O.Reading.disk O.Reading.holds part.after part.follows result device.old device.new (W.output writer.old)
         (W.output writer.new) }
 {
     match read_whole(alloc, device) {

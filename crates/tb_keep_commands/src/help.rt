@@ -13,13 +13,19 @@ Keeps a ledger in a file: what was answered is in the file, whenever the program
                                   reply goes out when its entry is on the disk. Makes FILE if it
                                   is not there, and says so; goes on with its history if it is.
                                   With --progress, and on a terminal, its start is reported
-  dump FILE                       writes the history of FILE, as tbs dump does
-  check FILE                      reads all of FILE and tells what is in it, or the damage
+  dump FILE [--after COMMIT] [--follow]
+                                  writes the history of FILE, as tbs dump does. With --after only
+                                  entries above that commit number, without a head. With --follow
+                                  it waits for more, until a write fails or SIGTERM comes
+  check FILE                      reads all of FILE and prints what is in it, or the damage
+  salvage FILE NEW                copies what is whole before the first damage into NEW, and
+                                  prints what is lost and where. NEW must not exist
+  backup FILE NEW                 the same of a FILE that is whole, else status 6
   --help, -h, --version
 
 CLIENTS_MAX is 1 to 64, PROFILE 1 or 2; a file keeps those that it was made with. FILE is no
-number and does not begin with -: the file 64 is ./64. No two programs have one file open. The
-exit status is 0 where all is done; else a line of standard error names the fault: 1 Device or
-NoMemory, 2 Usage or a request that is none, 4 Locked, 5 NotAJournal, 6 Damaged, 7 OtherRules,
-8 Full, 9 SyncFailed.
+number and does not begin with -: the file 64 is ./64. So is NEW. One run serves a file at a time;
+the other forms only read it, also while it is served. The exit status is 0 where all is done; else
+a line of standard error names the fault: 1 Device or NoMemory, 2 Usage or a request that is none,
+4 Locked, 5 NotAJournal, 6 Damaged, 7 OtherRules, 8 Full, 9 SyncFailed.
 ";

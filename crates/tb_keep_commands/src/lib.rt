@@ -5,6 +5,7 @@
 //! - `arguments`: what the words of the command line ask for, and what is wrong with words that ask for nothing.
 //! - `help`: the page of usage.
 //! - `live`: `Live`, a file that is read while another program may append to it.
+//! - `laws`: what holds of every dump of a file that grows.
 //! - `openers`: `Opener`, what opens the device of a name, and why it does not.
 //! - `outlets`: `Outlet`, a writer that says at its end whether all that was put went out.
 //! - `kinds`: what a file is that holds no ledger, by its first bytes.
@@ -14,23 +15,28 @@
 //! - `summaries`: what `check` reports of a file.
 //! - `naming`: what there is to say of a file that is refused.
 //! - `files`: `dump` and `check`, a file read without a write.
+//! - `copies`: what is reported of a file that was copied.
+//! - `copying`: `salvage` and `backup`, a file copied into a new one.
 //! - `following`: the entries of a file above a commit number, as it grows.
 //! - `serving`: `run`, a ledger over a file served.
 //! - `commands`: `command`, each form, and the exit status of each outcome.
 //! - `host`: `serve`, from a program's arguments, input and output to `command`.
 //!
-//! specs/Forms is which words ask for what, specs/Outcomes what each form does and how it ends, specs/Statuses the exit
-//! status and the line of each fault, specs/Hosts what `serve` does.
+//! specs/Forms is which words ask for what, specs/Outcomes and specs/Copies what each form does, specs/Exits how it ends,
+//! specs/Statuses the exit status and the line of each fault, specs/Hosts what `serve` does.
 #![tactic(auto)]
 
 mod arguments;
 mod commands;
+mod copies;
+mod copying;
 mod faults;
 mod files;
 mod following;
 mod help;
 mod host;
 mod kinds;
+pub mod laws;
 mod lines;
 mod live;
 mod naming;
@@ -40,8 +46,9 @@ mod reports;
 mod serving;
 mod summaries;
 
-pub use arguments::{Form, file_word, read_form, wrong};
+pub use arguments::{Form, file_word, new_word, read_form, wrong};
 pub use commands::{Terminals, command};
+pub use copies::Copied;
 pub use faults::{Damage, Failed, Fault, Mismatch, Numbers, words_fault};
 pub use help::{USAGE, VERSION};
 pub use host::{refuse, serve};

@@ -111,7 +111,7 @@ fn put_opening<E: Sink>(faults: &mut E, fault: OpeningFault, path: &str) -> Resu
             faults,
             b"SyncFailed: restart the machine or copy the file before the next start",
         ),
-        OpeningFault::Exists => put_named(faults, "Usage: ", path, " is there already"),
+        OpeningFault::Exists => put_named(faults, "Usage: ", path, " exists"),
         OpeningFault::NotAFile => put_named(faults, "Device: ", path, " is no regular file"),
         OpeningFault::Dangling => put_named(faults, "Device: ", path, " is a link to nothing"),
         OpeningFault::Unopened => put_both(faults, "Device: cannot open ", path),
@@ -134,7 +134,7 @@ fn put_failed<E: Sink>(faults: &mut E, which: Failed, path: &str) -> Result<(), 
     match which {
         Failed::Input => put_all(faults, b"Device: standard input"),
         Failed::Output => put_all(faults, b"Device: standard output"),
-        Failed::File => put_both(faults, "Device: ", path),
+        Failed::File | Failed::New => put_both(faults, "Device: ", path),
     }
 }
 
@@ -279,7 +279,7 @@ fn put_fault<E: Sink>(faults: &mut E, fault: Fault, path: &str) -> Result<(), Fr
     match fault {
         Fault::Usage => put_all(faults, b"Usage"),
         Fault::Device(which) => put_failed(faults, which, path),
-        Fault::Opening(fault) => put_opening(faults, fault, path),
+        Fault::Opening(fault) | Fault::Making(fault) => put_opening(faults, fault, path),
         Fault::NoMemory => put_all(faults, b"NoMemory"),
         Fault::Request(fault) => put_all(faults, fault.name().as_bytes()),
         Fault::NotAJournal(kind) => put_kind(faults, kind, path),

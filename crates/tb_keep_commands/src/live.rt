@@ -1,16 +1,24 @@
 //! A file that is read while another program may append to it.
 ghost use Rattle.std.specs.Prelude.{◌≡◌, ℕ, List, length, IfOk, IfErr, MatchResult};
 ghost use Rattle.tb_journal.specs.Device.{Looks, IsOfCall};
+ghost use Rattle.tb_journal.specs.Growing.{Grown};
 ghost use Rattle.tb_keep_commands.specs.Live.{HoldsLater};
 
 use tb_journal::{Device, Fault, Growing, Memory, Snapshot};
 
-/// A file that is read as it was at some moment, while another program may append to it.
+/// A file that is read as it was at some moment, while another program may append to it. What it holds begins each later moment of
+/// the file, unless the machine lost power meanwhile (`tb_journal::laws`).
 pub trait Live: Device {
-    /// The number of bytes of the whole file now: of those that it holds, and of what is behind them.
+    /// These are the bytes of the whole file at this moment, those too that are behind what the device holds. None are, of a file that
+    /// does not say which.
+    ghost whole: { Self → List ℕ → Type 0 } = { λ device file. ⊥ };
+
+    /// The number of bytes of the whole file now.
     fn file_len(&mut self) -> Result<usize, Fault>
+        ensures long { (file : List ℕ) → whole self.old file
+            → Grown (whole self.new) file (λ later. IfOk result (λ len. len ≡ length later)) }
         // Of a device that tells what its calls do: nobody else appends to that.
-        ensures bytes { Self.tells → IfOk result (λ len. len ≡ length (Self.disk self.old).seen) }
+        ensures told { Self.tells → IfOk result (λ len. len ≡ length (Self.disk self.old).seen) }
         ensures same { (file : List ℕ) → Self.holds self.old file → Self.holds self.new file }
         ensures names { IfErr result IsOfCall }
         ensures looks { Self.tells → Looks result (Self.disk self.old) (Self.disk self.new) };
@@ -23,6 +31,8 @@ pub trait Live: Device {
 
 /// A file that grows, as it was at some moment.
 impl<G: Growing + Drop> Live for Snapshot<G> {
+    ghost whole = { λ snapshot. G.grows snapshot.file };
+
     fn file_len(&mut self) -> Result<usize, Fault> {
         Snapshot::file_len(self)
     }
@@ -34,6 +44,11 @@ impl<G: Growing + Drop> Live for Snapshot<G> {
 
 /// A file in memory, to which nobody else appends.
 impl Live for Memory {
+    ghost use Rattle.tb_journal.specs.Memory.{memory_holds};
+
+    ghost whole = { memory_holds };
+
+    #[tactic(auto, using(tb_journal::proofs::Growths::same_grown))]
     fn file_len(&mut self) -> Result<usize, Fault> {
         Device::len(self)
     }

@@ -52,7 +52,7 @@ pub fn opening_fault(fault: &FileFault) -> OpeningFault
 
 /// What opens devices by their names, as a folder opens files.
 pub trait Opener {
-    /// A file that is served: nobody else serves it meanwhile.
+    /// A file that is served, or made: nobody else serves it meanwhile.
     type File: Device + Drop;
 
     /// A file that is read alone, as it stood at some moment: another program may serve it meanwhile.
@@ -64,9 +64,17 @@ pub trait Opener {
     /// An opening may answer this, where nothing is made.
     ghost opens: { Self → List ℕ → Result Self.Reading OpeningFault → Self → Type 0 } = { λ before name answer after. Unit {0} };
 
+    /// A making may answer this, of one that is not there.
+    ghost makes_new: { Self → List ℕ → Result Self.File OpeningFault → Self → Type 0 } = { λ before name answer after. Unit {0} };
+
     /// Opens the device of this name, and makes it where there is none. No sync has failed on it.
     fn make(&mut self, name: &str) -> Result<Self::File, OpeningFault>
         ensures made { makes self.old name.now result self.new }
+        ensures sound { Self.File.tells → IfOk result (λ device. (Self.File.disk device).sound ≡ true) };
+
+    /// Makes the device of this name, which is not there: where it is, the answer is Exists. No sync has failed on it.
+    fn make_new(&mut self, name: &str) -> Result<Self::File, OpeningFault>
+        ensures made { makes_new self.old name.now result self.new }
         ensures sound { Self.File.tells → IfOk result (λ device. (Self.File.disk device).sound ≡ true) };
 
     /// Opens the device of this name, which is there, for reading alone.

@@ -58,7 +58,7 @@ pub(crate) fn profile_number(profile: Profile) -> u8
 }
 
 /// What so many bytes behind the records are.
-fn behind_text(bytes: usize) -> &'static str
+pub(crate) fn behind_text(bytes: usize) -> &'static str
     ensures { result.now ≡ behind_text bytes }
 {
     if bytes == 0 {

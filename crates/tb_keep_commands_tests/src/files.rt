@@ -1,9 +1,10 @@
-//! Files in memory, and what opens them and fails in each way.
+//! Files in memory, and what opens and makes them and fails in each way.
 ghost use Rattle.std.specs.Prelude.{◌≡◌, true, Ok, IfOk};
 ghost use Rattle.tb_journal.specs.Memory.{memory_disk};
 ghost use Rattle.tb_keep.specs.Keeping.{IsFresh, IsUsable};
 
 use crate::frames::{dump, script};
+use crate::news::{Disk, NewFile, Noted};
 use std::alloc::Global;
 use std::cell::Cell;
 use std::process::Abort;
@@ -35,6 +36,12 @@ pub enum Has {
     Entries,
     /// The same with another byte in the record of its second entry.
     Rot,
+    /// The same with another byte in the record of its first entry.
+    RotFirst,
+    /// The same with another byte in its head.
+    RotHead,
+    /// The head, and a record of 3 bytes behind it.
+    NoEntry,
     /// The same with 5 bytes behind it that a torn write left.
     Torn,
     /// The same with 2^22 + 1 such bytes.
@@ -87,23 +94,30 @@ fn bytes_of(rt: &impl Abort, alloc: Global, has: Has) -> Vec<u8> {
         Has::Text => b"a text, and no journal",
         Has::Dump => return dump(rt, alloc),
         Has::Script => return script(rt, alloc),
+        Has::Entries | Has::Rot | Has::RotFirst | Has::RotHead | Has::Torn | Has::TornLong => {
+            return kept(rt, alloc);
+        }
         Has::Other => b"\x01\x02\x03\x04\x05\x06\x07\x08",
         Has::NoRecord => b"TBJRNL01\0",
+        Has::NoEntry => {
+            b"TBJRNL01\xff\x06\0\0\xfd\xd0\xcb\x4aTBK1\x01\x02\xff\x03\0\0\x34\xe6\xc2\xf2\x01\x02\x03\0"
+        }
         Has::NoHead => b"TBJRNL01\xff\x03\0\0\x34\xe6\xc2\xf2\x01\x02\x03\0",
         _ => b"",
     };
-    if has == Has::Entries || has == Has::Rot || has == Has::Torn || has == Has::TornLong {
-        return kept(rt, alloc);
-    }
     Vec::from_slice(alloc, text).expect(rt, "memory")
 }
 
 /// The bytes of such a file, with what was changed in it.
 pub fn file_of(rt: &impl Abort, alloc: Global, has: Has) -> Vec<u8> {
     let mut bytes = bytes_of(rt, alloc, has);
-    let last = bytes.len().saturating_sub(2);
-    match (has, bytes.get_mut(last)) {
-        (Has::Rot, Some(byte)) => *byte = byte.wrapping_add(1),
+    let rotten = match has {
+        Has::RotFirst => 40,
+        Has::RotHead => 20,
+        _ => bytes.len().saturating_sub(2),
+    };
+    match (has, bytes.get_mut(rotten)) {
+        (Has::Rot | Has::RotFirst | Has::RotHead, Some(byte)) => *byte = byte.wrapping_add(1),
         (Has::Torn, _) => bytes
             .extend_from_slice(b"\x01\x02\x03\x04\x05")
             .expect(rt, "memory"),
@@ -143,6 +157,8 @@ pub struct Folder {
     pauses: Cell<u32>,
     /// How often a file was made that was not there.
     pub made: u32,
+    /// The new file.
+    pub new: NewFile,
 }
 
 impl Folder {
@@ -152,6 +168,7 @@ impl Folder {
         has: Has,
         fault: Option<OpeningFault>,
         fails_at: u64,
+        disk: Disk,
     ) -> Folder {
         let file = match has {
             Has::Nothing => None,
@@ -164,6 +181,7 @@ impl Folder {
             fails_at,
             pauses: Cell::new(2),
             made: 0,
+            new: NewFile::new(rt, alloc, disk),
         }
     }
 
@@ -185,15 +203,20 @@ impl Folder {
 }
 
 impl Opener for Folder {
-    type File = Memory;
+    type File = Noted;
 
     type Reading = Memory;
 
-    fn make(&mut self, name: &str) -> Result<Memory, OpeningFault> {
+    fn make(&mut self, name: &str) -> Result<Noted, OpeningFault> {
         if self.file.is_none() {
             self.made = self.made.saturating_add(1);
         }
-        self.opened(name)
+        let memory = self.opened(name)?;
+        self.new.noted(self.alloc, memory)
+    }
+
+    fn make_new(&mut self, name: &str) -> Result<Noted, OpeningFault> {
+        self.new.made(self.alloc, name)
     }
 
     fn open(&mut self, name: &str) -> Result<Memory, OpeningFault> {

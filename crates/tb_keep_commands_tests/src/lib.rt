@@ -3,18 +3,24 @@
 //! Modules:
 //!
 //! - `frames`: the bytes of a script, of its replies and of its dump, by the formats.
-//! - `files`: files in memory, and what opens them and fails in each way.
+//! - `news`: new files in memory, of which the bytes are seen.
+//! - `files`: files in memory, and what opens and makes them and fails in each way.
 //! - `pipes`: a writer that fails at a byte, or at its flush.
 //! - `rows`: what a command is run on, and what it must answer.
 //! - `outcomes`: what becomes of each form, over each file.
+//! - `copies`: files salvaged and backed up.
 //! - `words`: words that are no form, and faults of the system.
 //! - `outputs`: outputs and calls on the file that fail.
 #![tactic(auto)]
 
 #[cfg(test)]
+mod copies;
+#[cfg(test)]
 mod files;
 #[cfg(test)]
 mod frames;
+#[cfg(test)]
+mod news;
 #[cfg(test)]
 mod outcomes;
 #[cfg(test)]

@@ -1,6 +1,7 @@
 //! What a command is run on, and what it must answer.
-use crate::files::{Folder, Has};
+use crate::files::{Folder, Has, file_of};
 use crate::frames::{dump, empty_dump, later, replies, script};
+use crate::news::{Disk, WELL_MADE};
 use crate::pipes::Pipe;
 use std::alloc::Global;
 use std::io::Read;
@@ -28,6 +29,19 @@ pub enum Out {
     SomeDump,
 }
 
+/// What the new file must have.
+#[derive(Clone, Copy)]
+pub enum New {
+    /// None is made.
+    Unmade,
+    /// No byte.
+    Empty,
+    /// The bytes of the file up to this offset, and a closed latch.
+    UpTo(usize),
+    /// The bytes of a journal without records.
+    NoRecord,
+}
+
 /// A command, what it finds, and what it must answer.
 #[derive(Clone, Copy)]
 pub struct Row {
@@ -39,6 +53,8 @@ pub struct Row {
     pub fault: Option<OpeningFault>,
     /// The call on the file that fails, the first one at 1; none at 0.
     pub fails_at: u64,
+    /// How a new file is made.
+    pub disk: Disk,
     /// The bytes that the output takes, and whether its flush answers well.
     pub room: usize,
     pub flushes: bool,
@@ -46,6 +62,17 @@ pub struct Row {
     pub status: u8,
     pub out: Out,
     pub line: &'static str,
+    pub new: New,
+}
+
+impl Row {
+    /// Says whether a file is copied into a new one.
+    fn is_copy(&self) -> bool {
+        match self.words.first() {
+            Some(word) => *word == "salvage" || *word == "backup",
+            None => false,
+        }
+    }
 }
 
 /// Pipes and files.
@@ -61,12 +88,14 @@ pub const WELL: Row = Row {
     asks: true,
     fault: None,
     fails_at: 0,
+    disk: WELL_MADE,
     room: 4096,
     flushes: true,
     terminals: NO_TERMINALS,
     status: 0,
     out: Out::Nothing,
     line: "",
+    new: New::Unmade,
 };
 
 /// Says whether these bytes are those: compared here alone, since a comparison of bytes is dear to prove.
@@ -87,6 +116,25 @@ fn is_out(rt: &impl Abort, alloc: Global, out: Out, found: &[u8]) -> bool {
         Out::SomeReplies => replies(rt, alloc).starts_with(found),
         Out::SomeDump => dump(rt, alloc).starts_with(found),
     }
+}
+
+/// Says whether the new file has what it must have.
+fn is_new(rt: &impl Abort, alloc: Global, row: Row, folder: &Folder) -> bool {
+    let bytes = folder.new.bytes(alloc);
+    match row.new {
+        New::Unmade => folder.new.count == 0,
+        New::Empty => folder.new.count == 1 && bytes.is_empty(),
+        New::NoRecord => same(&bytes, b"TBJRNL01\0"),
+        New::UpTo(end) => same(&bytes, &cut_to(rt, alloc, row.has, end)),
+    }
+}
+
+/// The bytes of a file up to an offset, and a closed latch.
+fn cut_to(rt: &impl Abort, alloc: Global, has: Has, end: usize) -> Vec<u8> {
+    let mut bytes = file_of(rt, alloc, has);
+    bytes.truncate(end);
+    bytes.push(0).expect(rt, "memory");
+    bytes
 }
 
 /// The words as a program has them.
@@ -111,7 +159,7 @@ pub fn run(rt: &impl Abort, alloc: Global, row: Row) -> u32 {
 
 /// The same of a row with this input.
 pub fn run_with<R: Read + Drop>(rt: &impl Abort, alloc: Global, row: Row, input: R) -> u32 {
-    let mut folder = Folder::new(rt, alloc, row.has, row.fault, row.fails_at);
+    let mut folder = Folder::new(rt, alloc, row.has, row.fault, row.fails_at, row.disk);
     let words = words_of(rt, alloc, row.words);
     let mut pipe = Pipe::new(alloc, row.room, row.flushes);
     let mut lines = Counting::new(Vec::new(alloc));
@@ -127,5 +175,8 @@ pub fn run_with<R: Read + Drop>(rt: &impl Abort, alloc: Global, row: Row, input:
     assert!(rt; status == row.status);
     assert!(rt; is_out(rt, alloc, row.out, pipe.bytes()));
     assert!(rt; same(&lines.into_inner(), row.line.as_bytes()));
+    if row.is_copy() {
+        assert!(rt; is_new(rt, alloc, row, &folder));
+    }
     folder.made
 }

@@ -75,6 +75,26 @@ const WRONG: &[(&[&str], &str)] = &[
         &["dump", "ledger", "--follow", "--after", "1"],
         "tbd: Usage: dump: only --after COMMIT and --follow may follow FILE\n",
     ),
+    (
+        &["salvage"],
+        "tbd: Usage: salvage: FILE and NEW are missing\n",
+    ),
+    (
+        &["backup", "ledger"],
+        "tbd: Usage: backup ledger: NEW is missing\n",
+    ),
+    (
+        &["salvage", "ledger", "64"],
+        "tbd: Usage: salvage ledger 64: NEW is a number or begins with -; write ./NEW\n",
+    ),
+    (
+        &["backup", "ledger", "-o"],
+        "tbd: Usage: backup ledger -o: NEW is a number or begins with -; write ./NEW\n",
+    ),
+    (
+        &["salvage", "ledger", "new", "more"],
+        "tbd: Usage: salvage: too many words\n",
+    ),
     (&["check"], "tbd: Usage: check: FILE is missing\n"),
     (
         &["check", "ledger", "2"],
@@ -113,6 +133,14 @@ const NO_FILES: &[(&[&str], &str)] = &[
     (
         &["check", "-h"],
         "tbd: Usage: check -h: FILE is a number or begins with -; write ./FILE\n",
+    ),
+    (
+        &["salvage", "64", "new"],
+        "tbd: Usage: salvage 64: FILE is a number or begins with -; write ./FILE\n",
+    ),
+    (
+        &["backup", "-h"],
+        "tbd: Usage: backup -h: FILE is a number or begins with -; write ./FILE\n",
     ),
     (
         &["check", "1", "2"],

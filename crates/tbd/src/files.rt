@@ -1,4 +1,5 @@
 //! The files of the system, by their paths.
+use std::fs;
 use std::io::{BufWriter, Stderr};
 use std::thread;
 use std::time::Duration;
@@ -50,12 +51,19 @@ impl<'a> Opener for SystemFiles<'a> {
         }
     }
 
+    fn make_new(&mut self, name: &str) -> Result<Self::File, OpeningFault> {
+        match Real::make_new(self.rt, name) {
+            Ok(real) => reported(self.rt, real, name, false),
+            Err(fault) => Err(opening_fault(&fault)),
+        }
+    }
+
     fn open(&mut self, name: &str) -> Result<Snapshot<Real>, OpeningFault> {
         match Real::look(self.rt, name) {
             Ok(real) => {
                 Snapshot::new(self.rt.alloc(), real).map_err(|fault| reading_fault(fault))
             }
-            Err(fault) => Err(opening_fault(&fault)),
+            Err(fault) => Err(looked_fault(self.rt, name, opening_fault(&fault))),
         }
     }
 
@@ -73,5 +81,16 @@ fn reading_fault(fault: Fault) -> OpeningFault {
     match fault {
         Fault::Memory => OpeningFault::NoMemory,
         _ => OpeningFault::Unopened,
+    }
+}
+
+/// The fault of a file that was not opened for reading: one that is missing may be a symbolic link to nothing.
+fn looked_fault(rt: &HostRuntime, path: &str, fault: OpeningFault) -> OpeningFault {
+    match fault {
+        OpeningFault::Missing => match fs::symlink_metadata(rt, path) {
+            Ok(found) if found.is_symlink() => OpeningFault::Dangling,
+            _ => OpeningFault::Missing,
+        },
+        fault => fault,
     }
 }

@@ -3,9 +3,9 @@ use Rattle.tb_keep_commands.proofs.following.send_part.Goals as goal
 
 pub returns-in-Ok : goal.returns-in-Ok
 returns-in-Ok g c file holds place =
-    part_sent c.args.part.after c.args.rules file _ _ _ c.send_entries.result c.in-Ok.ensures
+    part_sent c.args.part.follows c.args.part.after c.args.rules file _ _ _ c.send_entries.result c.in-Ok.ensures
     (rw c.floor_of-after.ensures at (c.send_entries.ensures file holds place))
 
 pub returns-in-Err : goal.returns-in-Err
 returns-in-Err g c file holds place =
-    start_cut c.args.part.after c.args.rules file _ _ c.in-Err.fault c.in-Err.ensures.0 c.in-Err.ensures.1 place.begins
+    start_cut c.args.part.follows c.args.part.after c.args.rules file _ _ c.in-Err.fault c.in-Err.ensures.0 c.in-Err.ensures.1 place.begins

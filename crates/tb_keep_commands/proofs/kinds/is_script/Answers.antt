@@ -1,4 +1,4 @@
-use Rattle.std.proofs.Common.{arith, ◌∙◌}
+use Rattle.std.proofs.Common.{arith}
 use Rattle.tb_keep_commands.proofs.FirstBytes.{script_is}
 use Rattle.tb_keep_commands.proofs.kinds.is_script.Goals as goal
 

@@ -12,5 +12,11 @@ returns-in-Unopened g c = rw c.in-Unopened.is c.put_both-in-Unopened.ensures
 pub returns-in-SyncFailed : goal.returns-in-SyncFailed
 returns-in-SyncFailed g c = rw c.in-SyncFailed.is c.put_all-in-SyncFailed.ensures
 
+pub returns-in-Exists : goal.returns-in-Exists
+returns-in-Exists g c = rw c.in-Exists.is c.put_named.ensures
+
 pub returns-in-NotAFile : goal.returns-in-NotAFile
 returns-in-NotAFile g c = rw c.in-NotAFile.is c.put_named-in-NotAFile.ensures
+
+pub returns-in-Dangling : goal.returns-in-Dangling
+returns-in-Dangling g c = rw c.in-Dangling.is c.put_named-in-Dangling.ensures

@@ -1,0 +1,34 @@
+-- What is reported of a file that was copied.
+use Rattle.std.proofs.Common.{◌≡◌, ℕ, List, Option, None, refl, ap, sym, subst, ◌∙◌}
+use Rattle.tb_journal.specs.Device.{Disk}
+use Rattle.tb_records.specs.Transport.{Output}
+use Rattle.tb_keep.specs.declared.faults.StartFault.{StartFault}
+use Rattle.tb_keep.specs.declared.salvaging.Salvaged.{Salvaged}
+use Rattle.tb_keep.specs.Salvaging.{IsSalvaged}
+use Rattle.tb_machine.specs.Histories.{State}
+use Rattle.tb_machine.proofs.Held.{commit_is}
+use Rattle.tb_keep_commands.specs.declared.copies.Copied.{Copied}
+use Rattle.tb_keep_commands.specs.Copies.{IsCopy, PrintsText, EndsCopy, copied_of, copied_text}
+use Rattle.tb_keep_commands.specs.Outcomes.{Outcome}
+
+pub copy_is : (tells : Type 0) {N : Type 0} (disk : N → Disk) (holds : List ℕ → Type 0) (len : ℕ) (salvaged : Salvaged N)
+    → IsSalvaged tells disk holds salvaged → IsCopy tells disk holds len salvaged (copied_of len salvaged)
+copy_is tells disk holds len salvaged is =
+    let h = is.history in
+    record {
+      history = h;
+      keeper = is.keeper;
+      taken = is.taken;
+      entries = ap (λ (T : State). T.commit) is.keeper.state ∙ commit_is h.profile h.clients_max h.entries is.keeper.keepable.legal;
+      time = ap (λ (T : State). T.books.time) is.keeper.state;
+      end = refl;
+      behind = refl;
+      damage = refl;
+    }
+
+-- what was copied was printed, where that is not refused
+pub printed : (asked : Option StartFault) (c copied : Copied) (outcome : Outcome) (start written : Output) → None ≡ asked → c ≡ copied
+    → PrintsText (copied_text c) outcome start written → EndsCopy asked copied outcome start written
+printed asked c copied outcome start written none same prints =
+    subst (λ (a : Option StartFault). EndsCopy a copied outcome start written) none
+    (subst (λ (d : Copied). PrintsText (copied_text d) outcome start written) same prints)

@@ -1,0 +1,39 @@
+use Rattle.std.proofs.Common.{Ok, Err, refl}
+use Rattle.tb_keep_commands.specs.Copies.{copied_of}
+use Rattle.tb_keep_commands.proofs.CopiedFiles.{copy_is}
+use Rattle.tb_keep_commands.proofs.copying.copy_long.Goals as goal
+
+pub returns-in-Ok : goal.returns-in-Ok
+returns-in-Ok g c = record {
+  result = Ok c.in-Ok.salvaged;
+  between = c.salvage.new.from;
+  copying = record {
+    unsalvaged = c.in-Ok.ensures.unsalvaged;
+    any_moment = c.in-Ok.ensures.any_moment;
+    cause_new = c.in-Ok.ensures.cause_new;
+    same = c.in-Ok.ensures.same;
+    untouched = c.in-Ok.ensures.untouched;
+    cause_old = c.in-Ok.ensures.cause_old;
+  };
+  copies = (
+    copied_of c.args.len c.in-Ok.salvaged,
+    copy_is g.N.Device.tells g.N.Device.disk (g.D.Device.holds c.args.from.now) c.args.len c.in-Ok.salvaged c.in-Ok.ensures.salvaged,
+    c.end_copy.ensures,
+    refl,
+  );
+}
+
+pub returns-in-Err : goal.returns-in-Err
+returns-in-Err g c = record {
+  result = Err c.in-Err.failed;
+  between = c.salvage.new.from;
+  copying = record {
+    unsalvaged = c.in-Err.ensures.unsalvaged;
+    any_moment = c.in-Err.ensures.any_moment;
+    cause_new = c.in-Err.ensures.cause_new;
+    same = c.in-Err.ensures.same;
+    untouched = c.in-Err.ensures.untouched;
+    cause_old = c.in-Err.ensures.cause_old;
+  };
+  copies = (c.uncopied.result, refl, c.uncopied.ensures, refl);
+}

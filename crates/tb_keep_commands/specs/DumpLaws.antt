@@ -1,0 +1,24 @@
+-- Laws of what is written of a file that grows.
+-- Cited by public contracts of: laws.
+use Rattle.std.specs.Prelude.{ℕ, ◌≡◌, List, ◌++◌, Option, None}
+use Rattle.tb_journal.specs.Contents.{Records, contents}
+use Rattle.tb_journal.specs.Growing.{Later}
+use Rattle.tb_keep.specs.declared.heads.Rules.{Rules}
+use Rattle.tb_keep.specs.Reading.{dump_with}
+use Rattle.tb_keep_commands.specs.Following.{part_of}
+
+-- a later file stands for records of which the same part begins with these bytes
+pub record GoesOn (after : Option ℕ) (rules : Rules) (written later : List ℕ) : Type 0 where
+  pub records : List (List ℕ)
+  pub reads : contents later ≡ Records records
+  pub rest : List ℕ
+  pub begins : part_of after rules records ≡ written ++ rest
+
+-- the part of a file's history that is written at one moment is a prefix of that of each later moment
+abbrev pub PartsGoOn : Type 0
+PartsGoOn = (after : Option ℕ) (rules : Rules) (file later : List ℕ) (records : List (List ℕ)) → contents file ≡ Records records → Later file later
+    → GoesOn after rules (part_of after rules records) later
+
+-- a dump is the part above no commit number
+abbrev pub DumpsAreParts : Type 0
+DumpsAreParts = (rules : Rules) (records : List (List ℕ)) → dump_with rules records ≡ part_of None rules records

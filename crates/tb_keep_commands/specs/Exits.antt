@@ -1,0 +1,65 @@
+-- How a command ends: its outcome, exit status and line.
+-- Cited by public contracts of: commands.
+use Rattle.std.specs.Prelude.{ℕ, true, false, ◌||◌, ◌≡◌, List, [], Result, Ok, Err}
+use Rattle.tb_records.specs.Transport.{Input, Output, Sent, CutOff}
+use Rattle.tb_journal.specs.Device.{Disk}
+use Rattle.tb_keep.specs.Reading.{rules_of}
+use Rattle.tb_keep_commands.specs.declared.arguments.Form.{Form}
+use Rattle.tb_keep_commands.specs.declared.arguments.Form.TheVariants as form
+use Rattle.tb_keep_commands.specs.declared.commands.Terminals.{Terminals}
+use Rattle.tb_keep_commands.specs.declared.faults.Fault.TheVariants.{Device}
+use Rattle.tb_keep_commands.specs.declared.faults.Failed.TheVariants as failed
+use Rattle.tb_keep_commands.specs.declared.help.TheConstants.{USAGE, VERSION}
+use Rattle.tb_keep_commands.specs.declared.openers.OpeningFault.{OpeningFault}
+use Rattle.tb_keep_commands.specs.Copies.{CopiesOver}
+use Rattle.tb_keep_commands.specs.Outcomes.{Outcome, Prints, RunsOver, DumpsOver, ChecksOver}
+use Rattle.tb_keep_commands.specs.Statuses.{SaysLine, fault_line, fault_path, fault_status}
+
+-- what was held back went out where all was done; where it does not go out, that is the outcome
+abbrev pub Finishes : Type 0 → Outcome → Outcome → Output → Output → Type 0
+Finishes gone (Ok done) (Ok finished) middle written = gone × Sent [] middle written
+Finishes gone (Ok done) (Err fault) middle written = (fault ≡ Device failed.Output) × CutOff [] middle written
+Finishes gone (Err fault) outcome middle written = (outcome ≡ Err fault) × (written ≡ middle)
+
+abbrev pub outcome_status : Outcome → ℕ
+outcome_status (Ok done) = 0
+outcome_status (Err fault) = fault_status fault
+
+-- nothing is told of a form that was done, and of a fault its line
+abbrev pub Tells : Outcome → List ℕ → List ℕ → Output → Output → Type 0
+Tells (Ok done) file new before after = after ≡ before
+Tells (Err fault) file new before after = SaysLine (fault_line fault (fault_path fault file new)) before after
+
+module _ (tells : Type 0) {D : Type 0} (disk : D → Disk) (holds : D → List ℕ → Type 0) (tells_read : Type 0) {E : Type 0} (disk_read : E → Disk) (holds_read whole_read : E → List ℕ → Type 0) {O : Type 0} (makes : O → List ℕ → Result D OpeningFault → O → Type 0) (opens : O → List ℕ → Result E OpeningFault → O → Type 0) (makes_new : O → List ℕ → Result D OpeningFault → O → Type 0) (ends : Terminals) (before : O) (name new : List ℕ) (left : O) where
+  -- what a form does over what opens devices: `run` has the device of a name made where there is none, `dump` and `check` open one that is
+  -- there, `salvage` and `backup` open one and make another, and the other forms open none. What it tells while it goes on stands before
+  -- the line of its outcome
+  abbrev pub Performs : Form → Outcome → Input → Input → Output → Output → Output → Output → Type 0
+  Performs (form.Run clients_max profile reports) outcome first last start written quiet told =
+      RunsOver tells disk holds (makes before name) left outcome (rules_of profile clients_max) name (reports || ends.faults) ends.input
+      first last start written quiet told
+  Performs (form.Dump from follows) outcome first last start written quiet told =
+      (last ≡ first) × (told ≡ quiet) × DumpsOver tells_read disk_read holds_read (opens before name) left from follows outcome start written
+  Performs form.Check outcome first last start written quiet told =
+      (last ≡ first) × (told ≡ quiet) × ChecksOver tells_read disk_read holds_read (opens before name) left whole_read outcome start written
+  Performs form.Salvage outcome first last start written quiet told =
+      (last ≡ first) × (told ≡ quiet)
+      × CopiesOver tells_read disk_read holds_read whole_read tells disk (opens before name) makes_new new left false outcome start written
+  Performs form.Backup outcome first last start written quiet told =
+      (last ≡ first) × (told ≡ quiet)
+      × CopiesOver tells_read disk_read holds_read whole_read tells disk (opens before name) makes_new new left true outcome start written
+  Performs form.Help outcome first last start written quiet told =
+      (left ≡ before) × (last ≡ first) × (told ≡ quiet) × Prints USAGE.now outcome start written
+  Performs form.Version outcome first last start written quiet told =
+      (left ≡ before) × (last ≡ first) × (told ≡ quiet) × Prints VERSION.now outcome start written
+
+  -- a form was done, or not to its end; what it wrote went out; and the exit status and the line are those of the outcome
+  pub record Exits (gone : Type 0) (form : Form) (status : ℕ) (first last : Input) (start written quiet told : Output) : Type 0 where
+    pub performed : Outcome
+    pub middle : Output
+    pub noted : Output
+    pub performs : Performs form performed first last start middle quiet noted
+    pub outcome : Outcome
+    pub finishes : Finishes gone performed outcome middle written
+    pub status_is : status ≡ outcome_status outcome
+    pub line : Tells outcome name new noted told

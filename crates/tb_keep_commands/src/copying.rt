@@ -1,0 +1,193 @@
+//! A file copied into a new one: up to its first damage, or where it is whole.
+ghost use Rattle.std.specs.Prelude.{◌≡◌, true};
+ghost use Rattle.tb_keep_commands.specs.Copies.{PrintsText, copied_of, copied_text, refused_by, EndsCopy, NamesCopy, CopiesLong, CopiesFile, MakesCopy, CopiesHeaded, CopiesOver};
+ghost use Rattle.tb_keep_commands.specs.Outcomes.{Left};
+
+use crate::copies::{Copied, damage_of};
+use crate::faults::{Failed, Fault, disk_fault, new_fault, started_fault};
+use crate::live::Live;
+use crate::naming::named;
+use crate::openers::Opener;
+use std::alloc::Global;
+use std::format;
+use tb_journal::Device;
+use tb_keep::{NotSalvaged, SalvageFault, Salvaged, StartFault, read_rules, salvage};
+use tb_records::{Sink, put_all};
+
+/// What is reported of a file of so many bytes that was copied.
+fn copied_of<N: Device>(salvaged: &Salvaged<N>, len: usize) -> Copied
+    ensures { result ≡ copied_of len salvaged.now }
+{
+    let machine = salvaged.keeper.machine();
+    Copied {
+        entries: machine.commit(),
+        time: machine.time(),
+        end: salvaged.end,
+        behind: len.saturating_sub(salvaged.end as usize).saturating_sub(1),
+        damage: damage_of(salvaged.stop),
+    }
+}
+
+/// Writes what was copied.
+fn report<W: Sink>(alloc: Global, copied: Copied, writer: &mut W) -> Result<(), Fault>
+    ensures { PrintsText (copied_text copied) result (W.output writer.old) (W.output writer.new) }
+{
+    match format!(in alloc; "{copied}") {
+        Ok(text) => match put_all(writer, text.as_bytes()) {
+            Ok(()) => Ok(()),
+            Err(_) => Err(Fault::Device(Failed::Output)),
+        },
+        Err(_) => Err(Fault::NoMemory),
+    }
+}
+
+/// Why a copy that ended so is refused: none, where the file needs not be whole.
+fn refused_by(whole: bool, stop: Option<StartFault>) -> Option<StartFault>
+    ensures { result ≡ refused_by whole stop }
+{
+    if whole { stop } else { None }
+}
+
+/// Writes what was copied of a file of so many bytes; or refuses it, where it was to be whole.
+fn end_copy<N: Device + Drop, W: Sink>(
+    alloc: Global,
+    salvaged: Salvaged<N>,
+    len: usize,
+    whole: bool,
+    writer: &mut W,
+) -> Result<(), Fault>
+    ensures { EndsCopy (refused_by whole salvaged.stop) (copied_of len salvaged) result (W.output writer.old)
+        (W.output writer.new) }
+{
+    let copied = copied_of(&salvaged, len);
+    let stop = salvaged.stop;
+    drop(salvaged);
+    match refused_by(whole, stop) {
+        Some(fault) => Err(started_fault(fault)),
+        None => report(alloc, copied, writer),
+    }
+}
+
+/// The fault of a file that was not copied, with what there is to say of it.
+fn named_copy<D: Device>(from: &mut D, fault: SalvageFault) -> Fault
+    ensures { NamesCopy D.tells D.disk D.holds fault result from.old from.new }
+{
+    match fault {
+        SalvageFault::Old(fault) => named(from, fault),
+        SalvageFault::New(fault) => new_fault(started_fault(fault)),
+    }
+}
+
+/// The same, of a new file that was not made to its end.
+fn uncopied<D: Device, N: Device + Drop>(from: &mut D, failed: NotSalvaged<N>) -> Fault
+    ensures { NamesCopy D.tells D.disk D.holds failed.fault result from.old from.new }
+{
+    let NotSalvaged { device, fault } = failed;
+    drop(device);
+    named_copy(from, fault)
+}
+
+/// Copies a file of so many bytes into a new one.
+fn copy_long<D: Live, N: Device + Drop, W: Sink>(
+    alloc: Global,
+    from: &mut D,
+    len: usize,
+    into: N,
+    whole: bool,
+    writer: &mut W,
+) -> Result<(), Fault>
+    requires { N.tells → (N.disk into).sound ≡ true }
+    ensures { CopiesLong D.tells D.disk D.holds D.whole N.tells N.disk len whole result into from.old from.new (W.output writer.old)
+        (W.output writer.new) }
+{
+    match salvage(alloc, from, into) {
+        Ok(salvaged) => end_copy(alloc, salvaged, len, whole, writer),
+        Err(failed) => Err(uncopied(from, failed)),
+    }
+}
+
+/// Copies a file into a new one, up to its first damage, and writes what was copied. A file that is to be whole is refused where it is
+/// damaged: the new one then has what is before that.
+pub(crate) fn copy<D: Live, N: Device + Drop, W: Sink>(
+    alloc: Global,
+    from: &mut D,
+    into: N,
+    whole: bool,
+    writer: &mut W,
+) -> Result<(), Fault>
+    requires { N.tells → (N.disk into).sound ≡ true }
+    ensures { CopiesFile D.tells D.disk D.holds D.whole N.tells N.disk whole result into from.old from.new (W.output writer.old)
+        (W.output writer.new) }
+{
+    match from.file_len() {
+        Ok(len) => copy_long(alloc, from, len, into, whole, writer),
+        Err(fault) => {
+            drop(into);
+            Err(disk_fault(fault))
+        }
+    }
+}
+
+/// Makes the new file of a name, and copies a file into it.
+fn copy_made<O: Opener, W: Sink>(
+    alloc: Global,
+    opener: &mut O,
+    from: &mut O::Reading,
+    new: &str,
+    whole: bool,
+    writer: &mut W,
+) -> Result<(), Fault>
+    ensures { MakesCopy O.Reading.tells O.Reading.disk O.Reading.holds O.Reading.whole O.File.tells O.File.disk
+        (O.makes_new opener.old new.now) opener.new whole result from.old from.new (W.output writer.old)
+        (W.output writer.new) }
+{
+    let made = opener.make_new(new);
+    match made {
+        Ok(into) => copy(alloc, from, into, whole, writer),
+        Err(fault) => Err(Fault::Making(fault)),
+    }
+}
+
+/// Copies a file into a new one of a name, which is made where the file begins as a ledger's.
+fn copy_headed<O: Opener, W: Sink>(
+    alloc: Global,
+    opener: &mut O,
+    from: &mut O::Reading,
+    new: &str,
+    whole: bool,
+    writer: &mut W,
+) -> Result<(), Fault>
+    ensures { CopiesHeaded O.Reading.tells O.Reading.disk O.Reading.holds O.Reading.whole O.File.tells O.File.disk
+        (O.makes_new opener.old new.now) opener.old opener.new whole result from.old from.new (W.output writer.old)
+        (W.output writer.new) }
+{
+    match read_rules(alloc, from) {
+        Ok(_rules) => copy_made(alloc, opener, from, new, whole, writer),
+        Err(fault) => Err(named(from, fault)),
+    }
+}
+
+/// Copies the file of a name into a new one of another name, and writes what was copied.
+pub(crate) fn copy_over<O: Opener, W: Sink>(
+    alloc: Global,
+    opener: &mut O,
+    name: &str,
+    new: &str,
+    whole: bool,
+    writer: &mut W,
+) -> Result<(), Fault>
+    ensures { CopiesOver O.Reading.tells O.Reading.disk O.Reading.holds O.Reading.whole O.File.tells O.File.disk
+        (O.opens opener.old name.now) O.makes_new new.now opener.new whole result (W.output writer.old)
+        (W.output writer.new) }
+{
+    let opened = opener.open(name);
+    match opened {
+        Ok(device) => {
+            let mut device = device;
+            let copied = copy_headed(alloc, opener, &mut device, new, whole, writer);
+            drop(device);
+            copied
+        }
+        Err(fault) => Err(Fault::Opening(fault)),
+    }
+}
