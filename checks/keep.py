@@ -780,16 +780,17 @@ def copies_of_no_ledger(tbd, folder):
             (["letter.txt", "new.tbk"], 5, "NotAJournal: letter.txt is a text"),
             (["absent.tbk", "new.tbk"], 1, "Device: cannot find absent.tbk"),
             (["folder.tbk", "new.tbk"], 1, "Device: folder.tbk is no regular file"),
-            (["words.tbk", "taken.tbk"], 2, ""),
-            (["words.tbk", "words.tbk"], 2, ""),
-            (["words.tbk", "to_nothing.tbk"], 2, ""),
+            (["words.tbk", "taken.tbk"], 2, "Usage: taken.tbk exists"),
+            (["words.tbk", "words.tbk"], 2, "Usage: words.tbk exists"),
+            (["words.tbk", "to_nothing.tbk"], 2, "Usage: to_nothing.tbk exists"),
+            (["words.tbk", "nowhere/new.tbk"], 1, "Device: cannot find nowhere/new.tbk"),
             (["words.tbk", "64"], 2, f"Usage: {form} words.tbk 64: NEW is a number or begins with -; write ./NEW"),
             (["words.tbk"], 2, f"Usage: {form} words.tbk: NEW is missing"),
             (["words.tbk", "new.tbk", "more"], 2, f"Usage: {form}: too many words"),
         ):
             told = told_of(tbd, folder, [form, *words])
             lines = told[2].splitlines()
-            well = told[:2] == (status, b"") and len(lines) == 1 and lines[0].startswith(f"tbd: {line}") and words[-1] in told[2] + line
+            well = told[:2] == (status, b"") and len(lines) == 1 and lines[0].startswith(f"tbd: {line}")
             case(f"{form} {' '.join(words)}", well, told)
             case(f"{form} {' '.join(words)}: nothing is made", not os.path.exists(os.path.join(folder, "new.tbk")) and not os.path.exists(target))
     with open(os.path.join(folder, "taken.tbk"), "rb") as file:
@@ -816,7 +817,7 @@ def backups(tbd, folder):
     process, stop = ledger.start(), threading.Event()
     load = threading.Thread(target=rounds_until, args=(ledger, process, stop))
     load.start()
-    news = [os.path.join(folder, f"backup{number}.tbk") for number in range(5)]
+    news = [os.path.join(folder, f"copy{number}.tbk") for number in range(5)]
     told = [told_of(tbd, folder, ["backup", ledger.file, new]) for new in news]
     stop.set()
     load.join()
