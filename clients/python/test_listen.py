@@ -26,7 +26,6 @@ import example_sockets
 import tb_client as tb
 import tb_listen
 from tb_client import Session, Socket
-from tb_host.listen import take_the_quicker_loop
 from test_sharing import closed_in_a_child, in_threads
 from test_tb_client import PROGRAM, account, has_program, transfer, wrong_replies
 
@@ -736,7 +735,7 @@ class Ends(unittest.TestCase):
         with tempfile.TemporaryDirectory() as folder:
             with Running(folder=folder) as listener, Session.register(Socket(listener.path)):
                 pass
-            listener = self.starting(self.slow(folder, 'test "$2" = check'), folder)
+            listener = self.starting(self.slow(folder, "echo $* | grep -q ' check '"), folder)
             with Session.register(Socket(os.path.join(folder, "ledger.sock"), timeout=20)) as it:
                 self.assertEqual(it.session, 2)
             listener.terminate()
@@ -748,7 +747,8 @@ class Ends(unittest.TestCase):
             with Running(folder=folder) as listener, Session.register(Socket(listener.path)):
                 pass
             for form in ("run", "check"):
-                listener = self.starting(self.slow(folder, f'test "$2" = {form}'), folder)
+                slow = self.slow(folder, f"echo $* | grep -q ' {form} '")
+                listener = self.starting(slow, folder)
                 began = time.monotonic()
                 listener.terminate()
                 self.assertEqual((listener.wait(20), listener.stderr.read()), (0, ""), form)
@@ -1459,14 +1459,6 @@ class Words(unittest.TestCase):
             ("tbd run 64 64 1 1", None),
         ):
             self.assertEqual(tb_listen.journal_at(words.split()), at, words)
-
-    def test_uvloop_is_taken_where_it_is_installed(self):
-        uvloop = unittest.mock.Mock()
-        with unittest.mock.patch.dict(sys.modules, {"uvloop": uvloop}):
-            take_the_quicker_loop()
-        uvloop.install.assert_called_once_with()
-        with unittest.mock.patch.dict(sys.modules, {"uvloop": None}):
-            take_the_quicker_loop()
 
     def test_where_it_cannot_listen(self):
         with tempfile.TemporaryDirectory() as folder:

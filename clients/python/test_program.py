@@ -46,6 +46,21 @@ class OverAFile(unittest.TestCase):
                 self.assertEqual(session.lookup_accounts([2])[0].credits_posted, 20)
             self.assertEqual(program.script, [])
 
+    def test_a_program_that_reads_its_ledger_for_long(self):
+        """Nothing is sent to it before it has: a request that has no time left was not made."""
+        with Program(self.path, file=self.file) as program, Session.register(program) as session:
+            saved = session.saved
+        with open(self.path, "w", encoding="utf-8") as file:
+            file.write(f'#!/bin/sh\nsleep 2\nexec {shlex.join(KEEPER)} "$@"\n')
+        with Program(self.path, file=self.file, timeout=0.5) as program:
+            session = Session.resumed(program, saved)
+            with self.assertRaises(tb.CannotStart) as met:
+                session.lookup_accounts([1])
+            self.assertIn("has not read its ledger within 0.5 seconds", str(met.exception))
+            self.assertIsNone(session.in_doubt)
+            program.timeout = 20
+            self.assertEqual(session.lookup_accounts([1]), [])
+
     def test_tbd_without_a_file(self):
         path = os.path.join(self.folder.name, "tbd")
         os.symlink(sys.executable, path)

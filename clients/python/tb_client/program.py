@@ -29,6 +29,8 @@ from .values import MOMENT_MAX, U64, path_of, seconds, truth, whole
 
 CHUNK = 1 << 20
 SCRIPT_MAX = 256 << 20
+# what `tbd run --progress` says besides faults, the last of it when it serves
+NEWS = re.compile(r"^tbd: (?:made |reading |cut |(ready)$)")
 log = logging.getLogger("tb_client")
 LONGEST = 3600.0  # seconds of one wait for the pipes: the system takes no number of them
 
@@ -41,13 +43,14 @@ class Program(Closing):
     is the nth, and one that comes too late is passed over. Threads may share a Program: an exchange
     is one thread's from its first byte to its last.
 
-    With `file` the program is `tbd`, which keeps its ledger in this file. With restarts=True one
-    that ended is started again over it. Without, the program is `tbs`: it keeps its history in
-    memory, and the history ends with the process. Each exchange afterwards is `ProgramEnded`. With
-    restarts=True every request that was answered is kept in this
-    process, up to `script_max` bytes in all (`ScriptFull` is raised where the next one would not
-    fit; None is no bound). A program that ended is then started anew on this script by the next
-    exchange: the same script makes the same history."""
+    With `file` the program is `tbd`, which keeps its ledger in this file. Nothing is sent
+    before it has read that: an exchange whose `timeout` ends meanwhile is `CannotStart`. With
+    restarts=True one that ended is started again over it. Without `file` the program is `tbs`:
+    it keeps its history in memory, and the history ends with the process. Each exchange
+    afterwards is `ProgramEnded`. With restarts=True every request that was answered is kept in
+    this process, up to `script_max` bytes in all (`ScriptFull` is raised where the next one
+    would not fit; None is no bound). A program that ended is then started anew on this script
+    by the next exchange: the same script makes the same history."""
 
     def __init__(
         self,
@@ -63,6 +66,7 @@ class Program(Closing):
         profile = whole("profile", profile, 2, 1)
         words = [] if file is None else [_file_word(path_of("file", file))]
         self.command = [path_of("path", path), "run", *words, str(places), str(profile)]
+        self.command += [] if file is None else ["--progress"]
         if file is None and os.path.basename(self.command[0]) == "tbd":
             raise InvalidValue("path", "is tbd, which keeps its ledger in a file: give file=")
         self.timeout = seconds("timeout", timeout, 0.001)
@@ -98,7 +102,8 @@ class Program(Closing):
         self.out, self.out_at = b"".join(self.script), 0
         self.data, self.data_at = b"", 0
         self.sent, self.seen = len(self.script), 0
-        self.last = b""
+        self.last = self.said = b""
+        self.is_ready = "--progress" not in self.command
         self._is_amid = False
 
     def _pipes(self) -> tuple[IO[bytes], IO[bytes], IO[bytes]]:
@@ -114,6 +119,7 @@ class Program(Closing):
         with self._lock:
             self._be_ready()
             deadline = time.monotonic() + seconds("timeout", self.timeout, 0)
+            self._await_ready(deadline)
             # else it is on its way already, and its reply is waited for
             if self.seen == self.sent or self.last != frame:
                 self._queue(pair)
@@ -133,6 +139,32 @@ class Program(Closing):
             raise self._ended("interrupted amid its pipes, and killed")
         if self.process is None:
             self._start()
+
+    def _await_ready(self, deadline: float) -> None:
+        """Waits until the program has told that it serves, where it tells that."""
+        stderr = self._pipes()[2]
+        while not self.is_ready:
+            with selectors.DefaultSelector() as readable:
+                readable.register(stderr, selectors.EVENT_READ)
+                left = deadline - time.monotonic()
+                if left <= 0:
+                    raise CannotStart(
+                        f"{self.command[0]} has not read its ledger within {self.timeout:g} "
+                        "seconds, and nothing was sent"
+                    )
+                if not readable.select(min(left, LONGEST)):
+                    continue
+            self._is_amid = True
+            more = os.read(stderr.fileno(), CHUNK)
+            self.said += more
+            self.is_ready = any(it and it[1] for it in map(NEWS.match, self._lines()))
+            self._is_amid = False
+            if not more:
+                raise self._ended()
+
+    def _lines(self) -> list[str]:
+        """The whole lines, and the one that is not, which it wrote to standard error."""
+        return self.said.decode(errors="replace").splitlines()
 
     def _queue(self, pair: bytes) -> None:
         size = self.script_bytes + len(pair)
@@ -215,8 +247,9 @@ class Program(Closing):
         """What to raise where the program is gone: it was killed, or ended by itself and says
         why."""
         process = cast("subprocess.Popen[bytes]", self.process)
-        lines = self._last_words(self._pipes()[2]).decode(errors="replace").strip().splitlines()
-        fault = re.sub("^tb[sd]: ", "", lines[-1]) if lines else ""
+        self.said += self._last_words(self._pipes()[2])
+        faults = [it for it in self._lines() if it.strip() and not NEWS.match(it)]
+        fault = re.sub("^tb[sd]: ", "", faults[-1]) if faults else ""
         log.warning("%s ended: %s", self.command[0], how or fault or "without a word")
         # one that writes no more replies, and does not end, is killed
         status = _end_of(process, self.timeout)

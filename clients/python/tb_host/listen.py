@@ -26,7 +26,6 @@ from __future__ import annotations
 
 import argparse
 import asyncio
-import contextlib
 import sys
 from typing import Sequence
 
@@ -83,21 +82,12 @@ def words(given: Sequence[str]) -> argparse.Namespace:
     return found
 
 
-def take_the_quicker_loop() -> None:
-    """Has asyncio run by uvloop where that is installed: a request takes less CPU time then."""
-    with contextlib.suppress(ImportError):
-        import uvloop
-
-        uvloop.install()
-
-
 def main() -> int:
     given = words(sys.argv[1:])
     if given.log_json:
         speak_json()
     try:
         make_room(given.connections)
-        take_the_quicker_loop()
         asyncio.run(listen(given))
     except Ended as ended:
         say(str(ended))

@@ -17,6 +17,7 @@ Store = Union[SqliteStore, PostgresStore]
 
 EVENTS_MAX = 40_000  # of a transaction, and those of the entry that reaches it
 STALE = 1.0  # seconds after which what is whole is written, though more comes
+RARELY = 20  # a write comes no sooner than after so many times the time that the last one took
 IDLE = 0.2  # seconds without a line, after which what is whole is written
 CHUNK = 1 << 20
 ENTRY = b'{"commit":"'
@@ -82,7 +83,7 @@ class Loading:
         self, lines: Iterator[Optional[bytes]], tell: Callable[[], None] = lambda: None
     ) -> None:
         """Enters lines to their end. What is whole is written, also where a line is cut off."""
-        is_cut, written = False, time.monotonic()
+        is_cut, written, took = False, time.monotonic(), 0.0
         for line in lines:
             if line is None:
                 self.write()
@@ -92,12 +93,12 @@ class Loading:
                 self.line += 1
                 self.take(line)
                 now = time.monotonic()
-                if self._books and (
-                    self._books.changes.events >= EVENTS_MAX or now - written > STALE
-                ):
+                is_due = now - written > max(STALE, RARELY * took)
+                if self._books and (is_due or self._books.changes.events >= EVENTS_MAX):
                     self.write()
                     tell()
-                    written = now
+                    written = time.monotonic()
+                    took = written - now
             if self.is_done:
                 break
         self.write()
