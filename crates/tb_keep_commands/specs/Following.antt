@@ -1,19 +1,22 @@
 -- What is written of the entries of a file above a commit number, as the file grows.
--- Public contracts reach it through: Outcomes.
+-- Public contracts reach it through: DumpLaws, Outcomes.
 use Rattle.std.specs.Prelude.{ℕ, ◌≡◌, ◌⊎◌, Bool, true, false, List, [], ◌++◌, Option, Some, None, Result, Ok, Err}
 use Rattle.tb_records.specs.Transport.{Output, Sent, CutOff}
 use Rattle.tb_records.specs.DumpBytes.{head_bytes}
 use Rattle.tb_journal.specs.declared.opening.OpenFault.{OpenFault}
 use Rattle.tb_journal.specs.Contents.{Records, contents}
+use Rattle.tb_journal.specs.Device.{Disk, FailsNone}
 use Rattle.tb_journal.specs.Growing.{Later}
 use Rattle.tb_journal.specs.Opening.{RefusesFile}
 use Rattle.tb_journal.specs.Scans.{BeginsWith, HasRead, Place}
+use Rattle.tb_keep.specs.declared.faults.DumpFault.{DumpFault}
 use Rattle.tb_keep.specs.declared.heads.Rules.{Rules}
 use Rattle.tb_keep.specs.Following.{entries_above}
+use Rattle.tb_keep.specs.Reading.{HasDumpCause}
 use Rattle.tb_keep_commands.specs.declared.faults.Fault.{Fault}
 use Rattle.tb_keep_commands.specs.declared.faults.Fault.TheVariants.{Device}
 use Rattle.tb_keep_commands.specs.declared.faults.Failed.TheVariants as failed
-use Rattle.tb_keep_commands.specs.Statuses.{opened_fault}
+use Rattle.tb_keep_commands.specs.Statuses.{opened_fault, dumped_fault}
 
 -- above which commit number entries are written: all where none is given
 abbrev pub floor_of : Option ℕ → ℕ
@@ -67,7 +70,28 @@ WritesPart (Ok done) follows after rules file start written = WritesRead follows
 WritesPart (Err fault) follows after rules file start written =
     StopsReading fault file (written ≡ start) ⊎ WritesSome fault follows after rules file start written
 
+abbrev pub dump_outcome : Result (Unit {0}) DumpFault → Result (Unit {0}) Fault
+dump_outcome (Ok done) = Ok tt
+dump_outcome (Err fault) = Err (dumped_fault fault)
+
+-- the cause of an outcome, over a device that tells what its calls do: that of a dump
+pub record HasPartCause (outcome : Result (Unit {0}) Fault) (before after : Disk) : Type 0 where
+  pub result : Result (Unit {0}) DumpFault
+  pub outcome_is : outcome ≡ dump_outcome result
+  pub cause : HasDumpCause result before after
+
 -- what private functions alone cite
+
+-- no call on a device failed, and its file is read on from there
+pub record ReadsOn (before after : Disk) (scan : Place) : Type 0 where
+  pub quiet : FailsNone before after
+  pub seen : after.seen ≡ before.seen
+  pub read : List (List ℕ)
+  pub place : HasRead read after.seen scan
+
+abbrev pub RoundCause : Result (Unit {0}) Fault → Disk → Disk → Place → Type 0
+RoundCause (Ok done) before after scan = ReadsOn before after scan
+RoundCause (Err fault) before after scan = HasPartCause (Err fault) before after
 
 -- the entries behind the records that were read were read and written, to the end of the file; or some of them
 abbrev pub SendsRound : Result (Unit {0}) Fault → ℕ → List (List ℕ) → List ℕ → Place → Output → Output → Type 0

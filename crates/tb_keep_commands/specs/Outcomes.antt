@@ -22,8 +22,8 @@ use Rattle.tb_keep_commands.specs.declared.faults.Failed.TheVariants as failed
 use Rattle.tb_keep_commands.specs.declared.openers.OpeningFault.{OpeningFault}
 use Rattle.tb_keep_commands.specs.declared.summaries.Found.{Found}
 use Rattle.tb_keep_commands.specs.declared.summaries.Summary.{Summary}
-use Rattle.tb_keep_commands.specs.Statuses.{disk_fault, dumped_fault, started_fault, kept_fault, failed_pipe, TellsMade, TellsCut, TellsReading, TellsReady, TellsFrames}
-use Rattle.tb_keep_commands.specs.Following.{WritesPart}
+use Rattle.tb_keep_commands.specs.Statuses.{disk_fault, started_fault, kept_fault, failed_pipe, TellsMade, TellsCut, TellsReading, TellsReady, TellsFrames}
+use Rattle.tb_keep_commands.specs.Following.{WritesPart, HasPartCause, dump_outcome}
 use Rattle.tb_keep_commands.specs.Naming.{Names, NamesAsked}
 use Rattle.tb_keep_commands.specs.Summaries.{ReadsWhole, IsSummary, summary_text}
 
@@ -45,10 +45,6 @@ Reports outcome s start written = Prints (summary_text s) outcome start written
 abbrev pub kept_outcome : Failed → Result ℕ KeepFault → Outcome
 kept_outcome pipe (Ok count) = Ok tt
 kept_outcome pipe (Err fault) = Err (kept_fault pipe fault)
-
-abbrev pub dump_outcome : Result (Unit {0}) DumpFault → Outcome
-dump_outcome (Ok done) = Ok tt
-dump_outcome (Err fault) = Err (dumped_fault fault)
 
 -- a call left a device so
 abbrev pub Left : {D : Type 0} → (D → Type 0) → Type 0
@@ -93,7 +89,7 @@ module _ (tells : Type 0) {D : Type 0} (disk : D → Disk) (holds : D → List �
   abbrev pub FollowsFound : Result Found StartFault → Option ℕ → Bool → Outcome → D → D → Output → Output → Type 0
   FollowsFound (Err fault) from follows outcome device after start written = IsRefused fault outcome device after × (written ≡ start)
   FollowsFound (Ok found) from follows outcome device after start written =
-      OfFile device (λ file. WritesPart outcome follows from found.rules file start written)
+      OfFile device (λ file. WritesPart outcome follows from found.rules file start written) × (tells → HasPartCause outcome (disk device) (disk after))
 
   -- a file was read to its end before a byte of a part of its dump was written: the entries above a commit number, or all
   pub record FollowsFile (from : Option ℕ) (follows : Bool) (outcome : Outcome) (device after : D) (start written : Output) : Type 0 where

@@ -2,7 +2,7 @@
 ghost use Rattle.std.specs.Prelude.{◌≡◌, ℕ, true, List, []};
 ghost use Rattle.tb_records.specs.Transport.{Output};
 ghost use Rattle.tb_journal.specs.Scans.{HasRead};
-ghost use Rattle.tb_keep_commands.specs.Following.{floor_of, start_of, SendsRound, Grown, GrowsBy, EndsRounds, WritesPart};
+ghost use Rattle.tb_keep_commands.specs.Following.{floor_of, start_of, SendsRound, Grown, GrowsBy, EndsRounds, WritesPart, RoundCause, HasPartCause};
 ghost use Rattle.tb_keep_commands.specs.Outcomes.{Prints, FollowsFile};
 
 use crate::faults::{Failed, Fault, disk_fault, dumped_fault, opened_fault};
@@ -36,6 +36,8 @@ fn send_round<D: Device, W: Outlet>(
     ensures sends { (file : List ℕ) (read : List (List ℕ)) → D.holds device.old file → HasRead read file scan.old
         → SendsRound result after read file scan.new (W.output writer.old) (W.output writer.new) }
     ensures same { (file : List ℕ) → D.holds device.old file → D.holds device.new file }
+    ensures cause { D.tells → (read : List (List ℕ)) → HasRead read (D.disk device.old).seen scan.old
+        → RoundCause result (D.disk device.old) (D.disk device.new) scan.new }
 {
     match write_entries(scan, device, writer, after) {
         Ok(_) => match writer.finish() {
@@ -53,8 +55,10 @@ fn send_more<D: Live, W: Outlet>(
     writer: &mut W,
     after: u64,
 ) -> Result<(), Fault>
-    ensures { (file : List ℕ) (start : Output) → Grown D.holds after file device.old scan.old start (W.output writer.old)
+    ensures sends { (file : List ℕ) (start : Output) → Grown D.holds after file device.old scan.old start (W.output writer.old)
         → GrowsBy D.holds result after file device.new scan.new start (W.output writer.new) }
+    ensures cause { D.tells → (read : List (List ℕ)) → HasRead read (D.disk device.old).seen scan.old
+        → RoundCause result (D.disk device.old) (D.disk device.new) scan.new }
 {
     match device.refresh() {
         Ok(()) => {
@@ -73,9 +77,11 @@ fn send_on<O: Opener, W: Outlet>(
     writer: &mut W,
     after: u64,
 ) -> Result<(), Fault>
-    ensures { (file : List ℕ) (start : Output)
+    ensures sends { (file : List ℕ) (start : Output)
         → Grown O.Reading.holds after file device.old scan.old start (W.output writer.old)
         → EndsRounds result true after file start (W.output writer.new) }
+    ensures cause { O.Reading.tells → (read : List (List ℕ)) → HasRead read (O.Reading.disk device.old).seen scan.old
+        → HasPartCause result (O.Reading.disk device.old) (O.Reading.disk device.new) }
 {
     for _ in 0..u64::MAX {
         if !opener.pause() {
@@ -98,8 +104,10 @@ fn send_entries<O: Opener, W: Outlet>(
     after: u64,
     follows: bool,
 ) -> Result<(), Fault>
-    ensures { (file : List ℕ) → O.Reading.holds device.old file → HasRead [] file scan.old
+    ensures sends { (file : List ℕ) → O.Reading.holds device.old file → HasRead [] file scan.old
         → EndsRounds result follows after file (W.output writer.old) (W.output writer.new) }
+    ensures cause { O.Reading.tells → HasRead [] (O.Reading.disk device.old).seen scan.old
+        → HasPartCause result (O.Reading.disk device.old) (O.Reading.disk device.new) }
 {
     match send_round(scan, device, writer, after) {
         Ok(()) => {
@@ -146,8 +154,10 @@ fn send_part<O: Opener, W: Outlet>(
     writer: &mut W,
     part: Part,
 ) -> Result<(), Fault>
-    ensures { (file : List ℕ) → O.Reading.holds device.old file → HasRead [] file scan.old
+    ensures writes { (file : List ℕ) → O.Reading.holds device.old file → HasRead [] file scan.old
         → WritesPart result part.follows part.after rules file (W.output writer.old) (W.output writer.new) }
+    ensures cause { O.Reading.tells → HasRead [] (O.Reading.disk device.old).seen scan.old
+        → HasPartCause result (O.Reading.disk device.old) (O.Reading.disk device.new) }
 {
     match send_start(writer, rules, part.after) {
         Ok(()) => {
@@ -167,8 +177,9 @@ fn part_found<O: Opener, W: Outlet>(
     writer: &mut W,
     part: Part,
 ) -> Result<(), Fault>
-    ensures { (file : List ℕ) → O.Reading.holds device.old file
+    ensures writes { (file : List ℕ) → O.Reading.holds device.old file
         → WritesPart result part.follows part.after rules file (W.output writer.old) (W.output writer.new) }
+    ensures cause { O.Reading.tells → HasPartCause result (O.Reading.disk device.old) (O.Reading.disk device.new) }
 {
     match Scan::start(alloc, device) {
         Ok(scan) => {

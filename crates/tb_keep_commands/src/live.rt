@@ -25,8 +25,9 @@ pub trait Live: Device {
 
     /// Goes on to what has been committed by now. On a fault it holds what it held.
     fn refresh(&mut self) -> Result<(), Fault>
-        ensures { (file : List ℕ) → Self.holds self.old file
-            → MatchResult result (λ _. HoldsLater Self.holds self.new file) (λ _. Self.holds self.new file) };
+        ensures later { (file : List ℕ) → Self.holds self.old file
+            → MatchResult result (λ _. HoldsLater Self.holds self.new file) (λ _. Self.holds self.new file) }
+        ensures looks { Self.tells → Looks result (Self.disk self.old) (Self.disk self.new) };
 }
 
 /// A file that grows, as it was at some moment.

@@ -9,6 +9,7 @@
 //! - `rows`: what a command is run on, and what it must answer.
 //! - `outcomes`: what becomes of each form, over each file.
 //! - `copies`: files salvaged and backed up.
+//! - `growth`: a file to which another program appends while it is read.
 //! - `words`: words that are no form, and faults of the system.
 //! - `outputs`: outputs and calls on the file that fail.
 #![tactic(auto)]
@@ -19,6 +20,8 @@ mod copies;
 mod files;
 #[cfg(test)]
 mod frames;
+#[cfg(test)]
+mod growth;
 #[cfg(test)]
 mod news;
 #[cfg(test)]

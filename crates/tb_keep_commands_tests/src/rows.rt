@@ -99,7 +99,7 @@ pub const WELL: Row = Row {
 };
 
 /// Says whether these bytes are those: compared here alone, since a comparison of bytes is dear to prove.
-fn same(found: &[u8], wanted: &[u8]) -> bool {
+pub fn same(found: &[u8], wanted: &[u8]) -> bool {
     found == wanted
 }
 
@@ -130,7 +130,7 @@ fn is_new(rt: &impl Abort, alloc: Global, row: Row, folder: &Folder) -> bool {
 }
 
 /// The bytes of a file up to an offset, and a closed latch.
-fn cut_to(rt: &impl Abort, alloc: Global, has: Has, end: usize) -> Vec<u8> {
+pub fn cut_to(rt: &impl Abort, alloc: Global, has: Has, end: usize) -> Vec<u8> {
     let mut bytes = file_of(rt, alloc, has);
     bytes.truncate(end);
     bytes.push(0).expect(rt, "memory");
@@ -138,7 +138,7 @@ fn cut_to(rt: &impl Abort, alloc: Global, has: Has, end: usize) -> Vec<u8> {
 }
 
 /// The words as a program has them.
-fn words_of(rt: &impl Abort, alloc: Global, words: &[&str]) -> Vec<String> {
+pub fn words_of(rt: &impl Abort, alloc: Global, words: &[&str]) -> Vec<String> {
     let mut all = Vec::new(alloc);
     for word in words {
         let word = String::from_str(alloc, word).expect(rt, "memory");

@@ -7,7 +7,7 @@ same_form a b asked here there = cc
 
 pub returns-in-Some-clause-served : goal.returns-in-Some-clause-served
 returns-in-Some-clause-served g c form is =
-    rw (same_form c.in-Some.form form _ c.in-Some.ensures is) (rw c.file_word.ensures at c.exit.ensures)
+    rw (same_form c.in-Some.form form _ c.in-Some.ensures is) (rw (c.file_word.ensures, c.new_word.ensures) at c.exit.ensures)
 
 pub returns-in-None-clause-told : goal.returns-in-None-clause-told
 returns-in-None-clause-told g c is = c.tell_usage.ensures

@@ -22,5 +22,5 @@ returns-in-Err g c = record {
   outcome = Err c.in-Err.fault;
   finishes = c.in-Err.ensures;
   status_is = c.status.ensures.value;
-  line = c.tell.ensures;
+  line = rw c.path.ensures at c.tell.ensures;
 }

@@ -1,11 +1,19 @@
+use Rattle.std.proofs.Common.{refl}
+use Rattle.tb_keep_commands.proofs.PartCauses.{output_failed}
 use Rattle.tb_keep_commands.proofs.Rounds.{part_sent, start_cut}
 use Rattle.tb_keep_commands.proofs.following.send_part.Goals as goal
 
 pub returns-in-Ok : goal.returns-in-Ok
-returns-in-Ok g c file holds place =
-    part_sent c.args.part.follows c.args.part.after c.args.rules file _ _ _ c.send_entries.result c.in-Ok.ensures
-    (rw c.floor_of-after.ensures at (c.send_entries.ensures file holds place))
+returns-in-Ok g c = record {
+  writes = λ file holds place.
+      part_sent c.args.part.follows c.args.part.after c.args.rules file _ _ _ c.send_entries.result c.in-Ok.ensures
+      (rw c.floor_of-after.ensures at (c.send_entries.ensures.sends file holds place));
+  cause = c.send_entries.ensures.cause;
+}
 
 pub returns-in-Err : goal.returns-in-Err
-returns-in-Err g c file holds place =
-    start_cut c.args.part.follows c.args.part.after c.args.rules file _ _ c.in-Err.fault c.in-Err.ensures.0 c.in-Err.ensures.1 place.begins
+returns-in-Err g c = record {
+  writes = λ file holds place.
+      start_cut c.args.part.follows c.args.part.after c.args.rules file _ _ c.in-Err.fault c.in-Err.ensures.0 c.in-Err.ensures.1 place.begins;
+  cause = λ t has. output_failed _ _ c.in-Err.fault c.in-Err.ensures.0 (λ fault. refl);
+}
