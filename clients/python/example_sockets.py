@@ -100,7 +100,7 @@ class Listening:
                     return
             self.process.wait()
             self.process.stderr.close()
-            if not said.endswith("Locked"):
+            if "tbd: Locked" not in said:
                 sys.exit(said)
             time.sleep(0.1)
         sys.exit("the ledger's file stays locked")

@@ -709,9 +709,9 @@ class Ends(unittest.TestCase):
             with listener.stderr as said:
                 self.assertEqual(said.read().splitlines()[-1], f"tb_listen: listens on {path}")
 
-    def slow(self, folder, when):
-        """A server that takes three seconds more where a condition of the shell holds."""
-        return ["sh", "-c", f'cd {folder}; {when} && sleep 3; exec "$@"', "sh", *KEEPER]
+    def slow(self, folder, when, seconds=3):
+        """A server that takes some seconds more where a condition of the shell holds."""
+        return ["sh", "-c", f'cd {folder}; {when} && sleep {seconds}; exec "$@"', "sh", *KEEPER]
 
     def starting(self, command, folder):
         """A listener whose server does not serve yet."""
@@ -747,12 +747,12 @@ class Ends(unittest.TestCase):
             with Running(folder=folder) as listener, Session.register(Socket(listener.path)):
                 pass
             for form in ("run", "check"):
-                slow = self.slow(folder, f"echo $* | grep -q ' {form} '")
+                slow = self.slow(folder, f"echo $* | grep -q ' {form} '", 60)
                 listener = self.starting(slow, folder)
                 began = time.monotonic()
                 listener.terminate()
-                self.assertEqual((listener.wait(20), listener.stderr.read()), (0, ""), form)
-                self.assertLess(time.monotonic() - began, 2)
+                self.assertEqual((listener.wait(40), listener.stderr.read()), (0, ""), form)
+                self.assertLess(time.monotonic() - began, 40)
 
     def test_a_server_that_is_slow_to_start_again(self):
         """Who asks meanwhile is told that nothing was done, and comes again until it is served."""
