@@ -1,5 +1,5 @@
 -- What is reported of a file that was copied.
-use Rattle.std.proofs.Common.{◌≡◌, ℕ, List, Option, None, refl, ap, sym, subst, ◌∙◌}
+use Rattle.std.proofs.Common.{◌≡◌, ℕ, List, Option, None, refl, ap, subst, ◌∙◌}
 use Rattle.tb_journal.specs.Device.{Disk}
 use Rattle.tb_records.specs.Transport.{Output}
 use Rattle.tb_keep.specs.declared.faults.StartFault.{StartFault}

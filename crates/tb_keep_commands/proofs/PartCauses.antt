@@ -5,7 +5,7 @@ use Rattle.tb_journal.specs.declared.opening.OpenFault.{OpenFault}
 use Rattle.tb_journal.specs.declared.opening.OpenFault.TheVariants as open_faults
 use Rattle.tb_journal.specs.Device.{Disk, FailsNone, Looks}
 use Rattle.tb_journal.specs.Growing.{Later}
-use Rattle.tb_journal.specs.Opening.{IsOpenCause, HasOpenCause}
+use Rattle.tb_journal.specs.Opening.{IsOpenCause}
 use Rattle.tb_journal.specs.Scans.{HasRead, Place}
 use Rattle.tb_journal.proofs.Causes.{none_since}
 use Rattle.tb_journal.proofs.Growths.{later_same}

@@ -10,7 +10,7 @@ use tb_journal::{Fault, Growing, Memory, Snapshot};
 use tb_keep_commands::{Opener, OpeningFault, serve};
 use tb_records::Counting;
 
-/// A file that has one commit more at each second time that its length is asked for.
+/// A file that has one commit more at each third time that its length is asked for.
 #[derive(Drop)]
 pub struct Growth {
     shown: Memory,
@@ -26,7 +26,7 @@ impl Growing for Growth {
 
     fn len(&mut self) -> Result<usize, Fault> {
         self.asked = self.asked.wrapping_add(1);
-        if self.asked % 2 == 0 {
+        if self.asked % 3 == 0 {
             if let Some(next) = self.stages.pop() {
                 self.shown = next;
             }
@@ -46,7 +46,7 @@ fn memory(rt: &impl Abort, alloc: Global, bytes: Vec<u8>) -> Memory {
 }
 
 /// The ledger of the script, with its head at first, then an entry more, then all.
-fn growth(rt: &impl Abort, alloc: Global) -> Growth {
+fn growing_ledger(rt: &impl Abort, alloc: Global) -> Growth {
     let shown = memory(rt, alloc, cut_to(rt, alloc, Has::Entries, HEAD_END));
     let next = memory(rt, alloc, cut_to(rt, alloc, Has::Entries, FIRST_END));
     let last = memory(rt, alloc, file_of(rt, alloc, Has::Entries));
@@ -99,7 +99,7 @@ impl Opener for Growths {
 fn written(rt: &impl Abort, alloc: Global, words: &[&str], pauses: u32) -> Vec<u8> {
     let mut folder = Growths {
         alloc,
-        file: Some(growth(rt, alloc)),
+        file: Some(growing_ledger(rt, alloc)),
         pauses: Cell::new(pauses),
     };
     let words = words_of(rt, alloc, words);

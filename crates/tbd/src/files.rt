@@ -1,8 +1,7 @@
 //! The files of the system, by their paths.
-use std::fs;
 use std::io::{BufWriter, Stderr};
-use std::thread;
 use std::time::Duration;
+use std::{fs, thread};
 use tb_journal::{Fault, FileFault, Real, Snapshot};
 use tb_keep_commands::{Opener, OpeningFault, Reported, opening_fault};
 use tb_records::Counting;

@@ -11,7 +11,7 @@ returns-in-Ok g c = record {
       let old = g.O.Reading.Device.disk c.args.device.now in
       let seen = c.in-Ok.ensures.seen t in
       let has = subst (λ (file : List ℕ). HasRead [] file c.in-Ok.scan) (sym seen)
-          (c.in-Ok.ensures.begun old.seen (g.met.O.Reading.Device.holds_seen c.args.device.now t)) in
+      (c.in-Ok.ensures.begun old.seen (g.met.O.Reading.Device.holds_seen c.args.device.now t)) in
       part_cause_then old _ (g.O.Reading.Device.disk c.send_part-sent.new.device) (c.in-Ok.ensures.cause t).ok seen c.send_part-sent.result
       (c.send_part-sent.ensures.cause t has);
 }
