@@ -472,7 +472,7 @@ def conversation(words, lines, echo=True, out=None):
 GREETING = b"A statement ends with `;`. `help` shows some, `exit` or Ctrl-D ends.\n"
 END = b"\x04"  # Ctrl-D at the beginning of a line
 REGISTER = b"at=10 client=7 register;\n"
-first = run(TBT, ["replies"], frames[0])[1]
+first = run(TBT, ["replies"], run(TBS, ["run", "2"], run(TBT, ["script"], REGISTER)[1])[1])[1]
 check("a terminal", conversation(["run", "2"], [REGISTER, END], echo=False), (GREETING + b"> " + first + b"> \n", 0))
 shown, status = conversation(["run", "2"], [b"at=10 clint=7\n", END], echo=False)
 check("a mistake is no failure", (shown.count(b"unknown field 'clint'; did you mean client?"), status), (1, 0))
