@@ -711,6 +711,126 @@ def closed_pipe(tbd, folder, ledger):
     ended(process)
 
 
+# Copies of files
+
+
+def copied(tbd, form, path, new, **how):
+    """What a form that makes a new file of a file says, and what the new file holds: None where there is none."""
+    told = told_of(tbd, os.path.dirname(path), [form, path, new], **how)
+    return told, dumped(tbd, os.path.dirname(path), new) if os.path.exists(new) else None
+
+
+def salvages(tbd, folder, data, gates, count, rng):
+    """A file with a bit flipped at many places: what is before the damage is taken over, and what is lost is told."""
+    whole, path = os.path.join(folder, "sound.tbk"), os.path.join(folder, "hurt.tbk")
+    with open(whole, "wb") as file:
+        file.write(data)
+    dump = dumped(tbd, folder, whole)
+    ends, wrong = entry_ends(dump), []
+    for number in range(count):
+        at = rng.choice([it for it in range(gates[1], len(data) - 1) if it not in gates])
+        new = os.path.join(folder, f"new{number}.tbk")
+        hurt = data[:at] + bytes([data[at] ^ 1 << rng.randrange(8)]) + data[at + 1 :]
+        with open(path, "wb") as file:
+            file.write(hurt)
+        (status, said, line), kept = copied(tbd, "salvage", path, new)
+        taken = sum(gate <= at for gate in gates) - 2
+        with open(path, "rb") as file:
+            same = file.read() == hurt
+        report = f"entries {taken}\nlast commit {taken}\n".encode()
+        lost = f"\nbytes lost {len(data) - gates[taken + 1] - 1} behind byte {gates[taken + 1]}: Damaged: ".encode()
+        well = (status, line) == (0, "") and said.startswith(report) and lost in said and same
+        if not well or kept != dump[: ends[taken]]:
+            wrong.append((at, status, said, line))
+    case(f"{count} damaged files salvaged", not wrong, wrong[:2])
+    told, kept = copied(tbd, "backup", path, os.path.join(folder, "part.tbk"))
+    case("a damaged file is not whole", told[0] == 6 and told[2].startswith("tbd: Damaged: "), told)
+    case("its backup holds a prefix", kept is None or dump.startswith(kept), kept and len(kept))
+
+
+def sound_copies(tbd, folder, data):
+    """Copies of a whole file and of one with a torn end are equal to it, of the owner alone, and can be served."""
+    whole = os.path.join(folder, "sound.tbk")
+    dump = dumped(tbd, folder, whole)
+    entries = len(entry_ends(dump)) - 1
+    for form in ("salvage", "backup"):
+        for torn in (b"", b"\0\2\0"):
+            path, new = os.path.join(folder, "torn.tbk"), os.path.join(folder, f"{form}{len(torn)}.tbk")
+            with open(path, "wb") as file:
+                file.write(data + torn)
+            (status, said, line), kept = copied(tbd, form, path, new)
+            behind = f"bytes behind {len(torn)}{', not committed yet or torn' if torn else ''}\n"
+            well = (status, line) == (0, "") and said.startswith(f"entries {entries}\n".encode()) and said.endswith(behind.encode())
+            case(f"{form} of a file with {len(torn)} torn bytes", well and kept == dump, (status, said, line))
+            case(f"{form}: mode 0600", os.stat(new).st_mode & 0o777 == 0o600, oct(os.stat(new).st_mode))
+            told = told_of(tbd, folder, ["run", new, "64"])
+            case(f"{form}: it can be served", told == (0, b"", ""), told)
+
+
+def copies_of_no_ledger(tbd, folder):
+    """Of what is no ledger, and of names that cannot be, nothing is made."""
+    with open(os.path.join(folder, "letter.txt"), "w", encoding="utf-8") as file:
+        file.write("to whom it may concern\n")
+    target = os.path.join(folder, "target.tbk")
+    os.symlink(target, os.path.join(folder, "to_nothing.tbk"))
+    with open(os.path.join(folder, "taken.tbk"), "wb") as file:
+        file.write(b"another file")
+    for form in ("salvage", "backup"):
+        for words, status, line in (
+            (["letter.txt", "new.tbk"], 5, "NotAJournal: letter.txt is a text"),
+            (["absent.tbk", "new.tbk"], 1, "Device: cannot find absent.tbk"),
+            (["folder.tbk", "new.tbk"], 1, "Device: folder.tbk is no regular file"),
+            (["words.tbk", "taken.tbk"], 2, "Usage: taken.tbk exists"),
+            (["words.tbk", "words.tbk"], 2, "Usage: words.tbk exists"),
+            (["words.tbk", "to_nothing.tbk"], 2, "Usage: to_nothing.tbk exists"),
+            (["words.tbk", "nowhere/new.tbk"], 1, "Device: cannot find nowhere/new.tbk"),
+            (["words.tbk", "64"], 2, f"Usage: {form} words.tbk 64: NEW is a number or begins with -; write ./NEW"),
+            (["words.tbk"], 2, f"Usage: {form} words.tbk: NEW is missing"),
+            (["words.tbk", "new.tbk", "more"], 2, f"Usage: {form}: too many words"),
+        ):
+            told = told_of(tbd, folder, [form, *words])
+            lines = told[2].splitlines()
+            well = told[:2] == (status, b"") and len(lines) == 1 and lines[0].startswith(f"tbd: {line}")
+            case(f"{form} {' '.join(words)}", well, told)
+            case(f"{form} {' '.join(words)}: nothing is made", not os.path.exists(os.path.join(folder, "new.tbk")) and not os.path.exists(target))
+    with open(os.path.join(folder, "taken.tbk"), "rb") as file:
+        case("a file that exists is not overwritten", file.read() == b"another file")
+
+
+def copies_on_a_full_disk(tbd, folder, shim, data):
+    """A disk that is full amid a copy, and a sync of it that fails, are told by their status; the file is as before."""
+    path = os.path.join(folder, "sound.tbk")
+    for number, (fault, status) in enumerate((("full 2000", 8), ("full 5000", 8), (f"sync 1 {EIO}", 9), (f"write 2 {EIO}", 1))):
+        for form in ("salvage", "backup"):
+            new = os.path.join(folder, f"full{number}{form}.tbk")
+            env = {**os.environ, "LD_PRELOAD": shim, "KEEP_FILE": new, "KEEP_FAULT": fault}
+            told = told_of(tbd, folder, [form, path, new], env=env)
+            case(f"{form}: {fault}", told[:2] == (status, b"") and told[2].count("\n") == 1, told)
+    with open(path, "rb") as file:
+        case("the file is as before", file.read() == data)
+
+
+def backups(tbd, folder):
+    """Backups of a file that is served are prefixes of it, the later ones longer, and can be served."""
+    ledger = Ledger(tbd, folder, "backed")
+    ledger.open_accounts()
+    process, stop = ledger.start(), threading.Event()
+    load = threading.Thread(target=rounds_until, args=(ledger, process, stop))
+    load.start()
+    news = [os.path.join(folder, f"copy{number}.tbk") for number in range(5)]
+    told = [told_of(tbd, folder, ["backup", ledger.file, new]) for new in news]
+    stop.set()
+    load.join()
+    process.stdin.close()
+    ended(process)
+    dumps = [dumped(tbd, folder, it) for it in [*news, ledger.file]]
+    case("backups next to a server", all((it[0], it[2]) == (0, "") for it in told), told[:2])
+    well = None not in dumps and dumps[0] != dumps[-1] and all(later.startswith(it) for it, later in zip(dumps, dumps[1:]))
+    case("each backup is a prefix of the next", well, [it and len(it) for it in dumps])
+    served = told_of(tbd, folder, ["run", news[-1], "64"])
+    case("a backup can be served", served == (0, b"", ""), served)
+
+
 def cuts(tbd, folder, data, gates, entries, count):
     """The file cut at each of its last bytes, so many."""
     path, wrong = os.path.join(folder, "cut.tbk"), []
@@ -767,6 +887,11 @@ def main():
         if asked.builds:
             builds(asked.tbd, folder)
         data, gates, entries = sample(asked.tbd, folder)
+        salvages(asked.tbd, folder, data, gates, 40, rng)
+        sound_copies(asked.tbd, folder, data)
+        copies_of_no_ledger(asked.tbd, folder)
+        copies_on_a_full_disk(asked.tbd, folder, shim, data)
+        backups(asked.tbd, folder)
         cuts(asked.tbd, folder, data, gates, entries, asked.cuts)
         flips(asked.tbd, folder, data, gates, entries, asked.flips, rng)
         faults(asked.tbd, folder, shim)
