@@ -176,6 +176,7 @@ opening_text opening.Exists path = codes "Usage: " ++ (path ++ codes " exists")
 opening_text opening.NotAFile path = codes "Device: " ++ (path ++ codes " is no regular file")
 opening_text opening.Dangling path = codes "Device: " ++ (path ++ codes " is a link to nothing")
 opening_text opening.Unopened path = codes "Device: cannot open " ++ path
+opening_text opening.Unread path = codes "Device: " ++ path
 
 -- what failed
 abbrev pub failed_text : Failed → List ℕ → List ℕ

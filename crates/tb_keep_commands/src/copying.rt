@@ -132,8 +132,8 @@ pub(crate) fn copy<D: Live, N: Device + Drop, W: Sink>(
 fn copy_made<O: Opener, W: Sink>(
     alloc: Global,
     opener: &mut O,
-    from: &mut O::Reading,
     new: &str,
+    from: &mut O::Reading,
     whole: bool,
     writer: &mut W,
 ) -> Result<(), Fault>
@@ -162,7 +162,7 @@ fn copy_headed<O: Opener, W: Sink>(
         (W.output writer.new) }
 {
     match read_rules(alloc, from) {
-        Ok(_rules) => copy_made(alloc, opener, from, new, whole, writer),
+        Ok(_rules) => copy_made(alloc, opener, new, from, whole, writer),
         Err(fault) => Err(named(from, fault)),
     }
 }

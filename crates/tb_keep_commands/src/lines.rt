@@ -115,6 +115,7 @@ fn put_opening<E: Sink>(faults: &mut E, fault: OpeningFault, path: &str) -> Resu
         OpeningFault::NotAFile => put_named(faults, "Device: ", path, " is no regular file"),
         OpeningFault::Dangling => put_named(faults, "Device: ", path, " is a link to nothing"),
         OpeningFault::Unopened => put_both(faults, "Device: cannot open ", path),
+        OpeningFault::Unread => put_both(faults, "Device: ", path),
     }
 }
 

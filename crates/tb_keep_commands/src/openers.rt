@@ -28,6 +28,8 @@ pub enum OpeningFault {
     Dangling,
     /// It cannot be opened.
     Unopened,
+    /// It was opened, and a read of it failed.
+    Unread,
 }
 
 /// The fault of a file of the system that is not opened.

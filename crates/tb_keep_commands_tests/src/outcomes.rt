@@ -183,6 +183,7 @@ const OPENINGS: &[(Words, OpeningFault, u8, Line)] = &[
         1,
         "tbd: Device: cannot open ledger\n",
     ),
+    (DUMP, OpeningFault::Unread, 1, "tbd: Device: ledger\n"),
     (DUMP, OpeningFault::NoMemory, 1, "tbd: NoMemory\n"),
     (
         RUN,

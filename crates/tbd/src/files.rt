@@ -79,7 +79,7 @@ const PAUSE: u64 = 50;
 fn reading_fault(fault: Fault) -> OpeningFault {
     match fault {
         Fault::Memory => OpeningFault::NoMemory,
-        _ => OpeningFault::Unopened,
+        _ => OpeningFault::Unread,
     }
 }
 

@@ -20,3 +20,6 @@ returns-in-NotAFile g c = rw c.in-NotAFile.is c.put_named-in-NotAFile.ensures
 
 pub returns-in-Dangling : goal.returns-in-Dangling
 returns-in-Dangling g c = rw c.in-Dangling.is c.put_named-in-Dangling.ensures
+
+pub returns-in-Unread : goal.returns-in-Unread
+returns-in-Unread g c = rw c.in-Unread.is c.put_both-in-Unread.ensures
