@@ -109,7 +109,7 @@ impl NewFile {
 
     /// A file in memory, seen from outside.
     pub fn noted(&self, alloc: Global, memory: Memory) -> Result<Noted, OpeningFault>
-        ensures { IfOk result (λ file. memory_disk file.memory ≡ memory_disk memory) }
+        ensures { IfOk result (λ file. (memory_disk file.memory).sound ≡ (memory_disk memory).sound) }
     {
         match self.seen.clone() {
             Ok(seen) => Ok(Noted {
