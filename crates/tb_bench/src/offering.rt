@@ -166,7 +166,11 @@ fn prepare<J: Naming, R: Wait>(
     publisher: &mut Publisher<J>,
     scale: Scale,
 ) -> Result<(), Error> {
-    take_all(rt, publisher, before_ports(alloc, scale.ports, scale.accounts)?)
+    take_all(
+        rt,
+        publisher,
+        before_ports(alloc, scale.ports, scale.accounts)?,
+    )
 }
 
 /// Measures what the ports of a publisher hand over.

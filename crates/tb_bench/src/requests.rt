@@ -22,7 +22,10 @@ fn nth_transfer(id: u64) -> Transfer {
 
 /// A transfer of 1 between two of so many accounts, an even number.
 fn distant_transfer(id: u64, accounts: u32) -> Transfer {
-    let debit = id.wrapping_mul(STRIDE).checked_rem(u64::from(accounts)).unwrap_or(0);
+    let debit = id
+        .wrapping_mul(STRIDE)
+        .checked_rem(u64::from(accounts))
+        .unwrap_or(0);
     let credit = u64::from(accounts).saturating_sub(debit);
     transfer(u128::from(id), u128::from(debit) + 1, u128::from(credit), 1)
 }
