@@ -3,8 +3,8 @@
 //!
 //! `take SIZE` takes SIZE batches of 8190 transfers, `single N` N thousands of single transfers with a show each, `eights N`
 //! the same with one show for eight, `memory SIZE` applies the batches to a machine alone, `reads THREADS N` reads N times in
-//! each of 1, 2 or 4 threads beside a busy writer, `calm THREADS N` the same beside none, and `ports PORTS N EACH` hands N
-//! orders of 1 to 8 transfers to a server from each of 1 to 32 ports.
+//! each of 1, 2 or 4 threads beside a busy writer, `calm THREADS N` the same beside none, and `ports PORTS N EACH ACCOUNTS` hands N
+//! orders of 1 to 8 transfers between so many accounts to a server from each of 1 to 32 ports.
 //!
 //! Modules, each over those before it:
 //!
@@ -73,10 +73,12 @@ fn task_of(words: &[String]) -> Result<Task, Error> {
         "ports" => {
             let orders = number(words.get(2))?;
             let each = number(words.get(3))?;
+            let accounts = number(words.get(4))?;
             Ok(Task::Ports(offering::Scale {
                 ports: first,
                 orders,
                 each,
+                accounts,
             }))
         }
         _ => {

@@ -16,12 +16,14 @@ use tb_published::{Naming, Opening, Publisher, SeatCount, open};
 use tb_records::Request;
 use tb_service::{Finished, Moments, Open, Port, PortCount, service};
 
-/// How many ports there are, how many orders each of them hands over, and how many requests an order has, 1 to 8.
+/// How many ports there are, how many orders each of them hands over, how many requests an order has, 1 to 8, and between how
+/// many accounts their transfers go.
 #[derive(Clone, Copy)]
 pub struct Scale {
     pub ports: u32,
     pub orders: u32,
     pub each: u32,
+    pub accounts: u32,
 }
 
 /// Moments that are all 0, so that each time is the next one.
@@ -76,7 +78,7 @@ fn make_order(alloc: Global, client: u32, scale: Scale, order: u32) -> Result<Ve
     let mut requests = Vec::with_capacity(alloc, scale.each as usize)?;
     let first = order.saturating_mul(scale.each);
     for k in first..first.saturating_add(scale.each) {
-        requests.push(transfer_of(alloc, client, scale.ports, k)?)?;
+        requests.push(transfer_of(alloc, client, scale.ports, scale.accounts, k)?)?;
     }
     Ok(requests)
 }
@@ -162,9 +164,13 @@ fn prepare<J: Naming, R: Wait>(
     rt: &R,
     alloc: Global,
     publisher: &mut Publisher<J>,
-    ports: u32,
+    scale: Scale,
 ) -> Result<(), Error> {
-    take_all(rt, publisher, before_ports(alloc, ports)?)
+    take_all(
+        rt,
+        publisher,
+        before_ports(alloc, scale.ports, scale.accounts)?,
+    )
 }
 
 /// Measures what the ports of a publisher hand over.
@@ -175,7 +181,7 @@ fn measure_ports<J: Naming + Send + Sync, R: Threads + Wait + Clock + Print + Ep
     ports: PortCount,
     scale: Scale,
 ) -> Result<(), Error> {
-    if let Err(fault) = prepare(rt, alloc, &mut publisher, scale.ports) {
+    if let Err(fault) = prepare(rt, alloc, &mut publisher, scale) {
         drop(publisher.close(rt));
         return Err(fault);
     }
