@@ -245,11 +245,11 @@ fn begun(alloc: Global) -> Result<Vec<u8>, AllocError>
     Vec::with_capacity(alloc, LENGTH)
 }
 
-/// The number of a profile.
-fn number_of(profile: Profile) -> u32
-    ensures { result ≡ profile_number profile }
+/// The number by which a profile is shown.
+fn number_of(shown: Profile) -> u32
+    ensures { result ≡ profile_number shown }
 {
-    match profile {
+    match shown {
         Profile::One => 1,
         Profile::Two => 2,
     }
