@@ -12,14 +12,14 @@ use tb_records::Counting;
 
 /// A file that has one commit more at each third time that its length is asked for.
 #[derive(Drop)]
-pub struct Growth {
-    shown: Memory,
+pub struct Growth<G> {
+    shown: G,
     /// What it shows later, the last first.
-    stages: Vec<Memory>,
+    stages: Vec<G>,
     asked: u8,
 }
 
-impl Growing for Growth {
+impl<G: Growing + Drop> Growing for Growth<G> {
     fn read_at(&mut self, at: usize, into: &mut [u8]) -> Result<usize, Fault> {
         Growing::read_at(&mut self.shown, at, into)
     }
@@ -46,7 +46,7 @@ fn memory(rt: &impl Abort, alloc: Global, bytes: Vec<u8>) -> Memory {
 }
 
 /// The ledger of the script, with its head at first, then an entry more, then all.
-fn growing_ledger(rt: &impl Abort, alloc: Global) -> Growth {
+fn growing_ledger(rt: &impl Abort, alloc: Global) -> Growth<Memory> {
     let shown = memory(rt, alloc, cut_to(rt, alloc, Has::Entries, HEAD_END));
     let next = memory(rt, alloc, cut_to(rt, alloc, Has::Entries, FIRST_END));
     let last = memory(rt, alloc, file_of(rt, alloc, Has::Entries));
@@ -64,14 +64,14 @@ fn growing_ledger(rt: &impl Abort, alloc: Global) -> Growth {
 #[derive(Drop)]
 struct Growths {
     alloc: Global,
-    file: Option<Growth>,
+    file: Option<Growth<Memory>>,
     pauses: Cell<u32>,
 }
 
 impl Opener for Growths {
     type File = Memory;
 
-    type Reading = Snapshot<Growth>;
+    type Reading = Snapshot<Growth<Memory>>;
 
     fn make(&mut self, _name: &str) -> Result<Memory, OpeningFault> {
         Err(OpeningFault::Forbidden)
@@ -81,7 +81,7 @@ impl Opener for Growths {
         Err(OpeningFault::Forbidden)
     }
 
-    fn open(&mut self, _name: &str) -> Result<Snapshot<Growth>, OpeningFault> {
+    fn open(&mut self, _name: &str) -> Result<Snapshot<Growth<Memory>>, OpeningFault> {
         match self.file.take() {
             Some(file) => { Snapshot::new(self.alloc, file).map_err(|_| OpeningFault::NoMemory) }
             None => Err(OpeningFault::Missing),
