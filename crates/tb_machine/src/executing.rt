@@ -67,6 +67,7 @@ fn session_of(request: &Request, commit: u64) -> u64
 }
 
 /// The reply to a request that has a commit number.
+#[inline(always)]
 fn reply_with(request: &Request, commit: u64, body: ReplyBody) -> Reply
     requires { let e : Entry = record { commit = commit; time = 0; request = request.now } in
         IsRight (reply_with e body) }
