@@ -283,7 +283,9 @@ impl<A: Allocator + Clone> Machine<A> {
     /// Frees the sessions. The records are left to their allocator, which frees its memory as a whole.
     pub(crate) fn leave_records(self) {
         let Machine {
-            ledger, sessions, ..
+            ledger,
+            sessions,
+            ..
         } = self;
         ledger.leave_rows();
         drop(sessions);
