@@ -228,18 +228,21 @@ words_both : (a b c d : ℕ) → zeros_on 4 (bit_xor (zeros_on 4 (bit_xor (zeros
     ≡ bit_xor (bit_xor (bit_xor (zeros_on 16 a) (zeros_on 12 b)) (zeros_on 8 c)) (zeros_on 4 d)
 words_both a b c d = simp byte_both
 
+last_three : (w x y z : ℕ) → bit_xor w (bit_xor (bit_xor x y) z) ≡ bit_xor (bit_xor (bit_xor w x) y) z
+last_three w x y z = sym (ap (λ (v : ℕ). bit_xor v z) (xor_assoc w x y) ∙ xor_assoc w (bit_xor x y) z)
+
 -- the first sixteen
 pub sixteen_of : (s first second third fourth w x y z : ℕ) (xs : List ℕ) → 16 ≤ length xs → AreBytes xs
     → first ≡ word_at 0 xs → second ≡ word_at 4 xs → third ≡ word_at 8 xs → fourth ≡ word_at 12 xs
     → w ≡ zeros_on 16 (bit_xor s first) → x ≡ zeros_on 12 second → y ≡ zeros_on 8 third → z ≡ zeros_on 4 fourth
-    → remainder (drop 16 xs) (bit_xor (bit_xor (bit_xor w x) y) z) ≡ remainder xs s
+    → remainder (drop 16 xs) (bit_xor w (bit_xor (bit_xor x y) z)) ≡ remainder xs s
 sixteen_of s first second third fourth w x y z xs long small f g h i a b d e =
     let one = zeros_on 4 (bit_xor s (word_at 0 xs)) in
     let two = zeros_on 4 (bit_xor one (word_at 4 xs)) in
     let three = zeros_on 4 (bit_xor two (word_at 8 xs)) in
     let words : bit_xor (bit_xor (bit_xor w x) y) z ≡ zeros_on 4 (bit_xor three (word_at 12 xs)) =
     rw (a, b, d, e, f, g, h, i) (sym (words_both (bit_xor s (word_at 0 xs)) (word_at 4 xs) (word_at 8 xs) (word_at 12 xs))) in
-    ap (remainder (drop 16 xs)) words
+    ap (remainder (drop 16 xs)) (last_three w x y z ∙ words)
     ∙ sym (next_on s 0 xs (omega (arith, long)) small ∙ next_on one 4 xs (omega (arith, long)) small
     ∙ next_on two 8 xs (omega (arith, long)) small ∙ next_on three 12 xs (omega (arith, long)) small)
 

@@ -23,10 +23,9 @@ fn remainder_after(start: u32, bytes: &[u8]) -> u32
         let second = u32::from_le_bytes([*e, *f, *g, *h]);
         let third = u32::from_le_bytes([*i, *j, *k, *l]);
         let fourth = u32::from_le_bytes([*m, *n, *o, *p]);
-        sum = word_after(sum ^ first, 16)
-            ^ word_after(second, 12)
-            ^ word_after(third, 8)
-            ^ word_after(fourth, 4);
+        // What does not need the sum comes first: compiled code adds in the order of the calls.
+        let others = word_after(second, 12) ^ word_after(third, 8) ^ word_after(fourth, 4);
+        sum = word_after(sum ^ first, 16) ^ others;
         rest = behind;
     }
     bytes_after(sum, rest)
