@@ -23,7 +23,8 @@ use Rattle.tb_keep_commands.specs.declared.openers.OpeningFault.{OpeningFault}
 use Rattle.tb_keep_commands.specs.declared.summaries.Found.{Found}
 use Rattle.tb_keep_commands.specs.declared.summaries.Summary.{Summary}
 use Rattle.tb_keep_commands.specs.Statuses.{disk_fault, started_fault, kept_fault, failed_pipe, TellsMade, TellsCut, TellsReading, TellsReady, TellsFrames}
-use Rattle.tb_keep_commands.specs.Following.{WritesPart, HasPartCause, dump_outcome}
+use Rattle.tb_keep_commands.specs.Live.{IsWholeLength}
+use Rattle.tb_keep_commands.specs.Following.{WritesHeld, HasPartCause, dump_outcome}
 use Rattle.tb_keep_commands.specs.Naming.{Names, NamesAsked}
 use Rattle.tb_keep_commands.specs.Summaries.{ReadsWhole, IsSummary, summary_text}
 
@@ -89,7 +90,7 @@ module _ (tells : Type 0) {D : Type 0} (disk : D → Disk) (holds : D → List �
   abbrev pub FollowsFound : Result Found StartFault → Option ℕ → Bool → Outcome → D → D → Output → Output → Type 0
   FollowsFound (Err fault) from follows outcome device after start written = IsRefused fault outcome device after × (written ≡ start)
   FollowsFound (Ok found) from follows outcome device after start written =
-      OfFile device (λ file. WritesPart outcome follows from found.rules file start written) × (tells → HasPartCause outcome (disk device) (disk after))
+      WritesHeld holds outcome follows from found.rules device after start written × (tells → HasPartCause outcome (disk device) (disk after))
 
   -- a file was read to its end before a byte of a part of its dump was written: the entries above a commit number, or all
   pub record FollowsFile (from : Option ℕ) (follows : Bool) (outcome : Outcome) (device after : D) (start written : Output) : Type 0 where
@@ -125,6 +126,7 @@ module _ (tells : Type 0) {D : Type 0} (disk : D → Disk) (holds : D → List �
   -- a device was asked for the length of the whole file of which it holds a part: that at some moment of the call. What it holds stays
   pub record IsMeasured (whole : D → List ℕ → Type 0) (len : Result ℕ journal.Fault) (device after : D) : Type 0 where
     pub long : (file : List ℕ) → whole device file → Grown (whole after) file (λ later. IfOk len (λ n. n ≡ length later))
+    pub extends : OfFile device (λ file. IfOk len (IsWholeLength file))
     -- nobody else appends to the file of a device that tells what its calls do
     pub told : tells → IfOk len (λ n. n ≡ length (disk device).seen)
     pub same : OfFile device (holds after)
