@@ -3,8 +3,9 @@
 use Rattle.std.specs.Prelude.{ℕ, Bool, true, false, ◌≡◌, ◌-◌, List, [], ◌∷◌, ◌++◌, length, codes, Option, None, Some, Result, Ok, Err, IfErr, refl}
 use Rattle.std.specs.Fmt.{decimal, digits}
 use Rattle.tb_records.specs.Transport.{Output}
+use Rattle.tb_journal.specs.declared.devices.Device as devices
 use Rattle.tb_journal.specs.declared.faults.Fault as journal
-use Rattle.tb_journal.specs.Device.{Disk, LeavesOnly}
+use Rattle.tb_journal.specs.Device.{LeavesOnly}
 use Rattle.tb_keep.specs.declared.faults.SalvageFault.{SalvageFault}
 use Rattle.tb_keep.specs.declared.faults.SalvageFault.TheVariants.{Old, New}
 use Rattle.tb_keep.specs.declared.faults.StartFault.{StartFault}
@@ -62,9 +63,9 @@ copied_of len salvaged = record {
 
 -- the new file keeps a history of which the records were copied, up to where no more can be, and this is reported of it: how many entries
 -- it has, the time of the last, where they end, and what is behind that in a file of so many bytes
-pub record IsCopy (tells : Type 0) {N : Type 0} (disk : N → Disk) (holds : List ℕ → Type 0) (len : ℕ) (salvaged : Salvaged N) (c : Copied) : Type 0 where
+pub record IsCopy {N : Type 0} (its : devices.Ghosts N) (holds : List ℕ → Type 0) (len : ℕ) (salvaged : Salvaged N) (c : Copied) : Type 0 where
   pub history : History
-  pub keeper : IsNewKeeper tells disk history salvaged.keeper
+  pub keeper : IsNewKeeper its.tells its.disk history salvaged.keeper
   pub taken : (file : List ℕ) → holds file → IsTaken history salvaged.end salvaged.stop file
   pub entries : c.entries ≡ length history.entries
   pub time : c.time ≡ (state_of history).books.time
@@ -87,36 +88,36 @@ abbrev pub EndsCopy : Option StartFault → Copied → Outcome → Output → Ou
 EndsCopy None c outcome start written = PrintsText (copied_text c) outcome start written
 EndsCopy (Some fault) c outcome start written = (outcome ≡ Err (started_fault fault)) × (written ≡ start)
 
-module _ (tells : Type 0) {E : Type 0} (disk : E → Disk) (holds : E → List ℕ → Type 0) where
+module _ {E : Type 0} (its : devices.Ghosts E) where
   -- a fault of the file, with what there is to say of it; or one of the new file
   abbrev pub NamesCopy : SalvageFault → Fault → E → E → Type 0
-  NamesCopy (Old fault) named from after = Names tells disk holds (started_fault fault) named from after
+  NamesCopy (Old fault) named from after = Names its (started_fault fault) named from after
   NamesCopy (New fault) named from after = (named ≡ new_fault (started_fault fault)) × (after ≡ from)
 
   -- the first record of a file was read, which stays
   pub record IsHeadRead (rules : Result Rules StartFault) (from after : E) : Type 0 where
-    pub rules_are : (file : List ℕ) → holds from file → RulesAnswer rules file
-    pub same : (file : List ℕ) → holds from file → holds after file
-    pub untouched : tells → IsUntouched (disk from) (disk after)
-    pub cause : tells → HasStartCause rules (disk from) (disk after)
+    pub rules_are : (file : List ℕ) → its.holds from file → RulesAnswer rules file
+    pub same : (file : List ℕ) → its.holds from file → its.holds after file
+    pub untouched : its.tells → IsUntouched (its.disk from) (its.disk after)
+    pub cause : its.tells → HasStartCause rules (its.disk from) (its.disk after)
 
-module _ (tells : Type 0) {E : Type 0} (disk : E → Disk) (holds whole_read : E → List ℕ → Type 0) (tells_new : Type 0) {D : Type 0} (disk_new : D → Disk) where
+module _ {E : Type 0} (its : devices.Ghosts E) (whole_read : E → List ℕ → Type 0) {D : Type 0} (new_file : devices.Ghosts D) where
   -- a file was read once, and stays; what a crash at any moment may leave of the new one, and why it is not read or written on
   pub record IsCopying (result : Result (Salvaged D) (NotSalvaged D)) (into : D) (from after : E) : Type 0 where
-    pub unsalvaged : (file : List ℕ) → holds from file → IfErr result (λ failed. IsUnsalvaged failed.fault file)
-    pub any_moment : tells_new → LeavesOnly (disk_new into) (disk_new (salvaged_device result)) (MayBeSalvaged (holds from) (disk_new into))
-    pub cause_new : tells_new → HasNewCause (why_new result) (disk_new into) (disk_new (salvaged_device result))
-    pub same : (file : List ℕ) → holds from file → holds after file
-    pub untouched : tells → IsUntouched (disk from) (disk after)
-    pub cause_old : tells → HasStartCause (why_old result) (disk from) (disk after)
+    pub unsalvaged : (file : List ℕ) → its.holds from file → IfErr result (λ failed. IsUnsalvaged failed.fault file)
+    pub any_moment : new_file.tells → LeavesOnly (new_file.disk into) (new_file.disk (salvaged_device result)) (MayBeSalvaged (its.holds from) (new_file.disk into))
+    pub cause_new : new_file.tells → HasNewCause (why_new result) (new_file.disk into) (new_file.disk (salvaged_device result))
+    pub same : (file : List ℕ) → its.holds from file → its.holds after file
+    pub untouched : its.tells → IsUntouched (its.disk from) (its.disk after)
+    pub cause_old : its.tells → HasStartCause (why_old result) (its.disk from) (its.disk after)
 
   -- the new file keeps what was copied, which was printed, or the file is refused; or why there is no new file, or one not to its end
   abbrev pub CopiesBy : Result (Salvaged D) (NotSalvaged D) → ℕ → Bool → Outcome → E → E → E → Output → Output → Type 0
   CopiesBy (Ok salvaged) len whole outcome from between after start written =
-      (c : Copied) × IsCopy tells_new disk_new (holds from) len salvaged c
+      (c : Copied) × IsCopy new_file (its.holds from) len salvaged c
       × EndsCopy (refused_by whole salvaged.stop) c outcome start written × (after ≡ between)
   CopiesBy (Err failed) len whole outcome from between after start written =
-      (named : Fault) × (outcome ≡ Err named) × NamesCopy tells disk holds failed.fault named between after × (written ≡ start)
+      (named : Fault) × (outcome ≡ Err named) × NamesCopy its failed.fault named between after × (written ≡ start)
 
   -- a file of so many bytes was copied
   pub record CopiesLong (len : ℕ) (whole : Bool) (outcome : Outcome) (into : D) (from after : E) (start written : Output) : Type 0 where
@@ -134,7 +135,7 @@ module _ (tells : Type 0) {E : Type 0} (disk : E → Disk) (holds whole_read : E
   pub record CopiesFile (whole : Bool) (outcome : Outcome) (into : D) (from after : E) (start written : Output) : Type 0 where
     pub len : Result ℕ journal.Fault
     pub between : E
-    pub asked : IsMeasured tells disk holds whole_read len from between
+    pub asked : IsMeasured its whole_read len from between
     pub copies : CopiesMeasured len whole outcome into between after start written
 
   -- the new file was made, and a file was copied into it; or it was not, and nothing was read
@@ -152,13 +153,13 @@ module _ (tells : Type 0) {E : Type 0} (disk : E → Disk) (holds whole_read : E
   abbrev pub CopiesKnown : {O : Type 0} → Result Rules StartFault → (Result D OpeningFault → O → Type 0) → O → O → Bool → Outcome → E → E → Output → Output → Type 0
   CopiesKnown (Ok rules) may before left whole outcome from after start written = MakesCopy may left whole outcome from after start written
   CopiesKnown (Err fault) may before left whole outcome from after start written =
-      IsRefused tells disk holds fault outcome from after × (left ≡ before) × (written ≡ start)
+      IsRefused its fault outcome from after × (left ≡ before) × (written ≡ start)
 
   -- the first record of a file was read, and then it was copied
   pub record CopiesHeaded {O : Type 0} (may : Result D OpeningFault → O → Type 0) (before left : O) (whole : Bool) (outcome : Outcome) (from after : E) (start written : Output) : Type 0 where
     pub rules : Result Rules StartFault
     pub between : E
-    pub head : IsHeadRead tells disk holds rules from between
+    pub head : IsHeadRead its rules from between
     pub copies : CopiesKnown rules may before left whole outcome between after start written
 
   -- a file was opened and copied into a new one; or it was not opened, and none was made

@@ -2,8 +2,9 @@
 -- Public contracts reach it through: Copies, Exits.
 use Rattle.std.specs.Prelude.{ℕ, Bool, true, false, Option, None, ◌≡◌, ◌-◌, List, length, Result, Ok, Err, IfOk}
 use Rattle.tb_records.specs.Transport.{Input, Output, Sent, CutOff}
+use Rattle.tb_journal.specs.declared.devices.Device as devices
 use Rattle.tb_journal.specs.declared.faults.Fault as journal
-use Rattle.tb_journal.specs.Device.{Disk, Looks, LeavesOnly}
+use Rattle.tb_journal.specs.Device.{Looks, LeavesOnly}
 use Rattle.tb_journal.specs.Growing.{Grown}
 use Rattle.tb_keep.specs.declared.faults.DumpFault.{DumpFault}
 use Rattle.tb_keep.specs.declared.faults.KeepFault.{KeepFault}
@@ -51,27 +52,27 @@ kept_outcome pipe (Err fault) = Err (kept_fault pipe fault)
 abbrev pub Left : {D : Type 0} → (D → Type 0) → Type 0
 Left {D} Leaves = (after : D) × Leaves after
 
-module _ (tells : Type 0) {D : Type 0} (disk : D → Disk) (holds : D → List ℕ → Type 0) where
+module _ {D : Type 0} (its : devices.Ghosts D) where
   -- of the file that the reads of a device are of
   abbrev pub OfFile : D → (List ℕ → Type 0) → Type 0
-  OfFile device Is = (file : List ℕ) → holds device file → Is file
+  OfFile device Is = (file : List ℕ) → its.holds device file → Is file
 
   -- a device was read to the end of its file, as one history, or it is told why not; the file stays
   pub record IsReadWhole (found : Result Found StartFault) (device after : D) : Type 0 where
     pub found_is : OfFile device (ReadsWhole found)
-    pub same : OfFile device (holds after)
-    pub cause : tells → HasStartCause found (disk device) (disk after)
+    pub same : OfFile device (its.holds after)
+    pub cause : its.tells → HasStartCause found (its.disk device) (its.disk after)
 
   -- a dump of a file of these rules was written, or as much of it as the answer says
   pub record IsDumped (result : Result (Unit {0}) DumpFault) (rules : Rules) (device after : D) (start written : Output) : Type 0 where
     pub dumps : OfFile device (λ file. Dumps result rules file start written)
-    pub cause : tells → HasDumpCause result (disk device) (disk after)
+    pub cause : its.tells → HasDumpCause result (its.disk device) (its.disk after)
 
   -- a file that was read is refused, with what there is to say of it
   pub record IsRefused (fault : StartFault) (outcome : Outcome) (device after : D) : Type 0 where
     pub named : Fault
     pub outcome_is : outcome ≡ Err named
-    pub names : Names tells disk holds (started_fault fault) named device after
+    pub names : Names its (started_fault fault) named device after
 
   -- where a file was found to be one history its dump was written, or why not; else nothing was
   abbrev pub DumpsFound : Result Found StartFault → Outcome → D → D → Output → Output → Type 0
@@ -90,7 +91,7 @@ module _ (tells : Type 0) {D : Type 0} (disk : D → Disk) (holds : D → List �
   abbrev pub FollowsFound : Result Found StartFault → Option ℕ → Bool → Outcome → D → D → Output → Output → Type 0
   FollowsFound (Err fault) from follows outcome device after start written = IsRefused fault outcome device after × (written ≡ start)
   FollowsFound (Ok found) from follows outcome device after start written =
-      WritesHeld holds outcome follows from found.rules device after start written × (tells → HasPartCause outcome (disk device) (disk after))
+      WritesHeld its.holds outcome follows from found.rules device after start written × (its.tells → HasPartCause outcome (its.disk device) (its.disk after))
 
   -- a file was read to its end before a byte of a part of its dump was written: the entries above a commit number, or all
   pub record FollowsFile (from : Option ℕ) (follows : Bool) (outcome : Outcome) (device after : D) (start written : Output) : Type 0 where
@@ -120,17 +121,17 @@ module _ (tells : Type 0) {D : Type 0} (disk : D → Disk) (holds : D → List �
   -- a device was asked for the length of its file, which stays
   pub record IsAsked (len : Result ℕ journal.Fault) (device after : D) : Type 0 where
     pub long : OfFile device (λ file. IfOk len (λ n. n ≡ length file))
-    pub same : OfFile device (holds after)
-    pub looks : tells → Looks len (disk device) (disk after)
+    pub same : OfFile device (its.holds after)
+    pub looks : its.tells → Looks len (its.disk device) (its.disk after)
 
   -- a device was asked for the length of the whole file of which it holds a part: that at some moment of the call. What it holds stays
   pub record IsMeasured (whole : D → List ℕ → Type 0) (len : Result ℕ journal.Fault) (device after : D) : Type 0 where
     pub long : (file : List ℕ) → whole device file → Grown (whole after) file (λ later. IfOk len (λ n. n ≡ length later))
     pub extends : OfFile device (λ file. IfOk len (IsWholeLength file))
     -- nobody else appends to the file of a device that tells what its calls do
-    pub told : tells → IfOk len (λ n. n ≡ length (disk device).seen)
-    pub same : OfFile device (holds after)
-    pub looks : tells → Looks len (disk device) (disk after)
+    pub told : its.tells → IfOk len (λ n. n ≡ length (its.disk device).seen)
+    pub same : OfFile device (its.holds after)
+    pub looks : its.tells → Looks len (its.disk device) (its.disk after)
 
   abbrev pub ChecksBy : Result ℕ journal.Fault → Outcome → D → D → Output → Output → Type 0
   ChecksBy (Err fault) outcome device after start written = (outcome ≡ Err (disk_fault fault)) × (written ≡ start)
@@ -153,25 +154,25 @@ module _ (tells : Type 0) {D : Type 0} (disk : D → Disk) (holds : D → List �
     pub ready : TellsReady reports started told
     pub result : Result ℕ KeepFault
     pub after : Keeping D
-    pub served : Served tells disk result keeper after first last start written
+    pub served : Served its.tells its.disk result keeper after first last start written
     pub outcome_is : outcome ≡ kept_outcome (failed_pipe first.failed last.failed) result
 
   -- what a start over a device answers, of one that tells what its calls do; of one that is kept, where no sync has failed before
   abbrev pub StartAnswers : Result (Keeping D) (NotKept D) → Rules → D → Type 0
-  StartAnswers (Ok keeper) rules device = (disk device).sound ≡ true → IsStarted disk rules.profile rules.clients_max (disk device).seen keeper
-  StartAnswers (Err failed) rules device = IsStartRefused rules.profile rules.clients_max failed.fault (disk device) (disk failed.device)
+  StartAnswers (Ok keeper) rules device = (its.disk device).sound ≡ true → IsStarted its.disk rules.profile rules.clients_max (its.disk device).seen keeper
+  StartAnswers (Err failed) rules device = IsStartRefused rules.profile rules.clients_max failed.fault (its.disk device) (its.disk failed.device)
 
   pub record Starts (result : Result (Keeping D) (NotKept D)) (rules : Rules) (device : D) : Type 0 where
     pub answers : StartAnswers result rules device
-    pub cause : HasEitherCause (why_left result) (disk device) (disk (device_left result))
+    pub cause : HasEitherCause (why_left result) (its.disk device) (its.disk (device_left result))
     -- a crash at any moment of it, where none has
-    pub any_moment : (disk device).sound ≡ true → LeavesOnly (disk device) (disk (device_left result)) (MayBeStarted rules.profile rules.clients_max (disk device))
+    pub any_moment : (its.disk device).sound ≡ true → LeavesOnly (its.disk device) (its.disk (device_left result)) (MayBeStarted rules.profile rules.clients_max (its.disk device))
 
   -- a start was refused, with what there is to say of the file; nothing was read, written or told but why
   pub record IsUnstarted (failed : NotKept D) (rules : Rules) (outcome : Outcome) (first last : Input) (start written quiet told : Output) : Type 0 where
     pub named : Fault
     pub outcome_is : outcome ≡ Err named
-    pub names : Left (NamesAsked tells disk holds rules failed.fault named failed.device)
+    pub names : Left (NamesAsked its rules failed.fault named failed.device)
     pub unread : last ≡ first
     pub unwritten : written ≡ start
     pub silent : told ≡ quiet
@@ -188,7 +189,7 @@ module _ (tells : Type 0) {D : Type 0} (disk : D → Disk) (holds : D → List �
     pub noted : Output
     pub reading : TellsReading reports path len quiet noted
     pub started : Result (Keeping D) (NotKept D)
-    pub starts : tells → Starts started rules device
+    pub starts : its.tells → Starts started rules device
     pub handed : OfFile device (StartsFile started rules.profile rules.clients_max)
     pub serves : ServesStarted started rules outcome path reports len first last start written noted told
 
@@ -216,18 +217,18 @@ pub record Opens {D O : Type 0} (may : Result D OpeningFault → O → Type 0) (
   pub answered : may answer left
   pub done : DoneWith answer outcome Nothing Does
 
-module _ (tells : Type 0) {D : Type 0} (disk : D → Disk) (holds : D → List ℕ → Type 0) {O : Type 0} (may : Result D OpeningFault → O → Type 0) (left : O) where
+module _ {D : Type 0} (its : devices.Ghosts D) {O : Type 0} (may : Result D OpeningFault → O → Type 0) (left : O) where
   -- where requests would come from a terminal it is told first where words are read
   pub record RunsOver (outcome : Outcome) (rules : Rules) (path : List ℕ) (reports talks : Bool) (first last : Input) (start written quiet told : Output) : Type 0 where
     pub noted : Output
     pub frames : TellsFrames talks quiet noted
     pub runs : Opens may left outcome ((last ≡ first) × (written ≡ start) × (told ≡ noted))
-        (λ device. ServesFile tells disk holds outcome rules path reports device first last start written noted told)
+        (λ device. ServesFile its outcome rules path reports device first last start written noted told)
 
   abbrev pub DumpsOver : Option ℕ → Bool → Outcome → Output → Output → Type 0
   DumpsOver from follows outcome start written =
-      Opens may left outcome (written ≡ start) (λ device. (after : D) × DumpsPart tells disk holds from follows outcome device after start written)
+      Opens may left outcome (written ≡ start) (λ device. (after : D) × DumpsPart its from follows outcome device after start written)
 
   abbrev pub ChecksOver : (D → List ℕ → Type 0) → Outcome → Output → Output → Type 0
   ChecksOver whole outcome start written =
-      Opens may left outcome (written ≡ start) (λ device. (after : D) × ChecksFile tells disk holds whole outcome device after start written)
+      Opens may left outcome (written ≡ start) (λ device. (after : D) × ChecksFile its whole outcome device after start written)

@@ -195,7 +195,7 @@ pub(crate) fn follow<O: Opener, W: Outlet>(
     writer: &mut W,
     part: Part,
 ) -> Result<(), Fault>
-    ensures { FollowsFile O.Reading.tells O.Reading.disk O.Reading.holds part.after part.follows result device.old device.new (W.output writer.old)
+    ensures { FollowsFile O.Reading.Device part.after part.follows result device.old device.new (W.output writer.old)
         (W.output writer.new) }
 {
     match read_whole(alloc, device) {
