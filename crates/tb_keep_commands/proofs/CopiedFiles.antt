@@ -8,8 +8,8 @@ use Rattle.tb_keep.specs.Salvaging.{IsSalvaged}
 use Rattle.tb_machine.specs.Histories.{State}
 use Rattle.tb_machine.proofs.Held.{commit_is}
 use Rattle.tb_keep_commands.specs.declared.copies.Copied.{Copied}
-use Rattle.tb_keep_commands.specs.Copies.{IsCopy, PrintsText, EndsCopy, copied_of, copied_text}
-use Rattle.tb_keep_commands.specs.Outcomes.{Outcome}
+use Rattle.tb_keep_commands.specs.Copies.{IsCopy, EndsCopy, copied_of, copied_text}
+use Rattle.tb_keep_commands.specs.Outcomes.{Outcome, PrintsText}
 
 pub copy_is : {N : Type 0} (its : devices.Ghosts N) (holds : List ℕ → Type 0) (len : ℕ) (salvaged : Salvaged N)
     → IsSalvaged its.tells its.disk holds salvaged → IsCopy its holds len salvaged (copied_of len salvaged)

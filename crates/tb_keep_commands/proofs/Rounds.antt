@@ -1,5 +1,5 @@
 -- The entries that are written of a file as it grows.
-use Rattle.std.proofs.Common.{◌≡◌, ℕ, Bool, true, false, List, [], ◌++◌, Option, Result, Ok, Err, refl, subst, inl, inr, ⊎_elim, append-nil}
+use Rattle.std.proofs.Common.{◌≡◌, ◌⊎◌, ℕ, Bool, true, false, List, [], ◌++◌, Option, Result, Ok, Err, refl, subst, inl, inr, ⊎_elim, append-nil}
 use Rattle.tb_journal.specs.declared.opening.OpenFault.{OpenFault}
 use Rattle.tb_journal.specs.declared.opening.OpenFault.TheVariants as open_faults
 use Rattle.tb_journal.specs.declared.faults.Fault as journal
@@ -19,7 +19,7 @@ use Rattle.tb_keep_commands.specs.declared.faults.Fault.{Fault}
 use Rattle.tb_keep_commands.specs.declared.faults.Fault.TheVariants.{Device}
 use Rattle.tb_keep_commands.specs.declared.faults.Failed.TheVariants as failed
 use Rattle.tb_keep_commands.specs.Statuses.{disk_fault, opened_fault, dumped_fault}
-use Rattle.tb_keep_commands.specs.Following.{GrowsTo, StopsReading, EndsBy, SendsRound, Grown, Breaks, GrowsBy, EndsRounds, WritesLess, WritesPart, start_of, floor_of}
+use Rattle.tb_keep_commands.specs.Following.{GrowsTo, StopsReading, EndsBy, SendsRound, Grown, Breaks, GrowsBy, EndsRounds, WritesSome, WritesPart, start_of, floor_of}
 
 -- two parts that were sent
 pub both : (xs ys : List ℕ) (old mid new : Output) → Sent xs old mid → Sent ys mid new → Sent (xs ++ ys) old new
@@ -129,7 +129,8 @@ grows_same true file = later_same file
 
 -- what stands before the entries was cut off
 pub start_cut : (follows : Bool) (after : Option ℕ) (rules : Rules) (file : List ℕ) (old new : Output) (fault : Fault)
-    → fault ≡ Device failed.Output → CutOff (start_of after rules) old new → BeginsWith [] file → WritesLess fault follows after rules file old new
+    → fault ≡ Device failed.Output → CutOff (start_of after rules) old new → BeginsWith [] file
+    → StopsReading fault file (new ≡ old) ⊎ WritesSome fault follows after rules file old new
 start_cut follows after rules file old new fault is cut begins = inr (record {
   later = file;
   since = grows_same follows file;
@@ -165,7 +166,8 @@ first_broken follows after file scan start written fault (more, begins, ends) =
 
 -- a file of which nothing is read
 pub unread : (follows : Bool) (after : Option ℕ) (rules : Rules) (file : List ℕ) (cause : OpenFault) (fault : Fault) (old : Output)
-    → fault ≡ opened_fault cause → Starts (Err cause) file → WritesLess fault follows after rules file old old
+    → fault ≡ opened_fault cause → Starts (Err cause) file
+    → StopsReading fault file (old ≡ old) ⊎ WritesSome fault follows after rules file old old
 unread follows after rules file cause fault old is starts = inl (record { why = cause; named = is; refuses = refused cause starts; went = refl })
   where
     refused : (cause : OpenFault) → Starts (Err cause) file → RefusesFile cause file

@@ -21,10 +21,10 @@ use Rattle.tb_keep_commands.specs.declared.copies.Copied.{Copied}
 use Rattle.tb_keep_commands.specs.declared.faults.Damage.{Damage}
 use Rattle.tb_keep_commands.specs.declared.faults.Damage.TheVariants.{Block}
 use Rattle.tb_keep_commands.specs.declared.faults.Fault.{Fault}
-use Rattle.tb_keep_commands.specs.declared.faults.Fault.TheVariants.{NoMemory, Damaged, Making}
+use Rattle.tb_keep_commands.specs.declared.faults.Fault.TheVariants.{Damaged, Making}
 use Rattle.tb_keep_commands.specs.declared.openers.OpeningFault.{OpeningFault}
 use Rattle.tb_keep_commands.specs.Naming.{Names}
-use Rattle.tb_keep_commands.specs.Outcomes.{Outcome, Prints, IsMeasured, IsRefused, Opens}
+use Rattle.tb_keep_commands.specs.Outcomes.{Outcome, PrintsText, IsMeasured, IsRefused, Opens}
 use Rattle.tb_keep_commands.specs.Statuses.{damage_text, disk_fault, new_fault, started_fault}
 use Rattle.tb_keep_commands.specs.Summaries.{line_before, behind_text}
 
@@ -77,11 +77,6 @@ pub record IsCopy {N : Type 0} (its : devices.Ghosts N) (holds : List ℕ → Ty
 abbrev pub refused_by : Bool → Option StartFault → Option StartFault
 refused_by true stop = stop
 refused_by false stop = None
-
--- a text was printed, or there is no memory for it
-abbrev pub PrintsText : List ℕ → Outcome → Output → Output → Type 0
-PrintsText text (Err NoMemory) start written = written ≡ start
-PrintsText text outcome start written = Prints text outcome start written
 
 -- what was copied was printed; or it is told what is damaged, and nothing was printed
 abbrev pub EndsCopy : Option StartFault → Copied → Outcome → Output → Output → Type 0

@@ -68,19 +68,10 @@ pub record WritesSome (fault : Fault) (follows : Bool) (after : Option ℕ) (rul
   pub begins : BeginsWith records later
   pub ends : EndsBy fault later (part_of after rules records) start written
 
--- or less of it, and why
-abbrev pub WritesLess : Fault → Bool → Option ℕ → Rules → List ℕ → Output → Output → Type 0
-WritesLess fault follows after rules file start written =
-    StopsReading fault file (written ≡ start) ⊎ WritesSome fault follows after rules file start written
-
 abbrev pub WritesPart : (List ℕ → Type 0) → Result (Unit {0}) Fault → Bool → Option ℕ → Rules → List ℕ → Output → Output → Type 0
 WritesPart holds (Ok done) follows after rules file start written = WritesRead holds follows after rules file start written
-WritesPart holds (Err fault) follows after rules file start written = WritesLess fault follows after rules file start written
-
--- of whatever file a device holds
-abbrev pub WritesHeld : {D : Type 0} → (D → List ℕ → Type 0) → Result (Unit {0}) Fault → Bool → Option ℕ → Rules → D → D → Output → Output → Type 0
-WritesHeld holds outcome follows after rules device last start written =
-    (file : List ℕ) → holds device file → WritesPart (holds last) outcome follows after rules file start written
+WritesPart holds (Err fault) follows after rules file start written =
+    StopsReading fault file (written ≡ start) ⊎ WritesSome fault follows after rules file start written
 
 abbrev pub dump_outcome : Result (Unit {0}) DumpFault → Result (Unit {0}) Fault
 dump_outcome (Ok done) = Ok tt
@@ -150,6 +141,10 @@ EndsRounds holds (Ok done) follows after file start written = Reaches holds foll
 EndsRounds holds (Err fault) follows after file start written = Breaks fault follows after file start written
 
 -- of whatever file a device holds
+
+abbrev pub WritesHeld : {D : Type 0} → (D → List ℕ → Type 0) → Result (Unit {0}) Fault → Bool → Option ℕ → Rules → D → D → Output → Output → Type 0
+WritesHeld holds outcome follows after rules device last start written =
+    (file : List ℕ) → holds device file → WritesPart (holds last) outcome follows after rules file start written
 
 -- of which a scan has read these records
 abbrev pub OfRead : {D : Type 0} → (D → List ℕ → Type 0) → D → Place → (List ℕ → List (List ℕ) → Type 0) → Type 0

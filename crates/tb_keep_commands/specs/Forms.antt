@@ -94,9 +94,7 @@ form_four word third fourth = if is_dump word then dump_from third fourth false 
 -- `dump FILE --after COMMIT --follow`, or `dump FILE --follow --after COMMIT`
 abbrev pub dump_later : List ℕ → List ℕ → List ℕ → Option Form
 dump_later third fourth fifth =
-    if is_follow fifth then dump_from third fourth true
-    else if is_follow third then dump_from fourth fifth true
-    else None
+    if is_follow fifth then dump_from third fourth true else if is_follow third then dump_from fourth fifth true else None
 
 abbrev pub form_five : List ℕ → List ℕ → List ℕ → List ℕ → Option Form
 form_five word third fourth fifth = if is_dump word then dump_later third fourth fifth else run_five word third fourth fifth

@@ -44,3 +44,9 @@ module _ {D : Type 0} (its : devices.Ghosts D) where
   abbrev pub NamesAsked : Rules → StartFault → Fault → D → D → Type 0
   NamesAsked asked start.OtherRules fault device after = (numbers : Option Mismatch) × (fault ≡ OtherRules numbers) × IsMadeWith asked numbers device after
   NamesAsked asked cause fault device after = Names (started_fault cause) fault device after
+
+-- what private functions alone cite
+
+-- a call left a device so
+abbrev pub Left : {D : Type 0} → (D → Type 0) → Type 0
+Left {D} Leaves = (after : D) × Leaves after

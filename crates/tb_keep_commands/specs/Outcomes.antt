@@ -22,12 +22,11 @@ use Rattle.tb_keep_commands.specs.declared.faults.Failed.{Failed}
 use Rattle.tb_keep_commands.specs.declared.faults.Failed.TheVariants as failed
 use Rattle.tb_keep_commands.specs.declared.openers.OpeningFault.{OpeningFault}
 use Rattle.tb_keep_commands.specs.declared.summaries.Found.{Found}
-use Rattle.tb_keep_commands.specs.declared.summaries.Summary.{Summary}
 use Rattle.tb_keep_commands.specs.Statuses.{disk_fault, started_fault, kept_fault, failed_pipe, TellsMade, TellsCut, TellsReading, TellsReady, TellsFrames}
 use Rattle.tb_keep_commands.specs.Live.{IsWholeLength}
-use Rattle.tb_keep_commands.specs.Following.{WritesHeld, HasPartCause, dump_outcome}
+use Rattle.tb_keep_commands.specs.Following.{WritesPart, HasPartCause, dump_outcome}
 use Rattle.tb_keep_commands.specs.Naming.{Names, NamesAsked}
-use Rattle.tb_keep_commands.specs.Summaries.{ReadsWhole, IsSummary, summary_text}
+use Rattle.tb_keep_commands.specs.Summaries.{ReadsWhole, summary_of, summary_text}
 
 -- done, or not to its end
 abbrev pub Outcome : Type 0
@@ -38,19 +37,15 @@ abbrev pub Prints : List ℕ → Outcome → Output → Output → Type 0
 Prints text (Ok done) start written = Sent text start written
 Prints text (Err fault) start written = (fault ≡ Device failed.Output) × CutOff text start written
 
--- the text of a summary was printed, or there is no memory for it
-abbrev pub Reports : Outcome → Summary → Output → Output → Type 0
-Reports (Err NoMemory) s start written = written ≡ start
-Reports outcome s start written = Prints (summary_text s) outcome start written
+-- or there is no memory for it
+abbrev pub PrintsText : List ℕ → Outcome → Output → Output → Type 0
+PrintsText text (Err NoMemory) start written = written ≡ start
+PrintsText text outcome start written = Prints text outcome start written
 
 -- where a pipe failed, this one
 abbrev pub kept_outcome : Failed → Result ℕ KeepFault → Outcome
 kept_outcome pipe (Ok count) = Ok tt
 kept_outcome pipe (Err fault) = Err (kept_fault pipe fault)
-
--- a call left a device so
-abbrev pub Left : {D : Type 0} → (D → Type 0) → Type 0
-Left {D} Leaves = (after : D) × Leaves after
 
 module _ {D : Type 0} (its : devices.Ghosts D) where
   -- of the file that the reads of a device are of
@@ -91,7 +86,7 @@ module _ {D : Type 0} (its : devices.Ghosts D) where
   abbrev pub FollowsFound : Result Found StartFault → Option ℕ → Bool → Outcome → D → D → Output → Output → Type 0
   FollowsFound (Err fault) from follows outcome device after start written = IsRefused fault outcome device after × (written ≡ start)
   FollowsFound (Ok found) from follows outcome device after start written =
-      WritesHeld its.holds outcome follows from found.rules device after start written × (its.tells → HasPartCause outcome (its.disk device) (its.disk after))
+      OfFile device (λ file. WritesPart (its.holds after) outcome follows from found.rules file start written) × (its.tells → HasPartCause outcome (its.disk device) (its.disk after))
 
   -- a file was read to its end before a byte of a part of its dump was written: the entries above a commit number, or all
   pub record FollowsFile (from : Option ℕ) (follows : Bool) (outcome : Outcome) (device after : D) (start written : Output) : Type 0 where
@@ -106,17 +101,16 @@ module _ {D : Type 0} (its : devices.Ghosts D) where
   DumpsPart from follows outcome device after start written = FollowsFile from follows outcome device after start written
 
   -- where a file of so many bytes was found to be one history its summary was printed; else nothing was
-  abbrev pub ChecksFound : Result Found StartFault → ℕ → Outcome → D → D → D → Output → Output → Type 0
-  ChecksFound (Err fault) len outcome device between after start written = IsRefused fault outcome between after × (written ≡ start)
-  ChecksFound (Ok found) len outcome device between after start written =
-      (s : Summary) × OfFile device (IsSummary len s) × Reports outcome s start written
+  abbrev pub ChecksFound : Result Found StartFault → ℕ → Outcome → D → D → Output → Output → Type 0
+  ChecksFound (Err fault) len outcome device after start written = IsRefused fault outcome device after × (written ≡ start)
+  ChecksFound (Ok found) len outcome device after start written = PrintsText (summary_text (summary_of found len)) outcome start written
 
   -- a file of so many bytes was read to its end before its summary was printed
   pub record ChecksLong (len : ℕ) (outcome : Outcome) (device after : D) (start written : Output) : Type 0 where
     pub found : Result Found StartFault
     pub between : D
     pub whole : IsReadWhole found device between
-    pub checks : ChecksFound found len outcome device between after start written
+    pub checks : ChecksFound found len outcome between after start written
 
   -- a device was asked for the length of its file, which stays
   pub record IsAsked (len : Result ℕ journal.Fault) (device after : D) : Type 0 where
@@ -172,7 +166,8 @@ module _ {D : Type 0} (its : devices.Ghosts D) where
   pub record IsUnstarted (failed : NotKept D) (rules : Rules) (outcome : Outcome) (first last : Input) (start written quiet told : Output) : Type 0 where
     pub named : Fault
     pub outcome_is : outcome ≡ Err named
-    pub names : Left (NamesAsked its rules failed.fault named failed.device)
+    pub left : D
+    pub names : NamesAsked its rules failed.fault named failed.device left
     pub unread : last ≡ first
     pub unwritten : written ≡ start
     pub silent : told ≡ quiet

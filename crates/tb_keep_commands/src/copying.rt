@@ -1,7 +1,7 @@
 //! A file copied into a new one: up to its first damage, or where it is whole.
 ghost use Rattle.std.specs.Prelude.{◌≡◌, true};
-ghost use Rattle.tb_keep_commands.specs.Copies.{PrintsText, copied_of, copied_text, refused_by, EndsCopy, NamesCopy, CopiesLong, CopiesFile, MakesCopy, CopiesHeaded, CopiesOver};
-ghost use Rattle.tb_keep_commands.specs.Outcomes.{Left};
+ghost use Rattle.tb_keep_commands.specs.Copies.{copied_of, copied_text, refused_by, EndsCopy, NamesCopy, CopiesLong, CopiesFile, MakesCopy, CopiesHeaded, CopiesOver};
+ghost use Rattle.tb_keep_commands.specs.Outcomes.{PrintsText};
 
 use crate::copies::{Copied, damage_of};
 use crate::faults::{Failed, Fault, disk_fault, new_fault, started_fault};

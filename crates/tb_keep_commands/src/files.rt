@@ -2,8 +2,8 @@
 ghost use Rattle.std.specs.Prelude.{◌≡◌, ℕ, List, Ok};
 ghost use Rattle.tb_keep.specs.Opening.{IsUntouched};
 ghost use Rattle.tb_keep.specs.Restoration.{HasStartCause};
-ghost use Rattle.tb_keep_commands.specs.Summaries.{ReadsWhole};
-ghost use Rattle.tb_keep_commands.specs.Outcomes.{DumpsFound, DumpsFile, ChecksLong, ChecksFile, Reports};
+ghost use Rattle.tb_keep_commands.specs.Summaries.{ReadsWhole, summary_text};
+ghost use Rattle.tb_keep_commands.specs.Outcomes.{DumpsFound, DumpsFile, ChecksLong, ChecksFile, PrintsText};
 
 use crate::faults::{Failed, Fault, disk_fault, dumped_fault};
 use crate::live::Live;
@@ -72,7 +72,7 @@ pub(crate) fn dump<D: Device, W: Sink>(
 
 /// Writes what is in a file.
 fn report<W: Sink>(alloc: Global, summary: Summary, writer: &mut W) -> Result<(), Fault>
-    ensures { Reports result summary (W.output writer.old) (W.output writer.new) }
+    ensures { PrintsText (summary_text summary) result (W.output writer.old) (W.output writer.new) }
 {
     match format!(in alloc; "{summary}") {
         Ok(text) => match put_all(writer, text.as_bytes()) {

@@ -1,8 +1,8 @@
 //! The serving of a ledger over a device.
 ghost use Rattle.std.specs.Prelude.{◌≡◌, true};
 ghost use Rattle.tb_keep.specs.Keeping.{IsFresh, IsUsable};
-ghost use Rattle.tb_keep_commands.specs.Naming.{NamesAsked};
-ghost use Rattle.tb_keep_commands.specs.Outcomes.{ServesKept, ServesLong, ServesFile, kept_outcome, Left};
+ghost use Rattle.tb_keep_commands.specs.Naming.{NamesAsked, Left};
+ghost use Rattle.tb_keep_commands.specs.Outcomes.{ServesKept, ServesLong, ServesFile, kept_outcome};
 ghost use Rattle.tb_keep_commands.specs.Statuses.{failed_pipe};
 
 use crate::faults::{Failed, Fault, disk_fault, kept_fault};
