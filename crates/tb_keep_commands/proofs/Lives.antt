@@ -10,20 +10,23 @@ use Rattle.tb_journal.proofs.Showing.{shown_contents, shown_prefix}
 use Rattle.tb_keep_commands.specs.Live as live
 use Rattle.tb_keep_commands.specs.Live.{LooksAgain, WholeOf, IsWholeLength}
 
-module _ {G : Type 0} (grows : G → List ℕ → Type 0) (before after : Snapped G) (shown : List ℕ) (held : IsHeld grows before shown) where
-  pub refreshed : (result : Result (Unit {0}) Fault) → OnOk result (Refreshes grows held.file shown after) → OnErr result (IsHeld grows after shown)
-      → live.Refreshes (λ (s : Snapped G). grows s.file) (IsHeld grows) before after shown result
-  refreshed (Ok done) ok err = record {
-    later = ok.takes.shown;
-    since = ok.goes_on;
-    held = ok.takes.held;
-    first = held.file;
-    was = held.now;
-    moment = ok.takes.later;
-    grown = ok.takes.after;
-    all = ok.takes.same;
-  }
-  refreshed (Err fault) ok err = err
+module _ {G : Type 0} (grows : G → List ℕ → Type 0) (before after : Snapped G) where
+  pub refreshed : (result : Result (Unit {0}) Fault) → ((shown : List ℕ) (held : IsHeld grows before shown) → OnOk result (Refreshes grows held.file shown after))
+      → ((shown : List ℕ) → IsHeld grows before shown → OnErr result (IsHeld grows after shown))
+      → (shown : List ℕ) → IsHeld grows before shown → live.Refreshes (λ (s : Snapped G). grows s.file) (IsHeld grows) before after shown result
+  refreshed (Ok done) ok err shown held =
+      let r = ok shown held in
+      record {
+        later = r.takes.shown;
+        since = r.goes_on;
+        held = r.takes.held;
+        first = held.file;
+        was = held.now;
+        moment = r.takes.later;
+        grown = r.takes.after;
+        all = r.takes.same;
+      }
+  refreshed (Err fault) ok err shown held = err shown held
 
 -- nobody appended
 pub stays : {D : Type 0} → (holds : D → List ℕ → Type 0) → (device : D) → (file : List ℕ) → holds device file → LooksAgain holds holds device device file
@@ -72,14 +75,19 @@ whole_shown closed end met shown last shows after = by (contents shown) refl
     by (Damaged at) is = final (Damaged at) tt is
     by (Records records) is = shown_prefix closed end met shown last records shows after is
 
-module _ {G : Type 0} (grows : G → List ℕ → Type 0) (before : Snapped G) (now : G) (shown : List ℕ) (held : IsHeld grows before shown) where
-  pub shown_length : (result : Result ℕ Fault) → Grown (grows now) held.file (λ later. IfOk result (λ len. len ≡ length later)) → IfOk result (IsWholeLength shown)
-  shown_length (Ok len) grown = record {
-    whole = grown.later;
-    goes_on = whole_shown before.closed before.end held.shows.met shown grown.later held.shows.shows (later_then held.shows.met held.file grown.later held.shows.since grown.after);
-    long = grown.has;
-  }
-  shown_length (Err fault) grown = tt
+module _ {G : Type 0} (grows : G → List ℕ → Type 0) (before : Snapped G) (now : G) where
+  pub shown_length : (result : Result ℕ Fault)
+      → ((file : List ℕ) → grows before.file file → Grown (grows now) file (λ later. IfOk result (λ len. len ≡ length later)))
+      → (shown : List ℕ) → IsHeld grows before shown → IfOk result (IsWholeLength shown)
+  shown_length (Ok len) long shown held =
+      let grown = long held.file held.now in
+      let met = held.shows.met in
+      record {
+        whole = grown.later;
+        goes_on = whole_shown before.closed before.end met shown grown.later held.shows.shows (later_then met held.file grown.later held.shows.since grown.after);
+        long = grown.has;
+      }
+  shown_length (Err fault) long shown held = tt
 
 -- and the device was not asked
 pub looks_not : (disk : Disk) → Looks {T = Unit {0}} (Ok tt) disk disk
