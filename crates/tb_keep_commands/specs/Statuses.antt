@@ -58,6 +58,11 @@ abbrev pub sync_fault : journal.Fault → OpeningFault
 sync_fault disk.Memory = opening.NoMemory
 sync_fault fault = opening.SyncFailed
 
+-- a file was opened, but its length or its first bytes are not read
+abbrev pub unread_fault : journal.Fault → OpeningFault
+unread_fault disk.Memory = opening.NoMemory
+unread_fault fault = opening.Unread
+
 abbrev pub opening_fault : FileFault → OpeningFault
 opening_fault file.Locked = opening.Locked
 opening_fault file.NotAFile = opening.NotAFile
