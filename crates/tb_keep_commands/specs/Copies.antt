@@ -1,6 +1,6 @@
 -- What is copied of a file into a new one, up to its first damage, and what is reported of it.
 -- Cited by public contracts of: copies.
-use Rattle.std.specs.Prelude.{ℕ, Bool, true, false, ◌≡◌, ◌-◌, List, [], ◌∷◌, ◌++◌, length, codes, Option, None, Some, Result, Ok, Err, IfErr, refl}
+use Rattle.std.specs.Prelude.{ℕ, Bool, true, false, ◌≡◌, ◌-◌, List, [], ◌∷◌, ◌++◌, length, codes, Option, None, Some, Result, Ok, Err, IfErr, MatchResult, refl}
 use Rattle.std.specs.Fmt.{decimal, digits}
 use Rattle.tb_records.specs.Transport.{Output}
 use Rattle.tb_journal.specs.declared.devices.Device as devices
@@ -21,7 +21,7 @@ use Rattle.tb_keep_commands.specs.declared.copies.Copied.{Copied}
 use Rattle.tb_keep_commands.specs.declared.faults.Damage.{Damage}
 use Rattle.tb_keep_commands.specs.declared.faults.Damage.TheVariants.{Block}
 use Rattle.tb_keep_commands.specs.declared.faults.Fault.{Fault}
-use Rattle.tb_keep_commands.specs.declared.faults.Fault.TheVariants.{Damaged, Making}
+use Rattle.tb_keep_commands.specs.declared.faults.Fault.TheVariants.{Damaged, Opening, Making}
 use Rattle.tb_keep_commands.specs.declared.openers.OpeningFault.{OpeningFault}
 use Rattle.tb_keep_commands.specs.Naming.{Names}
 use Rattle.tb_keep_commands.specs.Outcomes.{Outcome, PrintsText, IsMeasured, IsRefused, Opens}
@@ -121,46 +121,31 @@ module _ {E : Type 0} (its : devices.Ghosts E) (whole_read : E → List ℕ → 
     pub copying : IsCopying result into from between
     pub copies : CopiesBy result len whole outcome from between after start written
 
-  abbrev pub CopiesMeasured : Result ℕ journal.Fault → Bool → Outcome → D → E → E → Output → Output → Type 0
-  CopiesMeasured (Ok len) whole outcome into from after start written = CopiesLong len whole outcome into from after start written
-  CopiesMeasured (Err fault) whole outcome into from after start written =
-      (outcome ≡ Err (disk_fault fault)) × (after ≡ from) × (written ≡ start)
-
   -- a file's length was asked for, and then it was copied
   pub record CopiesFile (whole : Bool) (outcome : Outcome) (into : D) (from after : E) (start written : Output) : Type 0 where
     pub len : Result ℕ journal.Fault
     pub between : E
     pub asked : IsMeasured its whole_read len from between
-    pub copies : CopiesMeasured len whole outcome into between after start written
+    pub copies : MatchResult len (λ n. CopiesLong n whole outcome into between after start written)
+        (λ fault. (outcome ≡ Err (disk_fault fault)) × (after ≡ between) × (written ≡ start))
 
   -- the new file was made, and a file was copied into it; or it was not, and nothing was read
-  abbrev pub CopiesMade : Result D OpeningFault → Bool → Outcome → E → E → Output → Output → Type 0
-  CopiesMade (Ok into) whole outcome from after start written = CopiesFile whole outcome into from after start written
-  CopiesMade (Err fault) whole outcome from after start written = (outcome ≡ Err (Making fault)) × (after ≡ from) × (written ≡ start)
+  abbrev pub MakesCopy : {O : Type 0} → (Result D OpeningFault → O → Type 0) → O → Bool → Outcome → E → E → Output → Output → Type 0
+  MakesCopy may left whole outcome from after start written =
+      Opens Making may left outcome ((after ≡ from) × (written ≡ start)) (λ into. CopiesFile whole outcome into from after start written)
 
-  -- making it may answer so, and leave what opens like this
-  pub record MakesCopy {O : Type 0} (may : Result D OpeningFault → O → Type 0) (left : O) (whole : Bool) (outcome : Outcome) (from after : E) (start written : Output) : Type 0 where
-    pub answer : Result D OpeningFault
-    pub answered : may answer left
-    pub copies : CopiesMade answer whole outcome from after start written
-
-  -- a file that begins as a ledger's was copied into a new one; of any other none was made
-  abbrev pub CopiesKnown : {O : Type 0} → Result Rules StartFault → (Result D OpeningFault → O → Type 0) → O → O → Bool → Outcome → E → E → Output → Output → Type 0
-  CopiesKnown (Ok rules) may before left whole outcome from after start written = MakesCopy may left whole outcome from after start written
-  CopiesKnown (Err fault) may before left whole outcome from after start written =
-      IsRefused its fault outcome from after × (left ≡ before) × (written ≡ start)
-
-  -- the first record of a file was read, and then it was copied
+  -- the first record of a file was read, and then it was copied into a new one. Of one that does not begin as a ledger's none was made
   pub record CopiesHeaded {O : Type 0} (may : Result D OpeningFault → O → Type 0) (before left : O) (whole : Bool) (outcome : Outcome) (from after : E) (start written : Output) : Type 0 where
     pub rules : Result Rules StartFault
     pub between : E
     pub head : IsHeadRead its rules from between
-    pub copies : CopiesKnown rules may before left whole outcome between after start written
+    pub copies : MatchResult rules (λ read. MakesCopy may left whole outcome between after start written)
+        (λ fault. IsRefused its fault outcome between after × (left ≡ before) × (written ≡ start))
 
   -- a file was opened and copied into a new one; or it was not opened, and none was made
   pub record CopiesOver {O : Type 0} (opens : Result E OpeningFault → O → Type 0) (makes : O → List ℕ → Result D OpeningFault → O → Type 0) (new : List ℕ) (left : O) (whole : Bool) (outcome : Outcome) (start written : Output) : Type 0 where
     pub middle : O
-    pub copies : Opens opens middle outcome ((left ≡ middle) × (written ≡ start))
+    pub copies : Opens Opening opens middle outcome ((left ≡ middle) × (written ≡ start))
         (λ from. (after : E) × CopiesHeaded (makes middle new) middle left whole outcome from after start written)
 
 -- rows
