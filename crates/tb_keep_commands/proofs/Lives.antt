@@ -3,7 +3,7 @@ use Rattle.std.proofs.Common.{◌≡◌, ℕ, Bool, List, length, Result, Ok, Er
 use Rattle.tb_journal.specs.declared.faults.Fault.{Fault}
 use Rattle.tb_journal.specs.Contents.{Contents, NotAJournal, Damaged, Records, contents}
 use Rattle.tb_journal.specs.Device.{Disk, Looks}
-use Rattle.tb_journal.specs.Growing.{Extends, Later, Grown}
+use Rattle.tb_journal.specs.Growing.{Later, Grown}
 use Rattle.tb_journal.specs.Snapshots.{Snapped, IsFinal, ShowsOf, IsHeld, Refreshes}
 use Rattle.tb_journal.proofs.Growths.{extends_later, final_later, later_same, later_then}
 use Rattle.tb_journal.proofs.Showing.{shown_contents, shown_prefix}

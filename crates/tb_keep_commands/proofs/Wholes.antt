@@ -8,7 +8,6 @@ use Rattle.tb_machine.specs.Histories.{State}
 use Rattle.tb_machine.proofs.Held.{commit_is}
 use Rattle.tb_keep.specs.declared.heads.Rules.{Rules}
 use Rattle.tb_keep.specs.Reading.{IsHistory}
-use Rattle.tb_keep_commands.specs.declared.summaries.Found.{Found}
 use Rattle.tb_keep_commands.specs.Summaries.{IsFound}
 
 same_extent : (a b : Extent) (found : Result Extent Refusal) → found ≡ Ok a → found ≡ Ok b → b ≡ a

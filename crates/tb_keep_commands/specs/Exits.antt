@@ -1,6 +1,6 @@
 -- How a command ends: its outcome, exit status and line.
 -- Cited by public contracts of: commands.
-use Rattle.std.specs.Prelude.{ℕ, true, false, ◌||◌, ◌≡◌, List, [], Result, Ok, Err}
+use Rattle.std.specs.Prelude.{ℕ, true, false, ◌||◌, ◌≡◌, List, [], Ok, Err}
 use Rattle.tb_records.specs.Transport.{Input, Output, Sent, CutOff}
 use Rattle.tb_journal.specs.declared.devices.Device as devices
 use Rattle.tb_keep.specs.Reading.{rules_of}

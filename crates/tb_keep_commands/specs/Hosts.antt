@@ -1,6 +1,6 @@
 -- What a command does between a std reader and a std writer, each behind a buffer.
 -- Cited by public contracts of: host.
-use Rattle.std.specs.Prelude.{ℕ, ◌≡◌, ◌^◌, List, [], Option, Some, None, Result}
+use Rattle.std.specs.Prelude.{ℕ, ◌≡◌, ◌^◌, List, [], Option, Some, None}
 use Rattle.std.specs.Io.Buffered.{reader_buffer, reader_capacity, reader_inner, reader_remaining, writer_buffer, writer_contents, writer_inner}
 use Rattle.std.specs.declared.io.buffered.BufReader.{BufReader}
 use Rattle.std.specs.declared.io.buffered.BufWriter.{BufWriter}
