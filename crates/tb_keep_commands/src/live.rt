@@ -35,7 +35,6 @@ pub trait Live: Device {
 impl<G: Growing + Drop> Live for Snapshot<G> {
     ghost whole = { λ snapshot. G.grows snapshot.file };
 
-    #[tactic(auto, using(crate::proofs::Lives::shown_length))]
     fn file_len(&mut self) -> Result<usize, Fault> {
         Snapshot::file_len(self)
     }
