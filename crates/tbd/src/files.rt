@@ -1,7 +1,7 @@
 //! The files of the system, by their paths.
 use std::io::{BufWriter, Stderr};
+use std::thread;
 use std::time::Duration;
-use std::{fs, thread};
 use tb_journal::{Real, Snapshot};
 use tb_keep_commands::{Opener, OpeningFault, Reported, opening_fault, unread_fault};
 use tb_records::Counting;
@@ -58,7 +58,7 @@ impl<'a> Opener for SystemFiles<'a> {
     fn open(&mut self, name: &str) -> Result<Snapshot<Real>, OpeningFault> {
         match Real::look(self.rt, name) {
             Ok(real) => { Snapshot::new(self.rt.alloc(), real).map_err(unread_fault) }
-            Err(fault) => Err(looked_fault(self.rt, name, opening_fault(&fault))),
+            Err(fault) => Err(opening_fault(&fault)),
         }
     }
 
@@ -70,14 +70,3 @@ impl<'a> Opener for SystemFiles<'a> {
 
 /// How long more commits are waited for at a time, in milliseconds.
 const PAUSE: u64 = 50;
-
-/// The fault of a file that was not opened for reading: one that is missing may be a symbolic link to nothing.
-fn looked_fault(rt: &HostRuntime, path: &str, fault: OpeningFault) -> OpeningFault {
-    match fault {
-        OpeningFault::Missing => match fs::symlink_metadata(rt, path) {
-            Ok(found) if found.is_symlink() => OpeningFault::Dangling,
-            _ => OpeningFault::Missing,
-        },
-        fault => fault,
-    }
-}
