@@ -317,7 +317,10 @@ def profiles() -> str:
     """Where the time goes of what misses a bound."""
     found = of_kind("profile")
     lines = [f"| {it['subject']} | {it['note']} |" for it in found]
-    return table("| Missed | Samples, per cent |", lines) if found else "No bound is missed.\n"
+    if found:
+        return table("| Missed | Samples, per cent |", lines)
+    unmeasured = any(found_for(it) is None for it in of_kind("bound"))
+    return "Not measured.\n" if unmeasured else "No bound is missed.\n"
 
 
 def huge_pages() -> str:
