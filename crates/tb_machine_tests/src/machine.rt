@@ -3,7 +3,7 @@
 //! Modules, each over those before it:
 //!
 //! - `scripts`: scripts and wanted replies, put together field by field.
-//! - `fixtures`: transfers that balance and that close, beside those of tb_fixtures.
+//! - `fixtures`: transfers that balance and that close, besides those of tb_fixtures.
 //! - `steps`: a script as data: each step with its answer.
 //! - `frames`: frames in hexadecimal.
 //! - `machines`: what machines are asked.

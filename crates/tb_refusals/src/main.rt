@@ -13,7 +13,7 @@
 //! - `applying`: `apply`, one machine.
 //! - `taking`: `take`, a publisher and a seat.
 //! - `offering`: `offer`, ports that are closed before the server runs.
-//! - `calling`: `call`, a port's calls beside the server.
+//! - `calling`: `call`, a port's calls next to the server.
 //! - `running`: `run`, `dump` and `replay`.
 //! - `reading`: `read`: frames that are read, and written again.
 #![tactic(auto)]
@@ -44,7 +44,7 @@ use tb_records::{ClientsMax, Profile};
 use troubles::{Trouble, Why};
 
 /// The bytes that may be answered.
-const ROOM: usize = 1 << 20;
+const ROOM_BYTES: usize = 1 << 20;
 
 /// How the script reaches a publisher.
 #[derive(Clone, Copy)]
@@ -53,7 +53,7 @@ enum Way {
     Take,
     /// By ports that are closed before the server runs.
     Offer,
-    /// By a port's calls, beside the server's thread.
+    /// By a port's calls, next to the server's thread.
     Call,
 }
 
@@ -195,7 +195,7 @@ fn read_task(rt: &HostRuntime) -> Result<Task, Trouble> {
     let form = read_words(rt)?;
     let mut input = Vec::new(rt.alloc());
     rt.stdin().read_to_end(&mut input)?;
-    let out = Vec::with_capacity(rt.alloc(), ROOM)?;
+    let out = Vec::with_capacity(rt.alloc(), ROOM_BYTES)?;
     Ok(Task { form, input, out })
 }
 

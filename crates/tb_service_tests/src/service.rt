@@ -7,7 +7,7 @@
 //! - `audits`: places that audits name.
 //! - `gates`: a gate passed before a request has its moment.
 //! - `progress`: answers while the server still runs.
-//! - `seats`: seats beside a server.
+//! - `seats`: seats next to a server.
 //! - `threads`: ports, a server and seats in threads.
 mod audits;
 mod gates;

@@ -11,7 +11,7 @@
 //! - `histories`: histories as dumps.
 //! - `dumps`: dumps as objects, as scripts, audited and explained.
 //! - `audits`: by which profile entries are judged, expiries, and events that were refused.
-//! - `explained`: what is said of scripts and dumps, beside what the server makes of them.
+//! - `explained`: what is said of scripts and dumps, compared with what the server makes of them.
 //! - `devices`: readers and writers that fail.
 //! - `said`: what is said of wrong frames, statements and replies, word for word.
 mod audits;

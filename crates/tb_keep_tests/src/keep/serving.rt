@@ -110,7 +110,7 @@ fn served<R: Source>(alloc: Global, keeper: Keeper<Memory>, reader: &mut R) -> O
     }
 }
 
-/// What serving a script over a new file leaves, where all of it is at hand.
+/// What serving a script over a new file leaves, where all of it is buffered.
 fn served_at_hand(rt: &impl Abort, alloc: Global, script: &[u8]) -> Outcome {
     let mut reader = Buffered::new(sure(rt, BufReader::with_capacity(alloc, 4096, script)));
     let served = served(alloc, created(rt, alloc), &mut reader);
@@ -118,7 +118,7 @@ fn served_at_hand(rt: &impl Abort, alloc: Global, script: &[u8]) -> Outcome {
     served
 }
 
-/// What serving a script over a new file leaves, where one pair at a time is at hand.
+/// What serving a script over a new file leaves, where one pair at a time is buffered.
 fn served_by_turns(rt: &impl Abort, alloc: Global, script: &[u8]) -> Outcome {
     let mut reader = Counting::new(script);
     served(alloc, created(rt, alloc), &mut reader)
@@ -131,7 +131,7 @@ fn expect_six(rt: &impl Abort, served: Outcome, moments: usize) {
     expect(rt, served.records == 5);
 }
 
-/// The script is served where all of it is at hand, and by turns.
+/// The script is served where all of it is buffered, and by turns.
 fn expect_commits(rt: &impl Abort, alloc: Global, script: &[u8]) {
     // A commit is two writes, each with a sync: one for all entries, or one for each of the four.
     expect_six(rt, served_at_hand(rt, alloc, script), 4);

@@ -379,11 +379,11 @@ fn bytes_that_are_skipped(rt: HostRuntime) {
     let mut source = Buffered::new(reader.expect(&rt, "a buffer"));
     let first = timed_frame(read_timed_from(rt.alloc(), &mut source));
     holds(&rt, first == Ok(Some((10, 1))), &"a pair");
-    holds(&rt, source.at_hand() == &bytes[56..400], &"bytes at hand");
+    holds(&rt, source.at_hand() == &bytes[56..400], &"buffered bytes");
     if source.at_hand().len() >= 312 {
         source.skip(312);
     }
-    holds(&rt, source.at_hand() == &bytes[368..400], &"bytes at hand");
+    holds(&rt, source.at_hand() == &bytes[368..400], &"buffered bytes");
     let last = timed_frame(read_timed_from(rt.alloc(), &mut source));
     holds(&rt, last == Ok(Some((10, 3))), &"a pair");
 }

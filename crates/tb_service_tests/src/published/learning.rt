@@ -1,4 +1,4 @@
-//! Two seats: what one has seen beside the other, and what a seat learns.
+//! Two seats: what one has seen compared with the other, and what a seat learns.
 ghost use Rattle.std.specs.Prelude.{◌≡◌};
 
 use crate::comparing::holds;

@@ -33,7 +33,7 @@ const AFTER_STORM: [((u128, u64, u32), Taken); 4] = [
     ((100, 100, 2), Taken::Refused(Status::NoSession)),
 ];
 
-/// After them: the last client, the first one anew, and both again.
+/// After them: the last client, the first one registered again, and both once more.
 fn expect_after_storm<J: Naming, R: Wait + Abort>(
     rt: &R,
     alloc: Global,

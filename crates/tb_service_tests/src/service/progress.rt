@@ -108,7 +108,7 @@ fn count_of(offered: Offered) -> usize {
     }
 }
 
-/// The requests are offered beside a running server, and each was answered before the port was closed.
+/// The requests are offered to a running server, and each was answered before the port was closed.
 fn expect_answers<J: Naming + Send + Sync, R: Threads + Wait + Abort + Sync>(
     rt: &R,
     alloc: Global,

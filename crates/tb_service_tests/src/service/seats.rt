@@ -1,4 +1,4 @@
-//! Seats beside a server: what they answer, and what they learn.
+//! Seats next to a server: what they answer, and what they learn.
 ghost use Rattle.std.specs.Prelude.{◌≡◌};
 
 use crate::service::making::{

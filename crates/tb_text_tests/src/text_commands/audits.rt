@@ -213,7 +213,7 @@ const CHOSEN: [AuditRow; 6] = [
         entries: ROUND_ITS_TIME,
         lines: &[HEAD, EXPIRED, AT_LINE],
     },
-    // UTC beside each time.
+    // UTC next to each time.
     AuditRow {
         words: &["audit", "--utc", "--follow", "--after", "4"],
         profile: 1,

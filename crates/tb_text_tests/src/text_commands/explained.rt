@@ -1,4 +1,4 @@
-//! What `explain` says of scripts and dumps, beside what the server makes of the same bytes.
+//! What `explain` says of scripts and dumps, compared with what the server makes of the same bytes.
 use crate::text_commands::comparing::holds;
 use crate::text_commands::forms::{Row, done_by, leaves, put};
 use crate::text_commands::histories::{ACCOUNTS, MARK, Made, REGISTER, dump_of};

@@ -1,4 +1,4 @@
-//! Conversations on a terminal: statements and words beside them, line by line.
+//! Conversations on a terminal: statements and other words, line by line.
 use crate::text_commands::comparing::{holds, same};
 use crate::text_commands::forms::{Left, expect_left, first_moment, left_where, status_where};
 use std::io::{self, Read};
