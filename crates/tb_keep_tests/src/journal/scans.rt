@@ -11,7 +11,7 @@ use std::process::Abort;
 use tb_journal::{Extent, Fault, Journal, Memory, OpenFault, Refusal, Scan, create, read_journal};
 
 /// A file is read in pieces of so many bytes.
-const PIECE: usize = 65_536;
+const PIECE_BYTES: usize = 65_536;
 
 /// The last block of the three records is not whole.
 const DAMAGED: Refusal = Refusal::Damaged { at: 26 };
@@ -69,7 +69,7 @@ fn records_are_read_one_by_one(rt: HostRuntime) {
 #[test]
 fn a_record_is_larger_than_a_piece(rt: HostRuntime) {
     let alloc = rt.alloc();
-    let mut long = sevens(&rt, alloc, 3 * PIECE);
+    let mut long = sevens(&rt, alloc, 3 * PIECE_BYTES);
     if let Some(last) = long.last_mut() {
         *last = 8;
     }
@@ -81,9 +81,9 @@ fn a_record_is_larger_than_a_piece(rt: HostRuntime) {
 #[test]
 fn a_record_stands_in_two_pieces(rt: HostRuntime) {
     let alloc = rt.alloc();
-    let long = sevens(&rt, alloc, PIECE);
+    let long = sevens(&rt, alloc, PIECE_BYTES);
     for place in 0..20 {
-        let (first, _) = long.split_at(PIECE - 16 - place);
+        let (first, _) = long.split_at(PIECE_BYTES - 16 - place);
         expect_two(&rt, alloc, first, b"second");
     }
 }
@@ -127,7 +127,7 @@ fn want_at(number: u64) -> Result<usize, OpenFault> {
 #[test]
 fn each_call_fails_in_turn(rt: HostRuntime) {
     let alloc = rt.alloc();
-    let long = sevens(&rt, alloc, 2 * PIECE);
+    let long = sevens(&rt, alloc, 2 * PIECE_BYTES);
     let mut file = file_of_two(&rt, alloc, b"ab", &long);
     for number in 1..=CALLS + 1 {
         file.fail_at(number);
@@ -163,7 +163,7 @@ fn some_file(alloc: Global, record: &[u8]) -> Option<Memory> {
 
 /// Reads a file of a long record to its end, where there is memory for it.
 fn count_long(alloc: Global) -> Option<Result<usize, OpenFault>> {
-    let long = vec![in alloc; 7u8; 2 * PIECE].ok()?;
+    let long = vec![in alloc; 7u8; 2 * PIECE_BYTES].ok()?;
     let given = some_file(alloc, &long);
     let mut file = given?;
     let answer = count_of(alloc, &mut file);

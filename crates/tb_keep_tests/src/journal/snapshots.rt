@@ -10,7 +10,7 @@ use std::process::Abort;
 use tb_journal::{Device, Fault, Growing, OpenFault, Refusal, Scan, Snapshot};
 
 /// A file is read in pieces of so many bytes.
-const PIECE: usize = 65_536;
+const PIECE_BYTES: usize = 65_536;
 
 /// The first record written in part behind its closed latch.
 const PART: [u8; 13] = [84, 66, 74, 82, 78, 76, 48, 49, 0, 2, 0, 0, 0x89];
@@ -153,9 +153,9 @@ fn files_that_are_no_journal(rt: HostRuntime) {
 #[test]
 fn blocks_in_two_pieces(rt: HostRuntime) {
     let alloc = rt.alloc();
-    let long = sevens(&rt, alloc, 3 * PIECE);
+    let long = sevens(&rt, alloc, 3 * PIECE_BYTES);
     for place in 0..20 {
-        let (first, _) = long.split_at(PIECE - 16 - place);
+        let (first, _) = long.split_at(PIECE_BYTES - 16 - place);
         let file = file_of_two(&rt, alloc, first, &long);
         let len = file.bytes().len();
         let mut snapshot = sure(&rt, Snapshot::new(alloc, file));

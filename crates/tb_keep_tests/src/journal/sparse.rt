@@ -8,7 +8,7 @@ use std::process::Abort;
 use tb_journal::{Device, Fault, Real, create, recover};
 
 /// Where the file goes on behind a hole.
-const FAR: usize = 5 << 30;
+const FAR_BYTES: usize = 5 << 30;
 
 #[test]
 fn bytes_behind_four_gigabytes(rt: HostRuntime) {
@@ -16,12 +16,12 @@ fn bytes_behind_four_gigabytes(rt: HostRuntime) {
     let _ = fs::remove_file(&rt, path);
     let mut real = sure(&rt, Real::make(&rt, path));
     sure(&rt, real.write_at(0, b"head"));
-    sure(&rt, real.cut(FAR));
-    expect(&rt, real.len() == Ok(FAR));
-    sure(&rt, real.write_at(FAR, b"far away"));
+    sure(&rt, real.cut(FAR_BYTES));
+    expect(&rt, real.len() == Ok(FAR_BYTES));
+    sure(&rt, real.write_at(FAR_BYTES, b"far away"));
     sure(&rt, real.sync());
-    expect(&rt, real.len() == Ok(FAR + 8));
-    expect_read(&rt, &mut real, FAR - 1, 12, b"\0far away");
+    expect(&rt, real.len() == Ok(FAR_BYTES + 8));
+    expect_read(&rt, &mut real, FAR_BYTES - 1, 12, b"\0far away");
     // An offset cut to 32 bits would be 1 GiB.
     expect_read(&rt, &mut real, 1 << 30, 8, &[0; 8]);
     expect_read(&rt, &mut real, 0, 5, b"head\0");
@@ -49,22 +49,22 @@ impl Device for Behind {
     ghost only_now = { λ _ c left. left };
 
     fn read_at(&mut self, at: usize, into: &mut [u8]) -> Result<usize, Fault> {
-        self.real.read_at(FAR.saturating_add(at), into)
+        self.real.read_at(FAR_BYTES.saturating_add(at), into)
     }
 
     fn len(&mut self) -> Result<usize, Fault> {
         match self.real.len() {
-            Ok(len) => Ok(len.saturating_sub(FAR)),
+            Ok(len) => Ok(len.saturating_sub(FAR_BYTES)),
             Err(fault) => Err(fault),
         }
     }
 
     fn write_at(&mut self, at: usize, bytes: &[u8]) -> Result<(), Fault> {
-        self.real.write_at(FAR.saturating_add(at), bytes)
+        self.real.write_at(FAR_BYTES.saturating_add(at), bytes)
     }
 
     fn cut(&mut self, len: usize) -> Result<(), Fault> {
-        self.real.cut(FAR.saturating_add(len))
+        self.real.cut(FAR_BYTES.saturating_add(len))
     }
 
     fn sync(&mut self) -> Result<(), Fault> {
@@ -76,7 +76,7 @@ impl Device for Behind {
 fn far_journal<R: Abort + Files<File = File> + AllocGlobal>(rt: &R, path: &str) {
     let mut real = sure(rt, Real::make(rt, path));
     sure(rt, real.write_at(0, b"head"));
-    sure(rt, real.cut(FAR));
+    sure(rt, real.cut(FAR_BYTES));
     let mut journal = sure(rt, create(rt.alloc(), Behind { real }));
     sure(rt, journal.append(b"ab"));
     sure(rt, journal.commit());
@@ -88,7 +88,7 @@ fn records_behind_four_gigabytes(rt: HostRuntime) {
     let _ = fs::remove_file(&rt, path);
     far_journal(&rt, path);
     let mut real = sure(&rt, Real::open(&rt, path));
-    expect_read(&rt, &mut real, FAR, 19, &ONE_RECORD);
+    expect_read(&rt, &mut real, FAR_BYTES, 19, &ONE_RECORD);
     expect_read(&rt, &mut real, 0, 5, b"head\0");
     let journal = sure(&rt, recover(rt.alloc(), Behind { real }));
     expect(&rt, journal.count() == 1);

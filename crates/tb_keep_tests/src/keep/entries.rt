@@ -6,7 +6,7 @@ use tb_journal::{Fault, Memory, OpenFault, Scan};
 use tb_keep::{DumpFault, write_entries};
 use tb_records::Counting;
 
-/// The file over which the script was served: a head, and the entries of a register, two accounts, a transfer and a look-up.
+/// The file over which the script was served: a head, and the entries of a register, two accounts, a transfer and a lookup.
 fn kept_bytes(rt: &impl Abort, alloc: Global) -> Vec<u8> {
     let (_, bytes) = kept(rt, alloc, &script(rt, alloc, 6));
     bytes

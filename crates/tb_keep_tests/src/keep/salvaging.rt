@@ -11,7 +11,7 @@ use tb_keep::{BATCH_BYTES_MAX, NotSalvaged, SalvageFault, Salvaged, StartFault, 
 use tb_machine::{RestoreFault, Unfit};
 use tb_records::FrameFault;
 
-/// Where the blocks of the script's file begin: the head, the entries of a register, two accounts, a transfer and a look-up (8 bytes
+/// Where the blocks of the script's file begin: the head, the entries of a register, two accounts, a transfer and a lookup (8 bytes
 /// and the entry), and the latch behind them.
 const BLOCKS: [usize; 6] = [8, 22, 94, 422, 622, 710];
 

@@ -25,7 +25,7 @@ const END: Line = 0xbc0200000a0000000000000000000000;
 pub const TEN: [u8; 8] = [10, 0, 0, 0, 0, 0, 0, 0];
 
 /// The requests of the script, each with the moment 10: a register, accounts 1 and 2, 128 moved from 1 to 2 as transfer 11,
-/// the same request again, the request before it, and a look-up of account 2.
+/// the same request again, the request before it, and a lookup of account 2.
 const SCRIPT: [&[&[Line]]; 6] = [
     &[&[CLIENT, REGISTER, 0]],
     &[

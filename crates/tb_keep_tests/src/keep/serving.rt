@@ -169,12 +169,12 @@ fn a_frame_cut_short_ends_serving(rt: HostRuntime) {
 }
 
 /// The bytes of the first two pairs, with their moments.
-const FIRST_TWO: usize = 368;
+const FIRST_TWO_BYTES: usize = 368;
 
 /// The third pair, with a byte changed, ends serving, and the two before it were committed and told.
 fn expect_two(rt: &impl Abort, alloc: Global, at: usize, value: u8, fault: RunFault) {
     let mut bytes = three(rt, alloc);
-    change(&mut bytes, FIRST_TWO.saturating_add(at), value);
+    change(&mut bytes, FIRST_TWO_BYTES.saturating_add(at), value);
     let served = served_at_hand(rt, alloc, &bytes);
     expect_ended(rt, served, fault);
     // Their records stand behind the head, by one commit.

@@ -49,7 +49,7 @@ pub enum Has {
 }
 
 /// More bytes than one batch can have.
-const TOO_LONG: usize = 4194305;
+const TOO_LONG_BYTES: usize = 4194305;
 
 /// Profile 1 and two clients.
 fn rules(rt: &impl Abort) -> Rules {
@@ -122,7 +122,7 @@ pub fn file_of(rt: &impl Abort, alloc: Global, has: Has) -> Vec<u8> {
             .extend_from_slice(b"\x01\x02\x03\x04\x05")
             .expect(rt, "memory"),
         (Has::TornLong, _) => bytes
-            .resize(bytes.len().saturating_add(TOO_LONG), 7)
+            .resize(bytes.len().saturating_add(TOO_LONG_BYTES), 7)
             .expect(rt, "memory"),
         _ => {}
     }

@@ -11,7 +11,7 @@ const CLIENT: Line = 0x07000000000000000000000000000000;
 /// A moment of 10 nanoseconds.
 const TEN: [u8; 8] = [10, 0, 0, 0, 0, 0, 0, 0];
 
-/// Request 1 of session 1, a look-up of account 2.
+/// Request 1 of session 1, a lookup of account 2.
 const LOOK_UP: [Line; 4] = [
     CLIENT,
     0x01000000000000000100000083000000,
@@ -29,7 +29,7 @@ const REGISTERED: [Line; 3] = [
     0x00000000010000000000000000000000,
 ];
 
-/// The reply to the look-up, of commit 2: there is no account 2.
+/// The reply to the lookup, of commit 2: there is no account 2.
 const LOOKED_UP: [Line; 3] = [
     CLIENT,
     0x01000000000000000100000083000000,
@@ -54,7 +54,7 @@ fn put(rt: &impl Abort, out: &mut Vec<u8>, parts: &[&[Line]]) {
     }
 }
 
-/// The script: a register and a look-up, each at the moment 10.
+/// The script: a register and a lookup, each at the moment 10.
 pub fn script(rt: &impl Abort, alloc: Global) -> Vec<u8> {
     let mut bytes = Vec::new(alloc);
     for frame in [&REGISTER[..], &LOOK_UP[..]] {

@@ -10,7 +10,7 @@ use std::process::Abort;
 use tb_records::{Counting, Sink, Source};
 
 /// Reads and writes move at most so many bytes.
-const MOST: usize = 40;
+const CALL_BYTES_MAX: usize = 40;
 
 /// A reader of which the call behind so many good ones fails, and no other.
 #[derive(Drop)]
@@ -32,7 +32,7 @@ impl Read for Slipping<'_> {
             return Err(Error::from(ErrorKind::Interrupted));
         }
         self.ended = self.rest.is_empty();
-        let most = buf.len().min(MOST);
+        let most = buf.len().min(CALL_BYTES_MAX);
         self.rest.read(&mut buf[..most])
     }
 }
@@ -67,7 +67,7 @@ impl Write for Stumbling {
                 Ok(0)
             };
         }
-        let count = bytes.len().min(MOST);
+        let count = bytes.len().min(CALL_BYTES_MAX);
         self.taken.extend_from_slice(&bytes[..count])?;
         Ok(count)
     }

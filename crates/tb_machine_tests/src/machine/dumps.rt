@@ -161,7 +161,7 @@ fn has_codes(replies: &[u8], code: u8) -> bool {
     first && replies.len() == 208 && replies.get(204..) == Some([code, 0, 0, 0].as_slice())
 }
 
-/// Dumps with the mark before the first entry above `at`: the length of the dump, where the mark stands, and the code of
+/// Dumps with the mark before the first entry above `at`: the length of the dump, where the mark is, and the code of
 /// the second transfer 77.
 fn expect_mark(
     rt: &impl Abort,
@@ -201,8 +201,8 @@ type Row = (&'static [Line], usize, Result<u64, DumpFault>, usize);
 
 const SHORT: Result<u64, DumpFault> = Err(DumpFault::Frame(FrameFault::Short));
 
-/// Heads that are none, marks that may not stand where they do, a history that begins with commit number 2, one whose entry
-/// comes again, and inputs that are cut. A mark may stand at the end; where an input ends in one that may not stand there, it
+/// Heads that are none, marks that may not be where they are, a history that begins with commit number 2, one whose entry
+/// comes again, and inputs that are cut. A mark may be at the end; where an input ends in one that may not be there, it
 /// is short.
 const ROWS: [Row; 15] = [
     (&[HEAD], 16, Ok(0), 0),

@@ -28,7 +28,7 @@ pub const ACCOUNTS: [&[u128]; 7] = [
     &[NEW],
 ];
 
-/// The frames of the three requests, 16 bytes a line: a register, two accounts, a lookup. Each stands behind the moment 10, in 8 bytes.
+/// The frames of the three requests, 16 bytes a line: a register, two accounts, a lookup. Each is behind the moment 10, in 8 bytes.
 const REQUESTS: [&[&[u128]]; 3] = [
     &[&[SEVEN, 0x00000000000000000000000002000000, 0]],
     &ACCOUNTS,

@@ -89,7 +89,7 @@ fn closing_and_reopening(rt: HostRuntime) {
     serve_on(&rt, rt.alloc(), &[Profile::Two], &by_two);
 }
 
-/// An account that is asked again exists with the flags that it has as it stands.
+/// An account that is asked again exists with the flags that it now has.
 #[test]
 fn asked_again_while_closed(rt: HostRuntime) {
     let closed = account_with(AccountFlag::Closed, account(1));

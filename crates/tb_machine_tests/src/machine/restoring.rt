@@ -112,7 +112,7 @@ fn follow(
     drop(entry);
 }
 
-/// Two machines stand alike: their last entry, client 7's reply, and accounts 1 and 2.
+/// Two machines are alike: their last entry, client 7's reply, and accounts 1 and 2.
 fn alike(one: &Machine<Global>, other: &Machine<Global>) -> bool {
     one.commit() == other.commit()
         && one.time() == other.time()
@@ -122,7 +122,7 @@ fn alike(one: &Machine<Global>, other: &Machine<Global>) -> bool {
 }
 
 /// Client 7 registers, creates accounts 1 and 2, looks accounts up, and moves 100: the machine that is restored from
-/// the four records stands as the first one does.
+/// the four records is as the first one is.
 #[test]
 fn four_records_restored(rt: HostRuntime) {
     let mut one = machine(&rt, rt.alloc(), 2);

@@ -244,7 +244,7 @@ fn spare_nodes_are_kept(rt: HostRuntime) -> Result<(), Fail> {
     keep_spare_nodes(&rt, &mut AvlMap::new_in(rt.alloc()))
 }
 
-/// Doubles the value of the key where it stands, and answers what it was.
+/// Doubles the value of the key in place, and answers what it was.
 fn double<A: Allocator + Clone>(map: &mut AvlMap<u64, u128, A>, key: u64) -> Option<u128> {
     map.update(
         &key,

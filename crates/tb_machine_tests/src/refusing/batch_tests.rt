@@ -11,11 +11,11 @@ use tb_refusing::{Refusing, Tally};
 
 /// The undo log has room for four changes of each event, and of the next power of two of them; a change has at most so many bytes:
 /// a row, and which change it is.
-const LOG: u64 = 4 * 144;
+const LOG_BYTES: u64 = 4 * 144;
 
 /// What is kept of an event has at most so many bytes, with the links of its trees: a transfer's row, a timeout, an id that
 /// failed.
-const KEPT: u64 = 192 + 80 + 80;
+const KEPT_BYTES: u64 = 192 + 80 + 80;
 
 /// Client 7's batch of so many transfers of 1 each, alone or as one chain.
 fn batch(rt: &impl Abort, alloc: Global, count: u32, chained: bool) -> Turn {
@@ -86,16 +86,16 @@ fn expect_bounded(
 ) {
     let (count, power) = size;
     let asked = ask(rt, alloc, profile, count, chained);
-    let log = LOG * u64::from(power);
+    let log = LOG_BYTES * u64::from(power);
     let count = u64::from(count);
     let (bytes, greatest) = (asked.bytes, asked.greatest);
     holds(rt, bytes >= 128 * count, "bytes, too few", bytes);
-    holds(rt, greatest <= log.max(LOG * 2), "a growth", greatest);
-    holds(rt, bytes <= log + KEPT * count, "bytes", bytes);
+    holds(rt, greatest <= log.max(LOG_BYTES * 2), "a growth", greatest);
+    holds(rt, bytes <= log + KEPT_BYTES * count, "bytes", bytes);
 }
 
 /// A batch asks for so many bytes an event at most, and as many for its log as the next power of two of events has, whether its
-/// events stand alone or in one chain.
+/// events are alone or in one chain.
 #[test]
 fn bytes_of_a_batch(rt: HostRuntime) {
     for profile in [Profile::One, Profile::Two] {

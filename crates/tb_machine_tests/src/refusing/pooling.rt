@@ -10,12 +10,12 @@ use tb_records::Counting;
 use tb_refusing::Refusing;
 
 /// A reply has at least so many bytes.
-const REPLY: u64 = 48;
+const REPLY_BYTES: u64 = 48;
 
 /// What came of a pair: it was served, or there was no memory and nothing was written.
 fn is_served(rt: &impl Abort, answer: Result<(), RunFault>, written: u64) -> bool {
     match answer {
-        Ok(()) => holds(rt, written >= REPLY, "a reply", written),
+        Ok(()) => holds(rt, written >= REPLY_BYTES, "a reply", written),
         Err(fault) => holds(
             rt,
             fault == RunFault::NoMemory && written == 0,

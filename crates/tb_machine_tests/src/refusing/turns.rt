@@ -7,10 +7,10 @@ use tb_fixtures::{
 use tb_records::{Body, Request, Transfer};
 
 /// The moment at which most requests come.
-const EARLY: u64 = 10;
+const EARLY_NS: u64 = 10;
 
 /// A moment at which a pending transfer that came at the early one with a timeout of a second has expired.
-const LATE: u64 = 2_000_000_000;
+const LATE_NS: u64 = 2_000_000_000;
 
 /// The worked rows that are served.
 #[derive(Clone, Copy)]
@@ -54,20 +54,20 @@ fn numbered(rt: &impl Abort, moment: u64, number: u32, body: Body) -> Turn {
 /// Client 7's register.
 pub(crate) fn register(rt: &impl Abort) -> Turn {
     let request = Request::new(7, 0, 0, Body::Register).expect(rt, "a request");
-    let moment = EARLY;
+    let moment = EARLY_NS;
     Turn { moment, request }
 }
 
 /// It creates accounts 1 and 2.
 pub(crate) fn two_accounts(rt: &impl Abort, alloc: Global) -> Turn {
     let body = creation(alloc, &[account(1), account(2)]);
-    numbered(rt, EARLY, 1, body.expect(rt, "memory"))
+    numbered(rt, EARLY_NS, 1, body.expect(rt, "memory"))
 }
 
 /// It looks accounts 2, 9 and 1 up.
 fn three_ids(rt: &impl Abort, alloc: Global) -> Turn {
     let body = lookup(alloc, &[2, 9, 1]);
-    numbered(rt, EARLY, 2, body.expect(rt, "memory"))
+    numbered(rt, EARLY_NS, 2, body.expect(rt, "memory"))
 }
 
 /// Its request with a number, of transfers.
@@ -90,21 +90,21 @@ fn add(rt: &impl Abort, turns: &mut Vec<Turn>, turn: Turn) {
 /// A chain that its second event breaks, and that event's id again.
 fn add_chain(rt: &impl Abort, alloc: Global, turns: &mut Vec<Turn>) {
     let broken = [linked(moved(50, 1)), linked(from_nowhere(51)), moved(52, 1)];
-    add(rt, turns, moving(rt, alloc, EARLY, 3, &broken));
+    add(rt, turns, moving(rt, alloc, EARLY_NS, 3, &broken));
     let again = [moved(51, 1), moved(53, 5)];
-    add(rt, turns, moving(rt, alloc, EARLY, 4, &again));
+    add(rt, turns, moving(rt, alloc, EARLY_NS, 4, &again));
 }
 
 /// Pending transfers, a post and a void, a chain that breaks behind a post, and a post that comes too late.
 fn add_pending(rt: &impl Abort, alloc: Global, turns: &mut Vec<Turn>) {
     let three = [short(20, 40), short(21, 30), short(22, 20)];
-    add(rt, turns, moving(rt, alloc, EARLY, 3, &three));
+    add(rt, turns, moving(rt, alloc, EARLY_NS, 3, &three));
     let both = [post(23, 20, u128::MAX), void(24, 21, 0)];
-    add(rt, turns, moving(rt, alloc, EARLY, 4, &both));
+    add(rt, turns, moving(rt, alloc, EARLY_NS, 4, &both));
     let broken = [linked(post(25, 22, u128::MAX)), from_nowhere(26)];
-    add(rt, turns, moving(rt, alloc, EARLY, 5, &broken));
+    add(rt, turns, moving(rt, alloc, EARLY_NS, 5, &broken));
     let late = [short(27, 5), post(28, 22, u128::MAX)];
-    add(rt, turns, moving(rt, alloc, LATE, 6, &late));
+    add(rt, turns, moving(rt, alloc, LATE_NS, 6, &late));
 }
 
 /// The requests of the rows.
@@ -116,7 +116,7 @@ pub(crate) fn turns(rt: &impl Abort, alloc: Global, rows: Rows) -> Vec<Turn> {
     match rows {
         Rows::First => {
             let one = [moved(11, 100)];
-            add(rt, &mut all, moving(rt, alloc, EARLY, 3, &one));
+            add(rt, &mut all, moving(rt, alloc, EARLY_NS, 3, &one));
         }
         Rows::Chain => add_chain(rt, alloc, &mut all),
         Rows::Pending => add_pending(rt, alloc, &mut all),

@@ -77,7 +77,7 @@ pub(crate) fn eight(rt: &impl Abort, alloc: Global) -> Vec<Request> {
     all
 }
 
-/// It is so. What is asked stands in the message, since the line that a failed assert names is this one.
+/// It is so. What is asked is in the message, since the line that a failed assert names is this one.
 pub(crate) fn holds(rt: &impl Abort, is_so: bool, asked: &str) {
     assert!(rt; is_so, "{asked}");
 }

@@ -139,7 +139,7 @@ fn is_whole<J: Naming>(finished: &mut Finished<J>, closed: Closed) -> bool
     }
 }
 
-/// Entry n holds client 7's request n - 1: so no key stands twice.
+/// Entry n holds client 7's request n - 1: so no key is there twice.
 fn are_numbered<J: Naming>(publisher: &Publisher<J>) -> bool {
     for (number, entry) in publisher.history().iter().enumerate() {
         let request = &entry.request;
@@ -219,7 +219,7 @@ fn reordered_repeats(rt: HostRuntime) {
 /// Ten seat calls are waited for, and whoever waits looks so often at the most.
 const LOOKS: u32 = 100_000_000;
 
-/// Whether a request stands before a gate, and how many seat calls were made.
+/// Whether a request waits at a gate, and how many seat calls were made.
 #[derive(Drop)]
 struct Watch {
     stands: AtomicU64,
@@ -235,7 +235,7 @@ impl Watch {
     }
 }
 
-/// A gate that says that a request stands before it, and lets it pass once ten seat calls were made.
+/// A gate that says that a request waits at it, and lets it pass once ten seat calls were made.
 #[derive(Drop)]
 struct Waiting<'a>(&'a Watch);
 
@@ -265,7 +265,7 @@ fn sees_nothing<J: Naming>(seat: &mut Seat<J>, request: &Request, turn: u32) -> 
     }
 }
 
-/// Five calls of each seat, while the request stands before the gate.
+/// Five calls of each seat, while the request waits at the gate.
 fn call_ten<J: Naming>(
     one: &mut Seat<J>,
     two: &mut Seat<J>,
@@ -300,7 +300,7 @@ fn offer_and_close<R: Wait + Abort>(rt: &R, ports: &mut Vec<Port>) {
     drop(port.close(rt));
 }
 
-/// A request stands before a gate while seats are asked.
+/// A request waits at a gate while seats are asked.
 fn call_while_held<J: Naming + Send + Sync, R: Threads + Wait + Abort + Sync>(
     rt: &R,
     alloc: Global,

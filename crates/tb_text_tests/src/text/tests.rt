@@ -8,7 +8,7 @@ fn same(rt: &impl Abort, found: &str, wanted: &str) {
     assert_eq!(rt; found, wanted);
 }
 
-/// It is so. The text that is asked of stands in the message.
+/// It is so. The text that is asked of is in the message.
 fn holds(rt: &impl Abort, is_so: bool, text: &str) {
     assert!(rt; is_so, "at {text}");
 }
@@ -27,7 +27,7 @@ fn stops_at(rt: &(impl Abort + AllocGlobal), text: &str, place: Option<usize>) {
     holds(rt, reading.fault.map(|fault| fault.place) == place, text);
 }
 
-/// Texts that are printed as they stand: each field of an account and of a transfer, and each operation.
+/// Texts that are printed as they are: each field of an account and of a transfer, and each operation.
 const PRINTED: [&str; 3] = [
     "at=1 client=2 session=3 request=4 create_accounts id=5 debits_pending=6 debits_posted=7 credits_pending=8 credits_posted=9 user_data_128=10 user_data_64=11 user_data_32=12 reserved=13 ledger=14 code=15 flags=32768 timestamp=17;\n",
     "at=1 client=2 session=3 request=4 create_transfers id=5 debit_account_id=6 credit_account_id=7 amount=8 pending_id=9 user_data_128=10 user_data_64=11 user_data_32=12 timeout=13 ledger=14 code=15 flags=32768 timestamp=17;\n",
@@ -267,7 +267,7 @@ fn messages(rt: HostRuntime) {
     }
 }
 
-/// Texts with control characters and letters of several bytes in them: no control character but the tab is shown, and the mark stands
+/// Texts with control characters and letters of several bytes in them: no control character but the tab is shown, and the mark is
 /// right behind the last letter.
 const SHOWN: [(&str, &str); 11] = [
     (
@@ -559,7 +559,7 @@ fn numbers_of_fields(rt: HostRuntime) {
     }
 }
 
-/// Texts that stand within others, a long line among them: the first byte is at a line and a column.
+/// Texts that are within others, a long line among them: the first byte is at a line and a column.
 const PARTS: [(&str, (usize, usize), &str); 3] = [
     (
         "client=7 request=1 lookup_accounts id=100000000000000000000000000000000001, id=100000000000000000000000000000000002, id=x, id=100000000000000000000000000000000003;",
