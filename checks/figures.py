@@ -7,8 +7,9 @@
 A row of runs.csv is one run of the gate, of a crate, of a benchmark or of a check;
 docs/work/PROVING.md has its columns. A block of a page is between `<!-- figures: NAME -->` and
 `<!-- end of figures -->`. A block that no page has, a block without a writer, a row with an unknown
-kind, without a date or with a commit that git does not know are failures too; and benchmarks that
-are not all of one commit and one machine.
+kind, without a date or with a commit that git does not know are failures too; so are benchmarks
+that are not all of one commit and one machine, and a whole run of the gate that took more CPU time
+than GATE_CPU.
 """
 import collections
 import pathlib
@@ -51,6 +52,8 @@ KINDS = {
     "edit",
     "form",
 }
+# CPU minutes of a whole run of the gate on the fast machine: at most, and wanted.
+GATE_CPU = (114, 100)
 BLOCK = re.compile(r"(<!-- figures: (\w+) -->\n)(.*?)(<!-- end of figures -->)", re.S)
 
 
@@ -215,11 +218,21 @@ def check_rows() -> None:
     )
 
 
+def check_gate() -> None:
+    """The newest whole run of the gate on the fast machine took no more CPU time than it may."""
+    bound, wanted = GATE_CPU
+    whole = (it for it in of_kind("gate") if is_whole(it) and it["cpu_minutes"])
+    found = next(it for it in whole if it["machine"] == "fast")
+    said = f"{found['cpu_minutes']} at {found['commit']}; bound {bound}, wanted {wanted}"
+    tried.case("CPU minutes of the gate, fast", int(found["cpu_minutes"]) <= bound, said)
+
+
 def main() -> int:
     parser = tried.arguments(__doc__)
     parser.add_argument("--write", action="store_true", help="write the blocks")
     writes, seen = parser.parse_args().write, set()
     check_rows()
+    check_gate()
     for page in pages():
         text = page.read_text()
 
