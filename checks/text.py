@@ -26,6 +26,9 @@ TOP = os.path.dirname(os.path.dirname(os.path.abspath(__file__)))
 TBT = f"{TOP}/crates/tbt/out/tbt"
 TBS = f"{TOP}/crates/tbs/out/tbs"
 
+tried.arguments(__doc__).parse_args()
+tried.built(TBT, TBS)
+
 
 def run(program, words, data):
     return tried.ran([program, *words], data)

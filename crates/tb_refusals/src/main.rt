@@ -205,8 +205,9 @@ fn serve_task<R: Threads + Wait + Eprint + Sync>(
     alloc: Global,
     task: &mut Task,
 ) -> Result<(), Trouble> {
+    let form = task.form;
     let input = task.input.as_slice();
-    match task.form {
+    match form {
         Form::Serve(by, clients_max) => serve(rt, alloc, by, clients_max, input, &mut task.out),
         Form::Read => reading::read_all(alloc, input, &mut task.out),
     }
