@@ -49,7 +49,7 @@ COLUMNS = (
 CLAUSES_OVER_100 = 0.198  # wanted: 0.10
 # Each figure with a bound: what it has today, and what is wanted.
 BOUNDS = {
-    "lines": (106760, 74500),
+    "lines": (106761, 74500),
     "imports": (10714, 4700),
     ">160": (138, 0),
     "ghost >160": (8, 0),
