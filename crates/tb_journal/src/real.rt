@@ -119,10 +119,14 @@ impl Posix<HostFile> {
     }
 
     /// Opens a file that is there for reading alone: it needs no write permission and takes no lock, so another process may
-    /// append to it meanwhile. A write or a cut of it fails.
+    /// append to it meanwhile. A write or a cut of it fails. A symbolic link to nothing is told as such.
     pub fn look<R: Files<File = File>>(rt: &R, path: &str) -> Result<Real, FileFault> {
+        let found = match fs::metadata(rt, path) {
+            Ok(found) => found,
+            Err(error) => return Err(of_link(rt, path, error)),
+        };
         // A FIFO is not opened: that would wait for a writer.
-        if !fs::metadata(rt, path)?.is_file() {
+        if !found.is_file() {
             return Err(FileFault::NotAFile);
         }
         let file = File::open(rt, path)?;

@@ -1,12 +1,13 @@
 //! A growing file as it was at one moment.
-ghost use Rattle.std.specs.Prelude.{◌≡◌, ◌≤◌, ◌<◌, ◌^◌, List, ℕ, length, Ok, IfOk, OnOk, OnErr, IfErr};
+ghost use Rattle.std.specs.Prelude.{◌≡◌, ◌≤◌, ◌<◌, ◌^◌, List, ℕ, length, drop, Ok, IfOk, OnOk, OnErr, IfErr};
 ghost use Rattle.tb_journal.specs.Device.{IsOfCall};
 ghost use Rattle.tb_journal.specs.Real.{untold};
 ghost use Rattle.tb_journal.specs.declared.hops.Hop.TheVariants as variants;
+ghost use Rattle.tb_journal.specs.Contents.{front};
 ghost use Rattle.tb_journal.specs.Reading.{HasAhead};
 ghost use Rattle.tb_journal.specs.Growing.{Grown};
 ghost use Rattle.tb_journal.specs.Snapshots.{Snapped, IsHeld, Takes, Refreshes};
-ghost use Rattle.tb_journal.specs.Hops.{IsFound, StartsAs, Grows, HopsFrom, Finds, FindsMore, TellsEnd, TellsStart, ReadsBlocks, Closes, IsNear};
+ghost use Rattle.tb_journal.specs.Hops.{IsFound, StartsAs, Grows, HopsFrom, Finds, FindsMore, TellsLatch, TellsEnd, TellsStart, ReadsBlocks, Closes, IsNear};
 
 use crate::batches::CLOSED;
 use crate::devices::Device;
@@ -221,13 +222,25 @@ fn still_closed<G: Growing>(file: &mut G, piece: &mut [u8], end: usize) -> Resul
     requires { 8 ≤ length piece.old }
     ensures { TellsEnd (G.grows file.old) (G.grows file.new) end result }
 {
-    if file.len()? < end {
-        return Err(Fault::Failed);
-    }
+    let long = file.len()?;
     match file.read_at(end, piece) {
-        Ok(count) => Ok(is_end(&piece[..count])),
+        Ok(count) => latch_of(&piece[..count], long, end),
         Err(fault) => Err(fault),
     }
+}
+
+// Says whether these bytes at an offset begin with a closed latch, or are the last. An offset is kept where the file reaches it:
+// one that got shorter is another file.
+fn latch_of(rest: &[u8], len: usize, end: usize) -> Result<bool, Fault>
+    ensures reaches { OnOk result (end ≤ len) }
+    ensures shorter { OnErr result (len < end) }
+    ensures tells { (file : List ℕ) → HasAhead 8 end file rest.now
+        → IfOk result (λ closed. TellsLatch closed (front (drop end file))) }
+{
+    if len < end {
+        return Err(Fault::Failed);
+    }
+    Ok(is_end(rest))
 }
 
 // Where a file ends whose blocks lead to this offset.

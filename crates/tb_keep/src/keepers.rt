@@ -13,8 +13,6 @@ pub struct Keeper<D: Device, A: Allocator + Clone = Global> {
     pub(crate) global: Global,
     pub(crate) journal: Journal<D>,
     pub(crate) machine: Machine<A>,
-    // Room for the record of the next entry.
-    pub(crate) buffer: Vec<u8>,
     // The torn bytes that the start cut off.
     pub(crate) cut: u64,
     // No call of `keep` has failed.
@@ -46,7 +44,6 @@ impl<D: Device, A: Allocator + Clone> Keeper<D, A> {
             global,
             journal,
             machine,
-            buffer: Vec::new(global),
             cut,
             usable: true,
         }

@@ -8,7 +8,7 @@ returns-in-Ok g c bytes is =
     let first = c.len.ensures.bytes bytes is in
     let second = c.in-Ok.ensures.bytes first.later first.now in
     let some : 8 ≤ length c.read_at.new.into = omega (arith, c.requires, c.read_at.auto.into) in
-    grown_by first second (c.is_end.ensures c.args.end second.later (reads_ahead c.in-Ok.count c.args.end second.later c.read_at.new.into some second.has))
+    grown_by first second (c.latch_of.ensures.tells second.later (reads_ahead c.in-Ok.count c.args.end second.later c.read_at.new.into some second.has))
 
 pub returns-in-Err : goal.returns-in-Err
 returns-in-Err g c bytes is =
