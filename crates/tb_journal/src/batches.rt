@@ -169,7 +169,7 @@ fn write_block<W: Written>(bytes: &mut Vec<u8>, content: &W, room: usize) -> Res
     }
 }
 
-// Adds all of a block but its gate, and the gate behind it. The record comes first, and then the numbers that stand before it.
+// Adds all of a block but its gate, and the gate behind it.
 fn write_parts<W: Written>(bytes: &mut Vec<u8>, content: &W, room: usize) -> Result<(), Fault>
     ensures ok { OnOk result (bytes.new.items ≡ bytes.old.items ++ (drop 1 (block (W.bytes content.now)) ++ 0 ∷ [])) }
     ensures fits { OnOk result (Fits (W.bytes content.now)) }
@@ -178,15 +178,25 @@ fn write_parts<W: Written>(bytes: &mut Vec<u8>, content: &W, room: usize) -> Res
     ensures err { OnErr result (take (vec_len bytes.old) bytes.new.items ≡ bytes.old.items) }
     ensures why { IfErr result (λ fault. IsUnwritten fault room (length (W.bytes content.now))) }
 {
+    write_sealed(bytes, content, room)?;
+    bytes.extend_from_slice(&[CLOSED])?;
+    Ok(())
+}
+
+// Adds all of a block but its gate. The record comes first, and then the numbers that stand before it.
+fn write_sealed<W: Written>(bytes: &mut Vec<u8>, content: &W, room: usize) -> Result<(), Fault>
+    ensures ok { OnOk result (bytes.new.items ≡ bytes.old.items ++ drop 1 (block (W.bytes content.now))) }
+    ensures fits { OnOk result (Fits (W.bytes content.now)) }
+    ensures known { OnOk result (W.known content.now) }
+    ensures room { OnOk result (8 + length (W.bytes content.now) ≤ room) }
+    ensures err { OnErr result (take (vec_len bytes.old) bytes.new.items ≡ bytes.old.items) }
+    ensures why { IfErr result (λ fault. IsUnwritten fault room (length (W.bytes content.now))) }
+{
     let at = bytes.len();
-    if write_record(bytes, content).is_err() {
-        return Err(Fault::Memory);
-    }
-    fit(bytes.len() - at - NUMBERS, room)?;
+    write_record(bytes, content)?;
+    let count = bytes.len() - at - NUMBERS;
+    fit(count, room)?;
     seal(bytes, at);
-    if bytes.extend_from_slice(&[CLOSED]).is_err() {
-        return Err(Fault::Memory);
-    }
     Ok(())
 }
 

@@ -14,6 +14,6 @@ pub trait Written {
     /// Appends the bytes. `AllocError` where there is no memory for all of them: the vector keeps its bytes, and gets none.
     fn write(&self, out: &mut Vec<u8>) -> Result<(), AllocError>
         ensures ok { OnOk result (out.new.items ≡ out.old.items ++ bytes self.now) }
-        ensures known { OnOk result (known self.now) }
+        ensures fact { OnOk result (known self.now) }
         ensures err { OnErr result (out.new.items ≡ out.old.items) };
 }
