@@ -27,6 +27,11 @@ pub enum FileFault {
 }
 
 impl From<io::Error> for FileFault {
+    ghost use Rattle.std.specs.Prelude.{◌≡◌};
+    ghost use Rattle.tb_journal.specs.declared.real.FileFault.TheVariants.{System};
+
+    ghost from_gives = { λ error fault. fault ≡ System error };
+
     fn from(error: io::Error) -> FileFault {
         FileFault::System(error)
     }
