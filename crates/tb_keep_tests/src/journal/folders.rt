@@ -271,6 +271,10 @@ fn the_folder_of_a_links_target(rt: HostRuntime) {
         &rt,
         matches!(Real::make(&rt, "link.tbj"), Err(FileFault::Dangling)),
     );
+    expect(
+        &rt,
+        matches!(Real::look(&rt, "link.tbj"), Err(FileFault::Dangling)),
+    );
     expect(&rt, fs::metadata(&rt, "targets/made.tbj").is_err());
     expect(&rt, Real::make_new(&rt, "targets/made.tbj").is_ok());
     let real = Real::make(&watched, "link.tbj");

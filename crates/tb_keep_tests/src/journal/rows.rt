@@ -3,7 +3,22 @@ use crate::journal::steps::{
     NO_RECORDS, ONE_RECORD, THREE_RECORDS, commit_two, created, expect, expect_journal, opened,
     sevens, sure,
 };
-use tb_journal::{Fault, RECORD_BYTES_MAX};
+use std::alloc::AllocError;
+use tb_journal::{Fault, RECORD_BYTES_MAX, Written};
+
+/// Bytes that are written where they wait.
+#[derive(Clone, Copy)]
+struct Bytes<'a> {
+    bytes: &'a [u8],
+}
+
+impl<'a> Written for Bytes<'a> {
+    ghost bytes = { λ b. b.bytes.now };
+
+    fn write(&self, out: &mut Vec<u8>) -> Result<(), AllocError> {
+        out.extend_from_slice(self.bytes)
+    }
+}
 
 #[test]
 fn a_record_counts_when_it_is_committed(rt: HostRuntime) {
@@ -45,4 +60,22 @@ fn a_record_of_2_to_the_24_bytes_is_too_long(rt: HostRuntime) {
     expect(&rt, journal.append(&long) == Err(Fault::TooLong));
     expect(&rt, journal.waiting() == 0);
     expect(&rt, journal.waiting_bytes() == 1);
+}
+
+#[test]
+fn a_record_is_written_where_it_waits(rt: HostRuntime) {
+    let alloc = rt.alloc();
+    let mut journal = created(&rt, alloc, &[]);
+    sure(&rt, journal.append_written(&Bytes { bytes: b"ab" }));
+    expect_journal(&rt, &journal, &NO_RECORDS, 0, 11);
+    let long = sevens(&rt, alloc, RECORD_BYTES_MAX);
+    let refused = journal.append_written(&Bytes { bytes: &long });
+    expect(&rt, refused == Err(Fault::TooLong));
+    expect_journal(&rt, &journal, &NO_RECORDS, 0, 11);
+    sure(&rt, journal.commit());
+    expect_journal(&rt, &journal, &ONE_RECORD, 1, 1);
+    sure(&rt, journal.append_written(&Bytes { bytes: b"" }));
+    sure(&rt, journal.append(b"second"));
+    sure(&rt, journal.commit());
+    expect_journal(&rt, &journal, &THREE_RECORDS, 3, 1);
 }
