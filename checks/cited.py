@@ -51,7 +51,6 @@ LATER = {"tb_keep_commands": 707, "tb_log": 235}
 TOOLS = (
     "tb_uses",
     "tb_bench",
-    "tb_read",
     "tb_recorded",
     "tb_refusals",
     "tb_refusing",

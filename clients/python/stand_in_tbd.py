@@ -216,7 +216,7 @@ def begin(path, clients_max, profile):
 
 
 def pairs():
-    """The moments and frames of standard input, each with whether the next one is at hand."""
+    """The moments and frames of standard input, each with whether the next one is buffered."""
     data = b""
     while True:
         while len(data) >= 56 and len(data) >= (size := 56 + int.from_bytes(data[40:44], "little")):

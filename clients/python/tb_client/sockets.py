@@ -107,7 +107,7 @@ class Socket(Closing):
             raise
 
     def _connected(self, deadline: float) -> socket.socket:
-        """The connection, made anew where there is none, or where the server closed it since."""
+        """The connection, made again where there is none, or where the server closed it since."""
         pause = FIRST_PAUSE
         if self._socket is not None and _is_left(self._socket):
             self._lose()
