@@ -3,16 +3,20 @@ systemd passes, counts and evictions. Certificates are made by openssl for one r
 
     python3 -m unittest test_access
 """
+import concurrent.futures
 import contextlib
+import fcntl
 import json
 import os
 import pwd
 import shutil
+import signal
 import socket
 import ssl
 import subprocess
 import sys
 import tempfile
+import termios
 import time
 import unittest
 import urllib.request
@@ -20,6 +24,7 @@ import urllib.request
 import tb_client as tb
 from tb_client import Session, Socket
 from test_listen import HERE, KEEPER, Running, register, told
+from test_tb_client import PROGRAM
 
 sys.path.append(os.path.join(HERE, "..", "conformance"))
 import certificates  # noqa: E402
@@ -311,12 +316,69 @@ class Reports(unittest.TestCase):
             with urllib.request.urlopen(f"http://127.0.0.1:{port}/metrics", timeout=10) as page:
                 text = page.read().decode()
         for line in (
+            "tb_commits_total 2.0",
+            "tb_syncs_total 4.0",
             'tb_requests_total{operation="register",status="Reply"} 1.0',
             'tb_request_seconds_bucket{le="+Inf"} 2.0',
             "tb_ready 1.0",
             "tb_evictions_total 0.0",
         ):
             self.assertIn(line, text)
+
+    def test_commits(self):
+        """Each request in turn is a commit; those that wait at once are one; none is lost or
+        counted twice where the server is killed."""
+        with tempfile.TemporaryDirectory() as folder:
+            path = os.path.join(folder, "status")
+            with Running("--status", path, folder=folder) as listener:
+                self.assertEqual(self.commits(path), (0, 0))
+                with contextlib.ExitStack() as held:
+                    some = [
+                        held.enter_context(Session.register(Socket(listener.path)))
+                        for _ in range(6)
+                    ]
+                    self.assertEqual(self.commits(path), (6, 12))
+                    for _ in range(20):
+                        some[0].lookup_accounts([1])
+                    self.assertEqual(self.commits(path), (26, 52))
+                    with self.assertRaises(tb.NoSession):
+                        Session(Socket(listener.path), 99, 1).lookup_accounts([1])
+                    self.assertEqual(self.commits(path), (26, 52), "a refusal is no commit")
+                    self.assertEqual(self.at_once(listener, some), [[]] * 6)
+                    self.assertEqual(self.commits(path), (27, 54))
+                    listener.kill_server()
+                    some[0].lookup_accounts([1])
+                    self.assertEqual(self.commits(path), (28, 56))
+
+    def commits(self, path):
+        it = self.counts(path)
+        return it["commits"], it["syncs"]
+
+    def at_once(self, listener, some):
+        """What each session looks up, where the server is given all requests together."""
+        server, pipe = listener.server(), f"/proc/{listener.server()}/fd/0"
+        os.kill(server, signal.SIGSTOP)
+        with concurrent.futures.ThreadPoolExecutor(len(some)) as pool:
+            found = [pool.submit(it.lookup_accounts, [1]) for it in some]
+            held = bytearray(4)
+            with open(pipe, "rb", buffering=0) as it:
+                while int.from_bytes(held, "little") < len(some) * (8 + 48 + 16):
+                    time.sleep(0.01)
+                    fcntl.ioctl(it, termios.FIONREAD, held)
+            os.kill(server, signal.SIGCONT)
+            return [it.result(20) for it in found]
+
+    def test_commits_that_are_not_known(self):
+        """Behind a shell another process writes; a server that keeps nothing has none."""
+        commands = [["sh", "-c", '"$@"; exit', "sh", *KEEPER, "run", "{}/ledger", "64"]]
+        if os.access(PROGRAM, os.X_OK):
+            commands.append([PROGRAM, "run", "64"])
+        for words in commands:
+            with tempfile.TemporaryDirectory() as folder:
+                path, command = os.path.join(folder, "status"), [it.format(folder) for it in words]
+                with Running("--status", path, command=command, folder=folder) as listener:
+                    with Session.register(Socket(listener.path)):
+                        self.assertEqual(self.commits(path), (None, None), command)
 
     def test_evictions_are_told(self):
         command = [*KEEPER, "run"]

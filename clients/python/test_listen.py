@@ -134,6 +134,21 @@ class Running:
         return it
 
 
+def called(path, seconds=20):
+    """A connection to a listener that may not listen yet."""
+    until = time.monotonic() + seconds
+    while True:
+        it = socket.socket(socket.AF_UNIX, socket.SOCK_STREAM)
+        it.settimeout(seconds)
+        with contextlib.suppress(FileNotFoundError, ConnectionRefusedError):
+            it.connect(path)
+            return it
+        it.close()
+        if time.monotonic() > until:
+            raise AssertionError(f"nobody listens at {path}")
+        time.sleep(0.01)
+
+
 def told(it):
     """What a connection is told until it is closed."""
     data = b""
@@ -694,10 +709,7 @@ class Ends(unittest.TestCase):
             listener = subprocess.Popen(
                 [sys.executable, "-B", *words, "run", file, "64"], stderr=subprocess.PIPE, text=True
             )
-            while not os.path.exists(path):
-                time.sleep(0.01)
-            with socket.socket(socket.AF_UNIX, socket.SOCK_STREAM) as it:
-                it.connect(path)
+            with called(path) as it:
                 it.sendall(register(1))
                 self.assertEqual(told(it), b"tb_listen: Starting\n")
             with self.assertRaises(tb.CannotConnect):
@@ -721,12 +733,7 @@ class Ends(unittest.TestCase):
             [sys.executable, "-B", *words, "run", file, "64"], stderr=subprocess.PIPE, text=True
         )
         self.addCleanup(listener.stderr.close)
-        until = time.monotonic() + 20
-        while not os.path.exists(path):
-            self.assertLess(time.monotonic(), until)
-            time.sleep(0.01)
-        with socket.socket(socket.AF_UNIX, socket.SOCK_STREAM) as it:
-            it.connect(path)
+        with called(path) as it:
             it.sendall(register(1))
             self.assertEqual(told(it), b"tb_listen: Starting\n")
         return listener

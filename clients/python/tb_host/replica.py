@@ -111,6 +111,9 @@ class Replica:
     def is_serving(self) -> bool:
         return self.served.is_set()
 
+    def committed(self) -> Optional[int]:
+        return None  # the copy of the log is the replica's own
+
     def lag(self) -> float:
         return self.moments.lag()
 
