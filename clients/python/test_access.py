@@ -341,8 +341,8 @@ class Reports(unittest.TestCase):
                     for _ in range(20):
                         some[0].lookup_accounts([1])
                     self.assertEqual(self.commits(path), (26, 52))
-                    with self.assertRaises(tb.NoSession):
-                        Session(Socket(listener.path), 99, 1).lookup_accounts([1])
+                    with self.assertRaises(tb.NoSession), Socket(listener.path) as other:
+                        Session(other, 99, 1).lookup_accounts([1])
                     self.assertEqual(self.commits(path), (26, 52), "a refusal is no commit")
                     self.assertEqual(self.at_once(listener, some), [[]] * 6)
                     self.assertEqual(self.commits(path), (27, 54))

@@ -65,6 +65,7 @@ class Listener:
         self.open: Set[asyncio.Task[None]] = set()
         self.served: Set[asyncio.Task[None]] = set()  # those that are not told why they are closed
         self.at_rest: Set[asyncio.Task[None]] = set()  # those that wait for a request
+        self.unread: Set[asyncio.Task[None]] = set()  # those whose client has a part of a reply
         self.deadlines = Deadlines()
         self.leaving = 0  # connections that were told why, and may still send
         self.why = ""  # why no more requests are taken
@@ -85,10 +86,11 @@ class Listener:
                 if len(self.served) < self.given.connections
                 else "Busy"
             )
-            await self._close(reader, writer, why)
+            await self._close(reader, writer, why, task not in self.unread)
         finally:
             self.counts.connections -= 1
             self.open.discard(task)
+            self.unread.discard(task)
 
     async def _serve(
         self, task: asyncio.Task[None], reader: asyncio.StreamReader, writer: asyncio.StreamWriter
@@ -100,7 +102,9 @@ class Listener:
             while not self.why:
                 writer.write(await self._answer(await self._request(task, reader, peer)))
                 if writer.transport.get_write_buffer_size():
+                    self.unread.add(task)
                     await in_time(writer.drain(), self.given.slow, "Slow")
+                    self.unread.discard(task)
             return self.why
         except Told as told:
             return str(told)
@@ -160,9 +164,14 @@ class Listener:
             self.at_rest.discard(task)
 
     async def _close(
-        self, reader: asyncio.StreamReader, writer: asyncio.StreamWriter, why: str
+        self,
+        reader: asyncio.StreamReader,
+        writer: asyncio.StreamWriter,
+        why: str,
+        may_be_told: bool,
     ) -> None:
-        """Tells why, where there is something to tell, and closes the connection."""
+        """Tells why, where there is something to tell, and closes the connection. Behind a part of
+        a reply nothing can be told."""
         if why not in (
             "",
             "Short",
@@ -176,9 +185,7 @@ class Listener:
             OSError, asyncio.TimeoutError, asyncio.CancelledError
         ):  # nothing is left to be done
             try:
-                if (
-                    why and not writer.transport.get_write_buffer_size()
-                ):  # behind a part of a reply nothing can be told
+                if why and may_be_told:
                     writer.write(f"{TOLD}{why}\n".encode("ascii"))
                     if writer.can_write_eof():  # TLS has no such half of an end
                         writer.write_eof()
