@@ -6,6 +6,8 @@ import asyncio
 import os
 from typing import Any, Coroutine
 
+from .lines import Ended
+
 NAME = "TB_LOOP"  # the environment variable that says which: asyncio or uvloop
 
 
@@ -18,14 +20,15 @@ def fill_standard_files() -> None:
 
 
 def run(serving: Coroutine[Any, Any, None]) -> None:
-    """Runs a host until it ends."""
-    if os.environ.get(NAME) != "asyncio":
+    """Runs a host until it ends. Raises `Ended` where the loop that is asked for is not there."""
+    wanted = os.environ.get(NAME)
+    if wanted != "asyncio":
         try:
             import uvloop
-        except ImportError:
-            if os.environ.get(NAME) == "uvloop":
-                serving.close()
-                raise
-        else:
+
             uvloop.install()
+        except ImportError:
+            if wanted == "uvloop":
+                serving.close()
+                raise Ended(f"{NAME} is uvloop, which is not installed", 1) from None
     asyncio.run(serving)
