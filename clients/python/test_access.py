@@ -91,7 +91,7 @@ class OverTLS(unittest.TestCase):
         with self.listening("--client-ca", self.paths["ca"]) as (listener, place):
             for name in (None, "gone", "forged"):
                 with self.subTest(name):
-                    self.fault(place, name)
+                    self.assertIn("may not take this client's certificate", self.fault(place, name))
             plain = Socket(place, timeout=2)
             with self.assertRaises(tb.ClientError):
                 Session.register(plain, attempts=1)
@@ -116,6 +116,34 @@ class OverTLS(unittest.TestCase):
                     self.assertIn("ClientNotAllowed", self.fault(place, name, client))
             self.assertIn("NotAllowed", self.fault(place, "client", UPPER + 7))
             self.assertEqual(listener.end(), 0)
+
+    def test_who_was_refused_is_said(self):
+        """Each line on a peer that is refused has its address, and what its certificate says."""
+        options = ("--client-ca", self.paths["ca"], "--clients", self.clients, "--log-json")
+        words = ["--certificate", self.paths["server"], "--key", self.paths["server_key"]]
+        with tempfile.TemporaryDirectory() as folder:
+            command = ["--", *KEEPER, "run", os.path.join(folder, "ledger"), "64"]
+            listener = subprocess.Popen(
+                [sys.executable, "-B", os.path.join(HERE, "tb_listen.py"), "--tcp", "127.0.0.1:0"]
+                + [*words, *options, *command],
+                stderr=subprocess.PIPE,
+                text=True,
+            )
+            with listener.stderr as lines:
+                while "listens on" not in (line := lines.readline()):
+                    self.assertTrue(line)
+                place = ("localhost", int(json.loads(line)["text"].rpartition(":")[2]))
+                for name, client in (("gone", 1), ("client", 1), ("billing", UPPER)):
+                    self.fault(place, name, client)
+                listener.terminate()
+                self.assertEqual(listener.wait(20), 0)
+                said = [json.loads(it) for it in lines]
+        self.assertEqual(
+            [it["text"].partition(": ")[2] for it in said],
+            ["TLS: certificate has expired", "NotAllowed", "ClientNotAllowed"],
+        )
+        for it, shown in zip(said, ("", r" \(client\)", r" \(billing\)")):
+            self.assertRegex(it["peer"], rf"^127\.0\.0\.1:[0-9]+{shown}$")
 
     def test_a_stolen_session(self):
         """A saved session is of no use to whom its client id does not belong."""

@@ -36,6 +36,11 @@ STAND_IN = [sys.executable, "-SE", os.path.join(HERE, "stand_in_tbd.py")]
 KEEPER = [TBD] if os.access(TBD, os.X_OK) else STAND_IN
 
 
+def setUpModule():
+    """In the background of a shell SIGINT is ignored, and programs would inherit that."""
+    signal.signal(signal.SIGINT, signal.default_int_handler)
+
+
 def children(process):
     """The processes that a process started, by their ids."""
     with contextlib.suppress(OSError), open(f"/proc/{process}/task/{process}/children") as file:

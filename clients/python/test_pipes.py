@@ -125,6 +125,7 @@ class Counting(unittest.IsolatedAsyncioTestCase):
     async def test_what_is_not_known(self):
         """The number of commits is none where the file or the system's counts cannot be read."""
         it = pipes.started(["sleep", "60"])
+        self.assertIsNone(Commits(None).look())
         for counts in (Commits(None), Commits("/nowhere/at/all")):
             counts.begin(it)
             self.assertIsNone(counts.look())

@@ -58,6 +58,7 @@ class Pool:
         client_range: Optional[int],
     ) -> None:
         self._connect, self._sessions = connect, sessions
+        self.hint = ""  # why there is no connection
         self._jump_max, self._client_range = jump_max, client_range
         self._calls: Deque[Call] = collections.deque()
         self._changed = threading.Condition()
@@ -164,8 +165,10 @@ class Worker(threading.Thread):
         while self._pool.wait():
             try:
                 self._registered()
+                self._pool.hint = ""
             except CannotConnect as why:
                 log.warning("%s", why)
+                self._pool.hint = f" ({why})"
                 continue
             except BaseException as why:
                 self._leave()

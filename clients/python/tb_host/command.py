@@ -7,13 +7,14 @@ import contextlib
 import os
 import re
 import time
-from typing import Deque, List, Optional, Sequence, Tuple
+from typing import Deque, List, Optional, Sequence, Set, Tuple
 
 from tb_client.frames import asker, reply_fault
 from tb_client.layout import HEADER
 
 from .arguments import is_number
 from .commits import Commits, is_asleep
+from .connections import Answered
 from .entries import MOMENT
 from .lines import Ended, Told, say
 from .moments import SECOND, Moments
@@ -71,7 +72,8 @@ class Command(ServerProcess):
         super().__init__(reported, patience, keeps)
         self.ahead = ahead  # how far the ledger's last time may lie ahead of the clock, in seconds
         self.moments = Moments(0)
-        self.waiting: Deque[Tuple[bytes, asyncio.Future[bytes]]] = collections.deque()
+        self.waiting: Deque[Tuple[bytes, Answered]] = collections.deque()
+        self.later: Set[asyncio.Task[None]] = set()  # requests that wait for the server
         self.sending = asyncio.Lock()
         self.loop = asyncio.get_running_loop()
         self.commits = Commits(words[self.file_at] if self.file_at else None)
@@ -140,7 +142,7 @@ class Command(ServerProcess):
     def lost(self) -> None:
         self.away_since = time.monotonic()
         while self.waiting:
-            _drop(self.waiting.popleft()[1], self.ended_as)
+            self._tell(self.waiting.popleft()[1], b"", self.ended_as)
 
     def lag(self) -> float:
         return self.moments.lag()
@@ -181,25 +183,41 @@ class Command(ServerProcess):
             end = at + HEADER + int.from_bytes(header[32:36], "little")
             if end > len(data):
                 break
-            reply = waiting.popleft()[1]
-            if not reply.done():
-                reply.set_result(data[at:end])
+            self._tell(waiting.popleft()[1], data[at:end], "")
             at = end
         return at
 
-    async def ask(self, frame: bytes) -> bytes:
-        """The reply to a request. Raises `Told` where the command ended before it came, or does
-        not serve again soon."""
+    def _tell(self, answered: Answered, reply: bytes, why: str) -> None:
+        """Answers one request, whose fault is no fault of others."""
+        try:
+            answered(reply, why)
+        except Exception as error:
+            said = "a connection failed"
+            self.loop.call_exception_handler({"message": said, "exception": error})
+
+    def ask_soon(self, frame: bytes, answered: Answered) -> None:
+        """Asks for the reply to a request. `answered` gets it, or why there is none: the command
+        ended before it came, or does not serve again soon."""
         process = self.process
         if process is None or not self.ready.is_set() or not process.stdin.has_room.is_set():
-            process = await self._serving()
-        reply: asyncio.Future[bytes] = self.loop.create_future()
+            later = asyncio.ensure_future(self._ask_later(frame, answered))
+            self.later.add(later)
+            later.add_done_callback(self.later.discard)
+        else:
+            self._ask(process, frame, answered)
+
+    def _ask(self, process: Process, frame: bytes, answered: Answered) -> None:
         is_idle = not self.waiting
-        self.waiting.append((asker(frame), reply))
+        self.waiting.append((asker(frame), answered))
         process.stdin.write(MOMENT.pack(self.moments.next()) + frame)
         if is_idle:  # the server waits for it
             process.stdin.leave()
-        return await reply
+
+    async def _ask_later(self, frame: bytes, answered: Answered) -> None:
+        try:
+            self._ask(await self._serving(), frame, answered)
+        except Told as told:
+            answered(b"", str(told))
 
     async def _serving(self) -> Process:
         """The command, once it serves, and there is room for a request. Those that wait for that
@@ -221,8 +239,3 @@ class Command(ServerProcess):
     def _patience(self) -> float:
         """How many seconds a request still waits for a server that is started again."""
         return max(self.away_since + PATIENCE - time.monotonic(), 0.0)
-
-
-def _drop(reply: asyncio.Future[bytes], why: str) -> None:
-    if not reply.done():
-        reply.set_exception(Told(why))

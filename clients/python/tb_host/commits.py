@@ -43,7 +43,7 @@ class Commits:
         self.first = 0  # what this process had beyond its pipes and its file when it was ready
         self.ended = 0  # commits of processes before
         self.now = 0  # commits of this process
-        self.is_known = True
+        self.is_known = file is not None
 
     def _beyond(self) -> Optional[int]:
         """What the process has written beyond its pipes and the length of its file."""

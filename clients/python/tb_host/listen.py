@@ -21,6 +21,8 @@ line of fewer bytes than a frame has: `tb_listen: ` and a name. Status 0: ended 
 SIGINT, with all that was taken answered. Status 1: it cannot listen, the ledger lies ahead of the
 clock, or the command failed. Status 2: wrong arguments. A fault that the command named is handed
 on, with its own line and status.
+
+It runs by uvloop where that is installed, unless TB_LOOP=asyncio is in its environment.
 """
 from __future__ import annotations
 

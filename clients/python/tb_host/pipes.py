@@ -91,8 +91,8 @@ class Outgoing(End):
         self.has_room.set()
 
     def write(self, data: bytes) -> None:
-        """Takes bytes, which leave soon. Those for a pipe that broke are dropped."""
-        if self.file < 0:
+        """Takes bytes, which leave soon. Those for a pipe that broke or is closed are dropped."""
+        if self.file < 0 or self.is_closing:
             return
         self.parts.append(data)
         self.held += len(data)
@@ -157,7 +157,8 @@ class Outgoing(End):
 
 
 class Process:
-    """A process with its pipes. It was not asked for its status before `at_end` was called."""
+    """A process with its pipes. `at_end` is called when it has ended, before its status is asked
+    for: until then the system tells what it did."""
 
     def __init__(self, popen: subprocess.Popen[bytes]) -> None:
         self.popen, self.pid = popen, popen.pid
@@ -169,12 +170,17 @@ class Process:
     @property
     def returncode(self) -> Optional[int]:
         """Its status, once it has ended."""
-        if self.popen.returncode is None:
-            how = os.WEXITED | os.WNOHANG | os.WNOWAIT
-            if os.waitid(os.P_PID, self.pid, how) is not None:
-                self.at_end()
-                self.popen.poll()
+        if self.popen.returncode is None and self._has_ended():
+            self.at_end()
+            self.popen.poll()
         return self.popen.returncode
+
+    def _has_ended(self) -> bool:
+        try:
+            how = os.WEXITED | os.WNOHANG | os.WNOWAIT
+            return os.waitid(os.P_PID, self.pid, how) is not None
+        except ChildProcessError:  # this process was started with SIGCHLD ignored
+            return True
 
     def close(self) -> None:
         """Closes its pipes. What waits to be written is dropped."""

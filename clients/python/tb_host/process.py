@@ -240,11 +240,6 @@ async def tail(
     return (kept + rest)[-LINES:]
 
 
-async def drain(stream: asyncio.StreamReader) -> None:
-    while await stream.read(1 << 16):
-        pass
-
-
 async def first(*futures: asyncio.Future[Any]) -> None:
     await asyncio.wait(futures, return_when=asyncio.FIRST_COMPLETED)
 

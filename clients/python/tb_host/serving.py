@@ -89,7 +89,7 @@ async def _serve_until(
 ) -> None:
     given = listener.given
     running = asyncio.ensure_future(command.run())
-    watching = asyncio.ensure_future(listener.deadlines.watch())
+    watching = asyncio.ensure_future(listener.watch())
     taking = [asyncio.ensure_future(take_connections(it, listener)) for it in places]
     beginning = asyncio.ensure_future(_begin(places, command, listener))
     await first(running, stopping, *taking)
