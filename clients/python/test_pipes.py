@@ -167,9 +167,11 @@ class ByTheOther:
     def setUpClass(cls):
         cls.patch = unittest.mock.patch.dict(os.environ, {loops.NAME: OTHER})
         cls.patch.start()
+        super().setUpClass()
 
     @classmethod
     def tearDownClass(cls):
+        super().tearDownClass()
         cls.patch.stop()
 
 

@@ -58,7 +58,6 @@ class Pool:
         client_range: Optional[int],
     ) -> None:
         self._connect, self._sessions = connect, sessions
-        self.hint = ""  # why there is no connection
         self._jump_max, self._client_range = jump_max, client_range
         self._calls: Deque[Call] = collections.deque()
         self._changed = threading.Condition()
@@ -131,6 +130,14 @@ class Pool:
         if self._stopped.wait(seconds):
             raise why
 
+    def trouble(self) -> str:
+        """Why there is no connection, where there is none."""
+        for worker in list(self._workers):
+            found = str(getattr(worker.transport, "trouble", ""))
+            if found:
+                return f": {found}"
+        return ""
+
     def close(self) -> None:
         """Ends the sessions. Requests on their way are waited for as long as their transport
         does."""
@@ -158,17 +165,15 @@ class Worker(threading.Thread):
 
     def __init__(self, pool: Pool, transport: Transport) -> None:
         super().__init__(name="tb_client", daemon=True)
-        self._pool, self._transport = pool, transport
+        self._pool, self.transport = pool, transport
         self._session: Optional[Session] = None
 
     def run(self) -> None:
         while self._pool.wait():
             try:
                 self._registered()
-                self._pool.hint = ""
             except CannotConnect as why:
                 log.warning("%s", why)
-                self._pool.hint = f" ({why})"
                 continue
             except BaseException as why:
                 self._leave()
@@ -237,7 +242,7 @@ class Worker(threading.Thread):
     def _registered(self) -> Session:
         """The session, registered. `CannotConnect` where nothing answers."""
         if self._session is None:
-            self._session = self._pool.new_session(self._transport)
+            self._session = self._pool.new_session(self.transport)
         session, patience = self._session, _Patience()
         while not session.session:
             try:
@@ -253,7 +258,7 @@ class Worker(threading.Thread):
             self._session = None
 
     def end(self) -> None:
-        close_transport(self._transport)
+        close_transport(self.transport)
         if threading.current_thread() is not self:
             self.join()
 

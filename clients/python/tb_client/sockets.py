@@ -50,6 +50,7 @@ class Socket(Closing):
         self.timeout = seconds("timeout", timeout, 0.001)
         self._tls = _context_of(tls, self._addresses)
         self._socket: Optional[socket.socket] = None
+        self.trouble = ""  # why there is no connection, since one was tried last
         self._is_new = False  # nothing came over the connection yet
         self._lock = threading.Lock()
         self._owner = os.getpid()
@@ -135,11 +136,12 @@ class Socket(Closing):
                 # of the time, so that one that does not answer leaves some
                 share = (deadline - time.monotonic()) / left
                 self._socket = _call(self.address, max(share, 0.001), self._tls)
-                self._is_new = True
+                self._is_new, self.trouble = True, ""
                 log.info("connected to %s", _shown(self.address))
                 return None
             except OSError as error:
-                log.info("no connection to %s: %s", _shown(self.address), error.strerror or error)
+                self.trouble = f"{_shown(self.address)}: {error.strerror or error}"
+                log.info("no connection to %s", self.trouble)
                 fault = error
                 self._next()
         return fault
