@@ -397,6 +397,23 @@ class OverSockets(unittest.TestCase):
             with Session.register(Socket(listener.path)) as session:
                 self.assertEqual(session.session, 4, "and one that was closed leaves its place")
 
+    def test_who_is_gone_counts_until_it_is_answered(self):
+        """So no more requests wait for the server than connections are allowed."""
+        cut_off = struct.pack("ii", 1, 0)
+        with Running("--connections", "2", "--tcp", "127.0.0.1:0") as listener:
+            server = listener.server()
+            os.kill(server, signal.SIGSTOP)
+            for number in (1, 2):
+                with listener.call() as it:
+                    it.setsockopt(socket.SOL_SOCKET, socket.SO_LINGER, cut_off)
+                    it.sendall(register(number))
+                    time.sleep(0.2)
+            time.sleep(0.2)
+            self.assertEqual(told(listener.call()), b"tb_listen: Busy\n")
+            os.kill(server, signal.SIGCONT)
+            with Session.register(Socket(listener.address), attempts=20) as session:
+                self.assertEqual(session.session, 3, "both were executed")
+
     def test_who_is_told_busy_comes_later(self):
         """A session pauses where it is told Busy, so that one of five attempts finds a place
         that is free by then."""

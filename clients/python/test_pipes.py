@@ -4,6 +4,7 @@ loops that a host may run by."""
 import asyncio
 import importlib.util
 import os
+import random
 import subprocess
 import sys
 import unittest
@@ -23,7 +24,8 @@ class Pipes(unittest.IsolatedAsyncioTestCase):
     async def test_all_that_is_written_comes_back(self):
         """More than the pipes hold, in pieces of all sizes: the order stays."""
         it = pipes.started(ECHO)
-        pieces = [bytes([number % 251]) * (7919 * number % 200_000) for number in range(60)]
+        drawn = random.Random(1)
+        pieces = [drawn.randbytes(7919 * number % 200_000) for number in range(60)]
 
         async def write():
             for piece in pieces:
@@ -141,15 +143,22 @@ class Counting(unittest.IsolatedAsyncioTestCase):
 class Loops(unittest.TestCase):
     def test_which_loop_is_taken(self):
         """uvloop where it is there, and asyncio's where that is asked for."""
-        for name, wanted in ((None, HAS_UVLOOP), ("asyncio", False), ("uvloop", HAS_UVLOOP)):
+        script = "import asyncio\nfrom tb_host.loops import run\nasync def tell():\n"
+        script += "    print(type(asyncio.get_running_loop()).__module__)\nrun(tell())"
+        words = [sys.executable, "-B", "-c", script]
+        for name, wanted in ((None, HAS_UVLOOP), ("asyncio", False), ("uvloop", True)):
             if name == "uvloop" and not HAS_UVLOOP:
                 continue
-            given = {it: os.environ[it] for it in os.environ if it != loops.NAME}
-            with unittest.mock.patch.dict(os.environ, given, clear=True):
-                os.environ.update({loops.NAME: name} if name else {})
-                with test_listen.Running() as listener:
-                    with open(f"/proc/{listener.process.pid}/maps") as file:
-                        self.assertEqual("uvloop" in file.read(), wanted, name)
+            there = {it: value for it, value in os.environ.items() if it != loops.NAME}
+            there.update({loops.NAME: name} if name else {})
+            shown = subprocess.check_output(words, env=there, cwd=test_listen.HERE, text=True)
+            self.assertEqual(shown.startswith("uvloop"), wanted, (name, shown))
+
+    def test_the_listener_runs_by_it(self):
+        with test_listen.Running() as listener:
+            with open(f"/proc/{listener.process.pid}/maps") as file:
+                is_uvloop = HAS_UVLOOP and os.environ.get(loops.NAME) != "asyncio"
+                self.assertEqual("uvloop" in file.read(), is_uvloop)
 
     def test_one_that_is_not_there(self):
         there = {**os.environ, loops.NAME: "uvloop"}

@@ -247,7 +247,8 @@ def _closed(said: bytes, hint: str = "") -> ReplyLost:
         bytes(said[len(TOLD) :]).decode("ascii", "replace").strip() if said.startswith(TOLD) else ""
     )
     kind = {"Busy": Busy, "Starting": Starting}.get(why, ReplyLost)
-    return kind(f"the server closed the connection{': ' + why if why else hint}", why)
+    hint = "" if why else hint
+    return kind(f"the server closed the connection{hint}{why and ': ' + why}", why)
 
 
 def _addresses_of(address: object) -> List[Place]:
