@@ -95,6 +95,8 @@ class Counting(unittest.IsolatedAsyncioTestCase):
         before = counts.look()
         it.stdin.write(b".")
         await it.stdout.readexactly(1)
+        while not is_asleep(it.pid):
+            await asyncio.sleep(0.01)
         found = counts.look()
         it.stdin.close()
         await process.exited(it)
