@@ -13,6 +13,7 @@
 //! - `audits`: by which profile entries are judged, expiries, and events that were refused.
 //! - `explained`: what is said of scripts and dumps, beside what the server makes of them.
 //! - `devices`: readers and writers that fail.
+//! - `kinds`: inputs of another kind than a form reads.
 //! - `said`: what is said of wrong frames, statements and replies, word for word.
 #![tactic(auto)]
 
@@ -30,6 +31,8 @@ mod explained;
 mod forms;
 #[cfg(test)]
 mod histories;
+#[cfg(test)]
+mod kinds;
 #[cfg(test)]
 mod large;
 #[cfg(test)]
