@@ -546,21 +546,23 @@ def stopped_wrongly(name, ran, wanted):
     ]
 
 
-def kept_wrongly(ran, file, script, replies, history):
+def kept_wrongly(ran, file, script, written, histories):
     """Why a `run` over a new file is wrong whose memory was refused once, if so: it ends well or
     says NoMemory, no reply is without its entry, and a later run comes to the whole history."""
     made, wants = f"tbd: made {file}", "tbd: NoMemory"
     refused = ran.status == 1 and ran.lines in ([wants], [made, wants])
-    if not refused and (ran.status, ran.lines) != (0, [made]):
+    if not refused and (ran.status, ran.output, ran.lines) != (0, written[-1], [made]):
         return f"status {ran.status}, {ran.lines}"
-    if ran.output not in (b"", replies) or not refused and ran.output != replies:
-        return f"{len(ran.output)} bytes of {len(replies)}"
-    left = plain(KEEPER, ["dump", file], b"")
-    if not history.startswith(left.output) or ran.output and left.output != history:
-        return f"{len(left.output)} bytes of a history of {len(history)}"
+    if ran.output not in written:
+        return f"{len(ran.output)} bytes, which are no replies"
+    left = plain(KEEPER, ["dump", file], b"").output
+    if not histories[-1].startswith(left):
+        return f"{len(left)} bytes of a history of {len(histories[-1])}"
+    if ran.output and not left.startswith(histories[written.index(ran.output)]):
+        return f"replies without their entries, {len(left)} bytes of a history"
     again = plain(KEEPER, ["run", file, 2], script)
     left = plain(KEEPER, ["dump", file], b"")
-    if (again.status, left.status, left.output) != (0, 0, history):
+    if (again.status, left.status, left.output) != (0, 0, histories[-1]):
         return f"status {again.status} of a later run, {again.lines}"
     return f"{ran.blocks} blocks left" if ran.blocks else ""
 
@@ -590,13 +592,14 @@ def each_growth_of_tbd(refuser, words, script, judge, new, least):
 
 def ledgers(refuser, folder):
     """A ledger in a file, where memory is refused."""
-    script, file, new = rows().bytes, f"{folder}/kept.tbk", f"{folder}/new.tbk"
-    replies, history = right(["run", 2], script), right(["dump", 2], script)
+    pairs, file, new = rows().pairs, f"{folder}/kept.tbk", f"{folder}/new.tbk"
+    written, histories = beginnings(["run", 2], pairs), beginnings(["dump", 2], pairs)
+    script = b"".join(pairs)
     each_growth_of_tbd(
         refuser,
         ["run", new, 2],
         script,
-        lambda ran: kept_wrongly(ran, new, script, replies, history),
+        lambda ran: kept_wrongly(ran, new, script, written, histories),
         new,
         20,
     )
