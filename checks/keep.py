@@ -3,7 +3,7 @@
 
     checks/keep.py [--tbd PROGRAM] [--kills N] [--flips N] [--cuts N] [--seed N] [--builds]
 
-A program that holds a reply back, or does not end, for 20 seconds ends the script with that case failed.
+A program that holds a reply back, or does not end, for 20 seconds (KEEP_SECONDS) ends the script with that case failed.
 Clients retry as docs/use/CLIENTS.md says: each sends one request at a time, and the same bytes again until it has the reply. Calls of the
 program fail or lie by checks/keep/shim.c, which wants gcc. With --builds two wrong bodies are built too, unproved, by `rt try` in a copy, and run
 under strace: one that replies before it commits and one that does not sync have to be caught. Ends in 'N passed, M failed'.
@@ -31,7 +31,7 @@ sys.path.insert(0, os.path.join(ROOT, "clients", "python"))
 from tb_client import HEADER, Account, Operation, Reply, Status, Transfer, reply_length, request_frame  # noqa: E402
 
 CLIENTS = 24
-SECONDS = 20  # a reply, an end and a check that take longer are missing
+SECONDS = int(os.environ.get("KEEP_SECONDS", "20"))  # a reply, an end and a check that take longer are missing
 CASH, SALES = 1, 2
 EINTR, EIO, ENOSPC = 4, 5, 28
 
@@ -642,15 +642,19 @@ def long_starts(tbd, folder):
     """A start over more than 64 MB: how far it is is told where that is asked for, and else nothing."""
     wrong = Transfer(1, CASH, SALES, 1, ledger=700, code=10).to_bytes() * 8190
     frames = [request_frame(7, 1, number, Operation.create_transfers, wrong) for number in range(1, 64)]
-    told = told_of(tbd, folder, ["run", "long.tbk", "3"], pair_of_a_register() + b"".join(struct.pack("<Q", 5) + it for it in frames))
-    size = os.path.getsize(os.path.join(folder, "long.tbk")) // 10**6
-    case("a file of more than 64 MB", (told[0], told[2], size > 64) == (0, "tbd: made long.tbk\n", True), (told[0], told[2], size))
-    told = told_of(tbd, folder, ["run", "long.tbk", "3", "--progress"])
+    script = pair_of_a_register() + b"".join(struct.pack("<Q", 5) + it for it in frames)
+    path = os.path.join(folder, "long.tbk")
+    told = []
+    for words, data in ((), script), (("--progress",), b""), ((), b""):
+        words = [tbd, "run", "long.tbk", "3", *words]
+        ran = subprocess.run(words, cwd=folder, input=data, stdout=subprocess.DEVNULL, stderr=subprocess.PIPE, timeout=10 * SECONDS, check=False)
+        told.append((ran.returncode, ran.stderr.decode()))
+    size = os.path.getsize(path) // 10**6
+    case("a file of more than 64 MB", told[0] == (0, "tbd: made long.tbk\n") and size > 64, (told[0], size))
     lines = rf"tbd: reading long.tbk, 0 of {size} MB\ntbd: reading long.tbk, 6[45] of {size} MB\ntbd: ready\n"
-    case("a long start that is reported", told[:2] == (0, b"") and re.fullmatch(lines, told[2]), told)
-    told = told_of(tbd, folder, ["run", "long.tbk", "3"])
-    case("a long start that is not", told == (0, b"", ""), told)
-    os.unlink(os.path.join(folder, "long.tbk"))
+    case("a long start that is reported", told[1][0] == 0 and re.fullmatch(lines, told[1][1]), told[1])
+    case("a long start that is not", told[2] == (0, ""), told[2])
+    os.unlink(path)
 
 
 def terminal():
@@ -751,6 +755,17 @@ def follows(tbd, folder):
         told = told_of(tbd, folder, ["dump", ledger.file, "--follow"], output=full)
     case("--follow ends at a write that fails", told == (1, None, "tbd: Device: standard output\n"), told)
     closed_pipe(tbd, folder, ledger)
+    shorter_file(tbd, folder, ledger)
+
+
+def shorter_file(tbd, folder, ledger):
+    """A dump that goes on ends where its file gets shorter than what it wrote."""
+    path = shutil.copy(ledger.file, os.path.join(folder, "shorter.tbk"))
+    follower = followers(tbd, folder, path, 0)[0]
+    more_of(follower, 16)
+    os.truncate(path, 1000)
+    told = ended(follower), follower.stderr.read().decode()
+    case("--follow of a file that gets shorter", told == (1, f"tbd: Device: {path}\n"), told)
 
 
 def closed_pipe(tbd, folder, ledger):
@@ -934,7 +949,6 @@ def main():
         told_of_ends(asked.tbd, folder)
         told_by_check(asked.tbd, folder)
         reported(asked.tbd, folder)
-        long_starts(asked.tbd, folder)
         on_terminals(asked.tbd, folder)
         told_at_once(asked.tbd, folder)
         names(asked.tbd, folder)
@@ -953,6 +967,7 @@ def main():
         backups(asked.tbd, folder)
         cuts(asked.tbd, folder, data, gates, entries, asked.cuts)
         flips(asked.tbd, folder, data, gates, entries, asked.flips, rng)
+        long_starts(asked.tbd, folder)
         faults(asked.tbd, folder, shim)
         reads(asked.tbd, folder, shim, data)
         kills(asked.tbd, folder, asked.kills, rng)

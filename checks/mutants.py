@@ -60,6 +60,9 @@ SCRIPTS = {
     "keep.py": (["--kills", "3", "--flips", "20", "--cuts", "20"], {"tbd", "tbs"}),
 }
 
+# What a script waits for, in seconds, where the programs are slow.
+SLOW = {"KEEP_SECONDS": "60"}
+
 # Cases that fail with no bug on: a program of `rt try` has AddressSanitizer, which maps terabytes.
 ANYWAY = {"a register in 64 MiB"}
 
@@ -334,7 +337,7 @@ def begin(words, number, cwd, output):
     return subprocess.Popen(
         words,
         cwd=cwd,
-        env={**os.environ, SWITCH: str(number), "PYTHONUNBUFFERED": "1"},
+        env={**os.environ, **SLOW, SWITCH: str(number), "PYTHONUNBUFFERED": "1"},
         stdin=subprocess.DEVNULL,
         stdout=output,
         stderr=subprocess.STDOUT,
