@@ -509,6 +509,8 @@ check("8190 full accounts are a statement", (status, line, script[56:] == b"\xff
 check("one more is too many", run(TBT, ["script"], largest[:-1] + b", id=1;")[:2], (2, b""))
 check("/dev/full", subprocess.run([TBT, "--version"], stdout=open("/dev/full", "wb"), stderr=subprocess.PIPE).stderr, b"tbt: Device: standard output\n")
 check("its status", subprocess.run([TBT, "--version"], stdout=open("/dev/full", "wb"), stderr=subprocess.DEVNULL).returncode, 1)
+ran = subprocess.run([TBT, b"\xff"], stdin=subprocess.DEVNULL, capture_output=True)
+check("a word that is no text", (ran.returncode, ran.stdout, ran.stderr.startswith(b"Usage: tbt FORM\n")), (2, b"", True))
 
 # dumps: their pairs, their audit, and what is wrong
 
