@@ -76,6 +76,12 @@ const DONE: &[(Words, Has, Out, Line)] = &[
         "",
     ),
     (
+        &["dump", "ledger", "--follow", "--after", "1"],
+        Has::Entries,
+        Out::Later,
+        "",
+    ),
+    (
         &["dump", "ledger", "--after", "1"],
         Has::Entries,
         Out::Later,

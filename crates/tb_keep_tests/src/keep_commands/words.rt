@@ -62,6 +62,14 @@ const WRONG: &[(&[&str], &str)] = &[
         &["run", "ledger", "64", "3", "--progress"],
         "tbd: Usage: run ledger 64 3 --progress: PROFILE is 1 or 2\n",
     ),
+    (
+        &["run", "ledger", "64", "--progress", "2"],
+        "tbd: Usage: run ledger 64 --progress 2: only --progress may follow PROFILE\n",
+    ),
+    (
+        &["run", "ledger", "64", "--follow"],
+        "tbd: Usage: run ledger 64 --follow: PROFILE is 1 or 2\n",
+    ),
     (&["dump"], "tbd: Usage: dump: FILE is missing\n"),
     (
         &["dump", "ledger", "--after"],
@@ -72,7 +80,15 @@ const WRONG: &[(&[&str], &str)] = &[
         "tbd: Usage: dump: only --after COMMIT and --follow may follow FILE\n",
     ),
     (
-        &["dump", "ledger", "--follow", "--after", "1"],
+        &["dump", "ledger", "--follow", "--after", "x"],
+        "tbd: Usage: dump: only --after COMMIT and --follow may follow FILE\n",
+    ),
+    (
+        &["dump", "ledger", "--follow", "1", "--after"],
+        "tbd: Usage: dump: only --after COMMIT and --follow may follow FILE\n",
+    ),
+    (
+        &["dump", "ledger", "--after", "--follow", "1"],
         "tbd: Usage: dump: only --after COMMIT and --follow may follow FILE\n",
     ),
     (
