@@ -1,0 +1,6 @@
+pub mod Leading
+pub mod Holding
+pub mod Turning
+pub mod Going
+pub mod Entering
+pub mod Opened

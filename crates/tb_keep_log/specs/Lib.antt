@@ -1,0 +1,8 @@
+-- what public contracts cite, or reach through what they cite
+pub mod Faults
+pub mod Keeping
+pub mod Restoring
+pub mod Opening
+pub mod Serving
+-- what private contracts alone cite
+pub mod Steps
