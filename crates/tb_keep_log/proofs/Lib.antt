@@ -4,3 +4,4 @@ pub mod Turning
 pub mod Going
 pub mod Entering
 pub mod Opened
+pub mod Crashes

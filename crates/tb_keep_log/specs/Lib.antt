@@ -4,5 +4,6 @@ pub mod Keeping
 pub mod Restoring
 pub mod Opening
 pub mod Serving
+pub mod Laws
 -- what private contracts alone cite
 pub mod Steps

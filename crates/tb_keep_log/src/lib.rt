@@ -10,11 +10,13 @@
 //! - `restoring`: `read_log`, a follower behind all records of a file.
 //! - `opening`: `LogKeeper::open` and `LogKeeper::start`.
 //! - `serving`: `keep_log`, items read, entries committed, and then answers told.
+//! - `laws`: what holds of every kept log: functions that do nothing.
 #![tactic(auto)]
 
 mod entries;
 mod faults;
 mod keepers;
+pub mod laws;
 mod marks;
 mod opening;
 mod restoring;

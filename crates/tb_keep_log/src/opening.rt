@@ -4,6 +4,7 @@ ghost use Rattle.tb_journal.specs.Device.{IsOnDisk, LeavesOnly, HasCause, IsOfCa
 ghost use Rattle.tb_journal.specs.Contents.{Records, contents, recorded};
 ghost use Rattle.tb_journal.specs.Creating.{MayBeCreated};
 ghost use Rattle.tb_journal.specs.Reading.{extent_of};
+ghost use Rattle.tb_journal.specs.Ready.{IsReady};
 ghost use Rattle.tb_keep.specs.Entering.{StaysKept};
 ghost use Rattle.tb_keep.specs.Restoration.{torn_bytes};
 ghost use Rattle.tb_keep_log.specs.Keeping.{IsUsable};
@@ -71,6 +72,8 @@ fn open_read<D: Device, A: Allocator + Clone>(
     requires torn { D.tells → cut ≡ torn_bytes (D.disk device).seen }
     ensures opened { D.tells → (D.disk device).sound ≡ true
         → IfOk result (IsOpened D.disk (D.disk device).seen) }
+    ensures ready { D.tells → (D.disk device).sound ≡ true
+        → IfOk result (λ keeper. IsReady D.disk keeper.journal) }
     ensures any_moment { D.tells → (D.disk device).sound ≡ true
         → LeavesOnly (D.disk device) (D.disk (device_left result))
         (λ c. contents c ≡ Records (recorded (D.disk device).seen)) }
@@ -99,6 +102,8 @@ fn open_short<D: Device, A: Allocator + Clone>(
         → IsRestored rules.profile rules.clients_max (D.disk device).seen follower extent }
     ensures opened { D.tells → (D.disk device).sound ≡ true
         → IfOk result (IsOpened D.disk (D.disk device).seen) }
+    ensures ready { D.tells → (D.disk device).sound ≡ true
+        → IfOk result (λ keeper. IsReady D.disk keeper.journal) }
     ensures any_moment { D.tells → (D.disk device).sound ≡ true
         → LeavesOnly (D.disk device) (D.disk (device_left result)) (MayBeOpened (D.disk device)) }
     ensures refused { D.tells
@@ -144,6 +149,8 @@ impl<D: Device, A: Allocator + Copy> LogKeeper<D, A> {
             → IfOk result (IsOpened D.disk (D.disk device).seen) }
         // So `keep_log` may serve.
         ensures usable { IfOk result IsUsable }
+        ensures ready { D.tells → (D.disk device).sound ≡ true
+            → IfOk result (λ keeper. IsReady D.disk keeper.journal) }
         // A crash at any moment of the call leaves the records that were there, so that the call may be made again.
         ensures any_moment { D.tells → (D.disk device).sound ≡ true
             → LeavesOnly (D.disk device) (D.disk (device_left result)) (MayBeOpened (D.disk device)) }
@@ -176,6 +183,8 @@ impl<D: Device, A: Allocator + Copy> LogKeeper<D, A> {
         ensures created { D.tells → (D.disk device).sound ≡ true
             → IfOk result (IsCreated D.disk (D.disk device).seen) }
         ensures usable { IfOk result IsUsable }
+        ensures ready { D.tells → (D.disk device).sound ≡ true
+            → IfOk result (λ keeper. IsReady D.disk keeper.journal) }
         ensures any_moment { D.tells → (D.disk device).sound ≡ true
             → LeavesOnly (D.disk device) (D.disk (device_left result)) (MayBeCreated (D.disk device)) }
         ensures refused { D.tells
@@ -208,6 +217,8 @@ impl<D: Device, A: Allocator + Copy> LogKeeper<D, A> {
         ensures started { D.tells → (D.disk device).sound ≡ true
             → IfOk result (IsStarted D.disk (D.disk device).seen) }
         ensures usable { IfOk result IsUsable }
+        ensures ready { D.tells → (D.disk device).sound ≡ true
+            → IfOk result (λ keeper. IsReady D.disk keeper.journal) }
         ensures any_moment { D.tells → (D.disk device).sound ≡ true
             → LeavesOnly (D.disk device) (D.disk (device_left result)) (MayBeStarted (D.disk device)) }
         ensures refused { D.tells
