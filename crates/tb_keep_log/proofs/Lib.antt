@@ -5,3 +5,4 @@ pub mod Going
 pub mod Entering
 pub mod Opened
 pub mod Crashes
+pub mod Unique

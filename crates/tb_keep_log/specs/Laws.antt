@@ -25,6 +25,10 @@ OpenedGoesOn = (profile : Profile) (clients_max : ℕ) (records : List (List ℕ
     → (bytes_of (begun profile clients_max) (kept.items ++ more) ≡ bytes_of (begun profile clients_max) kept.items ++ bytes_of F more)
     × (given (begun profile clients_max) (kept.items ++ more) ≡ given (begun profile clients_max) kept.items ++ given F more)
 
+-- the records of a file lead to one place: of a file that is opened at a position there is one follower
+abbrev pub OneLog : Type 0
+OneLog = (profile : Profile) (clients_max : ℕ) (records : List (List ℕ)) (F G : Following) → IsKept profile clients_max records F → IsKept profile clients_max records G → F ≡ G
+
 -- a record of an entry is no head of a ledger without positions, and the other way round
 abbrev pub OtherFormat : Type 0
 OtherFormat = (profile other : Profile) (clients_max number : ℕ) (F : Following) (content : List ℕ) → record_bytes profile clients_max F content ≡ head_record other number → ⊥
