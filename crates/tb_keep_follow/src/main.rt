@@ -32,6 +32,7 @@ const INPUT: usize = 1 << 20;
 const OUTPUT: usize = 1 << 16;
 
 /// Why the program ends before its log does.
+#[derive(Drop)]
 enum Failure {
     /// The file is not opened.
     File(FileFault),
@@ -156,9 +157,9 @@ fn command(rt: &HostRuntime, words: &[String]) -> u8 {
         let _ = usage(rt);
         return 2;
     };
-    match keep_input(rt, path, form) {
+    match keep_input(rt, path.as_str(), form) {
         Ok(_) => 0,
-        Err(failure) => told(rt, path, failure),
+        Err(failure) => told(rt, path.as_str(), failure),
     }
 }
 

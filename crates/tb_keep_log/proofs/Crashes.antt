@@ -18,7 +18,7 @@ use Rattle.tb_log.specs.Follows.{ItemFits}
 use Rattle.tb_keep_log.specs.declared.faults.KeepLogFault.{KeepLogFault}
 use Rattle.tb_keep_log.specs.declared.faults.KeepLogFault.TheVariants as keep
 use Rattle.tb_keep_log.specs.Keeping.{record_of, records_from, Leads, IsKept, Keeping, Keeps}
-use Rattle.tb_keep_log.specs.Serving.{Point, point, Turn, Turns, Quits, IsLost, BreaksOff, Halts, AreTooMany, Served}
+use Rattle.tb_keep_log.specs.Serving.{Point, point, Turn, Turns, IsUncommitted, Halts, AreTooMany, Served}
 use Rattle.tb_keep_log.specs.Laws.{GoesOn, OpenedGoesOn, HasFirst, AnyCrash, WhileCommitting, TellsTheDone, WhileTelling}
 use Rattle.tb_keep_log.proofs.Leading.{records_join, answered_join, leads_then}
 
@@ -165,7 +165,7 @@ module _ (tells : Type 0) {D : Type 0} (disk : D → Disk) (profile : Profile) (
       ends (Ok position) halts = stays halts.4.same
       ends (Err (keep.Journal fault)) lost = by lost.why
         where
-          by : _ → Behind middle last
+          by : IsUncommitted tells disk profile clients_max fault lost.item middle last → Behind middle last
           by (inl same) = stays same.0
           by (inr fails) = one_more lost.item lost.read.fit (lost.read.answered, tt) (fails t).1
       ends (Err (keep.Log fault)) (inl (refuses, quits)) = stays quits.same

@@ -22,7 +22,7 @@ use Rattle.tb_keep_log.specs.declared.faults.KeepLogFault.{KeepLogFault}
 use Rattle.tb_keep_log.specs.declared.faults.KeepLogFault.TheVariants as keep
 use Rattle.tb_keep_log.specs.Keeping.{record_bytes, record_of}
 use Rattle.tb_keep_log.specs.Restoring.{IsHaltedContent}
-use Rattle.tb_keep_log.specs.Serving.{Point, point, IsHalted, RefusesItem, IsRead, Turn, Quits, Halts}
+use Rattle.tb_keep_log.specs.Serving.{Point, point, IsHalted, RefusesItem, IsRead, Turn, IsUncommitted, Halts}
 use Rattle.tb_keep_log.specs.Steps.{DropsEntry, TakesEntry, MissesEntry, TellsBytes, Answers, IsPut, IsUnput, PutsAndTells, ReadsWhole, KeepsEntry, FailsEntry, EntersEntry}
 
 -- an entry that is taken
@@ -123,7 +123,8 @@ module _ (tells : Type 0) {D : Type 0} (disk : D → Disk) (profile : Profile) (
       why = by unput;
     }
       where
-        by : IsUnput tells disk fault (record_bytes profile clients_max (with_item F (Entry ps)) (content_of ps)) old new → _
+        by : IsUnput tells disk fault (record_bytes profile clients_max (with_item F (Entry ps)) (content_of ps)) old new
+            → IsUncommitted tells disk profile clients_max fault (Entry ps) (point F old a start) (point G new c written)
         by (inl (same, refuses)) = inl (same, (record_bytes profile clients_max (with_item F (Entry ps)) (content_of ps), refl, refuses))
         by (inr fails) = inr fails
     entry_halt (keep.Log fault) (inl (misses, same, silent)) = inl (refused fault misses, record { same = same; silent = silent })

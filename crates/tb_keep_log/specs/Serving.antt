@@ -63,15 +63,19 @@ module _ (tells : Type 0) {D : Type 0} (disk : D → Disk) (profile : Profile) (
     pub same : after.journal ≡ before.journal
     pub silent : after.output ≡ before.output
 
-  -- an item was read, and the journal let its record not wait; or its commit failed, and a crash leaves all of it or nothing. Nothing was told
+  -- why the record of an item is not committed: the journal let it not wait; or its commit failed, and a crash leaves all of it or nothing
+  abbrev pub IsUncommitted : Fault → Item → Point D → Point D → Type 0
+  IsUncommitted fault item before after =
+      ((after.journal ≡ before.journal) × ((bytes : List ℕ) × (record_of profile clients_max before.now item ≡ bytes ∷ []) × RefusesRecord fault before.journal bytes))
+      ⊎ (tells → HasFailed (disk before.journal.device) (disk after.journal.device) fault
+      × LeavesOnly (disk before.journal.device) (disk after.journal.device) (IsBeforeOrAfter (recorded (disk before.journal.device).seen) (record_of profile clients_max before.now item)))
+
+  -- an item was read, and its record not committed: nothing of it was told
   pub record IsLost (fault : Fault) (before after : Point D) : Type 0 where
     pub item : Item
     pub read : IsRead item before after.input
     pub silent : after.output ≡ before.output
-    pub why :
-        ((after.journal ≡ before.journal) × ((bytes : List ℕ) × (record_of profile clients_max before.now item ≡ bytes ∷ []) × RefusesRecord fault before.journal bytes))
-        ⊎ (tells → HasFailed (disk before.journal.device) (disk after.journal.device) fault
-        × LeavesOnly (disk before.journal.device) (disk after.journal.device) (IsBeforeOrAfter (recorded (disk before.journal.device).seen) (record_of profile clients_max before.now item)))
+    pub why : IsUncommitted fault item before after
 
   -- an item was read and its record committed, and the writer failed: a prefix of the answer was told
   pub record BreaksOff (before after : Point D) : Type 0 where
