@@ -1,6 +1,5 @@
 -- A crash at any moment of a run leaves the records of some first items: by induction over turns.
 use Rattle.std.proofs.Common.{arith, ◌≡◌, ◌⊎◌, inl, inr, ℕ, ◌≤◌, List, [], ◌∷◌, ◌++◌, length, Result, Ok, Err, refl, sym, ap, ◌∙◌, subst, append_assoc, append-nil}
-use Rattle.std.proofs.lemmas.Grind.{common_steps}
 use Rattle.tb_records.specs.declared.limits.Profile.{Profile}
 use Rattle.tb_records.specs.Ordered.{Each}
 use Rattle.tb_records.specs.Transport.{Sent}
@@ -17,7 +16,7 @@ use Rattle.tb_log.specs.Following.{Following, begun, Item, with_item, after_item
 use Rattle.tb_log.specs.Follows.{ItemFits}
 use Rattle.tb_keep_log.specs.declared.faults.KeepLogFault.{KeepLogFault}
 use Rattle.tb_keep_log.specs.declared.faults.KeepLogFault.TheVariants as keep
-use Rattle.tb_keep_log.specs.Keeping.{record_of, records_from, Leads, IsKept, Keeping, Keeps}
+use Rattle.tb_keep_log.specs.Keeping.{record_of, records_from, IsKept}
 use Rattle.tb_keep_log.specs.Serving.{Point, point, Turn, Turns, IsUncommitted, Halts, AreTooMany, Served}
 use Rattle.tb_keep_log.specs.Laws.{GoesOn, OpenedGoesOn, HasFirst, AnyCrash, WhileCommitting, TellsTheDone, WhileTelling}
 use Rattle.tb_keep_log.proofs.Leading.{records_join, answered_join, leads_then}

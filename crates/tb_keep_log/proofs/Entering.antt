@@ -1,10 +1,10 @@
 -- The records of a file as they are read and entered.
-use Rattle.std.proofs.Common.{◌≡◌, ℕ, Bool, true, false, List, [], ◌∷◌, ◌++◌, Result, Ok, Err, refl, sym, ap, ◌∙◌, subst, append_assoc, append-nil}
+use Rattle.std.proofs.Common.{◌≡◌, ℕ, true, false, List, [], ◌∷◌, ◌++◌, Result, Ok, Err, sym, ap, subst, append_assoc, append-nil}
 use Rattle.tb_records.specs.declared.limits.Profile.{Profile}
 use Rattle.tb_journal.specs.declared.opening.OpenFault.{OpenFault}
 use Rattle.tb_journal.specs.declared.reading.Extent.{Extent}
 use Rattle.tb_journal.specs.Device.{Disk, FailsNone}
-use Rattle.tb_journal.specs.Contents.{Records, contents, records_of}
+use Rattle.tb_journal.specs.Contents.{records_of}
 use Rattle.tb_journal.specs.Opening.{IsOpenCause}
 use Rattle.tb_journal.specs.Scans.{BeginsWith, HasRead, Place}
 use Rattle.tb_journal.proofs.Causes.{none_since, has_open_cause_since}
@@ -13,7 +13,7 @@ use Rattle.tb_keep.proofs.Entered.{extent_found}
 use Rattle.tb_keep_log.specs.declared.faults.LogStartFault.{LogStartFault}
 use Rattle.tb_keep_log.specs.declared.faults.LogStartFault.TheVariants as start
 use Rattle.tb_keep_log.specs.Keeping.{Leads}
-use Rattle.tb_keep_log.specs.Restoring.{HasLogCause, IsLogCause, IsRestored, Restores, StopsAt, StopsBeginning, StopsReading}
+use Rattle.tb_keep_log.specs.Restoring.{HasLogCause, IsLogCause, IsRestored, StopsAt, StopsBeginning, StopsReading}
 use Rattle.tb_keep_log.specs.Steps.{Entered, EntersAll, EntersNext, EntersSome}
 use Rattle.tb_keep_log.proofs.Leading.{leads_none, leads_more}
 

@@ -7,14 +7,14 @@ use Rattle.tb_machine.specs.Scripts.{Pair}
 use Rattle.tb_log.specs.declared.faults.LogFault.{LogFault}
 use Rattle.tb_log.specs.declared.faults.LogFault.TheVariants.{Device, NoMemory, Short, UnknownKind, Gap, Repeat, TooLong, Damaged, BadEntry, TimeExhausted, TooMany}
 use Rattle.tb_log.specs.Format.{content_max, content_of}
-use Rattle.tb_log.specs.Following.{Following, Entry, with_pair, with_content, with_item, AreAnswered, replies_from}
+use Rattle.tb_log.specs.Following.{Following, Entry, with_pair, with_content, AreAnswered, replies_from}
 use Rattle.tb_log.specs.Entries.{IsNoPairs}
 use Rattle.tb_log.specs.Follows.{Answers, Serves, Stops}
 use Rattle.tb_keep_log.specs.declared.faults.LogStartFault.{LogStartFault}
 use Rattle.tb_keep_log.specs.declared.faults.LogStartFault.TheVariants as start
 use Rattle.tb_keep_log.specs.Keeping.{record_bytes}
-use Rattle.tb_keep_log.specs.Restoring.{StopsAt, RefusesContent, fixed_bytes}
-use Rattle.tb_keep_log.specs.Steps.{in_memory, HoldsEntry, DropsEntry, Enters}
+use Rattle.tb_keep_log.specs.Restoring.{StopsAt, RefusesContent, RefusesMark, fixed_bytes}
+use Rattle.tb_keep_log.specs.Steps.{in_memory, of_log, HoldsEntry, DropsEntry, Enters}
 
 pub holds_entry : (content held : List ℕ) (F G : Following) (start written : Output) → length content ≤ content_max → start.written ≡ Some [] → written.written ≡ Some held
     → (ps : List Pair) × Serves ps (with_content F content) G content [] start written
@@ -66,14 +66,41 @@ drops_entry TooMany content F start written stops =
 
 -- the entry of a record
 
-pub bad_content : (fault : LogFault) (position : ℕ) (F : Following) (content behind : List ℕ) → position ≡ F.position + 1 → content ≡ behind → IsNoPairs fault position content
-    → RefusesContent fault F behind
-bad_content fault position F content behind next is bad =
-    inl (subst (λ (p : ℕ). IsNoPairs fault p behind) next (subst (λ (bs : List ℕ). IsNoPairs fault position bs) is bad))
+stops_of : (profile : Profile) (clients_max : ℕ) (F : Following) (bytes : List ℕ) (fault : LogFault) → (fault ≡ NoMemory) ⊎ RefusesContent fault F (drop fixed_bytes bytes) → StopsAt (of_log fault) profile clients_max F bytes
+stops_of profile clients_max F bytes NoMemory why = tt
+stops_of profile clients_max F bytes Device why = ⊎_elim (λ is. let no : Device ≡ NoMemory = is in absurd (cc)) (λ refuses. refuses) why
+stops_of profile clients_max F bytes Short why = ⊎_elim (λ is. let no : Short ≡ NoMemory = is in absurd (cc)) (λ refuses. refuses) why
+stops_of profile clients_max F bytes (UnknownKind kind) why = ⊎_elim (λ is. let no : UnknownKind kind ≡ NoMemory = is in absurd (cc)) (λ refuses. refuses) why
+stops_of profile clients_max F bytes (Gap at) why = ⊎_elim (λ is. let no : Gap at ≡ NoMemory = is in absurd (cc)) (λ refuses. refuses) why
+stops_of profile clients_max F bytes (Repeat at) why = ⊎_elim (λ is. let no : Repeat at ≡ NoMemory = is in absurd (cc)) (λ refuses. refuses) why
+stops_of profile clients_max F bytes (TooLong at) why = ⊎_elim (λ is. let no : TooLong at ≡ NoMemory = is in absurd (cc)) (λ refuses. refuses) why
+stops_of profile clients_max F bytes (Damaged at) why = ⊎_elim (λ is. let no : Damaged at ≡ NoMemory = is in absurd (cc)) (λ refuses. refuses) why
+stops_of profile clients_max F bytes (BadEntry at fault) why = ⊎_elim (λ is. let no : BadEntry at fault ≡ NoMemory = is in absurd (cc)) (λ refuses. refuses) why
+stops_of profile clients_max F bytes (TimeExhausted at) why = ⊎_elim (λ is. let no : TimeExhausted at ≡ NoMemory = is in absurd (cc)) (λ refuses. refuses) why
+stops_of profile clients_max F bytes TooMany why = ⊎_elim (λ is. let no : TooMany ≡ NoMemory = is in absurd (cc)) (λ refuses. refuses) why
 
-pub halted_content : (fault : LogFault) (F : Following) (content behind : List ℕ) → (fault ≡ NoMemory → ⊥) → content ≡ behind → DropsEntry fault content F → RefusesContent fault F behind
-halted_content fault F content behind not is drops =
-    ⊎_elim (λ none. absurd (not none)) (λ halted. inr halted) (subst (λ (bs : List ℕ). DropsEntry fault bs F) is drops)
+module _ (profile : Profile) (clients_max : ℕ) (F : Following) (content bytes : List ℕ) (behind : content ≡ drop fixed_bytes bytes) (fault : LogFault) (told : LogStartFault) (told_is : told ≡ of_log fault) where
+  pub bad_content : (position : ℕ) → position ≡ F.position + 1 → IsNoPairs fault position content → StopsAt told profile clients_max F bytes
+  bad_content position next bad =
+      subst (λ (f : LogStartFault). StopsAt f profile clients_max F bytes) (sym told_is)
+      (stops_of profile clients_max F bytes fault (inr (inl (subst (λ (p : ℕ). IsNoPairs fault p (drop fixed_bytes bytes)) next (subst (λ (bs : List ℕ). IsNoPairs fault position bs) behind bad)))))
+
+  pub halted_content : DropsEntry fault content F → StopsAt told profile clients_max F bytes
+  halted_content drops =
+      subst (λ (f : LogStartFault). StopsAt f profile clients_max F bytes) (sym told_is)
+      (stops_of profile clients_max F bytes fault (⊎_elim (λ is. inl is) (λ halted. inr (inr halted)) (subst (λ (bs : List ℕ). DropsEntry fault bs F) behind drops)))
+
+-- the first bytes of a record
+
+pub mark_stops : (fault : LogStartFault) (profile : Profile) (clients_max : ℕ) (F : Following) (bytes : List ℕ) → RefusesMark fault profile clients_max F.position bytes → StopsAt fault profile clients_max F bytes
+mark_stops (start.Journal fault) profile clients_max F bytes why = absurd why
+mark_stops start.Plain profile clients_max F bytes why = why
+mark_stops start.OtherRules profile clients_max F bytes why = why
+mark_stops (start.NoEntry last) profile clients_max F bytes why = why
+mark_stops (start.Entry fault) profile clients_max F bytes why = absurd why
+mark_stops (start.OtherHashes position) profile clients_max F bytes why = absurd why
+mark_stops start.NoMemory profile clients_max F bytes why = absurd why
+mark_stops (start.TornTooLong at torn) profile clients_max F bytes why = absurd why
 
 module _ (profile : Profile) (clients_max : ℕ) (position : ℕ) (bytes content held : List ℕ) (F G : Following) (next : position ≡ F.position + 1) (behind : content ≡ drop fixed_bytes bytes)
     (holds : HoldsEntry content held F G) where

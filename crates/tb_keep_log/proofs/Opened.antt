@@ -1,18 +1,19 @@
 -- How a file is opened and created.
-use Rattle.std.proofs.Common.{arith, ◌≡◌, inl, inr, ℕ, ◌<◌, ◌≤◌, ◌^◌, ◌+◌, List, [], Result, Ok, Err, IfOk, IfErr, refl, sym, ap, ◌∙◌, subst}
+use Rattle.std.proofs.Common.{arith, ◌≡◌, ◌⊎◌, inl, inr, ℕ, ◌<◌, ◌≤◌, ◌^◌, ◌+◌, List, Result, Ok, Err, IfOk, IfErr, sym, ap, ◌∙◌, subst}
 use Rattle.std.proofs.lemmas.Grind.{common_steps}
 use Rattle.tb_records.specs.declared.limits.Profile.{Profile}
-use Rattle.tb_journal.specs.declared.faults.Fault.{Fault}
+use Rattle.tb_journal.specs.declared.faults.Fault.TheVariants as faults
 use Rattle.tb_journal.specs.declared.opening.OpenFault.TheVariants as open_faults
 use Rattle.tb_journal.specs.declared.reading.Extent.{Extent}
-use Rattle.tb_journal.specs.Device.{Disk, LeavesOnly}
+use Rattle.tb_journal.specs.Device.{Disk, FailsNone, IsOfCall, IsOfSync, LeavesOnly}
+use Rattle.tb_journal.specs.Creating.{MayBeCreated}
 use Rattle.tb_journal.specs.Contents.{Records, contents, recorded}
 use Rattle.tb_journal.specs.Opening as journal_opening
 use Rattle.tb_journal.specs.Opening.{IsAsBefore}
 use Rattle.tb_journal.specs.Ready.{Kept, IsReady}
 use Rattle.tb_journal.proofs.Moments.{then, weaker}
 use Rattle.tb_journal.proofs.Opened.{is_told}
-use Rattle.tb_log.specs.Following.{Following, begun}
+use Rattle.tb_log.specs.Following.{Following}
 use Rattle.tb_keep.specs.declared.heads.Rules.{Rules}
 use Rattle.tb_keep.specs.Opening.{IsUntouched}
 use Rattle.tb_keep.specs.Restoration.{torn_bytes}
@@ -21,15 +22,15 @@ use Rattle.tb_keep_log.specs.declared.faults.LogStartFault.{LogStartFault}
 use Rattle.tb_keep_log.specs.declared.faults.LogStartFault.TheVariants as start
 use Rattle.tb_keep_log.specs.declared.opening.NotStarted.{NotStarted}
 use Rattle.tb_keep_log.specs.Keeping.{Keeping, IsKept}
-use Rattle.tb_keep_log.specs.Restoring.{IsRestored, IsTornTooLong, StopsReading, StopsOpening}
-use Rattle.tb_keep_log.specs.Opening.{IsOpened, IsStarted, IsRefused, MayBeOpened, MayBeStarted, OpensFile, StartsFile}
+use Rattle.tb_keep_log.specs.Restoring.{HasLogCause, IsLogCause, IsRestored, IsTornTooLong, StopsReading, StopsOpening}
+use Rattle.tb_keep_log.specs.Opening.{HasStartCause, IsCreatedCause, IsOpened, IsStartCause, IsStarted, IsRefused, MayBeOpened, MayBeStarted, OpensFile, StartsFile}
 use Rattle.tb_keep_log.specs.Steps.{IsOfDevice, OpensAs}
 
 -- the keeper of a journal that was opened
 pub opened_as : {D : Type 0} (disk : D → Disk) (file : List ℕ) (journal : Kept D) (keeper : Keeping D) (rules : Rules) (F : Following) (extent : Extent) (cut : ℕ)
     → keeper.rules ≡ rules → keeper.journal ≡ journal → keeper.now ≡ F → keeper.cut ≡ cut
     → IsRestored rules.profile rules.clients_max file F extent → cut ≡ torn_bytes file → journal_opening.IsOpened disk file journal → IsOpened disk file keeper
-opened_as disk file journal keeper rules F extent cut by_rules is now cut_is restored torn opened = record {
+opened_as {D} disk file journal keeper rules F extent cut by_rules is now cut_is restored torn opened = record {
   reads = opened.reads;
   keeps = record {
     ready = subst (λ (j : Kept D). IsReady disk j) (sym is) opened.ready;
@@ -162,3 +163,41 @@ pub starts_file : {D : Type 0} (profile : Profile) (clients_max : ℕ) (file : L
     → StartsFile result profile clients_max file
 starts_file profile clients_max file (Ok keeper) opens = inl opens
 starts_file profile clients_max file (Err failed) opens = opens
+
+-- the cause of a start's fault
+
+pub not_empty_none : (before after : Disk) → IsCreatedCause before after (start.Journal (open_faults.Device faults.NotEmpty)) → FailsNone before after
+not_empty_none before after (inl failed) = absurd (other failed.named)
+  where
+    other : IsOfCall faults.NotEmpty ⊎ IsOfSync faults.NotEmpty → ⊥
+    other named = grind (arith, common_steps)
+not_empty_none before after (inr (own, none)) = none
+
+module _ (before after : Disk) where
+  not_start : IsLogCause before after (start.Journal (open_faults.Device faults.NotEmpty)) → ⊥
+  not_start (inl (inl failed)) = absurd (never failed.named)
+    where
+      never : IsOfCall faults.NotEmpty ⊎ IsOfSync faults.NotEmpty → ⊥
+      never named = grind (arith, common_steps)
+  not_start (inl (inr (is, none))) = absurd (cc)
+  not_start (inr (is, long, none)) = absurd (cc)
+
+  start_of_log : (fault : LogStartFault) → IsLogCause before after fault → IsStartCause before after fault
+  start_of_log (start.Journal (open_faults.Device faults.NotEmpty)) cause = absurd (not_start cause)
+  start_of_log (start.Journal (open_faults.Device faults.Memory)) cause = inr cause
+  start_of_log (start.Journal (open_faults.Device faults.Failed)) cause = inr cause
+  start_of_log (start.Journal (open_faults.Device faults.Full)) cause = inr cause
+  start_of_log (start.Journal (open_faults.Device faults.TooLong)) cause = inr cause
+  start_of_log (start.Journal (open_faults.Device faults.SyncFailed)) cause = inr cause
+  start_of_log (start.Journal (open_faults.Refused why)) cause = inr cause
+  start_of_log start.Plain cause = inr cause
+  start_of_log start.OtherRules cause = inr cause
+  start_of_log (start.NoEntry last) cause = inr cause
+  start_of_log (start.Entry fault) cause = inr cause
+  start_of_log (start.OtherHashes position) cause = inr cause
+  start_of_log start.NoMemory cause = inr cause
+  start_of_log (start.TornTooLong at bytes) cause = inr cause
+
+  pub has_start_of_log : {T : Type 0} (result : Result T LogStartFault) → HasLogCause result before after → HasStartCause result before after
+  has_start_of_log {T} (Ok value) has = record { ok = has.ok; cause = tt }
+  has_start_of_log {T} (Err fault) has = record { ok = tt; cause = start_of_log fault has.cause }

@@ -1,5 +1,5 @@
 -- An item that is read, committed and answered.
-use Rattle.std.proofs.Common.{◌≡◌, ◌≢◌, ◌⊎◌, inl, inr, ℕ, ◌+◌, List, [], ◌∷◌, ◌++◌, Result, Ok, Err, refl, sym, ap, subst, ◌∙◌, append-nil}
+use Rattle.std.proofs.Common.{◌≡◌, ◌≢◌, inl, inr, ℕ, ◌+◌, List, [], ◌∷◌, Result, Ok, Err, refl, sym, ap, subst, ◌∙◌, append-nil}
 use Rattle.tb_records.specs.declared.limits.Profile.{Profile}
 use Rattle.tb_records.specs.Transport.{Input, Output, Sent}
 use Rattle.tb_journal.specs.declared.faults.Fault.{Fault}
@@ -13,16 +13,16 @@ use Rattle.tb_machine.proofs.Running.{sends_then}
 use Rattle.tb_log.specs.declared.faults.LogFault.{LogFault}
 use Rattle.tb_log.specs.declared.faults.LogFault.TheVariants as log
 use Rattle.tb_log.specs.Format.{content_of, checksum_of, summed}
-use Rattle.tb_log.specs.Following.{Following, Item, Entry, Question, with_item, given_to}
+use Rattle.tb_log.specs.Following.{Following, Item, Entry, Question, with_item}
 use Rattle.tb_log.specs.Entries.{Breaks, IsPairs, ReadsEntry, RefusesEntry}
-use Rattle.tb_log.specs.Steps.{Takes, TellsStanding, standing_of}
+use Rattle.tb_log.specs.Steps.{Takes}
 use Rattle.tb_log.proofs.Taking.{takes_then}
 use Rattle.tb_keep.specs.Rounds.{Commits}
 use Rattle.tb_keep_log.specs.declared.faults.KeepLogFault.{KeepLogFault}
 use Rattle.tb_keep_log.specs.declared.faults.KeepLogFault.TheVariants as keep
 use Rattle.tb_keep_log.specs.Keeping.{record_bytes, record_of}
 use Rattle.tb_keep_log.specs.Restoring.{IsHaltedContent}
-use Rattle.tb_keep_log.specs.Serving.{Point, point, IsHalted, RefusesItem, IsRead, Turn, IsUncommitted, Halts}
+use Rattle.tb_keep_log.specs.Serving.{point, IsHalted, RefusesItem, IsRead, Turn, IsUncommitted, Halts}
 use Rattle.tb_keep_log.specs.Steps.{DropsEntry, TakesEntry, MissesEntry, TellsBytes, Answers, IsPut, IsUnput, PutsAndTells, ReadsWhole, KeepsEntry, FailsEntry, EntersEntry}
 
 -- an entry that is taken

@@ -1,5 +1,5 @@
 -- The records of a file are read one way: they lead to one place.
-use Rattle.std.proofs.Common.{arith, ◌≡◌, ℕ, zero, suc, ◌*◌, List, [], ◌∷◌, ◌++◌, length, fold, slice_index, refl, sym, ap, ◌∙◌, subst, append_assoc, append-nil, length-append}
+use Rattle.std.proofs.Common.{arith, ◌≡◌, ℕ, zero, suc, ◌+◌, ◌*◌, List, [], ◌∷◌, ◌++◌, length, fold, slice_index, refl, sym, ap, ◌∙◌, append_assoc, length-append}
 use Rattle.std.specs.Int.{w32, to_be_bytes}
 use Rattle.sha2.specs.Sha256.{digest_bytes, final_hash, initial_hash_256, sha256}
 use Rattle.tb_records.specs.declared.limits.Profile.{Profile}
@@ -16,7 +16,7 @@ use Rattle.tb_machine.specs.Scripts.{Pair}
 use Rattle.tb_log.specs.Format.{content_of, chained, number_bytes, standing_item}
 use Rattle.tb_log.specs.Following.{Following, begun, Item, Entry, Question, answer_of, with_pair, with_content, with_item, after_items}
 use Rattle.tb_log.specs.Follows.{ItemFits}
-use Rattle.tb_keep_log.specs.Keeping.{mark, record_bytes, records_from, IsKept}
+use Rattle.tb_keep_log.specs.Keeping.{mark, record_bytes, records_from}
 use Rattle.tb_keep_log.specs.Laws.{OneLog}
 
 -- the pairs of a content
@@ -77,7 +77,10 @@ eight x = refl
 
 standing_long : (F : Following) → IsHashed F → length (standing_item F.position F.log F.replies) ≡ 73
 standing_long F hashed =
-    omega (arith, length-append (number_bytes 8 F.position) (F.log ++ F.replies), length-append F.log F.replies, eight F.position, hashed.log, hashed.replies)
+    let hashes : length (F.log ++ F.replies) ≡ 64 = omega (arith, length-append F.log F.replies, hashed.log, hashed.replies) in
+    let behind : length (number_bytes 8 F.position ++ (F.log ++ F.replies)) ≡ 72 =
+    length-append (number_bytes 8 F.position) (F.log ++ F.replies) ∙ ap (λ (n : ℕ). n + length (F.log ++ F.replies)) (eight F.position) ∙ ap (λ (n : ℕ). 8 + n) hashes in
+    ap (λ (n : ℕ). suc n) behind
 
 -- records
 
@@ -97,6 +100,7 @@ module _ (profile : Profile) (clients_max : ℕ) where
 
   same_end : (F : Following) (xs ys : List Item) → IsHashed F → Each ItemFits xs → Each ItemFits ys → records_from profile clients_max F xs ≡ records_from profile clients_max F ys
       → after_items F xs ≡ after_items F ys
+  unfolding head_of rest_of
   same_end F [] [] hashed fx fy e = refl
   same_end F [] (Question ∷ ys) hashed fx fy e = same_end F [] ys hashed fx fy.1 e
   same_end F [] (Entry qs ∷ ys) hashed fx fy e = absurd (cc)

@@ -7,7 +7,7 @@ use Rattle.tb_records.specs.Ordered.{Each}
 use Rattle.tb_journal.specs.Device.{Disk}
 use Rattle.tb_journal.specs.Contents.{recorded}
 use Rattle.tb_journal.specs.Ready.{Kept, IsReady}
-use Rattle.tb_log.specs.Format.{content_of, standing_item, no_hash}
+use Rattle.tb_log.specs.Format.{content_of, standing_item}
 use Rattle.tb_log.specs.Following.{Following, begun, Item, Entry, Question, with_item, after_items, AllAnswered}
 use Rattle.tb_log.specs.Follows.{ItemFits}
 use Rattle.tb_keep.specs.declared.heads.Rules.{Rules}

@@ -1,10 +1,10 @@
 -- What holds of every kept log: at each moment what was told is in the file, and what is opened goes on as if it had read all before.
-use Rattle.std.specs.Prelude.{ℕ, ◌≡◌, ◌⊎◌, ◌≤◌, List, [], ◌∷◌, ◌++◌, length, Result}
+use Rattle.std.specs.Prelude.{ℕ, ◌≡◌, ◌≤◌, List, [], ◌∷◌, ◌++◌, length, Result}
 use Rattle.tb_records.specs.declared.limits.Profile.{Profile}
 use Rattle.tb_records.specs.Transport.{Input, Output, Sent}
 use Rattle.tb_journal.specs.Device.{Disk, LeavesOnly}
 use Rattle.tb_journal.specs.Contents.{Records, contents, recorded}
-use Rattle.tb_journal.specs.Steps.{IsAtRest, IsBeforeOrAfter}
+use Rattle.tb_journal.specs.Steps.{IsBeforeOrAfter}
 use Rattle.tb_keep.specs.Keeping.{head_record}
 use Rattle.tb_keep.specs.Rounds.{Commits}
 use Rattle.tb_log.specs.Following.{Following, begun, Item, after_items, bytes_of, given}

@@ -3,10 +3,10 @@ use Rattle.std.specs.Prelude.{ℕ, true, ◌≡◌, ◌⊎◌, ◌+◌, ◌≤�
 use Rattle.tb_records.specs.declared.limits.Profile.{Profile}
 use Rattle.tb_journal.specs.declared.faults.Fault.TheVariants.{NotEmpty}
 use Rattle.tb_journal.specs.declared.opening.OpenFault.TheVariants as open_faults
-use Rattle.tb_journal.specs.Device.{Disk, FailsNone, HasFailed}
+use Rattle.tb_journal.specs.Device.{Disk, FailsNone}
 use Rattle.tb_journal.specs.Contents.{Records, contents, recorded}
 use Rattle.tb_journal.specs.Opening.{IsAsBefore}
-use Rattle.tb_journal.specs.Creating.{is_blank, IsOwnCreateCause, MayBeCreated}
+use Rattle.tb_journal.specs.Creating.{is_blank, IsCreateCause, MayBeCreated}
 use Rattle.tb_log.specs.Following.{begun}
 use Rattle.tb_keep.specs.Opening.{IsUntouched}
 use Rattle.tb_keep.specs.Restoration.{torn_bytes}
@@ -62,13 +62,15 @@ StartsFile (Ok keeper) profile clients_max file =
     OpensFile (Ok keeper) profile clients_max file ⊎ ((is_blank file ≡ true) × (keeper.now ≡ begun profile clients_max) × (keeper.cut ≡ 0))
 StartsFile (Err failed) profile clients_max file = StopsOpening failed.fault profile clients_max file
 
--- the cause of a start's fault: that which it has when the file is opened; or none was opened, and there was no memory, or the device
--- failed so
+-- the cause of a fault where a file is created: of one of the journal, that which it has then; behind any other no call has failed
+abbrev pub IsCreatedCause : Disk → Disk → LogStartFault → Type 0
+IsCreatedCause before after (start.Journal fault) = IsCreateCause before after fault
+IsCreatedCause before after fault = FailsNone before after
+
+-- and where it is created or opened: it is never NotEmpty
 abbrev pub IsStartCause : Disk → Disk → LogStartFault → Type 0
 IsStartCause before after (start.Journal (open_faults.Device NotEmpty)) = ⊥
-IsStartCause before after (start.Journal (open_faults.Device fault)) =
-    IsLogCause before after (start.Journal (open_faults.Device fault)) ⊎ HasFailed before after fault ⊎ (IsOwnCreateCause before.seen fault × FailsNone before after)
-IsStartCause before after fault = IsLogCause before after fault
+IsStartCause before after fault = IsCreatedCause before after fault ⊎ IsLogCause before after fault
 
 pub record HasStartCause {T : Type 0} (result : Result T LogStartFault) (before after : Disk) : Type 0 where
   pub ok : OnOk result (FailsNone before after)

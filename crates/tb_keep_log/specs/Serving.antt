@@ -1,6 +1,6 @@
 -- How the items of a log are served over a file: an item is read, its record is committed, and then it is answered.
-use Rattle.std.specs.Prelude.{ℕ, false, ◌≡◌, ◌⊎◌, ◌-◌, ◌^◌, List, [], ◌∷◌, ◌++◌, length, Result, Ok, Err}
-use Rattle.std.specs.Io.KnownBytes.{Consumes, IsAtEnd}
+use Rattle.std.specs.Prelude.{ℕ, false, ◌≡◌, ◌⊎◌, ◌-◌, ◌^◌, List, [], ◌∷◌, length, Result, Ok, Err}
+use Rattle.std.specs.Io.KnownBytes.{IsAtEnd}
 use Rattle.tb_records.specs.declared.limits.Profile.{Profile}
 use Rattle.tb_records.specs.Transport.{Input, Output, Sent, CutOff}
 use Rattle.tb_journal.specs.declared.faults.Fault.{Fault}
@@ -17,7 +17,7 @@ use Rattle.tb_log.specs.Steps.{Takes}
 use Rattle.tb_keep.specs.Rounds.{Commits, RefusesRecord}
 use Rattle.tb_keep_log.specs.declared.faults.KeepLogFault.{KeepLogFault}
 use Rattle.tb_keep_log.specs.declared.faults.KeepLogFault.TheVariants as keep
-use Rattle.tb_keep_log.specs.Keeping.{Keeping, record_of}
+use Rattle.tb_keep_log.specs.Keeping.{record_of}
 
 -- a follower, the journal on a device, what is left to read, and what was written
 pub record Point (D : Type 0) : Type 0 where

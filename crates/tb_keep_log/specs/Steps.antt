@@ -5,7 +5,7 @@ use Rattle.tb_records.specs.Transport.{Input, Output, Sent, CutOff}
 use Rattle.tb_journal.specs.declared.faults.Fault.{Fault}
 use Rattle.tb_journal.specs.declared.faults.Fault.TheVariants.{NotEmpty}
 use Rattle.tb_journal.specs.declared.opening.OpenFault.TheVariants as open_faults
-use Rattle.tb_journal.specs.Creating.{is_blank, IsCreateCause}
+use Rattle.tb_journal.specs.Creating.{is_blank}
 use Rattle.tb_journal.specs.Device.{Disk, FailsNone, LeavesOnly, HasFailed}
 use Rattle.tb_journal.specs.Contents.{Records, contents, recorded}
 use Rattle.tb_journal.specs.Opening.{RefusesFile}
@@ -30,12 +30,18 @@ use Rattle.tb_keep_log.specs.declared.faults.LogStartFault.TheVariants as start
 use Rattle.tb_keep_log.specs.declared.opening.NotStarted.{NotStarted}
 use Rattle.tb_keep_log.specs.Keeping.{Keeping, Keeps, Leads, record_bytes, record_of}
 use Rattle.tb_keep_log.specs.Restoring.{EntersRecord, HasLogCause, IsHaltedContent, StopsAt}
+use Rattle.tb_keep_log.specs.Opening.{IsCreatedCause}
 use Rattle.tb_keep_log.specs.Serving.{Point, Turn, Halts}
 
 -- a writer into memory fails for want of memory alone
 abbrev pub in_memory : LogFault → LogFault
 in_memory log.Device = log.NoMemory
 in_memory fault = fault
+
+-- the fault of an entry that cannot be entered, or of want of memory
+abbrev pub of_log : LogFault → LogStartFault
+of_log log.NoMemory = start.NoMemory
+of_log fault = start.Entry fault
 
 -- the pairs of a content were served, and their answers are held
 pub record HoldsEntry (content held : List ℕ) (F G : Following) : Type 0 where
@@ -198,11 +204,6 @@ IsNotCreated (start.Journal (open_faults.Device NotEmpty)) before after = IsUnto
 IsNotCreated (start.Journal (open_faults.Device fault)) before after = Unit {0}
 IsNotCreated start.NoMemory before after = IsUntouched before after
 IsNotCreated fault before after = ⊥
-
--- the cause of its fault
-abbrev pub IsCreatedCause : Disk → Disk → LogStartFault → Type 0
-IsCreatedCause before after (start.Journal fault) = IsCreateCause before after fault
-IsCreatedCause before after fault = FailsNone before after
 
 pub record HasCreatedCause {T : Type 0} (result : Result T LogStartFault) (before after : Disk) : Type 0 where
   pub ok : OnOk result (FailsNone before after)

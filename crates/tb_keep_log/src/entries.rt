@@ -1,10 +1,9 @@
 //! An entry served in memory; the entry of a record entered again, and compared with it.
 ghost use Rattle.std.specs.Prelude.{◌≡◌, ◌≢◌, ◌≤◌, ◌+◌, ◌⊎◌, length, drop, IfOk, IfErr, OnOk};
 ghost use Rattle.tb_log.specs.Format.{content_max};
-ghost use Rattle.tb_log.specs.Entries.{IsPairs};
 ghost use Rattle.tb_keep_log.specs.Keeping.{record_bytes};
-ghost use Rattle.tb_keep_log.specs.Restoring.{RefusesContent, fixed_bytes};
-ghost use Rattle.tb_keep_log.specs.Steps.{in_memory, HoldsEntry, DropsEntry, Enters};
+ghost use Rattle.tb_keep_log.specs.Restoring.{fixed_bytes};
+ghost use Rattle.tb_keep_log.specs.Steps.{in_memory, of_log, HoldsEntry, DropsEntry, Enters};
 
 use crate::faults::LogStartFault;
 use crate::marks::{FIXED, check_mark, record_of};
@@ -20,6 +19,16 @@ fn in_memory(fault: LogFault) -> LogFault
     match fault {
         LogFault::Device => LogFault::NoMemory,
         fault => fault,
+    }
+}
+
+/// The fault of an entry that cannot be entered.
+fn of_log(fault: LogFault) -> LogStartFault
+    ensures { result ≡ of_log fault }
+{
+    match fault {
+        LogFault::NoMemory => LogStartFault::NoMemory,
+        fault => LogStartFault::Entry(fault),
     }
 }
 
@@ -88,16 +97,14 @@ fn enter_at<A: Allocator + Clone>(
     let content = &bytes[FIXED..];
     match check_pairs(global, position, content) {
         Ok(()) => {}
-        Err(LogFault::NoMemory) => return Err(LogStartFault::NoMemory),
-        Err(fault) => return Err(LogStartFault::Entry(fault)),
+        Err(fault) => return Err(of_log(fault)),
     }
     match serve_entry(global, follower, position, content) {
         Ok(held) => {
             drop(held);
             compare(global, rules, follower, position, bytes, content)
         }
-        Err(LogFault::NoMemory) => Err(LogStartFault::NoMemory),
-        Err(fault) => Err(LogStartFault::Entry(fault)),
+        Err(fault) => Err(of_log(fault)),
     }
 }
 

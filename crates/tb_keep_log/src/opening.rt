@@ -1,5 +1,5 @@
 //! The file of a kept log is created, or opened after a crash.
-ghost use Rattle.std.specs.Prelude.{◌≡◌, ◌≤◌, ◌-◌, true, ℕ, List, [], length, Ok, IfOk, IfErr, OnOk, MatchResult};
+ghost use Rattle.std.specs.Prelude.{◌≡◌, ◌≤◌, true, ℕ, List, Ok, IfOk, IfErr};
 ghost use Rattle.tb_journal.specs.Device.{IsOnDisk, LeavesOnly, HasCause, IsOfCall};
 ghost use Rattle.tb_journal.specs.Contents.{Records, contents, recorded};
 ghost use Rattle.tb_journal.specs.Creating.{MayBeCreated};

@@ -1,9 +1,8 @@
 //! A follower behind all records of a file.
-ghost use Rattle.std.specs.Prelude.{◌≡◌, ◌≤◌, true, ℕ, List, [], IfOk, IfErr, OnOk};
+ghost use Rattle.std.specs.Prelude.{◌≡◌, ◌≤◌, true, ℕ, List, [], IfOk, OnOk};
 ghost use Rattle.tb_journal.specs.Device.{IsOnDisk};
 ghost use Rattle.tb_journal.specs.Opening.{HasOpenCause};
 ghost use Rattle.tb_journal.specs.Scans.{HasRead, GoesFurther};
-ghost use Rattle.tb_log.specs.Following.{begun};
 ghost use Rattle.tb_keep.specs.Entering.{StaysKept};
 ghost use Rattle.tb_keep.specs.Opening.{IsUntouched};
 ghost use Rattle.tb_keep.specs.Sources.{IsNext};

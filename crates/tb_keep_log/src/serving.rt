@@ -1,5 +1,5 @@
 //! The serving of a kept log: an item is read, its record committed, and then it is answered.
-ghost use Rattle.std.specs.Prelude.{◌≡◌, ◌×◌, true, false, [], IfOk, IfErr, OnOk, OnErr};
+ghost use Rattle.std.specs.Prelude.{◌≡◌, true, false, [], IfOk, IfErr, OnOk, OnErr};
 ghost use Rattle.tb_journal.specs.Ready.{IsReady};
 ghost use Rattle.tb_keep_log.specs.Keeping.{IsUsable};
 ghost use Rattle.tb_keep_log.specs.Serving.{Served, point};

@@ -1,6 +1,4 @@
 use Rattle.std.proofs.Common.{◌≡◌, ℕ, slice_index, List, ap, arith}
-use Rattle.tb_keep.specs.Keeping.{head_record}
-use Rattle.tb_keep_log.specs.Keeping.{record_bytes}
 use Rattle.tb_keep_log.proofs.laws.other_format.Goals as goal
 
 pub returns : goal.returns
