@@ -6,7 +6,6 @@ use Rattle.tb_journal.specs.declared.faults.Fault.TheVariants as faults
 use Rattle.tb_journal.specs.declared.opening.OpenFault.TheVariants as open_faults
 use Rattle.tb_journal.specs.declared.reading.Extent.{Extent}
 use Rattle.tb_journal.specs.Device.{Disk, FailsNone, IsOfCall, IsOfSync, LeavesOnly}
-use Rattle.tb_journal.specs.Creating.{MayBeCreated}
 use Rattle.tb_journal.specs.Contents.{Records, contents, recorded}
 use Rattle.tb_journal.specs.Opening as journal_opening
 use Rattle.tb_journal.specs.Opening.{IsAsBefore}

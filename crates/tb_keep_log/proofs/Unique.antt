@@ -76,6 +76,7 @@ unfolding number_bytes
 eight x = refl
 
 standing_long : (F : Following) → IsHashed F → length (standing_item F.position F.log F.replies) ≡ 73
+unfolding number_bytes
 standing_long F hashed =
     let hashes : length (F.log ++ F.replies) ≡ 64 = omega (arith, length-append F.log F.replies, hashed.log, hashed.replies) in
     let behind : length (number_bytes 8 F.position ++ (F.log ++ F.replies)) ≡ 72 =
