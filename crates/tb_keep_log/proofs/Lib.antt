@@ -6,3 +6,4 @@ pub mod Entering
 pub mod Opened
 pub mod Crashes
 pub mod Unique
+pub mod Dumped

@@ -1,6 +1,8 @@
 -- The records of a file are read one way: they lead to one place.
-use Rattle.std.proofs.Common.{arith, ◌≡◌, ℕ, zero, suc, ◌+◌, ◌*◌, List, [], ◌∷◌, ◌++◌, length, fold, slice_index, refl, sym, ap, ◌∙◌, append_assoc, length-append}
+use Rattle.std.proofs.Common.{arith, ◌≡◌, ℕ, zero, suc, ◌+◌, ◌*◌, List, [], ◌∷◌, ◌++◌, drop, flat_map, length, fold, slice_index, refl, sym, ap, ◌∙◌, append_assoc, length-append}
 use Rattle.std.specs.Int.{w32, to_be_bytes}
+use Rattle.std.proofs.lemmas.Grind.{flat_map-append}
+use Rattle.std.proofs.lemmas.List.{drop_at}
 use Rattle.sha2.specs.Sha256.{digest_bytes, final_hash, initial_hash_256, sha256}
 use Rattle.tb_records.specs.declared.limits.Profile.{Profile}
 use Rattle.tb_records.specs.Frames.{request_bytes}
@@ -12,12 +14,15 @@ use Rattle.tb_records.specs.Sizes.{length-le_bytes}
 use Rattle.tb_records.specs.ReplyFrames.{reply_bytes}
 use Rattle.tb_records.proofs.NumberBytes.{le_bytes-one, split_at}
 use Rattle.tb_records.proofs.Spellings.{spelled_once}
+use Rattle.tb_machine.proofs.CodesFit.{each_append}
 use Rattle.tb_machine.specs.Scripts.{Pair}
 use Rattle.tb_log.specs.Format.{content_of, chained, number_bytes, standing_item}
-use Rattle.tb_log.specs.Following.{Following, begun, Item, Entry, Question, answer_of, with_pair, with_content, with_item, after_items}
+use Rattle.tb_log.specs.Following.{Following, begun, Item, Entry, Question, answer_of, with_pair, with_content, with_item, after_items, script_of}
 use Rattle.tb_log.specs.Follows.{ItemFits}
 use Rattle.tb_keep_log.specs.Keeping.{mark, record_bytes, records_from}
+use Rattle.tb_keep_log.specs.Dumping.{PairsOfLog}
 use Rattle.tb_keep_log.specs.Laws.{OneLog}
+use Rattle.tb_keep_log.specs.Restoring.{fixed_bytes}
 
 -- the pairs of a content
 
@@ -121,3 +126,31 @@ module _ (profile : Profile) (clients_max : ℕ) where
 pub one_log : OneLog
 one_log profile clients_max records F G one other =
     one.now ∙ same_end profile clients_max (begun profile clients_max) one.items other.items (hashed_begun profile clients_max) one.fit other.fit (sym one.spelled ∙ other.spelled) ∙ sym other.now
+
+-- the pairs of the records
+
+script_joined : (items : List Item) → Each ItemFits items → Each IsTimed (script_of items)
+script_joined [] fit = tt
+script_joined (Entry ps ∷ items) fit = each_append IsTimed ps (script_of items) fit.0.1 (script_joined items fit.1)
+script_joined (Question ∷ items) fit = script_joined items fit.1
+
+behind_mark : (profile : Profile) (clients_max : ℕ) (F : Following) (content : List ℕ) → IsHashed F → drop fixed_bytes (record_bytes profile clients_max F content) ≡ content
+behind_mark profile clients_max F content hashed =
+    let front : List ℕ = mark profile clients_max ++ standing_item F.position F.log F.replies in
+    ap (drop fixed_bytes) (sym (append_assoc (mark profile clients_max) (standing_item F.position F.log F.replies) content))
+    ∙ drop_at front content 79 (length-append (mark profile clients_max) (standing_item F.position F.log F.replies) ∙ ap (λ (n : ℕ). 6 + n) (standing_long F hashed))
+
+contents_of : (profile : Profile) (clients_max : ℕ) (F : Following) (items : List Item) → IsHashed F
+    → flat_map (drop fixed_bytes) (records_from profile clients_max F items) ≡ content_of (script_of items)
+contents_of profile clients_max F [] hashed = refl
+contents_of profile clients_max F (Question ∷ items) hashed = contents_of profile clients_max F items hashed
+contents_of profile clients_max F (Entry ps ∷ items) hashed =
+    let G = with_item F (Entry ps) in
+    ap (λ (bs : List ℕ). bs ++ flat_map (drop fixed_bytes) (records_from profile clients_max G items)) (behind_mark profile clients_max G (content_of ps) (hashed_entry F ps hashed))
+    ∙ ap (λ (bs : List ℕ). content_of ps ++ bs) (contents_of profile clients_max G items (hashed_entry F ps hashed))
+    ∙ sym (flat_map-append timed_bytes ps (script_of items))
+
+pub pairs_of_log : PairsOfLog
+pairs_of_log profile clients_max records F ps kept has =
+    content_once ps (script_of kept.items) has.fit (script_joined kept.items kept.fit)
+    (sym has.spelled ∙ ap (flat_map (drop fixed_bytes)) kept.spelled ∙ contents_of profile clients_max (begun profile clients_max) kept.items (hashed_begun profile clients_max))

@@ -1,6 +1,6 @@
 //! Why a kept log is not opened, and why it does not go on.
 ghost use Rattle.std.specs.Prelude.{◌≡◌};
-ghost use Rattle.tb_keep_log.specs.Faults.{keep_fault_name, start_fault_name};
+ghost use Rattle.tb_keep_log.specs.Faults.{dump_fault_name, keep_fault_name, start_fault_name};
 
 use std::fmt;
 use tb_journal::{Fault, OpenFault};
@@ -86,5 +86,46 @@ impl fmt::Display for KeepLogFault {
             KeepLogFault::Log(fault) => write!(f, "{fault}"),
             KeepLogFault::Journal(fault) => write!(f, "{fault}"),
         }
+    }
+}
+
+/// Why the dump of a kept log is not written, or not to its end.
+#[derive(Clone, Copy, Debug, PartialEq, Eq, Error)]
+pub enum DumpLogFault {
+    /// The file is not read.
+    Start(LogStartFault),
+    /// A record has what is no pair.
+    NoPairs,
+    /// A request is new, and the end of time leaves no time for it.
+    TimeExhausted,
+    /// There is no memory.
+    NoMemory,
+    /// The writer failed, or took nothing.
+    Writer,
+}
+
+impl DumpLogFault {
+    /// The fault's name, as a message shows it.
+    pub fn name(self) -> &'static str
+        ensures { result.now ≡ dump_fault_name self }
+    {
+        match self {
+            DumpLogFault::Start(fault) => fault.name(),
+            DumpLogFault::NoPairs => "NoPairs",
+            DumpLogFault::TimeExhausted => "TimeExhausted",
+            DumpLogFault::NoMemory => "NoMemory",
+            DumpLogFault::Writer => "Writer",
+        }
+    }
+}
+
+impl fmt::Display for DumpLogFault {
+    ghost use Rattle.std.specs.Prelude.{Some};
+    ghost use Rattle.tb_keep_log.specs.Faults.{dump_fault_name};
+
+    ghost output = { λ fault. Some (dump_fault_name fault) };
+
+    fn fmt<W: fmt::Write>(&self, f: &mut fmt::Formatter<W>) -> fmt::Result {
+        f.write_str(self.name())
     }
 }

@@ -1,4 +1,5 @@
 //! What holds of every kept log, over the definitions alone. A call does nothing; its promise is the law.
+ghost use Rattle.tb_keep_log.specs.Dumping.{PairsOfLog};
 ghost use Rattle.tb_keep_log.specs.Laws.{AnyCrash, GoesOn, OneLog, OpenedGoesOn, OtherFormat, TellsTheDone, WhileCommitting, WhileTelling};
 
 use tb_journal::Device;
@@ -27,4 +28,9 @@ pub fn told_is_kept<D: Device>()
     ensures committing { WhileCommitting D.tells D.disk }
     ensures told { TellsTheDone D.tells D.disk }
     ensures telling { WhileTelling D.tells D.disk }
+{}
+
+/// The dump of a file is that of the pairs of its entries, and of no others.
+pub fn dumps_the_log()
+    ensures { PairsOfLog }
 {}

@@ -10,9 +10,11 @@
 //! - `restoring`: `read_log`, a follower behind all records of a file.
 //! - `opening`: `LogKeeper::open` and `LogKeeper::start`.
 //! - `serving`: `keep_log`, items read, entries committed, and then answers told.
+//! - `dumps`: `write_log_dump`, the history of a kept log without positions.
 //! - `laws`: what holds of every kept log: functions that do nothing.
 #![tactic(auto)]
 
+mod dumps;
 mod entries;
 mod faults;
 mod keepers;
@@ -22,7 +24,8 @@ mod opening;
 mod restoring;
 mod serving;
 
-pub use faults::{KeepLogFault, LogStartFault};
+pub use dumps::write_log_dump;
+pub use faults::{DumpLogFault, KeepLogFault, LogStartFault};
 pub use keepers::LogKeeper;
 pub use opening::NotStarted;
 pub use restoring::read_log;

@@ -17,7 +17,7 @@ use tb_keep::Rules;
 use tb_log::Follower;
 
 /// Reads the next record, and answers whether there is one.
-fn read_record<D: Device>(scan: &mut Scan, device: &mut D) -> Result<bool, OpenFault>
+pub(crate) fn read_record<D: Device>(scan: &mut Scan, device: &mut D) -> Result<bool, OpenFault>
     ensures reads { (file : List ℕ) (read : List (List ℕ))
         → D.holds device.old file → HasRead read file scan.old → IsNext result read file scan.new }
     ensures same { (file : List ℕ) → D.holds device.old file → D.holds device.new file }
