@@ -67,7 +67,7 @@ def item(position, pairs):
 
 def standing(program, path):
     """The position and the hashes that a start of a file answers to a question."""
-    status, output, said = tried.ran([program, path, CLIENTS], QUESTION)
+    status, output, said = tried.ran([program, "follow", path, CLIENTS], QUESTION)
     if status or len(output) != STANDING:
         return None, said
     return output, said
@@ -76,7 +76,7 @@ def standing(program, path):
 def killed(program, path, data, wanted, rng):
     """Gives a program these items and kills it: what it has told by then begins the wanted."""
     with subprocess.Popen(
-        [program, path, CLIENTS],
+        [program, "follow", path, CLIENTS],
         stdin=subprocess.PIPE,
         stdout=subprocess.PIPE,
         stderr=subprocess.DEVNULL,
@@ -130,7 +130,7 @@ def kills(options, folder, log, rng):
             position = found
         begin = answers[position][0]
         status, output, _ = tried.ran(
-            [options.kept, path, CLIENTS], b"".join(items[position:])
+            [options.kept, "follow", path, CLIENTS], b"".join(items[position:])
         )
         right = status == 0 and output == whole[begin:]
         tried.case("the log goes on", right, quietly=True)
@@ -141,25 +141,25 @@ def refused(options, folder, items):
     """Entries out of their turn, other rules and other files."""
     path = os.path.join(folder, "0.tbl")
     kept = options.kept
-    status, output, said = tried.ran([kept, path, CLIENTS], items[0])
+    status, output, said = tried.ran([kept, "follow", path, CLIENTS], items[0])
     tried.case("an entry again is refused", status == 2 and b"Repeat at 1" in said, said)
     path = os.path.join(folder, "new.tbl")
-    status, output, said = tried.ran([kept, path, CLIENTS], items[1])
+    status, output, said = tried.ran([kept, "follow", path, CLIENTS], items[1])
     tried.case("an entry too early is refused", status == 2 and b"Gap at 2" in said, said)
-    status, output, said = tried.ran([kept, path, CLIENTS], items[0])
+    status, output, said = tried.ran([kept, "follow", path, CLIENTS], items[0])
     tried.case("the first entry is taken", status == 0 and b"position 0" in said, said)
-    status, output, said = tried.ran([kept, path, "9"])
+    status, output, said = tried.ran([kept, "follow", path, "9"])
     tried.case("other rules are refused", status == 7 and b"OtherRules" in said, said)
     with open(path, "r+b") as file:
         file.seek(100)
         byte = file.read(1)
         file.seek(100)
         file.write(bytes([byte[0] ^ 1]))
-    status, output, said = tried.ran([kept, path, CLIENTS])
+    status, output, said = tried.ran([kept, "follow", path, CLIENTS])
     tried.case("a damaged file is refused", status == 6, said)
-    status, output, said = tried.ran([kept, __file__, CLIENTS])
+    status, output, said = tried.ran([kept, "follow", __file__, CLIENTS])
     tried.case("another file is refused", status == 5, said)
-    status, output, said = tried.ran([kept, path])
+    status, output, said = tried.ran([kept, "follow", path])
     tried.case("words that are wrong", status == 2 and b"Usage" in said, said)
 
 

@@ -26,6 +26,9 @@ TOP = os.path.dirname(os.path.dirname(os.path.abspath(__file__)))
 TBT = f"{TOP}/crates/tbt/out/tbt"
 TBS = f"{TOP}/crates/tbs/out/tbs"
 
+tried.arguments(__doc__).parse_args()
+tried.built(TBT, TBS)
+
 
 def run(program, words, data):
     return tried.ran([program, *words], data)
@@ -368,7 +371,7 @@ for name, short, whole in [
     ("its session and its next number", b"client=7 session=3 request=5 lookup_accounts; lookup_accounts id=1;", b"client=7 session=3 request=5 lookup_accounts; client=7 session=3 request=6 lookup_accounts id=1;"),
     ("of each client", b"client=7 session=3 request=5 lookup_accounts; client=8 session=4 lookup_accounts; client=0x7 lookup_accounts id=1;", b"client=7 session=3 request=5 lookup_accounts; client=8 session=4 request=1 lookup_accounts; client=7 session=3 request=6 lookup_accounts id=1;"),
     ("a new session", b"client=7 session=3 request=5 lookup_accounts; at=9 session=4 lookup_accounts;", b"client=7 session=3 request=5 lookup_accounts; at=9 client=7 session=4 request=1 lookup_accounts;"),
-    ("a session that is left out beside client and request", b"client=7 session=3 request=5 lookup_accounts; client=7 request=6 lookup_accounts;", b"client=7 session=3 request=5 lookup_accounts; client=7 session=0 request=6 lookup_accounts;"),
+    ("a session that is left out next to client and request", b"client=7 session=3 request=5 lookup_accounts; client=7 request=6 lookup_accounts;", b"client=7 session=3 request=5 lookup_accounts; client=7 session=0 request=6 lookup_accounts;"),
 ]:
     check(f"script fills in {name}", (run(TBT, ["script"], short)[::2], run(TBT, ["script"], short)[1]), ((0, b""), run(TBT, ["script"], whole)[1]))
 for name, text, place in [
@@ -506,6 +509,8 @@ check("8190 full accounts are a statement", (status, line, script[56:] == b"\xff
 check("one more is too many", run(TBT, ["script"], largest[:-1] + b", id=1;")[:2], (2, b""))
 check("/dev/full", subprocess.run([TBT, "--version"], stdout=open("/dev/full", "wb"), stderr=subprocess.PIPE).stderr, b"tbt: Device: standard output\n")
 check("its status", subprocess.run([TBT, "--version"], stdout=open("/dev/full", "wb"), stderr=subprocess.DEVNULL).returncode, 1)
+ran = subprocess.run([TBT, b"\xff"], stdin=subprocess.DEVNULL, capture_output=True)
+check("a word that is no text", (ran.returncode, ran.stdout, ran.stderr.startswith(b"Usage: tbt FORM\n")), (2, b"", True))
 
 # dumps: their pairs, their audit, and what is wrong
 

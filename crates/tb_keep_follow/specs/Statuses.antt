@@ -7,6 +7,8 @@ use Rattle.tb_journal.specs.declared.opening.OpenFault.TheVariants as open_fault
 use Rattle.tb_journal.specs.declared.reading.Refusal.TheVariants as refusals
 use Rattle.tb_log.specs.declared.faults.LogFault.{LogFault}
 use Rattle.tb_log.specs.declared.faults.LogFault.TheVariants as log
+use Rattle.tb_keep_log.specs.declared.faults.DumpLogFault.{DumpLogFault}
+use Rattle.tb_keep_log.specs.declared.faults.DumpLogFault.TheVariants as dump
 use Rattle.tb_keep_log.specs.declared.faults.KeepLogFault.{KeepLogFault}
 use Rattle.tb_keep_log.specs.declared.faults.KeepLogFault.TheVariants as keep
 use Rattle.tb_keep_log.specs.declared.faults.LogStartFault.{LogStartFault}
@@ -34,3 +36,10 @@ keep_status (keep.Journal fault) = device_status fault
 keep_status (keep.Log log.Device) = 1
 keep_status (keep.Log log.NoMemory) = 1
 keep_status (keep.Log fault) = 2
+
+-- of a dump that is not written: 6 where a record is not what was written
+abbrev pub dump_status : DumpLogFault → ℕ
+dump_status (dump.Start fault) = start_status fault
+dump_status dump.NoMemory = 1
+dump_status dump.Writer = 1
+dump_status fault = 6

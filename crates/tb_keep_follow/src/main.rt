@@ -1,5 +1,5 @@
 //! `tb_keep_follow`: serves a log of entries from standard input to standard output, each reply with its place in the log, over a file
-//! that has each entry with the position and both hashes behind it.
+//! that has each entry with the position and both hashes behind it; and writes the history of such a file as a dump, without positions.
 //!
 //! Modules:
 //!
@@ -14,14 +14,14 @@ ghost use Rattle.std.specs.Prelude.{◌≡◌, true};
 
 use arguments::{Form, read_form};
 use bumpalo::Bump;
-use statuses::{file_status, keep_status, start_status};
+use statuses::{dump_status, file_status, keep_status, start_status};
 use std::alloc::{Allocator, Global};
 use std::io::{self, BufReader, BufWriter, Write};
 use std::process::ExitCode;
 use tb_commands::words;
 use tb_journal::{Device, FileFault, Real};
 use tb_keep::Rules;
-use tb_keep_log::{KeepLogFault, LogKeeper, LogStartFault, keep_log};
+use tb_keep_log::{DumpLogFault, KeepLogFault, LogKeeper, LogStartFault, keep_log, write_log_dump};
 use tb_log::LogFault;
 use tb_records::{Buffered, CLIENTS_MAX, Counting, Sink, Source};
 
@@ -40,6 +40,8 @@ enum Failure {
     Start(LogStartFault),
     /// The log is not followed on.
     Log(KeepLogFault),
+    /// The dump is not written.
+    Dump(DumpLogFault),
 }
 
 /// Follows the log of a reader to a writer, over a device. The position from which the log is wanted is told first.
@@ -50,7 +52,7 @@ fn keep_over<D: Device + Drop, A: Allocator + Copy, R: Source, W: Sink>(
     rules: Rules,
     reader: &mut R,
     writer: &mut W,
-) -> Result<u64, Failure>
+) -> Result<(), Failure>
     requires { D.tells → (D.disk device).sound ≡ true }
 {
     match LogKeeper::start(rt.alloc(), pool, device, rules) {
@@ -59,7 +61,10 @@ fn keep_over<D: Device + Drop, A: Allocator + Copy, R: Source, W: Sink>(
             let _ = tell_wanted(rt, keeper.position(), keeper.cut_bytes());
             let kept = keep_log(rt.alloc(), &mut keeper, reader, writer);
             drop(keeper);
-            kept.map_err(|fault| Failure::Log(fault))
+            match kept {
+                Ok(_) => Ok(()),
+                Err(fault) => Err(Failure::Log(fault)),
+            }
         }
         Err(failed) => {
             let fault = failed.fault;
@@ -70,12 +75,7 @@ fn keep_over<D: Device + Drop, A: Allocator + Copy, R: Source, W: Sink>(
 }
 
 /// Follows the log of standard input to standard output, over the file of a path.
-fn keep_input(rt: &HostRuntime, path: &str, form: Form) -> Result<u64, Failure> {
-    let Form::Keep(clients_max, profile) = form;
-    let rules = Rules {
-        profile,
-        clients_max,
-    };
+fn keep_input(rt: &HostRuntime, path: &str, rules: Rules) -> Result<(), Failure> {
     let input = BufReader::with_capacity(rt.alloc(), INPUT, rt.stdin());
     let output = BufWriter::with_capacity(rt.alloc(), OUTPUT, rt.stdout());
     let (Ok(input), Ok(output)) = (input, output) else {
@@ -95,6 +95,47 @@ fn keep_input(rt: &HostRuntime, path: &str, form: Form) -> Result<u64, Failure> 
         return Err(Failure::Log(KeepLogFault::Log(LogFault::Device)));
     }
     kept
+}
+
+/// Writes the history of the file of a path to standard output, as a dump.
+fn dump_file(rt: &HostRuntime, path: &str, rules: Rules) -> Result<(), Failure> {
+    let Ok(output) = BufWriter::with_capacity(rt.alloc(), OUTPUT, rt.stdout()) else {
+        return Err(Failure::Dump(DumpLogFault::NoMemory));
+    };
+    let mut writer = Counting::new(output);
+    let mut device = match Real::look(rt, path) {
+        Ok(device) => device,
+        Err(fault) => return Err(Failure::File(fault)),
+    };
+    let dumped = write_log_dump(rt.alloc(), &mut device, rules, &mut writer);
+    drop(device);
+    if writer.into_inner().flush().is_err() {
+        return Err(Failure::Dump(DumpLogFault::Writer));
+    }
+    match dumped {
+        Ok(()) => Ok(()),
+        Err(fault) => Err(Failure::Dump(fault)),
+    }
+}
+
+/// Does what a form asks for, over the file of a path.
+fn perform(rt: &HostRuntime, path: &str, form: Form) -> Result<(), Failure> {
+    match form {
+        Form::Follow(clients_max, profile) => {
+            let rules = Rules {
+                profile,
+                clients_max,
+            };
+            keep_input(rt, path, rules)
+        }
+        Form::Dump(clients_max, profile) => {
+            let rules = Rules {
+                profile,
+                clients_max,
+            };
+            dump_file(rt, path, rules)
+        }
+    }
 }
 
 /// Tells from which position the log is wanted, and what was cut off of the file.
@@ -119,6 +160,14 @@ fn told(rt: &HostRuntime, path: &str, failure: Failure) -> u8 {
         Failure::Log(fault) => {
             let _ = eprintln!(rt; "tb_keep_follow: {fault}");
             keep_status(fault)
+        }
+        Failure::Dump(DumpLogFault::Start(fault)) => {
+            let _ = tell_start(rt, path, fault);
+            start_status(fault)
+        }
+        Failure::Dump(fault) => {
+            let _ = eprintln!(rt; "tb_keep_follow: {fault}");
+            dump_status(fault)
         }
     }
 }
@@ -153,12 +202,12 @@ fn tell_start(rt: &HostRuntime, path: &str, fault: LogStartFault) -> io::Result<
 
 /// Does what the words ask for, and returns the exit status.
 fn command(rt: &HostRuntime, words: &[String]) -> u8 {
-    let (Some(form), [path, ..]) = (read_form(words), words) else {
+    let (Some(form), [_, path, ..]) = (read_form(words), words) else {
         let _ = usage(rt);
         return 2;
     };
-    match keep_input(rt, path.as_str(), form) {
-        Ok(_) => 0,
+    match perform(rt, path.as_str(), form) {
+        Ok(()) => 0,
         Err(failure) => told(rt, path.as_str(), failure),
     }
 }
@@ -166,7 +215,7 @@ fn command(rt: &HostRuntime, words: &[String]) -> u8 {
 /// Tells how the program is called.
 fn usage(rt: &HostRuntime) -> io::Result<()> {
     eprintln!(rt;
-        "tb_keep_follow: Usage: tb_keep_follow FILE CLIENTS_MAX [PROFILE]: 1 to {CLIENTS_MAX} clients, profile 1 or 2"
+        "tb_keep_follow: Usage: tb_keep_follow follow|dump FILE CLIENTS_MAX [PROFILE]: 1 to {CLIENTS_MAX} clients, profile 1 or 2"
     )
 }
 

@@ -1,9 +1,9 @@
 //! The exit status of each fault.
 ghost use Rattle.std.specs.Prelude.{◌≡◌};
-ghost use Rattle.tb_keep_follow.specs.Statuses.{device_status, keep_status, start_status};
+ghost use Rattle.tb_keep_follow.specs.Statuses.{device_status, dump_status, keep_status, start_status};
 
 use tb_journal::{Fault, FileFault, OpenFault, Refusal};
-use tb_keep_log::{KeepLogFault, LogStartFault};
+use tb_keep_log::{DumpLogFault, KeepLogFault, LogStartFault};
 use tb_log::LogFault;
 
 /// Of a call on the device: 8 where it is full, 9 where a sync failed, and else 1.
@@ -40,6 +40,18 @@ pub fn keep_status(fault: KeepLogFault) -> u8
         KeepLogFault::Log(LogFault::Device) => 1,
         KeepLogFault::Log(LogFault::NoMemory) => 1,
         KeepLogFault::Log(_) => 2,
+    }
+}
+
+/// Of a dump that is not written: 1 where the output or memory failed, and 6 where a record is not what was written.
+pub fn dump_status(fault: DumpLogFault) -> u8
+    ensures { result ≡ dump_status fault }
+{
+    match fault {
+        DumpLogFault::Start(fault) => start_status(fault),
+        DumpLogFault::NoMemory => 1,
+        DumpLogFault::Writer => 1,
+        _ => 6,
     }
 }
 
