@@ -1,4 +1,5 @@
 -- The exit status of a fault, as `tbd` has them.
+-- Cited by private contracts alone, of: statuses.
 use Rattle.std.specs.Prelude.{ℕ}
 use Rattle.tb_journal.specs.declared.faults.Fault.{Fault}
 use Rattle.tb_journal.specs.declared.faults.Fault.TheVariants as journal

@@ -1,4 +1,5 @@
 -- The steps of a dump: for private functions alone.
+-- Cited by private contracts alone, of: dumps.
 use Rattle.std.specs.Prelude.{ℕ, Bool, true, false, ◌≡◌, List, [], ◌∷◌, ◌++◌, drop, flat_map, Result, Ok, Err}
 use Rattle.tb_records.specs.Inputs.{IsTimed}
 use Rattle.tb_records.specs.Ordered.{Each}

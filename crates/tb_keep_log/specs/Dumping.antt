@@ -1,4 +1,5 @@
 -- The dump of a kept log: the entries that the pairs of its records make, without positions.
+-- Cited by public contracts of: dumps, laws.
 use Rattle.std.specs.Prelude.{ℕ, ◌≡◌, List, ◌++◌, drop, flat_map, Result, Ok, Err}
 use Rattle.tb_records.specs.declared.limits.Profile.{Profile}
 use Rattle.tb_records.specs.DumpBytes.{head_bytes}

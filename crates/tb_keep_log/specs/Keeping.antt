@@ -1,4 +1,5 @@
 -- What the file of a kept log stands for, and what a keeper is that keeps it.
+-- Cited by public contracts of: keepers, opening, serving.
 use Rattle.std.specs.Prelude.{ℕ, ◌≡◌, Bool, true, List, [], ◌∷◌, ◌++◌, codes, refl}
 use Rattle.tb_records.specs.declared.limits.Profile.{Profile}
 use Rattle.tb_records.specs.declared.limits.Profile.TheVariants.{Two}

@@ -1,4 +1,5 @@
 -- How the file of a kept log is created and opened, and what a crash may leave of it meanwhile.
+-- Cited by public contracts of: opening.
 use Rattle.std.specs.Prelude.{ℕ, true, ◌≡◌, ◌⊎◌, ◌+◌, ◌≤◌, ◌^◌, List, [], Result, Ok, Err, OnOk, IfErr}
 use Rattle.tb_records.specs.declared.limits.Profile.{Profile}
 use Rattle.tb_journal.specs.declared.faults.Fault.TheVariants.{NotEmpty}

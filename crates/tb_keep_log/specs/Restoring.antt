@@ -1,4 +1,5 @@
 -- What is read of the records of a kept log, and why one is refused.
+-- Cited by public contracts of: opening, restoring.
 use Rattle.std.specs.Prelude.{ℕ, true, false, ◌≡◌, ◌≢◌, ◌⊎◌, ◌+◌, ◌^◌, ◌<◌, ◌≤◌, nat_eq, List, [], ◌∷◌, ◌++◌, length, drop, codes, Result, Ok, Err, OnOk, IfErr}
 use Rattle.std.specs.List.{starts_with}
 use Rattle.tb_records.specs.declared.limits.Profile.{Profile}

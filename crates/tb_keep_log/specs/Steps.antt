@@ -1,4 +1,5 @@
 -- The steps of reading and of serving: for private functions alone.
+-- Cited by private contracts alone, of: entries, opening, restoring, serving.
 use Rattle.std.specs.Prelude.{ℕ, Bool, true, false, ◌≡◌, ◌⊎◌, List, [], ◌∷◌, ◌++◌, Result, Ok, Err, OnOk, IfErr}
 use Rattle.tb_records.specs.declared.limits.Profile.{Profile}
 use Rattle.tb_records.specs.Transport.{Input, Output, Sent, CutOff}
