@@ -3,20 +3,23 @@
 
     checks/keep.py [--tbd PROGRAM] [--kills N] [--flips N] [--cuts N] [--seed N] [--builds]
 
-A program that holds a reply back, or does not end, for 20 seconds ends the script with that case failed.
+A program that holds a reply back, or does not end, for 20 seconds (KEEP_SECONDS) ends the script with that case failed.
 Clients retry as docs/use/CLIENTS.md says: each sends one request at a time, and the same bytes again until it has the reply. Calls of the
 program fail or lie by checks/keep/shim.c, which wants gcc. With --builds two wrong bodies are built too, unproved, by `rt try` in a copy, and run
 under strace: one that replies before it commits and one that does not sync have to be caught. Ends in 'N passed, M failed'.
 """
 import os
+import pty
 import random
 import re
 import select
 import shutil
+import socket
 import struct
 import subprocess
 import sys
 import tempfile
+import termios
 import threading
 import time
 
@@ -28,7 +31,7 @@ sys.path.insert(0, os.path.join(ROOT, "clients", "python"))
 from tb_client import HEADER, Account, Operation, Reply, Status, Transfer, reply_length, request_frame  # noqa: E402
 
 CLIENTS = 24
-SECONDS = 20  # a reply, an end and a check that take longer are missing
+SECONDS = int(os.environ.get("KEEP_SECONDS", "20"))  # a reply, an end and a check that take longer are missing
 CASH, SALES = 1, 2
 EINTR, EIO, ENOSPC = 4, 5, 28
 
@@ -443,6 +446,8 @@ def told_of_words(tbd, folder):
     for words, line in WORDS:
         told = told_of(tbd, folder, words.split())
         case(f"wrong words: {words}", told == (2, b"", f"tbd: Usage: {line}\n"), told)
+    told = told_of(tbd, folder, ["check", b"\xff"])
+    case("a word that is no text", told == (2, b"", "tbd: Usage\n"), told)
     told_of(tbd, folder, ["run", "words.tbk", "3"], pair_of_a_register())
     for form in ("dump", "check"):
         with open("/dev/full", "wb") as full:
@@ -633,6 +638,58 @@ def reported(tbd, folder):
     case("a start that is not", told == (0, b"", ""), told)
 
 
+def long_starts(tbd, folder):
+    """A start over more than 64 MB: how far it is is told where that is asked for, and else nothing."""
+    wrong = Transfer(1, CASH, SALES, 1, ledger=700, code=10).to_bytes() * 8190
+    frames = [request_frame(7, 1, number, Operation.create_transfers, wrong) for number in range(1, 64)]
+    script = pair_of_a_register() + b"".join(struct.pack("<Q", 5) + it for it in frames)
+    path = os.path.join(folder, "long.tbk")
+    told = []
+    for words, data in ((), script), (("--progress",), b""), ((), b""):
+        words = [tbd, "run", "long.tbk", "3", *words]
+        ran = subprocess.run(words, cwd=folder, input=data, stdout=subprocess.DEVNULL, stderr=subprocess.PIPE, timeout=10 * SECONDS, check=False)
+        told.append((ran.returncode, ran.stderr.decode()))
+    size = os.path.getsize(path) // 10**6
+    case("a file of more than 64 MB", told[0] == (0, "tbd: made long.tbk\n") and size > 64, (told[0], size))
+    lines = rf"tbd: reading long.tbk, 0 of {size} MB\ntbd: reading long.tbk, 6[45] of {size} MB\ntbd: ready\n"
+    case("a long start that is reported", told[1][0] == 0 and re.fullmatch(lines, told[1][1]), told[1])
+    case("a long start that is not", told[2] == (0, ""), told[2])
+    os.unlink(path)
+
+
+def terminal():
+    """Both ends of a terminal that shows bytes as they are."""
+    master, slave = pty.openpty()
+    settings = termios.tcgetattr(slave)
+    settings[1] &= ~termios.OPOST
+    settings[3] &= ~termios.ECHO
+    termios.tcsetattr(slave, termios.TCSANOW, settings)
+    return master, slave
+
+
+def on_terminals(tbd, folder):
+    """What is told where requests would be typed, and where lines are seen on a terminal."""
+    master, slave = terminal()
+    os.write(master, b"\x04")  # Ctrl-D
+    ran = subprocess.run([tbd, "run", "typed.tbk", "3"], cwd=folder, stdin=slave, capture_output=True, timeout=SECONDS, check=False)
+    lines = b"tbd: standard input is a terminal, and run reads request frames there; tb-repl and tbt script take words\ntbd: made typed.tbk\n"
+    case("requests from a terminal", (ran.returncode, ran.stdout, ran.stderr) == (0, b"", lines), ran)
+    ran = subprocess.run([tbd, "run", "seen.tbk", "3"], cwd=folder, stdin=subprocess.DEVNULL, stdout=subprocess.PIPE, stderr=slave, timeout=SECONDS, check=False)
+    case("a start that is seen on a terminal", (ran.returncode, os.read(master, 4096)) == (0, b"tbd: made seen.tbk\ntbd: ready\n"), ran)
+    os.close(slave)
+    os.close(master)
+
+
+def told_at_once(tbd, folder):
+    """A line goes out in one write: it stays whole where several programs write to one file."""
+    ours, theirs = socket.socketpair(socket.AF_UNIX, socket.SOCK_SEQPACKET)
+    with ours, theirs:
+        subprocess.run([tbd, "check", "absent.tbk"], cwd=folder, stderr=theirs, timeout=SECONDS, check=False)
+        ours.settimeout(SECONDS)
+        said = ours.recv(4096)
+    case("a line goes out at once", said == b"tbd: Device: cannot find absent.tbk\n", said)
+
+
 # Dumps behind a commit, and dumps that go on
 
 
@@ -698,6 +755,17 @@ def follows(tbd, folder):
         told = told_of(tbd, folder, ["dump", ledger.file, "--follow"], output=full)
     case("--follow ends at a write that fails", told == (1, None, "tbd: Device: standard output\n"), told)
     closed_pipe(tbd, folder, ledger)
+    shorter_file(tbd, folder, ledger)
+
+
+def shorter_file(tbd, folder, ledger):
+    """A dump that goes on ends where its file gets shorter than what it wrote."""
+    path = shutil.copy(ledger.file, os.path.join(folder, "shorter.tbk"))
+    follower = followers(tbd, folder, path, 0)[0]
+    more_of(follower, 16)
+    os.truncate(path, 1000)
+    told = ended(follower), follower.stderr.read().decode()
+    case("--follow of a file that gets shorter", told == (1, f"tbd: Device: {path}\n"), told)
 
 
 def closed_pipe(tbd, folder, ledger):
@@ -775,12 +843,15 @@ def copies_of_no_ledger(tbd, folder):
     os.symlink(target, os.path.join(folder, "to_nothing.tbk"))
     with open(os.path.join(folder, "taken.tbk"), "wb") as file:
         file.write(b"another file")
+    with open(os.path.join(folder, "no_byte.tbk"), "wb"):
+        pass
     for form in ("salvage", "backup"):
         for words, status, line in (
             (["letter.txt", "new.tbk"], 5, "NotAJournal: letter.txt is a text"),
             (["absent.tbk", "new.tbk"], 1, "Device: cannot find absent.tbk"),
             (["folder.tbk", "new.tbk"], 1, "Device: folder.tbk is no regular file"),
             (["words.tbk", "taken.tbk"], 2, "Usage: taken.tbk exists"),
+            (["words.tbk", "no_byte.tbk"], 2, "Usage: no_byte.tbk exists"),
             (["words.tbk", "words.tbk"], 2, "Usage: words.tbk exists"),
             (["words.tbk", "to_nothing.tbk"], 2, "Usage: to_nothing.tbk exists"),
             (["words.tbk", "nowhere/new.tbk"], 1, "Device: cannot find nowhere/new.tbk"),
@@ -878,6 +949,8 @@ def main():
         told_of_ends(asked.tbd, folder)
         told_by_check(asked.tbd, folder)
         reported(asked.tbd, folder)
+        on_terminals(asked.tbd, folder)
+        told_at_once(asked.tbd, folder)
         names(asked.tbd, folder)
         read_only(asked.tbd, folder)
         looks(asked.tbd, folder)
@@ -894,6 +967,7 @@ def main():
         backups(asked.tbd, folder)
         cuts(asked.tbd, folder, data, gates, entries, asked.cuts)
         flips(asked.tbd, folder, data, gates, entries, asked.flips, rng)
+        long_starts(asked.tbd, folder)
         faults(asked.tbd, folder, shim)
         reads(asked.tbd, folder, shim, data)
         kills(asked.tbd, folder, asked.kills, rng)

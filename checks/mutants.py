@@ -1,8 +1,8 @@
 #!/usr/bin/env python3
 """Mutation testing: small bugs, and which test or script catches each. A proof may refuse one too.
 
-    python3 checks/mutants.py [--list] [--texts] [--only WORD ..] [--tests-only] [--write]
-                              [--jobs N] [--room FOLDER]
+    python3 checks/mutants.py [--list] [--texts] [--only WORD ..] [--uncaught] [--tests-only]
+                              [--write] [--jobs N] [--room FOLDER]
 
 A bug is a block of a file of checks/mutants: a line `# NAME: what a user would see`, then `file:`,
 and lines `old:` followed by lines `new:` (lines of one text one behind the other; more pairs may
@@ -14,8 +14,9 @@ each program that a script runs are built once, by `rt try`, which proves nothin
 run with each bug on, and where they pass the scripts of checks/ that run a changed program.
 
 Ends in 'N passed, M failed': passed are the bugs that something catches. --write puts a row for
-each into docs/trust/mutants.csv, and their counts into docs/trust/MUTANTS.md. --texts tells, in a
-second, which bugs can't be planted, have no row there or are caught by nothing.
+each into docs/trust/mutants.csv, with the commit of the tests, and their counts into
+docs/trust/MUTANTS.md. --texts tells, in a second, which bugs can't be planted, alone or behind the
+others, have no row there or are caught by nothing. --uncaught tries those without such a row.
 
 With --room the copy and what was built stay, and what has not changed is not built again.
 """
@@ -58,6 +59,9 @@ SCRIPTS = {
     "text.py": ([], {"tbt", "tbs"}),
     "keep.py": (["--kills", "3", "--flips", "20", "--cuts", "20"], {"tbd", "tbs"}),
 }
+
+# What a script waits for, in seconds, where the programs are slow.
+SLOW = {"KEEP_SECONDS": "60"}
 
 # Cases that fail with no bug on: a program of `rt try` has AddressSanitizer, which maps terabytes.
 ANYWAY = {"a register in 64 MiB"}
@@ -167,6 +171,16 @@ def wrong_text(mutant):
     if not any("MUTANT" in line for _, new in mutant.pairs for line in new):
         return "no new text has MUTANT"
     return None
+
+
+def wrong_behind(mutant, texts):
+    """Why a bug can't be planted behind others, which are in these texts of files."""
+    if mutant.file not in texts:
+        with open(f"{ROOT}/{mutant.file}", encoding="utf-8") as file:
+            texts[mutant.file] = file.read()
+    planted = mutant.planted(texts[mutant.file])
+    texts[mutant.file] = planted or texts[mutant.file]
+    return None if planted else "another bug has changed its old text"
 
 
 def crates_below():
@@ -323,7 +337,7 @@ def begin(words, number, cwd, output):
     return subprocess.Popen(
         words,
         cwd=cwd,
-        env={**os.environ, SWITCH: str(number), "PYTHONUNBUFFERED": "1"},
+        env={**os.environ, **SLOW, SWITCH: str(number), "PYTHONUNBUFFERED": "1"},
         stdin=subprocess.DEVNULL,
         stdout=output,
         stderr=subprocess.STDOUT,
@@ -456,12 +470,23 @@ class Catchers:
 # The rows and their counts
 
 
-def read_rows():
-    """What catches each bug, as it was found last."""
+def all_rows():
+    """The row of each bug that was tried."""
     if not os.path.isfile(ROWS):
         return {}
     with open(ROWS, encoding="utf-8", newline="") as file:
-        return {row["bug"]: row["caught by"] for row in csv.DictReader(file)}
+        return {row["bug"]: row for row in csv.DictReader(file)}
+
+
+def read_rows():
+    """What catches each bug, as it was found last."""
+    return {bug: row["caught by"] for bug, row in all_rows().items()}
+
+
+def commit():
+    """The commit that is tried, with a + where a file differs from it."""
+    words = ["git", "-C", ROOT, "describe", "--always", "--abbrev=8", "--exclude=*", "--dirty=+"]
+    return subprocess.run(words, capture_output=True, text=True, check=True).stdout.strip()
 
 
 def counts(mutants, caught):
@@ -481,14 +506,16 @@ def read_page():
         return file.read()
 
 
-def write_rows(caught):
-    """Writes what catches each bug, with the old row of each that was not tried now."""
-    mutants, caught = all_mutants(), {**read_rows(), **caught}
+def write_rows(caught, tried):
+    """Writes what catches each bug of a commit, with the old row of each not tried now."""
+    mutants, commits = all_mutants(), {it: row["commit"] for it, row in all_rows().items()}
+    commits.update(dict.fromkeys(caught, tried))
+    caught = {**read_rows(), **caught}
     with open(ROWS, "w", encoding="utf-8", newline="") as file:
         lines = csv.writer(file, lineterminator="\n")
-        lines.writerow(["crate", "bug", "what a user would see", "caught by"])
+        lines.writerow(["crate", "bug", "what a user would see", "caught by", "commit"])
         for it in (it for it in mutants if it.name in caught):
-            lines.writerow([it.crate, it.name, it.says, caught[it.name]])
+            lines.writerow([it.crate, it.name, it.says, caught[it.name], commits[it.name]])
     page = read_page()
     if not BLOCK.search(page):
         sys.exit(f"{PAGE} has no line <!-- mutants -->")
@@ -504,6 +531,7 @@ def read_words():
     parser.add_argument(
         "--only", nargs="+", metavar="WORD", help="bugs of these crates, or with a word in the name"
     )
+    parser.add_argument("--uncaught", action="store_true", help="bugs that no row says are caught")
     parser.add_argument("--tests-only", action="store_true", help="run tests alone, no scripts")
     parser.add_argument("--write", action="store_true", help="write the rows and the counts")
     parser.add_argument("--jobs", type=int, default=os.cpu_count(), help="bugs tried at a time")
@@ -513,9 +541,9 @@ def read_words():
 
 def try_texts(mutants):
     """Tells each bug that can't be planted, has no row or is caught by nothing; the exit status."""
-    caught, wrong = read_rows(), {}
+    caught, wrong, texts = read_rows(), {}, {}
     for it in mutants:
-        why = wrong_text(it)
+        why = wrong_text(it) or wrong_behind(it, texts)
         if why or not caught.get(it.name):
             wrong[it.name] = why or "nothing of docs/trust/mutants.csv catches it"
     for name in sorted(set(caught) - {it.name for it in mutants}):
@@ -545,6 +573,7 @@ def prepared(room, mutants, tests_only):
 
 def try_mutants(mutants, words, room):
     """Tries the chosen bugs, and tells what catches each; the exit status."""
+    tried = commit()
     catchers = prepared(room, mutants, words.tests_only)
     without = catchers.wrong_without(mutants)
     if without:
@@ -557,7 +586,7 @@ def try_mutants(mutants, words, room):
             caught[mutant.name] = by or ""
             print(f"{mutant.crate} {mutant.name}: {by or 'NOTHING'}", flush=True)
             if words.write and (by or not words.tests_only):
-                write_rows({mutant.name: by or ""})
+                write_rows({mutant.name: by or ""}, tried)
     left = sum(1 for by in caught.values() if not by)
     print(f"{len(caught) - left} passed, {left} failed")
     return 1 if left else 0
@@ -574,8 +603,11 @@ def main():
         mutants = [
             it for it in mutants if any(word == it.crate or word in it.name for word in words.only)
         ]
+    if words.uncaught:
+        rows = read_rows()
+        mutants = [it for it in mutants if not rows.get(it.name)]
     if not mutants:
-        sys.exit("no bug has one of these words")
+        sys.exit("no bug is left of these")
     if words.list:
         for it in mutants:
             print(f"{it.crate} {it.name}: {it.says}")

@@ -4,6 +4,7 @@ looks at what they answer. First build them:
 
     (cd crates/tbs && rt run -- run 2) < examples/first.script > /dev/null
     (cd crates/tb_refusals && rt run -- take 2) < examples/first.script > /dev/null
+    (cd crates/tbd && rt run -- --version)
     checks/refusals.py
 
 `tb_refusals` serves a script by each call that may want memory, and makes what was refused again.
@@ -13,6 +14,7 @@ a least number of them. Prints a line for each case, and 'N passed, M failed'.
 checks/refusals/refuse.c, which the programs are run over, needs cc and Linux.
 """
 import collections
+import contextlib
 import os
 import struct
 import subprocess
@@ -25,6 +27,7 @@ from frames import account, ids, transfer
 TOP = os.path.dirname(os.path.dirname(os.path.abspath(__file__)))
 PROGRAM = f"{TOP}/crates/tbs/out/tbs"
 AGAIN = f"{TOP}/crates/tb_refusals/out/tb_refusals"
+KEEPER = f"{TOP}/crates/tbd/out/tbd"
 SECONDS = 60
 Ran = collections.namedtuple("Ran", "status output lines asked refused blocks")
 
@@ -543,6 +546,77 @@ def stopped_wrongly(name, ran, wanted):
     ]
 
 
+def kept_wrongly(ran, file, script, written, histories):
+    """Why a `run` over a new file is wrong whose memory was refused once, if so: it ends well or
+    says NoMemory, no reply is without its entry, and a later run comes to the whole history."""
+    made, wants = f"tbd: made {file}", "tbd: NoMemory"
+    refused = ran.status == 1 and ran.lines in ([wants], [made, wants])
+    if not refused and (ran.status, ran.output, ran.lines) != (0, written[-1], [made]):
+        return f"status {ran.status}, {ran.lines}"
+    if ran.output not in written:
+        return f"{len(ran.output)} bytes, which are no replies"
+    left = plain(KEEPER, ["dump", file], b"").output
+    if not histories[-1].startswith(left):
+        return f"{len(left)} bytes of a history of {len(histories[-1])}"
+    if ran.output and not left.startswith(histories[written.index(ran.output)]):
+        return f"replies without their entries, {len(left)} bytes of a history"
+    again = plain(KEEPER, ["run", file, 2], script)
+    left = plain(KEEPER, ["dump", file], b"")
+    if (again.status, left.status, left.output) != (0, 0, histories[-1]):
+        return f"status {again.status} of a later run, {again.lines}"
+    return f"{ran.blocks} blocks left" if ran.blocks else ""
+
+
+def read_wrongly(ran, wanted):
+    """Why a form that reads a file is wrong whose memory was refused once, if so."""
+    if (ran.status, ran.lines, ran.output) == (0, [], wanted):
+        return f"{ran.blocks} blocks left" if ran.blocks else ""
+    if (ran.status, ran.lines) == (1, ["tbd: NoMemory"]) and wanted.startswith(ran.output):
+        return f"{ran.blocks} blocks left" if ran.blocks else ""
+    return f"status {ran.status}, {ran.lines}, {len(ran.output)} bytes of {len(wanted)}"
+
+
+def each_growth_of_tbd(refuser, words, script, judge, new, least):
+    """Each allocation of a form of `tbd` refused in turn, the file that it makes away before."""
+    counts, whys = collections.Counter(), []
+    for at, ran in refuser.in_turn(KEEPER, words, script):
+        why = judge(ran)
+        whys += [f"growth {at}: {why}"] if why else []
+        counts["NoMemory" if ran.status else "made up for"] += ran.refused
+        with contextlib.suppress(FileNotFoundError):
+            os.unlink(new)
+    if counts["NoMemory"] < least:
+        whys.append(f"only {counts['NoMemory']} refusals were told")
+    case(f"tbd {words[0]}", "; ".join(whys[:3]), f"growths refused: {told(counts)}")
+
+
+def ledgers(refuser, folder):
+    """A ledger in a file, where memory is refused."""
+    pairs, file, new = rows().pairs, f"{folder}/kept.tbk", f"{folder}/new.tbk"
+    written, histories = beginnings(["run", 2], pairs), beginnings(["dump", 2], pairs)
+    script = b"".join(pairs)
+    each_growth_of_tbd(
+        refuser,
+        ["run", new, 2],
+        script,
+        lambda ran: kept_wrongly(ran, new, script, written, histories),
+        new,
+        20,
+    )
+    plain(KEEPER, ["run", file, 2], script)
+    with open(file, "rb") as it:
+        before = it.read()
+    for words in ["check", file], ["dump", file], ["salvage", file, new], ["backup", file, new]:
+        wanted = plain(KEEPER, words, b"").output
+        with contextlib.suppress(FileNotFoundError):
+            os.unlink(new)
+        each_growth_of_tbd(
+            refuser, words, b"", lambda ran, wanted=wanted: read_wrongly(ran, wanted), new, 10
+        )
+    with open(file, "rb") as it:
+        case("the file is as before", "" if it.read() == before else "another file")
+
+
 def devices(refuser):
     script = rows()
     starts = [0] + ends(script.pairs)
@@ -602,11 +676,12 @@ def devices(refuser):
 
 def main():
     tried.arguments(__doc__).parse_args()
-    tried.built(PROGRAM, AGAIN)
+    tried.built(PROGRAM, AGAIN, KEEPER)
     with tempfile.TemporaryDirectory() as folder:
         refuser = Refuser(folder)
         growths(refuser)
         storms(refuser)
+        ledgers(refuser, folder)
         devices(refuser)
     return tried.status()
 

@@ -13,6 +13,7 @@
 //! - `audits`: by which profile entries are judged, expiries, and events that were refused.
 //! - `explained`: what is said of scripts and dumps, compared with what the server makes of them.
 //! - `devices`: readers and writers that fail.
+//! - `kinds`: inputs of another kind than a form reads.
 //! - `said`: what is said of wrong frames, statements and replies, word for word.
 mod audits;
 mod comparing;
@@ -21,6 +22,7 @@ mod dumps;
 mod explained;
 mod forms;
 mod histories;
+mod kinds;
 mod large;
 mod objects;
 mod said;

@@ -293,3 +293,19 @@ fn the_folder_of_a_links_target(rt: HostRuntime) {
     let _ = fs::remove_dir_all(&rt, "targets");
     let _ = fs::remove_file(&rt, "link.tbj");
 }
+
+#[test]
+fn the_folder_of_a_new_file(rt: HostRuntime) {
+    let _ = fs::remove_dir_all(&rt, "news");
+    assert!(&rt; fs::create_dir(&rt, "news").is_ok());
+    let watched = Watched {
+        rt: &rt,
+        folder: "news",
+        opened: Cell::new(0),
+    };
+    expect(&rt, Real::make_new(&watched, "news/made.tbj").is_ok());
+    expect(&rt, watched.opened.get() == 1);
+    expect(&rt, Real::make(&watched, "news/made.tbj").is_ok());
+    expect(&rt, watched.opened.get() == 2);
+    let _ = fs::remove_dir_all(&rt, "news");
+}
