@@ -46,22 +46,22 @@ COLUMNS = (
     ">=40 lines",
     "casts",
 )
-CLAUSES_OVER_100 = 0.198  # wanted: 0.10
+CLAUSES_OVER_100 = 0.203  # wanted: 0.10
 # Each figure with a bound: what it has today, and what is wanted.
 BOUNDS = {
-    "lines": (106761, 74500),
-    "imports": (10714, 4700),
-    ">160": (138, 0),
+    "lines": (113537, 74500),
+    "imports": (11477, 4700),
+    ">160": (134, 0),
     "ghost >160": (8, 0),
-    ">8 clauses": (9, 0),
+    ">8 clauses": (12, 0),
     ">=40 lines": (1, 0),
     "casts": (7, 0),
 }
 # The figures that are those of the product's crates alone.
 PRODUCT_ALONE = (">160", "ghost >160")
-CRATES = (31, 31)
+CRATES = (33, 31)
 # Lines of imports in a file of proofs, on average: what there are today, and what tb_ledger has.
-IMPORTS_A_FILE = (6.07, 3.8)
+IMPORTS_A_FILE = (6.12, 3.8)
 IMPORT = re.compile(r"\s*(?:pub(?:\([a-z]+\))? )?(?:ghost )?use ")
 CLAUSE = re.compile(r"\s+(?:requires|ensures|invariant)\*? ?(?:\w+ )?\{")
 GHOST = re.compile(r"\s+ghost \w+ = \{")

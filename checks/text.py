@@ -101,6 +101,8 @@ for name, text, place in [
     check(name, (status, out, line[: 5 + len(place)]), (2, b"", b"tbt: " + place))
 check("what was right is written", run(TBT, ["script"], TEXT + b"at")[:2], (2, SCRIPT))
 check("wrong arguments", run(TBT, ["serve"], b""), (2, b"", b"tbt: serve: unknown; tbt --help shows the forms\n"))
+ran = subprocess.run([TBT, b"\xff"], stdin=subprocess.DEVNULL, capture_output=True)
+check("a word that is no text", (ran.returncode, ran.stdout, ran.stderr.startswith(b"Usage: tbt FORM\n")), (2, b"", True))
 check("a wrong number", run(TBT, ["run", "65"], b""), (2, b"", b"tbt: run 65: CLIENTS_MAX is 1 to 64\n"))
 status, page, line = run(TBT, ["--help"], b"")
 check("the page of usage", (status, page.startswith(b"Usage: tbt FORM\n"), line), (0, True, b""))
@@ -509,8 +511,6 @@ check("8190 full accounts are a statement", (status, line, script[56:] == b"\xff
 check("one more is too many", run(TBT, ["script"], largest[:-1] + b", id=1;")[:2], (2, b""))
 check("/dev/full", subprocess.run([TBT, "--version"], stdout=open("/dev/full", "wb"), stderr=subprocess.PIPE).stderr, b"tbt: Device: standard output\n")
 check("its status", subprocess.run([TBT, "--version"], stdout=open("/dev/full", "wb"), stderr=subprocess.DEVNULL).returncode, 1)
-ran = subprocess.run([TBT, b"\xff"], stdin=subprocess.DEVNULL, capture_output=True)
-check("a word that is no text", (ran.returncode, ran.stdout, ran.stderr.startswith(b"Usage: tbt FORM\n")), (2, b"", True))
 
 # dumps: their pairs, their audit, and what is wrong
 

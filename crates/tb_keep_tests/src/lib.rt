@@ -6,6 +6,7 @@
 //! - `journal`: of tb_journal.
 //! - `log`: of tb_log.
 //! - `keep`: of tb_keep.
+//! - `keep_log`: of tb_keep_log.
 //! - `keep_commands`: of tb_keep_commands.
 #![tactic(auto)]
 
@@ -15,5 +16,7 @@ mod journal;
 mod keep;
 #[cfg(test)]
 mod keep_commands;
+#[cfg(test)]
+mod keep_log;
 #[cfg(test)]
 mod log;

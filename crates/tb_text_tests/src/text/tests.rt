@@ -269,7 +269,15 @@ fn messages(rt: HostRuntime) {
 
 /// Texts with control characters and letters of several bytes in them: no control character but the tab is shown, and the mark is
 /// right behind the last letter.
-const SHOWN: [(&str, &str); 11] = [
+const SHOWN: [(&str, &str); 13] = [
+    (
+        "client=0\r\nregister;",
+        "line 1, column 9: client is not 0\n  client=0\n          ^\n  expected a number from 1 to 2^128 - 1",
+    ),
+    (
+        "client=0x0 register;",
+        "line 1, column 11: client is not 0\n  client=0x0 register;\n            ^\n  expected a number from 1 to 2^128 - 1",
+    ),
     (
         "client=7 \u{1b}[2Jregister;",
         "line 1, column 10: found the byte 27\n  client=7 ?[2Jregister;\n           ^\n  expected at, session, request or register",
@@ -348,7 +356,11 @@ fn what_is_no_text(rt: HostRuntime) {
 
 /// Texts with words that statements do not have, and how the first line ends that is told of them: by the word that is one letter away,
 /// or two where it is longer than three letters, and by none where none is.
-const SUGGESTED: [(&str, &str); 20] = [
+const SUGGESTED: [(&str, &str); 21] = [
+    (
+        "client=7 request=1 create_accounts it=1;",
+        "unknown field 'it'; did you mean id?",
+    ),
     (
         "clint=7 register;",
         "unknown field 'clint'; did you mean client?",
