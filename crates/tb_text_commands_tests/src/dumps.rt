@@ -85,9 +85,25 @@ const AUDITED_REGISTER: &str = r#"{"profile":1,"clients_max":2}
 {"commit":"1","time":"1","client":"7","session":"0","request":0,"operation":"register","events":[]}
 "#;
 
+/// A dump of two entries with a mark between them, as objects.
+const DUMPED: &str = r#"{"profile":1,"clients_max":2}
+{"commit":"1","time":"1","client":"7","session":"0","request":0,"operation":"register","events":[]}
+{"profile":2}
+{"commit":"2","time":"9","client":"7","session":"1","request":4,"operation":"lookup_accounts","events":[{"id":"2"}]}
+"#;
+
 /// What became of each event, real amounts, an expiry, and how account 1 stood; whole dumps, and entries that do not follow
 /// from those before them.
-const DUMPS: [DumpRow; 6] = [
+const DUMPS: [DumpRow; 7] = [
+    DumpRow {
+        words: &["dump"],
+        profile: 1,
+        entries: &[(1, 1, REGISTER), (2, 9, LOOKUP)],
+        mark: Some(1),
+        status: 0,
+        output: DUMPED,
+        line: "",
+    },
     DumpRow {
         words: &["audit", "--account", "1"],
         profile: 1,
