@@ -13,7 +13,7 @@ For each load: nanoseconds of CPU time an event and bytes of memory an event, fr
 transfer on (what the accounts took is subtracted), the best of --turns runs (5; lean.rs runs twice,
 SQLite once, over a tenth of the events), and the ratios of tbs to the others. A ratio over its
 bound, in brackets, is marked with '>'. With --before PROGRAM an earlier tbs takes part in old-1m,
-which has a bound over it, or in the one load that is named.
+which has a bound over it, or in the one load that is named. In bulk-1m tbs also runs in huge pages.
 """
 import dataclasses
 import os
@@ -39,6 +39,11 @@ class Load:
     wanted: object = measure.is_transfers
     # The share of the events that comes before that request.
     before: float = 0
+
+    def part(self, scale):
+        """The same load with fewer accounts and events, for a trial of this script."""
+        accounts, events = self.accounts // scale, self.events // scale
+        return dataclasses.replace(self, accounts=accounts, events=events)
 
     def script(self, folder, events):
         """Its script of so many events, where the measured part begins, and how many it has."""
@@ -77,8 +82,10 @@ LOADS = {
         "lookups, 1,000,000 of each", "lookups", 10**6, HALF, wanted=measure.is_lookup
     ),
 }
+# tbs in huge pages, as docs/work/PERFORMANCE.md says, takes part in this load.
+HUGE, HUGE_PAGES = "bulk-1m", ["env", "GLIBC_TUNABLES=glibc.malloc.hugetlb=1"]
 # Servers that have no bound run less often.
-SELDOM = {"lean": 2}
+SELDOM = {"lean": 2, "huge": 2}
 BY_DEFAULT = [it for it in LOADS if it != "lookups-1m"]
 # What a bulk transfer at the second load may cost, compared with the first; and its memory.
 GROWTH = ("bulk-10k", "bulk-1m", 2.3)
@@ -144,10 +151,10 @@ def print_growth(costs):
         print(f"a bulk transfer, 1,000,000 accounts over 10,000: {found:.2f} ({bound}: {said})")
 
 
-def rows_of(costs, turns):
+def rows_of(costs, turns, scale=1):
     """Rows for runs.csv."""
     for name, found in costs.items():
-        load = LOADS[name]
+        load = LOADS[name].part(scale)
         for server, cost in found.items():
             once = server == "sqlite"
             size = load.events // 10 if once else load.events
@@ -159,17 +166,25 @@ def rows_of(costs, turns):
         )
 
 
-def run_loads(names, turns, folder, before=None):
-    """Prints the table of these loads; what each found, and whether all replies were the same. An
-    earlier tbs takes part in those that have a bound over it, or in the only one."""
+def taking_part(name, is_only, programs, before):
+    """The servers of a load: the peers; an earlier tbs where there is a bound over it, or no other
+    load; and tbs in huge pages in one load."""
+    taking = dict(programs)
+    if before and (is_only or "before" in LOADS[name].bounds):
+        taking["before"] = [before, "run", "64"]
+    if name == HUGE:
+        taking["huge"] = [*HUGE_PAGES, *programs["tbs"]]
+    return taking
+
+
+def run_loads(names, turns, folder, before=None, scale=1):
+    """Prints the table of these loads; what each found, and whether all replies were the same.
+    Sizes are a part of the loads' own, one of `scale`."""
     programs = measure.servers(folder, *measure.PEERS)
-    if before:
-        programs["before"] = [before, "run", "64"]
     all_costs, all_agree = {}, True
     for name in names:
-        has_before = len(names) == 1 or "before" in LOADS[name].bounds
-        taking = {it: programs[it] for it in programs if it != "before" or has_before}
-        costs, agree = run_load(LOADS[name], taking, turns, folder)
+        taking = taking_part(name, len(names) == 1, programs, before)
+        costs, agree = run_load(LOADS[name].part(scale), taking, turns, folder)
         print_load(LOADS[name], costs, agree)
         all_costs[name], all_agree = costs, all_agree and agree
     print_growth(all_costs)

@@ -7,7 +7,7 @@ Instructions, misses of an L2 cache of 1 MiB, and mispredicted branches, from th
 lookup) on: the counts of a script of --size events (20,000), less those of its beginning, a run
 each. They are the same on a busy machine. It needs valgrind and what compare.py needs. A count of
 instructions over its bound (single requests 2,800) is marked with '>'. The loads are those that are
-named, or five of them.
+named, or four of them.
 """
 import concurrent.futures
 import os
@@ -19,7 +19,7 @@ import rows
 import tried
 
 LOADS = ["rising", "chains", "single", "lookups", "expiring", "pending", "resolving", "random"]
-BY_DEFAULT = ["rising", "single", "expiring", "pending", "random"]
+BY_DEFAULT = ["rising", "single", "expiring", "random"]
 PEERS = ["hash", "plain", "lean"]
 BOUNDS = {"single": 2800}
 ACCOUNTS = 10_000

@@ -154,9 +154,9 @@ def await_idle(pid, pipe):
         time.sleep(0.002)
 
 
-def serve(words, script, cuts, replies):
+def serve(words, script, cuts, replies, at_cut=None):
     """Runs a server on a script; what it has used at each of these places in the script, and at
-    its end."""
+    its end. There `at_cut` is called with the number of its process, while it waits."""
     size = os.path.getsize(script)
     with open(script, "rb") as source, open(replies, "wb") as sink:
         child = subprocess.Popen(words, stdin=subprocess.PIPE, stdout=sink)
@@ -168,6 +168,8 @@ def serve(words, script, cuts, replies):
                     at += os.sendfile(pipe, source.fileno(), at, min(end - at, PIPE_BYTES))
                 await_idle(child.pid, pipe)
                 costs.append(cost_of(child.pid))
+                if at_cut:
+                    at_cut(child.pid)
         except (BrokenPipeError, FileNotFoundError):
             sys.exit(f"{words[0]} ended with {child.wait()} on {script}")
         finally:

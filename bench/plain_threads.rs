@@ -1,4 +1,4 @@
-//! Readers of a plain Rust store beside a writer, for comparison with seats: one RwLock round the maps of sessions, accounts
+//! Readers of a plain Rust store next to a writer, for comparison with seats: one RwLock round the maps of sessions, accounts
 //! and transfers.
 //! rustc -O -C target-cpu=x86-64-v2 plain_threads.rs && ./plain_threads THREADS READS [calm]
 //! With `calm` nothing is written.

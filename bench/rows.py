@@ -10,7 +10,13 @@ import measure
 TOP = pathlib.Path(__file__).resolve().parent.parent
 RUNS = TOP / "docs" / "work" / "runs.csv"
 # How a peer is called in a row.
-FILES = {"hash": "hash.rs", "plain": "plain.rs", "lean": "lean.rs", "sqlite": "sqlite.c"}
+FILES = {
+    "hash": "hash.rs",
+    "plain": "plain.rs",
+    "lean": "lean.rs",
+    "sqlite": "sqlite.c",
+    "huge": "tbs in huge pages",
+}
 
 
 @functools.cache
@@ -48,19 +54,35 @@ def key(it):
     return it["kind"], it["subject"], it["peer"], it["size"], it["unit"]
 
 
+def read():
+    """The names of the columns, and the rows."""
+    with open(RUNS, encoding="utf-8", newline="") as file:
+        reader = csv.DictReader(file)
+        return reader.fieldnames, [*reader]
+
+
+def keep(names, rows):
+    with open(RUNS, "w", encoding="utf-8", newline="") as file:
+        writer = csv.DictWriter(file, names, restval="", lineterminator="\n")
+        writer.writeheader()
+        writer.writerows(rows)
+
+
 def write(new):
     """Puts rows in the place of those that they supersede: of the same kind, subject, peer, size
     and unit."""
     new = [*new]
-    if not new:
-        return
-    superseded = {key(it) for it in new}
-    with open(RUNS, encoding="utf-8", newline="") as file:
-        reader = csv.DictReader(file)
-        names, old = reader.fieldnames, [*reader]
-    at = next((at for at, it in enumerate(old) if it["kind"] == new[0]["kind"]), len(old))
-    kept = [it for it in old[at:] if key(it) not in superseded]
-    with open(RUNS, "w", encoding="utf-8", newline="") as file:
-        writer = csv.DictWriter(file, names, restval="", lineterminator="\n")
-        writer.writeheader()
-        writer.writerows([*old[:at], *new, *kept])
+    names, found = read()
+    for kind in dict.fromkeys(it["kind"] for it in new):
+        of_kind = [it for it in new if it["kind"] == kind]
+        superseded = {key(it) for it in of_kind}
+        at = next((at for at, it in enumerate(found) if it["kind"] == kind), len(found))
+        rest = [it for it in found[at:] if key(it) not in superseded]
+        found = [*found[:at], *of_kind, *rest]
+    keep(names, found)
+
+
+def forget(kinds):
+    """Takes the rows of these kinds out."""
+    names, found = read()
+    keep(names, [it for it in found if it["kind"] not in kinds])

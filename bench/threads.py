@@ -156,10 +156,9 @@ def memory(turns, _folder, _requests):
         for kind in ("take", "memory")
         for size in (10, 60)
     }
-    took, alone = ((sizes[kind, 60] - sizes[kind, 10]) / (50 * 8190) for kind in ("take", "memory"))
-    print(
-        f"\nbytes a transfer: {took - alone:.0f} in history and copies, {alone:.0f} in one machine"
-    )
+    both, alone = ((sizes[kind, 60] - sizes[kind, 10]) / (50 * 8190) for kind in ("take", "memory"))
+    took = both - alone  # Takes are compared with applies, to one more machine.
+    print(f"\nbytes a transfer: {took:.0f} in a publisher, {alone:.0f} in one machine")
     for subject, found in (("one machine", alone), ("a publisher", took)):
         yield rows.row(
             "bench", subject, "", 50 * 8190, round(found), "bytes a transfer", "50 batches of 8190"

@@ -396,6 +396,12 @@ def tables(path):
         return contents(connection)
 
 
+def follows(process, path, commit):
+    """Says that a load has started both its programs, and its database this entry."""
+    with open(f"/proc/{process.pid}/task/{process.pid}/children", encoding="ascii") as file:
+        return len(file.read().split()) == 2 and reached(path) >= commit
+
+
 def part_live(given, room):
     """A file that is followed while a server adds to it. The load and the server are killed amid
     that, and begin again."""
@@ -425,7 +431,7 @@ def part_live(given, room):
     feeding.join()
     process = subprocess.Popen(words)
     deadline = time.monotonic() + PATIENCE
-    while reached(path) < ledger.commit and time.monotonic() < deadline:
+    while not follows(process, path, ledger.commit) and time.monotonic() < deadline:
         time.sleep(0.2)
     process.send_signal(signal.SIGTERM)
     status = process.wait(PATIENCE)

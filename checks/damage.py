@@ -2,7 +2,7 @@
 """Damaged frames, scripts and dumps, through the readers and through the built program. First build
 both:
 
-    (cd crates/tb_read && rt run) < crates/tb_read/stdin > /dev/null
+    (cd crates/tb_refusals && rt run -- take 2) < examples/first.script > /dev/null
     (cd crates/tbs && rt run -- run 2) < examples/first.script > /dev/null
     checks/damage.py [FRAMES [SEED]]
 
@@ -25,7 +25,7 @@ import time
 import tried
 
 TOP = os.path.dirname(os.path.dirname(os.path.abspath(__file__)))
-PROGRAM, READER = f"{TOP}/crates/tbs/out/tbs", f"{TOP}/crates/tb_read/out/tb_read"
+PROGRAM, READER = f"{TOP}/crates/tbs/out/tbs", f"{TOP}/crates/tb_refusals/out/tb_refusals"
 MAX_TIME = 2**63 - 1
 ITEMS_MAX = 8190
 REGISTER, ACCOUNTS, TRANSFERS, LOOK_ACCOUNTS, LOOK_TRANSFERS = 2, 129, 130, 131, 132
@@ -585,6 +585,47 @@ def through_program(chance, frames):
     return failed
 
 
+def kept_as(status, commit, length=0, operation=ACCOUNTS, request=1):
+    """The header of a reply to client 7 in session 1."""
+    head = struct.pack("<QIBB2xIQ4x", 1, request, operation, status, length, commit)
+    return (7).to_bytes(16, "little") + head
+
+
+def worked():
+    """Frames behind their kinds, and the line that each gets by docs/use/FORMATS.md."""
+    lookup = header(7, 1, 1, LOOK_ACCOUNTS, 16)
+    return (
+        (1, header(7, 0, 0, REGISTER, 0), 0),
+        (1, header(0, 0, 0, REGISTER, 0), NUMBERS["ClientZero"]),
+        (1, header(7, 0, 0, 3, 0), NUMBERS["UnknownOperation"]),
+        (1, header(7, 1, 0, REGISTER, 0), NUMBERS["RegisterNumbers"]),
+        (1, header(7, 1, 0, LOOK_ACCOUNTS, 0), NUMBERS["RequestZero"]),
+        (1, header(7, 1, 1, LOOK_ACCOUNTS, 15), NUMBERS["BadLength"]),
+        (1, header(7, 1, 1, ACCOUNTS, 8191 * 128), NUMBERS["TooMany"]),
+        (1, lookup, NUMBERS["Short"]),
+        (1, lookup[:47], NUMBERS["Short"]),
+        (1, lookup + bytes(16), 0),
+        (2, kept_as(0, 1, operation=REGISTER, request=0), 0),
+        (2, kept_as(0, 2, operation=REGISTER, request=0), NUMBERS["ReplyNumbers"]),
+        (2, kept_as(8, 2), NUMBERS["Reserved"]),
+        (2, kept_as(0, 2, length=8) + bytes(8), 0),
+        (2, kept_as(4, 0), 0),
+        (3, b"", 255),
+    )
+
+
+def read_worked():
+    """Gives the readers the frames of `worked`. Answers how many were answered wrongly."""
+    given = [struct.pack("<BI", kind, len(frame)) + frame for kind, frame, _ in worked()]
+    status, output, told = run([READER, "read"], b"".join(given), 65536)
+    answers = output.split(b"\n")[:-1]
+    right = [str(line).encode() for _, _, line in worked()]
+    if status == 0 and not told and answers == right:
+        return 0
+    print(f"FAILED: the worked frames: {status}, {told}, {answers}, wanted {right}")
+    return 1
+
+
 def read_batch(chance, count):
     """Gives the readers so many damaged frames of requests and replies. Answers the faults, and
     how many were answered wrongly."""
@@ -600,7 +641,7 @@ def read_batch(chance, count):
         other = right
         given.append(struct.pack("<BI", kind, len(frame)) + frame)
         wanted.append(fault_of(frame))
-    status, output, told = run([READER], b"".join(given), 65536)
+    status, output, told = run([READER, "read"], b"".join(given), 65536)
     answers = output.split(b"\n")[:-1]
     right = [str(NUMBERS[fault] if fault else 0).encode() for fault in wanted]
     if status != 0 or told or len(answers) != count:
@@ -638,7 +679,7 @@ def main():
     frames = given.frames
     print(f"seed {given.seed}")
     chance, start = random.Random(given.seed), time.monotonic()
-    failed = through_readers(chance, frames) + through_program(chance, frames)
+    failed = read_worked() + through_readers(chance, frames) + through_program(chance, frames)
     print(
         f"{time.monotonic() - start:.0f} seconds; "
         f"{'0 failed' if not failed else f'{failed} failed'}"

@@ -7,18 +7,20 @@
 A row of runs.csv is one run of the gate, of a crate, of a benchmark or of a check;
 docs/work/PROVING.md has its columns. A block of a page is between `<!-- figures: NAME -->` and
 `<!-- end of figures -->`. A block that no page has, a block without a writer, a row with an unknown
-kind, without a date or with a commit that git does not know are failures too.
+kind, without a date or with a commit that git does not know are failures too; so are benchmarks
+that are not all of one commit and one machine, and a whole run of the gate that took more CPU time
+than GATE_CPU.
 """
 import collections
-import csv
 import pathlib
 import re
 import subprocess
 
+import measured
 import tried
+from measured import of_kind, rows, table
 
 ROOT = pathlib.Path(__file__).resolve().parent.parent
-RUNS = ROOT / "docs/work/runs.csv"
 COLUMNS = [
     "kind",
     "date",
@@ -42,6 +44,7 @@ KINDS = {
     "bench",
     "bound",
     "growth",
+    "profile",
     "instructions",
     "reads",
     "check",
@@ -49,32 +52,9 @@ KINDS = {
     "edit",
     "form",
 }
+# CPU minutes of a whole run of the gate on the fast machine: at most, and wanted.
+GATE_CPU = (114, 100)
 BLOCK = re.compile(r"(<!-- figures: (\w+) -->\n)(.*?)(<!-- end of figures -->)", re.S)
-LOADS = {
-    "rising": "rising: batches of 8190, rising ids",
-    "chains": "chains of 5, each tenth broken",
-    "single": "single-transfer requests of 60 clients",
-    "lookups": "lookups",
-    "mixed": "mixed, right and wrong events",
-    "expiring": "expiring pending transfers",
-    "pending": "pending, then post or void",
-    "random": "random ids",
-}
-
-
-def rows() -> list[dict[str, str]]:
-    """The rows of runs.csv, the newest of a kind first."""
-    with open(RUNS, encoding="utf-8", newline="") as file:
-        return list(csv.DictReader(file))
-
-
-def of_kind(kind: str) -> list[dict[str, str]]:
-    return [row for row in rows() if row["kind"] == kind]
-
-
-def table(head: str, lines: list[str]) -> str:
-    columns = head.count("|") - 1
-    return "\n".join([head, "|" + "---|" * columns, *lines]) + "\n"
 
 
 def outcome(row: dict[str, str]) -> str:
@@ -161,71 +141,6 @@ def edits() -> str:
     )
 
 
-def ratio(subject: str, peer: str, size: str, kind: str = "bench") -> str:
-    found = [
-        it
-        for it in of_kind(kind)
-        if (it["subject"], it["peer"], it["size"]) == (subject, peer, size)
-    ]
-    return found[0]["value"] if found else "none"
-
-
-def run() -> str:
-    """CPU time of `tbs run`, compared with both baselines."""
-    lines = []
-    for load, text in LOADS.items():
-        cells = [
-            ratio(f"tbs run, {load}", peer, size)
-            for size in ("100000", "1000000")
-            for peer in ("plain.rs", "lean.rs")
-        ]
-        cells += [
-            ratio(f"tbs run, {load}", "plain.rs", size, "bound") for size in ("100000", "1000000")
-        ]
-        lines.append(f"| {text} | {' | '.join(cells)} |")
-    head = (
-        "| Load | 100,000: over plain.rs | over lean.rs "
-        "| 1,000,000: over plain.rs | over lean.rs | "
-        "bound over plain.rs, 100,000 | 1,000,000 |"
-    )
-    return table(head, lines)
-
-
-def instructions() -> str:
-    """Of an event the instructions, compared with both baselines."""
-    said = []
-    for peer in ("plain.rs", "lean.rs"):
-        shares = sorted(
-            (int(mine) / int(ratio(f"run, {load}", peer, "20000", "instructions")), load)
-            for load in LOADS
-            if (mine := ratio(f"run, {load}", "tbs", "20000", "instructions"))
-        )
-        (least, first), (most, last) = shares[0], shares[-1]
-        said.append(f"{least:.2f} ({first}) to {most:.2f} ({last}) of those of {peer}")
-    return f"By callgrind, over 20,000 events, `tbs` runs {said[0]},\nand {said[1]}.\n"
-
-
-def takes() -> str:
-    wanted = {it["subject"]: it["value"] for it in of_kind("bound")}
-    lines = [
-        f"| {it['subject']} | {it['value']} | {wanted.get(it['subject'], '')} |"
-        for it in of_kind("bench")
-        if it["peer"] == "apply"
-    ]
-    return table("| | CPU time over that of an apply | bound |", lines)
-
-
-def ports() -> str:
-    wanted = {it["subject"]: it["value"] for it in of_kind("bound")}
-    lines = [
-        f"| {it['subject']} | {it['value']} | {wanted.get(it['subject'].split(',')[0], '')} | "
-        f"{it['note']} |"
-        for it in of_kind("bench")
-        if it["peer"] == "Mutex"
-    ]
-    return table("| Ports | time over that behind a Mutex | bound | |", lines)
-
-
 def checks() -> str:
     lines = [
         f"| {it['subject']} | {when(it)} | {it['passed']} passed, {it['failed']} failed "
@@ -260,14 +175,10 @@ WRITERS = {
         first_reply,
         crates,
         edits,
-        run,
-        instructions,
-        takes,
-        ports,
         checks,
         form,
     )
-}
+} | measured.WRITERS
 
 
 def pages() -> list[pathlib.Path]:
@@ -294,6 +205,26 @@ def check_rows() -> None:
             == 0
         )
         tried.case(f"runs.csv: commit {commit}", known, "git does not know it", quietly=True)
+    together = {
+        f"{row['commit']} on {row['machine']}"
+        for kind in measured.TOGETHER
+        for row in of_kind(kind)
+    }
+    tried.case(
+        "runs.csv: benchmarks of one commit and one machine",
+        len(together) <= 1,
+        ", ".join(sorted(together)),
+        quietly=True,
+    )
+
+
+def check_gate() -> None:
+    """The newest whole run of the gate on the fast machine took no more CPU time than it may."""
+    bound, wanted = GATE_CPU
+    whole = (it for it in of_kind("gate") if is_whole(it) and it["cpu_minutes"])
+    found = next(it for it in whole if it["machine"] == "fast")
+    said = f"{found['cpu_minutes']} at {found['commit']}; bound {bound}, wanted {wanted}"
+    tried.case("CPU minutes of the gate, fast", int(found["cpu_minutes"]) <= bound, said)
 
 
 def main() -> int:
@@ -301,6 +232,7 @@ def main() -> int:
     parser.add_argument("--write", action="store_true", help="write the blocks")
     writes, seen = parser.parse_args().write, set()
     check_rows()
+    check_gate()
     for page in pages():
         text = page.read_text()
 

@@ -17,8 +17,8 @@ import tried
 # Walks by their headings: how many files each goes through at most, and how many are wanted.
 BOUNDS = {
     "A transfer, in one thread": (27, 18),
-    "A port's call": (17, 15),
     "A start of a kept file": (22, 16),
+    "A port's call": (17, 15),
 }
 # What no function of the walk calls: the server's thread begins there, or left_right calls it.
 ROOTS = {

@@ -4,7 +4,7 @@
 - Each Rust example of a page CALLING.md is there word for word, but for its imports, in a crate
   that the gate proves.
 - The head of each crate's lib.rt or main.rt lists the modules of that crate, all of them and no
-  other; where it lists those of a module, these too.
+  other; where it lists those of a module, these too. So does the head of a module that lists any.
 - The first statements of README.md are those of examples/retry.text, which its first command reads.
 - Each name that a walk of docs/work/ARCHITECTURE.md gives as `module::function` or `Type::call` is
   there, in the crate that comes before it; so is each file that docs/work/ARCHITECTURE.md names,
@@ -45,7 +45,7 @@ def without_imports(block: str) -> str:
 @functools.cache
 def code() -> str:
     """The source files of all crates."""
-    return "\n".join(path.read_text() for path in sorted(ROOT.glob("crates/*/src/*.rt")))
+    return "\n".join(path.read_text() for path in sorted(ROOT.glob("crates/*/src/**/*.rt")))
 
 
 def stands(block: str) -> bool:
@@ -67,23 +67,35 @@ def modules(text: str) -> set[str]:
     return set(re.findall(r"^(?:pub(?:\(crate\))? )?mod (\w+);", text, re.M))
 
 
+def listed(text: str) -> set[str]:
+    """The modules that the head of a file lists."""
+    return set(re.findall(r"^//! - `(\w+)`:", text, re.M))
+
+
 def heads():
-    """The head of each crate, and the modules that it does not list, or that are not there."""
+    """The head of each crate, and the modules that it does not list, or that are not there; and
+    that of each module that lists its own."""
     for crate in sorted(CRATES.iterdir()):
         for root in ("lib.rt", "main.rt"):
             path = crate / "src" / root
             if path.exists():
                 text = path.read_text()
-                wrong = modules(text) ^ set(re.findall(r"^//! - `(\w+)`:", text, re.M))
+                wrong = modules(text) ^ listed(text)
                 for module, nested in re.findall(
                     r"^//! - `(\w+)`:.*\n((?://!   .*\n)+)", text, re.M
                 ):
-                    listed = set(re.findall(r"^//!   - `(\w+)`:", nested, re.M))
-                    if listed:
-                        wrong |= modules((crate / "src" / f"{module}.rt").read_text()) ^ listed
+                    inner = set(re.findall(r"^//!   - `(\w+)`:", nested, re.M))
+                    if inner:
+                        wrong |= modules((crate / "src" / f"{module}.rt").read_text()) ^ inner
                 yield path.relative_to(
                     ROOT
                 ), f"not listed, or not there: {' '.join(sorted(wrong))}" if wrong else None
+    for path in sorted(CRATES.glob("*/src/**/*.rt")):
+        text = path.read_text()
+        if path.name not in ("lib.rt", "main.rt") and modules(text) and listed(text):
+            wrong = modules(text) ^ listed(text)
+            said = f"not listed, or not there: {' '.join(sorted(wrong))}"
+            yield path.relative_to(ROOT), said if wrong else None
 
 
 @functools.cache

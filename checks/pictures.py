@@ -9,11 +9,13 @@ file. A picture is an SVG with its own colours for light and dark. A crate that 
 crates does not place, a picture that no page shows, and an SVG in docs/pictures that is not drawn
 here fail too. Screenshots (PNG) are made by checks/books.py.
 """
+import math
 import pathlib
 import re
 from html import escape
 
 import figures
+import measured
 import repository
 import tried
 
@@ -319,10 +321,11 @@ def crash() -> str:
 # Bars
 
 
-def bars(title, rows, names, unit, bounds=None, scale=None) -> str:
+def bars(title, rows, names, unit, bounds=None, scale=None, left=190) -> str:
     """Groups of bars: a row has a name and a value for each of the names; a red mark is a bound."""
-    left, wide, high, gap = 190, 430, 14, 14
-    most = scale or max(value for _, values in rows for value in values if value is not None) * 1.05
+    wide, high, gap = 430, 14, 14
+    drawn = [value for _, values in rows for value in values if value is not None]
+    most = scale or max(drawn, default=1) * 1.05
     parts, y = [text(16, 26, title, "head ink")], 44
     for at, name in enumerate(names):
         parts += [
@@ -360,48 +363,24 @@ def bars(title, rows, names, unit, bounds=None, scale=None) -> str:
     return picture(left + wide + 160, y + 24, title, parts)
 
 
-def number(subject: str, peer: str, size: str, kind: str = "bench"):
-    found = figures.ratio(subject, peer, size, kind)
-    return None if found == "none" else float(found)
+SERVERS = {"tbs": "tbs", **measured.PEERS}
 
 
 def speed() -> str:
-    rows = [
-        (
-            load,
-            [
-                number(f"tbs run, {load}", peer, size)
-                for peer, size in (
-                    ("plain.rs", "100000"),
-                    ("plain.rs", "1000000"),
-                    ("lean.rs", "100000"),
-                    ("lean.rs", "1000000"),
-                )
-            ],
-        )
-        for load in figures.LOADS
-    ]
-    bounds = [number(f"tbs run, {load}", "plain.rs", "100000", "bound") for load in figures.LOADS]
-    names = [
-        "over plain.rs, 100,000",
-        "over plain.rs, 1,000,000",
-        "over lean.rs, 100,000",
-        "over lean.rs, 1,000,000",
-    ]
-    unit = (
-        "CPU time of tbs run over that of a baseline; below 1 is faster. "
-        "Red: the bound over plain.rs at 100,000 events"
-    )
-    return bars("tbs run compared with two baselines", rows, names, unit, bounds)
+    names = [it for it in SERVERS if it != "sqlite.c"]
+    rows = [(load, [measured.each(load, name) for name in names]) for load in measured.loads()]
+    unit = "nanoseconds of CPU time an event, the accounts' making subtracted"
+    return bars("What an event costs", rows, [SERVERS[it] for it in names], unit, left=390)
 
 
 def kept() -> str:
-    loads = [it for it in figures.LOADS if number(f"tbd run, {it}", "tbs run", "100000")]
+    found = [it for it in measured.of_kind("bench") if it["peer"] == "tbs run"]
+    forms = ("tbd run", "tbd start")
     rows = [
-        (it, [number(f"{form}, {it}", "tbs run", "100000") for form in ("tbd run", "tbd start")])
-        for it in loads
+        (load, [measured.value("bench", subject=f"{form}, {load}") for form in forms])
+        for load in measured.distinct(it["subject"].rpartition(", ")[2] for it in found)
     ]
-    bounds = [number("tbd run", "tbs run", "100000", "bound")] * len(rows)
+    bounds = [measured.most(f"tbd run, {load}", "tbs run") for load, _ in rows]
     return bars(
         "A ledger in a file compared with tbs run",
         rows,
@@ -411,9 +390,20 @@ def kept() -> str:
     )
 
 
+def ports() -> str:
+    found = [it for it in measured.of_kind("bench") if it["peer"] == "Mutex"]
+    rows = [
+        (f"{it['subject']}, {int(it['size']):,} accounts", [float(it["value"])]) for it in found
+    ]
+    bounds = [measured.most(it["subject"], "Mutex", it["size"]) for it in found]
+    unit = "time over that of a plain machine behind a Mutex. Red: the bound"
+    return bars("Requests through ports", rows, ["ports"], unit, bounds, left=270)
+
+
 def reads() -> str:
-    found = {(it["subject"], it["peer"]): float(it["value"]) for it in figures.of_kind("reads")}
-    subjects = list(dict.fromkeys(subject.rsplit(", ", 1)[0] for subject, _ in found))
+    of = measured.of_kind("reads")
+    found = {(it["subject"], it["peer"]): float(it["value"]) for it in of}
+    subjects = measured.distinct(subject.rsplit(", ", 1)[0] for subject, _ in found)
     kinds = [
         ("seats", "no writer"),
         ("RwLock", "no writer"),
@@ -430,7 +420,81 @@ def reads() -> str:
     )
 
 
-DRAWN = (crates, request, copies, machines, crash, speed, kept, reads)
+# Lines
+
+LINES = """<style>
+  .to1, .to2, .to3, .to4 { fill: none; stroke-width: 2; }
+  .to1 { stroke: #3572b0; } .to2 { stroke: #c9822b; } .to3 { stroke: #5d8f4e; }
+  .to4 { stroke: #9a6bb0; } .grid { stroke: #59636e; opacity: 0.25; }
+  @media (prefers-color-scheme: dark) {
+    .to1 { stroke: #4f93d6; } .to2 { stroke: #d39a4a; } .to3 { stroke: #7db36c; }
+    .to4 { stroke: #b58acb; } .grid { stroke: #9aa7b4; }
+  }
+</style>"""
+
+
+def panel(left, title, ticks, sizes, series) -> list[str]:
+    """Lines over sizes from 10,000 on, both axes by logarithm; a line is a list of values, None
+    where there is none."""
+    top, wide, high = 84, 300, 210
+    low, most = math.log10(ticks[0]), math.log10(ticks[-1])
+
+    def x(at):
+        return left + (at / max(1, len(sizes) - 1)) * wide
+
+    def y(value):
+        return top + high - (math.log10(value) - low) / (most - low) * high
+
+    parts = [text(left, top - 12, title, "soft small")]
+    for tick in ticks:
+        parts.append(f'<path d="M{left} {y(tick):.1f} h{wide}" class="grid"/>')
+        parts.append(text(left - 6, y(tick) + 4, f"{tick:,}", "soft small", "end"))
+    for at, size in enumerate(sizes):
+        parts.append(text(x(at), top + high + 18, f"{size:,}", "soft small", "middle"))
+    for at, values in enumerate(series, 1):
+        points = [(x(place), y(it)) for place, it in enumerate(values) if it is not None]
+        path = " L".join(f"{px:.1f} {py:.1f}" for px, py in points)
+        parts.append(f'<path d="M{path}" class="to{at}"/>')
+        parts += [
+            f'<circle cx="{px:.1f}" cy="{py:.1f}" r="3" class="bar{at}"/>' for px, py in points
+        ]
+    return parts
+
+
+def ticks_for(series) -> list[int]:
+    """The ticks of an axis by logarithm, from below the least value to above the greatest."""
+    values = [it for one in series for it in one if it is not None] or [200, 500]
+    ticks = [first * 10**power for power in range(2, 6) for first in (1, 2, 5)]
+    least = max([it for it in ticks if it <= min(values)], default=ticks[0])
+    return [it for it in ticks if it >= least and it / 2.5 < max(values)]
+
+
+def sizes() -> str:
+    found = measured.of_kind("growth")
+    names = measured.distinct(it["peer"] for it in found)
+    steps = sorted({int(it["size"]) for it in found})
+    title = "A bulk transfer as a ledger grows"
+    parts = [LINES, text(16, 26, title, "head ink")]
+    for at, name in enumerate(names):
+        left = 16 + 150 * at
+        parts += [
+            f'<rect x="{left}" y="40" width="12" height="12" class="bar{at + 1}"/>',
+            text(left + 17, 51, SERVERS.get(name, name), "soft small"),
+        ]
+    for left, unit, label in (
+        (64, "ns a transfer", "nanoseconds of CPU time"),
+        (450, "bytes a transfer", "bytes of memory"),
+    ):
+        series = [
+            [measured.value("growth", peer=it, size=str(size), unit=unit) for size in steps]
+            for it in names
+        ]
+        title_of = f"{label}, by accounts and transfers"
+        parts += panel(left, title_of, ticks_for(series), steps, series)
+    return picture(790, 326, title, parts)
+
+
+DRAWN = (crates, request, copies, machines, crash, speed, sizes, ports, kept, reads)
 PICTURES = {it.__name__: it for it in DRAWN}
 
 
@@ -459,7 +523,9 @@ def main() -> int:
         )
     photographed = "".join(it.read_text() for it in figures.pages())
     for path in FOLDER.glob("*.png"):
-        tried.case(path.relative_to(ROOT), path.name in photographed, "no page shows it")
+        tried.case(
+            path.relative_to(ROOT), path.name in photographed, "no page shows it", quietly=True
+        )
     return tried.status()
 
 

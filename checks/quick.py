@@ -24,6 +24,7 @@ CHECKS = {
     "hops": ["checks/hops.py"],
     "words": ["checks/words.py"],
     "figures": ["checks/figures.py"],
+    "measured": ["checks/measured.py"],
     "pictures": ["checks/pictures.py"],
     "blocks": ["checks/blocks.py"],
     "shape": ["checks/shape.py", "--bounds"],

@@ -405,7 +405,7 @@ def growths(refuser):
         )
         each_growth(
             refuser,
-            f"calls beside a server, {name}",
+            f"calls next to a server, {name}",
             "call",
             clients,
             script.bytes,

@@ -26,7 +26,7 @@ import tried
 TOP = os.path.dirname(os.path.dirname(os.path.abspath(__file__)))
 SHARED, DIFFERENT = 6, 4
 # So many pairs there are today: none is wanted, and no more are let in.
-PAIRS = 24
+PAIRS = 23
 LEFT_OUT = re.compile(r"//|#!?\[|(?:pub(?:\(\w+\))? )?mod \w+;|[\])}>;,\s]*$")
 IMPORT = re.compile(r"(?:ghost )?(?:pub(?:\(\w+\))? )?use ")
 KEPT = set(
@@ -108,7 +108,9 @@ def main():
         f"{len(rows)} pairs of places share {SHARED} lines or more, {sum(row[0] for row in rows)} "
         "lines in all"
     )
-    return 1 if len(rows) > PAIRS and not by_shape else 0
+    if not by_shape and not crates:
+        tried.case("pairs", len(rows) <= PAIRS, f"{len(rows)}; bound {PAIRS}, wanted 0")
+    return int(tried.failed > 0)
 
 
 if __name__ == "__main__":

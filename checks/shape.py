@@ -11,10 +11,11 @@
 use` among them. `cited` are the lines of the definitions that public contracts cite: of the files
 of specs/ that Lib.antt does not list for private functions alone. A clause is measured joined: its
 lines put together with single spaces, without the indent, since `rt fmt` wraps long ones. `public
->160` are those of functions that are `pub`. `casts` are result codes that become numbers by `as`.
+>160` are those of functions that are `pub`. `ghost >160` are what impls promise by a line such as
+`ghost invariant = {..}`. `casts` are result codes that become numbers by `as`.
 
-The bounds hold for the product's crates (in crates.txt before the line '# Tools'), those of bodies
-and casts for all. A bound is what the code has today; where a figure falls, lower its bound.
+The bounds of clauses hold for the product's crates (in crates.txt before the line '# Tools'), the
+others for all. A bound is what the code has today; where a figure falls, lower its bound.
 
 It reads the sources alone.
 """
@@ -40,17 +41,30 @@ COLUMNS = (
     ">100",
     ">160",
     "public >160",
+    "ghost >160",
     ">8 clauses",
     ">=40 lines",
     "casts",
 )
-CLAUSES_OVER_100 = 0.198  # wanted: 0.10
+CLAUSES_OVER_100 = 0.203  # wanted: 0.10
 # Each figure with a bound: what it has today, and what is wanted.
-BOUNDS = {">160": (138, 0), ">8 clauses": (10, 0), ">=40 lines": (1, 0), "casts": (7, 0)}
+BOUNDS = {
+    "lines": (113537, 74500),
+    "imports": (11477, 4700),
+    ">160": (134, 0),
+    "ghost >160": (8, 0),
+    ">8 clauses": (12, 0),
+    ">=40 lines": (1, 0),
+    "casts": (7, 0),
+}
+# The figures that are those of the product's crates alone.
+PRODUCT_ALONE = (">160", "ghost >160")
+CRATES = (33, 31)
 # Lines of imports in a file of proofs, on average: what there are today, and what tb_ledger has.
-IMPORTS_A_FILE = (6.4, 3.8)
+IMPORTS_A_FILE = (6.12, 3.8)
 IMPORT = re.compile(r"\s*(?:pub(?:\([a-z]+\))? )?(?:ghost )?use ")
-CLAUSE = re.compile(r"\s+(?:requires|ensures|invariant) ?(?:\w+ )?\{")
+CLAUSE = re.compile(r"\s+(?:requires|ensures|invariant)\*? ?(?:\w+ )?\{")
+GHOST = re.compile(r"\s+ghost \w+ = \{")
 FUNCTION = re.compile(r"(\s*)(?:pub(?:\([a-z]+\))? )?(?:const |unsafe )*fn (\w+)")
 PRIVATE = re.compile(r"\s*--.*private")
 CAST = re.compile(r"(?:(?:Result|Code)::\w+|\b(?:result|code)(?:\.\w+)*) as u(?:16|32)\b")
@@ -136,6 +150,10 @@ def measured(crate, listed):
                 row[">160"] += length > 160
                 if listed and length > 160:
                     print(f"{short}:{at + 1}: {length} columns")
+            if GHOST.match(line) and joined(text, at) > 160:
+                row["ghost >160"] += 1
+                if listed:
+                    print(f"{short}:{at + 1}: {joined(text, at)} columns")
             row["casts"] += len(CAST.findall(line))
         for name, at, body, clauses in functions(path):
             row["functions"] += 1
@@ -190,8 +208,10 @@ def check_bounds():
     bound, wanted = IMPORTS_A_FILE
     said = f"{found:.2f}; bound {bound}, wanted {wanted}"
     tried.case("lines of imports in a file of proofs", found <= bound, said)
+    found, (bound, wanted) = len(crates_listed()), CRATES
+    tried.case("crates", found <= bound, f"{found}; bound {bound}, wanted {wanted}")
     for figure, (bound, wanted) in BOUNDS.items():
-        found = product[figure] if figure == ">160" else every[figure]
+        found = product[figure] if figure in PRODUCT_ALONE else every[figure]
         tried.case(figure, found <= bound, f"{found}; bound {bound}, wanted {wanted}")
     return tried.status()
 

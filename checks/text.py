@@ -26,6 +26,9 @@ TOP = os.path.dirname(os.path.dirname(os.path.abspath(__file__)))
 TBT = f"{TOP}/crates/tbt/out/tbt"
 TBS = f"{TOP}/crates/tbs/out/tbs"
 
+tried.arguments(__doc__).parse_args()
+tried.built(TBT, TBS)
+
 
 def run(program, words, data):
     return tried.ran([program, *words], data)
@@ -370,7 +373,7 @@ for name, short, whole in [
     ("its session and its next number", b"client=7 session=3 request=5 lookup_accounts; lookup_accounts id=1;", b"client=7 session=3 request=5 lookup_accounts; client=7 session=3 request=6 lookup_accounts id=1;"),
     ("of each client", b"client=7 session=3 request=5 lookup_accounts; client=8 session=4 lookup_accounts; client=0x7 lookup_accounts id=1;", b"client=7 session=3 request=5 lookup_accounts; client=8 session=4 request=1 lookup_accounts; client=7 session=3 request=6 lookup_accounts id=1;"),
     ("a new session", b"client=7 session=3 request=5 lookup_accounts; at=9 session=4 lookup_accounts;", b"client=7 session=3 request=5 lookup_accounts; at=9 client=7 session=4 request=1 lookup_accounts;"),
-    ("a session that is left out beside client and request", b"client=7 session=3 request=5 lookup_accounts; client=7 request=6 lookup_accounts;", b"client=7 session=3 request=5 lookup_accounts; client=7 session=0 request=6 lookup_accounts;"),
+    ("a session that is left out next to client and request", b"client=7 session=3 request=5 lookup_accounts; client=7 request=6 lookup_accounts;", b"client=7 session=3 request=5 lookup_accounts; client=7 session=0 request=6 lookup_accounts;"),
 ]:
     check(f"script fills in {name}", (run(TBT, ["script"], short)[::2], run(TBT, ["script"], short)[1]), ((0, b""), run(TBT, ["script"], whole)[1]))
 for name, text, place in [

@@ -15,7 +15,9 @@ import sys
 
 TOP = os.path.dirname(os.path.dirname(os.path.dirname(os.path.abspath(__file__))))
 sys.dont_write_bytecode = True
-sys.path[:0] = [f"{TOP}/embed/python", f"{TOP}/clients/python"]
+sys.path[:0] = [f"{TOP}/checks", f"{TOP}/embed/python", f"{TOP}/clients/python"]
+
+import tried  # noqa: E402
 
 # Each kind: the file of its definitions with the words for the number and the text, the enum and
 # the prefix in C, the name in Rust and in Python.
@@ -440,13 +442,11 @@ def in_pages(page):
 
 
 def main():
-    passed = failed = 0
+    tried.arguments(__doc__).parse_args()
     for what, holds, why in comparisons():
-        passed, failed = passed + holds, failed + (not holds)
-        print(f"ok: {what}" if holds else f"FAILED: {what}: {why}")
-    print(f"{passed} passed, {failed} failed")
-    return failed != 0
+        tried.case(what, holds, "" if holds else why)
+    return tried.status()
 
 
 if __name__ == "__main__":
-    sys.exit(main())
+    tried.main(main)

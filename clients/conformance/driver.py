@@ -234,7 +234,7 @@ class Run:
             beside = sorted(os.listdir(self.folder))
             kept = [it for it in beside if not it.endswith(".sock")]
             if kept != [step["file"]]:
-                raise Failed(f"beside the file stand {kept}")
+                raise Failed(f"next to the file are {kept}")
 
     @staticmethod
     def is_file(path, wanted):

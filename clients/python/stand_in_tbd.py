@@ -216,7 +216,7 @@ def begin(path, clients_max, profile):
 
 
 def pairs():
-    """The moments and frames of standard input, each with whether the next one is at hand."""
+    """The moments and frames of standard input, each with whether the next one is buffered."""
     data = b""
     while True:
         while len(data) >= 56 and len(data) >= (size := 56 + int.from_bytes(data[40:44], "little")):
@@ -270,12 +270,20 @@ def commit(file, entries, replies, ends_at):
     write(file, entries[:-1])
     ends_at("half")
     write(file, entries[-1:])
+    write_again(file, entries[-1:])
     os.fdatasync(file)
     ends_at("kept")
     write(1, replies[:-1])
     ends_at("part")
     write(1, replies[-1:])
     ends_at("told")
+
+
+def write_again(file, byte):
+    """Writes the last byte again: a commit of tbd writes one byte more than the file grows by."""
+    if byte:
+        with open(f"/proc/self/fd/{file}", "r+b", buffering=0) as it:
+            os.pwrite(it.fileno(), byte, os.fstat(file).st_size - 1)
 
 
 def tell(word, data):

@@ -3,16 +3,20 @@ systemd passes, counts and evictions. Certificates are made by openssl for one r
 
     python3 -m unittest test_access
 """
+import concurrent.futures
 import contextlib
+import fcntl
 import json
 import os
 import pwd
 import shutil
+import signal
 import socket
 import ssl
 import subprocess
 import sys
 import tempfile
+import termios
 import time
 import unittest
 import urllib.request
@@ -20,6 +24,7 @@ import urllib.request
 import tb_client as tb
 from tb_client import Session, Socket
 from test_listen import HERE, KEEPER, Running, register, told
+from test_tb_client import PROGRAM
 
 sys.path.append(os.path.join(HERE, "..", "conformance"))
 import certificates  # noqa: E402
@@ -86,7 +91,7 @@ class OverTLS(unittest.TestCase):
         with self.listening("--client-ca", self.paths["ca"]) as (listener, place):
             for name in (None, "gone", "forged"):
                 with self.subTest(name):
-                    self.fault(place, name)
+                    self.assertIn("may not take this client's certificate", self.fault(place, name))
             plain = Socket(place, timeout=2)
             with self.assertRaises(tb.ClientError):
                 Session.register(plain, attempts=1)
@@ -111,6 +116,34 @@ class OverTLS(unittest.TestCase):
                     self.assertIn("ClientNotAllowed", self.fault(place, name, client))
             self.assertIn("NotAllowed", self.fault(place, "client", UPPER + 7))
             self.assertEqual(listener.end(), 0)
+
+    def test_who_was_refused_is_said(self):
+        """Each line on a peer that is refused has its address, and what its certificate says."""
+        options = ("--client-ca", self.paths["ca"], "--clients", self.clients, "--log-json")
+        words = ["--certificate", self.paths["server"], "--key", self.paths["server_key"]]
+        with tempfile.TemporaryDirectory() as folder:
+            command = ["--", *KEEPER, "run", os.path.join(folder, "ledger"), "64"]
+            listener = subprocess.Popen(
+                [sys.executable, "-B", os.path.join(HERE, "tb_listen.py"), "--tcp", "127.0.0.1:0"]
+                + [*words, *options, *command],
+                stderr=subprocess.PIPE,
+                text=True,
+            )
+            with listener.stderr as lines:
+                while "listens on" not in (line := lines.readline()):
+                    self.assertTrue(line)
+                place = ("localhost", int(json.loads(line)["text"].rpartition(":")[2]))
+                for name, client in (("gone", 1), ("client", 1), ("billing", UPPER)):
+                    self.fault(place, name, client)
+                listener.terminate()
+                self.assertEqual(listener.wait(20), 0)
+                said = [json.loads(it) for it in lines]
+        self.assertEqual(
+            [it["text"].partition(": ")[2] for it in said],
+            ["TLS: certificate has expired", "NotAllowed", "ClientNotAllowed"],
+        )
+        for it, shown in zip(said, ("", r" \(client\)", r" \(billing\)")):
+            self.assertRegex(it["peer"], rf"^127\.0\.0\.1:[0-9]+{shown}$")
 
     def test_a_stolen_session(self):
         """A saved session is of no use to whom its client id does not belong."""
@@ -308,15 +341,82 @@ class Reports(unittest.TestCase):
         with Running("--metrics", f"127.0.0.1:{port}") as listener:
             with Session.register(Socket(listener.path)) as session:
                 session.lookup_accounts([1])
+            time.sleep(0.1)  # the system counts what a process wrote just after that
             with urllib.request.urlopen(f"http://127.0.0.1:{port}/metrics", timeout=10) as page:
                 text = page.read().decode()
         for line in (
+            "tb_commits_total 2.0",
+            "tb_syncs_total 4.0",
             'tb_requests_total{operation="register",status="Reply"} 1.0',
             'tb_request_seconds_bucket{le="+Inf"} 2.0',
             "tb_ready 1.0",
             "tb_evictions_total 0.0",
         ):
             self.assertIn(line, text)
+
+    def test_commits(self):
+        """Each request in turn is a commit; those that wait at once are one; none is lost or
+        counted twice where the server is killed."""
+        with tempfile.TemporaryDirectory() as folder:
+            path = os.path.join(folder, "status")
+            with Running("--status", path, folder=folder) as listener:
+                self.told_commits(path, 0)
+                with contextlib.ExitStack() as held:
+                    some = [
+                        held.enter_context(Session.register(Socket(listener.path)))
+                        for _ in range(6)
+                    ]
+                    self.told_commits(path, 6)
+                    for _ in range(20):
+                        some[0].lookup_accounts([1])
+                    self.told_commits(path, 26)
+                    with self.assertRaises(tb.NoSession), Socket(listener.path) as other:
+                        Session(other, 99, 1).lookup_accounts([1])
+                    self.told_commits(path, 26)  # a refusal is no commit
+                    self.assertEqual(self.at_once(listener, some), [[]] * 6)
+                    self.told_commits(path, 27)
+                    listener.kill_server()
+                    some[0].lookup_accounts([1])
+                    self.told_commits(path, 28)
+
+    def told_commits(self, path, wanted):
+        """The system counts what a process writes just after it is there: so the last commit may be
+        told a moment later, and none is ever told that was not made."""
+        until = time.monotonic() + 20
+        while self.commits(path)[0] < wanted and time.monotonic() < until:
+            time.sleep(0.01)
+        time.sleep(0.05)
+        self.assertEqual(self.commits(path), (wanted, 2 * wanted))
+
+    def commits(self, path):
+        it = self.counts(path)
+        return it["commits"], it["syncs"]
+
+    def at_once(self, listener, some):
+        """What each session looks up, where the server is given all requests together."""
+        server, pipe = listener.server(), f"/proc/{listener.server()}/fd/0"
+        os.kill(server, signal.SIGSTOP)
+        with concurrent.futures.ThreadPoolExecutor(len(some)) as pool:
+            found = [pool.submit(it.lookup_accounts, [1]) for it in some]
+            held = bytearray(4)
+            with open(pipe, "rb", buffering=0) as it:
+                while int.from_bytes(held, "little") < len(some) * (8 + 48 + 16):
+                    time.sleep(0.01)
+                    fcntl.ioctl(it, termios.FIONREAD, held)
+            os.kill(server, signal.SIGCONT)
+            return [it.result(20) for it in found]
+
+    def test_commits_that_are_not_known(self):
+        """Behind a shell another process writes; a server that keeps nothing has none."""
+        commands = [["sh", "-c", '"$@"; exit', "sh", *KEEPER, "run", "{}/ledger", "64"]]
+        if os.access(PROGRAM, os.X_OK):
+            commands.append([PROGRAM, "run", "64"])
+        for words in commands:
+            with tempfile.TemporaryDirectory() as folder:
+                path, command = os.path.join(folder, "status"), [it.format(folder) for it in words]
+                with Running("--status", path, command=command, folder=folder) as listener:
+                    with Session.register(Socket(listener.path)):
+                        self.assertEqual(self.commits(path), (None, None), command)
 
     def test_evictions_are_told(self):
         command = [*KEEPER, "run"]

@@ -260,6 +260,23 @@ class Doubt(unittest.TestCase):
                 self.assertRaises(type(then), session.retry)  # of this call it is true
                 self.assertEqual((session.retry(), len(set(self.sent))), ([], 1))
 
+    def test_a_fault_that_was_told_is_shown(self):
+        """Of several sendings the one that told why the server ended."""
+        gone = tb.CannotConnect("nobody listens")
+        for faults, shown in (
+            ([tb.ReplyLost("told: Full", "Full"), tb.ReplyLost("reset"), gone], "told: Full"),
+            ([tb.Busy("Busy", "Busy"), tb.ReplyLost("reset"), gone], "reset"),
+            ([tb.ReplyLost("first"), tb.ReplyLost("reset"), gone], "reset"),
+            ([tb.ReplyLost("reset"), tb.ReplyLost("told: Full", "Full"), gone], "told: Full"),
+        ):
+            session = Session(mock.Mock(exchange=mock.Mock(side_effect=faults)), 7, pause=0)
+            session.prepare(tb.Operation.register)
+            with self.assertRaises(tb.ReplyLost) as lost:
+                session.retry()
+            self.assertEqual(
+                str(lost.exception), f"{shown}; it was not sent again: nobody listens"
+            )
+
     def test_a_file_is_on_the_disk_before_it_takes_the_old_one_s_place(self):
         with tempfile.TemporaryDirectory() as folder:
             path, calls = os.path.join(folder, "session.json"), mock.Mock()

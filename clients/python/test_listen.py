@@ -36,6 +36,11 @@ STAND_IN = [sys.executable, "-SE", os.path.join(HERE, "stand_in_tbd.py")]
 KEEPER = [TBD] if os.access(TBD, os.X_OK) else STAND_IN
 
 
+def setUpModule():
+    """In the background of a shell SIGINT is ignored, and programs would inherit that."""
+    signal.signal(signal.SIGINT, signal.default_int_handler)
+
+
 def children(process):
     """The processes that a process started, by their ids."""
     with contextlib.suppress(OSError), open(f"/proc/{process}/task/{process}/children") as file:
@@ -132,6 +137,21 @@ class Running:
         it.settimeout(10)
         it.connect(self.path)
         return it
+
+
+def called(path, seconds=20):
+    """A connection to a listener that may not listen yet."""
+    until = time.monotonic() + seconds
+    while True:
+        it = socket.socket(socket.AF_UNIX, socket.SOCK_STREAM)
+        it.settimeout(seconds)
+        with contextlib.suppress(FileNotFoundError, ConnectionRefusedError):
+            it.connect(path)
+            return it
+        it.close()
+        if time.monotonic() > until:
+            raise AssertionError(f"nobody listens at {path}")
+        time.sleep(0.01)
 
 
 def told(it):
@@ -376,6 +396,23 @@ class OverSockets(unittest.TestCase):
                 )
             with Session.register(Socket(listener.path)) as session:
                 self.assertEqual(session.session, 4, "and one that was closed leaves its place")
+
+    def test_who_is_gone_counts_until_it_is_answered(self):
+        """So no more requests wait for the server than connections are allowed."""
+        cut_off = struct.pack("ii", 1, 0)
+        with Running("--connections", "2", "--tcp", "127.0.0.1:0") as listener:
+            server = listener.server()
+            os.kill(server, signal.SIGSTOP)
+            for number in (1, 2):
+                with listener.call() as it:
+                    it.setsockopt(socket.SOL_SOCKET, socket.SO_LINGER, cut_off)
+                    it.sendall(register(number))
+                    time.sleep(0.2)
+            time.sleep(0.2)
+            self.assertEqual(told(listener.call()), b"tb_listen: Busy\n")
+            os.kill(server, signal.SIGCONT)
+            with Session.register(Socket(listener.address), attempts=20) as session:
+                self.assertEqual(session.session, 3, "both were executed")
 
     def test_who_is_told_busy_comes_later(self):
         """A session pauses where it is told Busy, so that one of five attempts finds a place
@@ -694,10 +731,7 @@ class Ends(unittest.TestCase):
             listener = subprocess.Popen(
                 [sys.executable, "-B", *words, "run", file, "64"], stderr=subprocess.PIPE, text=True
             )
-            while not os.path.exists(path):
-                time.sleep(0.01)
-            with socket.socket(socket.AF_UNIX, socket.SOCK_STREAM) as it:
-                it.connect(path)
+            with called(path) as it:
                 it.sendall(register(1))
                 self.assertEqual(told(it), b"tb_listen: Starting\n")
             with self.assertRaises(tb.CannotConnect):
@@ -721,12 +755,7 @@ class Ends(unittest.TestCase):
             [sys.executable, "-B", *words, "run", file, "64"], stderr=subprocess.PIPE, text=True
         )
         self.addCleanup(listener.stderr.close)
-        until = time.monotonic() + 20
-        while not os.path.exists(path):
-            self.assertLess(time.monotonic(), until)
-            time.sleep(0.01)
-        with socket.socket(socket.AF_UNIX, socket.SOCK_STREAM) as it:
-            it.connect(path)
+        with called(path) as it:
             it.sendall(register(1))
             self.assertEqual(told(it), b"tb_listen: Starting\n")
         return listener

@@ -10,7 +10,7 @@ import unittest
 from contextlib import redirect_stderr, redirect_stdout
 from unittest import mock
 
-from tb_client import Direct, Operation, Reply, ReplyLost, Request, Transfer
+from tb_client import CannotConnect, Direct, Operation, Reply, ReplyLost, Request, Transfer
 from tb_repl import commands, ledgers, lines, statements, tables
 
 ACCOUNT = {
@@ -160,6 +160,30 @@ class Ledger(unittest.TestCase):
             serve(it, "lookup_accounts ;")
         self.assertEqual((len(server.frames), len(told)), (1 + ledgers.TRIES, ledgers.TRIES - 1))
 
+    def test_a_server_that_was_never_there(self):
+        """It is told at once. One that was there is called again."""
+        server = Server()
+        it, told = ledger(server)
+        away = mock.Mock(side_effect=CannotConnect("it: No such file"))
+        with mock.patch.object(it.transport, "exchange", away):
+            with self.assertRaises(CannotConnect):
+                serve(it, "lookup_accounts ;")
+        self.assertEqual((away.call_count, told), (1, []))
+        serve(it, "lookup_accounts ;")
+        with mock.patch.object(it.transport, "exchange", away):
+            with mock.patch.object(ledgers.time, "sleep"), self.assertRaises(CannotConnect):
+                serve(it, "lookup_accounts ;")
+        self.assertEqual((away.call_count, len(told)), (1 + ledgers.TRIES, ledgers.TRIES - 1))
+
+    def test_what_was_given_up_was_executed(self):
+        """Another statement with its number is not: it is told so, and is the next one."""
+        server = Server(statuses=[0, 0, 5])
+        it, told = ledger(server)
+        for _ in range(3):
+            serve(it, "lookup_accounts ;")
+        self.assertEqual([asked[2] for asked in server.asked()], [0, 1, 2, 3])
+        self.assertIn("request 2 was executed before, with other content", told[0])
+
     def test_an_eviction_registers_again(self):
         server = Server(statuses=[0, 0, 2])
         it, told = ledger(server)
@@ -247,6 +271,28 @@ class Command(unittest.TestCase):
                 "name the program by --program",
                 self.fault("--tbt", program.name, "--program", "/nowhere"),
             )
+
+    def test_a_kept_ledger_is_no_program_of_its_own(self):
+        with tempfile.TemporaryDirectory() as folder:
+            words = []
+            for name, option in (("tbt", "--tbt"), ("tbd", "--program")):
+                words += [option, os.path.join(folder, name)]
+                with open(words[-1], "w", encoding="utf-8"):
+                    os.chmod(words[-1], 0o755)
+            self.assertIn("--connect to that", self.fault(*words))
+
+    def test_a_statement_that_is_given_up(self):
+        """Ctrl-C while a reply is waited for goes back to the prompt of a terminal."""
+        waits = mock.Mock(serve=mock.Mock(side_effect=KeyboardInterrupt))
+        for is_terminal in (True, False):
+            repl = commands.Repl(waits, mock.Mock(is_terminal=is_terminal), False)
+            told = io.StringIO()
+            with redirect_stderr(told):
+                if is_terminal:
+                    self.assertFalse(repl._serve("lookup_accounts id=1;"))
+                else:
+                    self.assertRaises(KeyboardInterrupt, repl._serve, "lookup_accounts id=1;")
+            self.assertEqual("no reply is waited for" in told.getvalue(), is_terminal)
 
     def test_addresses(self):
         self.assertEqual(commands.address_of("ledger.sock"), "ledger.sock")

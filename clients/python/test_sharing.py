@@ -370,7 +370,7 @@ class Programs(unittest.TestCase):
 
     def test_a_signal_amid_a_read_or_a_write(self):
         """How much went over the pipe is not known then. Nothing is sent twice over it: the
-        program is started anew, or it has ended."""
+        program is started again, or it has ended."""
         for pipe, call in (("stdin", "write"), ("stdout", "read")):
             session = self.begun(restarts=True)
             self.interrupted(session, pipe, call)

@@ -4,7 +4,7 @@
     server = Server("./libtb_embed.so")
     reply = server.serve(moment, request)           # frames, as bytes: docs/use/FORMATS.md
 
-With clients/python, whose package it needs beside it: `Session.register(Direct(server.serve))`.
+With clients/python, whose package it needs next to it: `Session.register(Direct(server.serve))`.
 Errors of both stand below `tb_client.ClientError`.
 """
 from __future__ import annotations

@@ -87,7 +87,7 @@ def saving():
     )
     yield scenario(
         "save-alone",
-        "Nothing is left beside the file.",
+        "Nothing is left next to the file.",
         save(),
         prepare(TRANSFERS, SALE),
         save(),

@@ -91,7 +91,7 @@ function readText(name) {
 
 /**
  * Puts a file at this path, with this text. Where that fails the old file is left, and nothing
- * beside it.
+ * next to it.
  */
 function writeWhole(name, text) {
   return system(name, async () => {
@@ -136,7 +136,7 @@ async function syncFolder(name) {
   }
 }
 
-/** Removes what a crash in a writing before left beside a file: once in a process. */
+/** Removes what a crash in a writing before left next to a file: once in a process. */
 async function sweep(name) {
   const place = path.resolve(name);
   if (swept.has(place)) return;

@@ -301,7 +301,7 @@ class Socket {
     if (this.#isClosed) throw new Closed(CLOSED);
   }
 
-  /** The connection, made anew where there is none, or where the server closed it since. */
+  /** The connection, made again where there is none, or where the server closed it since. */
   async #connected(deadline, signal) {
     if (this.#connection !== undefined) await news();
     this.#testOpen();

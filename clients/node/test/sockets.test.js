@@ -134,7 +134,7 @@ test("wrong addresses and options", () => {
   }
 });
 
-test("saves at once leave the last one whole, and nothing beside it", async () => {
+test("saves at once leave the last one whole, and nothing next to it", async () => {
   const place = path.join(folder, "session.json");
   const left = `${place}.1-0123456789abcdef.new`;
   writeFileSync(left, "what a crash left");

@@ -76,7 +76,7 @@ class _Client:
         within = f"within {self.timeout:g} seconds"
         if call.may_be_sent:
             raise ReplyLost(f"no reply {within}: what was asked for may be executed yet")
-        raise CannotConnect(f"not sent {within}, and will not be")
+        raise CannotConnect(f"not sent {within}, and will not be{self._pool.trouble()}")
 
 
 class ClientSync(_Client, Closing):

@@ -63,7 +63,7 @@ def _one_of_each(pairs: list[tuple[str, Any]]) -> dict[str, Any]:
 
 def write_whole(path: str, data: bytes) -> None:
     """Puts a file at this path, with these bytes. Where that fails the old file is left, and
-    nothing beside it."""
+    nothing next to it."""
     with contextlib.suppress(FileNotFoundError):
         _test_is_file(os.stat(path))
     folder = os.open(os.path.dirname(os.path.abspath(path)), os.O_RDONLY | os.O_CLOEXEC)

@@ -35,6 +35,8 @@ from .records import Account, EventResult, Transfer, u128, u128_at
 from .values import U8, U32, U64, U128, kind_of, listed, shown, viewed, whole
 
 STATUS_MAX = max(Status)
+NO_CLIENT = bytes(16)  # what no client has as its id
+REGISTER = int(Operation.register)
 
 Item = Union[Account, Transfer, int]
 Said = Union[List[EventResult], List[Account], List[Transfer], None]
@@ -175,7 +177,18 @@ def request_fault(data: bytes, at: int = 0) -> Optional[str]:
     if len(header) < HEADER:
         return "Short"
     session, number, operation, length = REQUEST.unpack_from(header, 16)
-    is_register, size = operation == Operation.register, ITEM_SIZES.get(operation, 1)
+    size = ITEM_SIZES.get(operation)
+    if (  # as nearly always: none of the tests below holds
+        size
+        and number
+        and not length % size
+        and length <= ITEMS_MAX * size
+        and header[:16] != NO_CLIENT
+        and header[29:32] == NO_CLIENT[:3]
+        and header[36:] == NO_CLIENT[:12]
+    ):
+        return None
+    is_register, size = operation == REGISTER, size or 1
     tests = (
         ("ClientZero", not any(header[:16])),
         ("UnknownOperation", not is_register and operation not in ITEM_SIZES),
@@ -211,11 +224,19 @@ def reply_fault(data: bytes, at: int = 0) -> Optional[str]:
     if len(header) < HEADER:
         return "Short"
     session, number, operation, status, length, commit = REPLY.unpack_from(header, 16)
-    is_register, is_refusal, size = (
-        operation == Operation.register,
-        status != Status.Reply,
-        REPLY_SIZES.get(operation, RESULT),
-    )
+    size = REPLY_SIZES.get(operation)
+    if (  # as nearly always: none of the tests below holds
+        size
+        and number
+        and status == 0 < session < commit
+        and not length % size
+        and length <= ITEMS_MAX * size
+        and header[:16] != NO_CLIENT
+        and header[30:32] == NO_CLIENT[:2]
+        and header[44:] == NO_CLIENT[:4]
+    ):
+        return None
+    is_register, is_refusal, size = operation == REGISTER, status != 0, size or RESULT
     has_numbers = (
         commit == 0
         if is_refusal
@@ -255,7 +276,7 @@ def test_reply(data: bytes, at: int = 0) -> None:
 def asker(header: bytes) -> bytes:
     """What a reply repeats of its request: client, session, number and operation. The session of
     a register is new."""
-    return header[:16] + header[24:29] if header[28] == Operation.register else header[:29]
+    return header[:16] + header[24:29] if header[28] == REGISTER else header[:29]
 
 
 def test_asked(frame: bytes, reply: bytes) -> None:

@@ -130,6 +130,14 @@ class Pool:
         if self._stopped.wait(seconds):
             raise why
 
+    def trouble(self) -> str:
+        """Why there is no connection, where there is none."""
+        for worker in list(self._workers):
+            found = str(getattr(worker.transport, "trouble", ""))
+            if found:
+                return f": {found}"
+        return ""
+
     def close(self) -> None:
         """Ends the sessions. Requests on their way are waited for as long as their transport
         does."""
@@ -157,7 +165,7 @@ class Worker(threading.Thread):
 
     def __init__(self, pool: Pool, transport: Transport) -> None:
         super().__init__(name="tb_client", daemon=True)
-        self._pool, self._transport = pool, transport
+        self._pool, self.transport = pool, transport
         self._session: Optional[Session] = None
 
     def run(self) -> None:
@@ -234,7 +242,7 @@ class Worker(threading.Thread):
     def _registered(self) -> Session:
         """The session, registered. `CannotConnect` where nothing answers."""
         if self._session is None:
-            self._session = self._pool.new_session(self._transport)
+            self._session = self._pool.new_session(self.transport)
         session, patience = self._session, _Patience()
         while not session.session:
             try:
@@ -250,7 +258,7 @@ class Worker(threading.Thread):
             self._session = None
 
     def end(self) -> None:
-        close_transport(self._transport)
+        close_transport(self.transport)
         if threading.current_thread() is not self:
             self.join()
 

@@ -49,7 +49,7 @@ class Program(Closing):
     it keeps its history in memory, and the history ends with the process. Each exchange
     afterwards is `ProgramEnded`. With restarts=True every request that was answered is kept in
     this process, up to `script_max` bytes in all (`ScriptFull` is raised where the next one
-    would not fit; None is no bound). A program that ended is then started anew on this script
+    would not fit; None is no bound). A program that ended is then started again on this script
     by the next exchange: the same script makes the same history."""
 
     def __init__(
@@ -71,7 +71,7 @@ class Program(Closing):
             raise InvalidValue("path", "is tbd, which keeps its ledger in a file: give file=")
         self.timeout = seconds("timeout", timeout, 0.001)
         self.restarts = truth("restarts", restarts)
-        # what a program that keeps nothing is started anew on
+        # what a program that keeps nothing is started again on
         self.keeps_script = self.restarts and file is None
         self.script_max = None if script_max is None else whole("script_max", script_max, U64)
         self.script: list[bytes] = []
@@ -131,7 +131,7 @@ class Program(Closing):
                 ) from None
 
     def _be_ready(self) -> None:
-        """Starts the program anew where that was asked for, else tells why it takes no more."""
+        """Starts the program again where that was asked for, else tells why it takes no more."""
         if self._end is not None:
             raise self._end.with_traceback(None)
         if self.process is not None and self._is_amid:

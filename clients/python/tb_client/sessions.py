@@ -125,6 +125,10 @@ class _Moments:
         return moment
 
 
+def _names_a_fault(why: Exception) -> bool:
+    return isinstance(why, ReplyLost) and not isinstance(why, Busy) and bool(why.told)
+
+
 class Session(Closing):
     """The session of a client, whose id is any number from 1 to 2^128 - 1 that no other client has.
 
@@ -385,7 +389,8 @@ class Session(Closing):
             if self.pending is None:
                 raise NothingInDoubt("no request is in doubt")
             attempts, pauses = self._options()
-            last: Optional[str] = None  # what became of the last attempt of this call
+            last: Optional[str] = None  # what became of an attempt of this call
+            is_named = False  # it told the fault that the server ended with
             for left in reversed(range(attempts)):
                 try:
                     moment = self._moments.take(self.now, self.jump_max)
@@ -397,7 +402,8 @@ class Session(Closing):
                 except (ReplyLost, NoMemory, NotYet) as why:
                     if not left:
                         raise
-                    last = str(why)
+                    if not is_named or _names_a_fault(why):  # a fault that was told is not lost
+                        last, is_named = str(why), _names_a_fault(why)
                     log.warning("sent again, %d times left: %s", left, why)
                     if isinstance(why, (Busy, NoMemory, NotYet)):
                         time.sleep(next(pauses))

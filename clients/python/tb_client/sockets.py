@@ -24,6 +24,7 @@ FIRST_PAUSE = 0.02  # seconds, before the server is called again; doubled each t
 LAST_PAUSE = 0.5
 # begins what a server says before it closes a connection: fewer bytes than a frame has
 TOLD = b"tb_listen: "
+UNTRUSTED = " (over TLS it may not take this client's certificate, or wants one)"
 log = logging.getLogger("tb_client")
 
 
@@ -49,6 +50,8 @@ class Socket(Closing):
         self.timeout = seconds("timeout", timeout, 0.001)
         self._tls = _context_of(tls, self._addresses)
         self._socket: Optional[socket.socket] = None
+        self.trouble = ""  # why there is no connection, since one was tried last
+        self._is_new = False  # nothing came over the connection yet
         self._lock = threading.Lock()
         self._owner = os.getpid()
         self._closed = False
@@ -100,14 +103,14 @@ class Socket(Closing):
             raise ReplyLost(
                 f"no reply within {self.timeout:g} seconds"
                 if late
-                else f"the connection broke: {error}"
+                else f"the connection broke: {error}{self._hint()}"
             ) from None
         except BaseException:
             self._lose()
             raise
 
     def _connected(self, deadline: float) -> socket.socket:
-        """The connection, made anew where there is none, or where the server closed it since."""
+        """The connection, made again where there is none, or where the server closed it since."""
         pause = FIRST_PAUSE
         if self._socket is not None and _is_left(self._socket):
             self._lose()
@@ -133,10 +136,12 @@ class Socket(Closing):
                 # of the time, so that one that does not answer leaves some
                 share = (deadline - time.monotonic()) / left
                 self._socket = _call(self.address, max(share, 0.001), self._tls)
+                self._is_new, self.trouble = True, ""
                 log.info("connected to %s", _shown(self.address))
                 return None
             except OSError as error:
-                log.info("no connection to %s: %s", _shown(self.address), error.strerror or error)
+                self.trouble = f"{_shown(self.address)}: {error.strerror or error}"
+                log.info("no connection to %s", self.trouble)
                 fault = error
                 self._next()
         return fault
@@ -166,6 +171,7 @@ class Socket(Closing):
 
     def _reply(self, it: socket.socket, frame: bytes, deadline: float) -> bytes:
         header = self._read(it, HEADER, deadline)
+        self._is_new = False
         test_reply(header)
         test_asked(frame, header)
         return header + self._read(it, reply_length(header) - HEADER, deadline)
@@ -181,9 +187,12 @@ class Socket(Closing):
                     raise _closed(data) from None
                 raise
             if not more:
-                raise _closed(data)
+                raise _closed(data, self._hint())
             data += more
         return bytes(data)
+
+    def _hint(self) -> str:
+        return UNTRUSTED if self._tls and self._is_new else ""
 
     @staticmethod
     def _wait(it: socket.socket, deadline: float) -> None:
@@ -231,14 +240,15 @@ class Starting(ReplyLost):
     """The server reads its ledger, and did not take the request."""
 
 
-def _closed(said: bytes) -> ReplyLost:
+def _closed(said: bytes, hint: str = "") -> ReplyLost:
     """What to raise where the server closed the connection after these bytes: with the name that
-    it told, where it told one."""
+    it told, where it told one, else with a hint."""
     why = (
         bytes(said[len(TOLD) :]).decode("ascii", "replace").strip() if said.startswith(TOLD) else ""
     )
     kind = {"Busy": Busy, "Starting": Starting}.get(why, ReplyLost)
-    return kind(f"the server closed the connection{why and ': ' + why}", why)
+    hint = "" if why else hint
+    return kind(f"the server closed the connection{hint}{why and ': ' + why}", why)
 
 
 def _addresses_of(address: object) -> List[Place]:

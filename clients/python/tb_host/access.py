@@ -58,9 +58,9 @@ class Access:
     def __init__(self, users: FrozenSet[int], ranges: Optional[Dict[Tuple[str, object], int]]):
         self.users, self.ranges = users, ranges
 
-    def peer(self, writer: asyncio.StreamWriter) -> Peer:
+    def peer(self, transport: asyncio.BaseTransport) -> Peer:
         """Who connected. Raises `Told` where they may not."""
-        it: Any = writer.get_extra_info("socket")
+        it: Any = transport.get_extra_info("socket")
         if it.family == socket.AF_UNIX:
             raw = it.getsockopt(socket.SOL_SOCKET, socket.SO_PEERCRED, CREDENTIALS.size)
             uid = CREDENTIALS.unpack(raw)[1]
@@ -68,8 +68,8 @@ class Access:
                 raise Told("NotAllowed", f"user {uid}")
             found = Peer(f"user {uid}", ("user", uid))
         else:
-            host, port = writer.get_extra_info("peername")[:2]
-            name = _common_name(writer.get_extra_info("peercert"))
+            host, port = transport.get_extra_info("peername")[:2]
+            name = _common_name(transport.get_extra_info("peercert"))
             found = Peer(f"{host}:{port}{name and f' ({name})'}", ("certificate", name))
         if self.ranges is not None and found.key not in self.ranges:
             raise Told("NotAllowed", found.shown)

@@ -6,17 +6,20 @@ import collections
 import contextlib
 import os
 import re
-import struct
 import time
-from typing import Deque, List, Optional, Sequence, Tuple
+from typing import Deque, List, Optional, Sequence, Set, Tuple
 
-from tb_client.frames import asker, reply_fault, reply_length
+from tb_client.frames import asker, reply_fault
 from tb_client.layout import HEADER
 
 from .arguments import is_number
+from .commits import Commits, is_asleep
+from .connections import Answered
+from .entries import MOMENT
 from .lines import Ended, Told, say
 from .moments import SECOND, Moments
-from .process import ServerProcess, came, end_of, first, kill, last_line, started
+from .pipes import READ, Process
+from .process import ServerProcess, came, end_of, finished, first, kill, last_line, started
 
 EMPTY = 10  # bytes below which a journal's file has no entry
 PROGRESS = "--progress"  # the word that has `tbd run` tell when it serves
@@ -49,14 +52,7 @@ async def last_time(words: Sequence[str], at: int) -> int:
             return 0
     except OSError:
         return 0  # `run` makes the file, or tells why it cannot
-    process = await started([*words[: at - 1], "check", words[at]], asyncio.subprocess.DEVNULL)
-    try:
-        output, told = await process.communicate()
-    except asyncio.CancelledError:
-        kill(process)
-        await process.wait()
-        raise
-    status = await process.wait()
+    output, told, status = await finished(started([*words[: at - 1], "check", words[at]]))
     if status:
         raise Ended(last_line(told) or f"{words[0]} ended {end_of(status)}", max(status, 0) or 1)
     found = re.search(rb"^last time ([0-9]{1,20})$", output, re.M)
@@ -76,8 +72,12 @@ class Command(ServerProcess):
         super().__init__(reported, patience, keeps)
         self.ahead = ahead  # how far the ledger's last time may lie ahead of the clock, in seconds
         self.moments = Moments(0)
-        self.waiting: Deque[Tuple[bytes, asyncio.Future[bytes]]] = collections.deque()
+        self.waiting: Deque[Tuple[bytes, Answered]] = collections.deque()
+        self.later: Set[asyncio.Task[None]] = set()  # requests that wait for the server
         self.sending = asyncio.Lock()
+        self.loop = asyncio.get_running_loop()
+        self.commits = Commits(words[self.file_at] if self.file_at else None)
+        self.settling: Optional[asyncio.Future[None]] = None
         self.away_since = time.monotonic()
 
     async def run(self) -> None:
@@ -123,13 +123,26 @@ class Command(ServerProcess):
         if not found[1]:
             say(line)
         elif self.process is not None:
-            self.ready.set()
+            self.settling = asyncio.ensure_future(self._settle(self.process))
         return True
+
+    async def _settle(self, process: Process) -> None:
+        """Lets requests be taken, once all that the process wrote at its start is counted."""
+        until = time.monotonic() + PATIENCE
+        while not is_asleep(process.pid) and time.monotonic() < until:
+            await asyncio.sleep(0.001)
+        if self.process is process:
+            self.commits.begin(process)
+            self.ready.set()
+
+    def committed(self) -> Optional[int]:
+        """How many commits were made, where that is known."""
+        return self.commits.look()
 
     def lost(self) -> None:
         self.away_since = time.monotonic()
         while self.waiting:
-            _drop(self.waiting.popleft()[1], self.ended_as)
+            self._tell(self.waiting.popleft()[1], b"", self.ended_as)
 
     def lag(self) -> float:
         return self.moments.lag()
@@ -144,48 +157,85 @@ class Command(ServerProcess):
             if self.is_over:
                 await asyncio.Event().wait()  # its end is seen where it runs
 
-    async def read_replies(
-        self, process: asyncio.subprocess.Process, stdout: asyncio.StreamReader
-    ) -> None:
+    async def read_replies(self, process: Process, stdout: asyncio.StreamReader) -> None:
         """Brings each reply to who asked for it, until there are no more."""
-        with contextlib.suppress(asyncio.IncompleteReadError, asyncio.CancelledError):
-            while True:
-                header = await stdout.readexactly(HEADER)
-                if not self.waiting or self.waiting[0][0] != asker(header) or reply_fault(header):
+        data = b""
+        with contextlib.suppress(asyncio.CancelledError):
+            while more := await stdout.read(READ):
+                data = data + more if data else more
+                taken = self._take(data)
+                if taken < 0:
                     break
-                body = await stdout.readexactly(reply_length(header) - HEADER)
-                reply = self.waiting.popleft()[1]
-                if not reply.done():
-                    reply.set_result(header + body)
+                data = data[taken:]
+            else:
+                return
             kill(process)
             raise Ended(f"{self.words[0]} wrote what is no reply to a request that it was given", 1)
 
-    async def ask(self, frame: bytes) -> bytes:
-        """The reply to a request. Raises `Told` where the command ended before it came, or does
-        not serve again soon."""
+    def _take(self, data: bytes) -> int:
+        """Takes the replies that are whole. Answers where they end: -1 where one is none to a
+        request that waits."""
+        at, waiting = 0, self.waiting
+        while len(data) - at >= HEADER:
+            header = data[at : at + HEADER]
+            if not waiting or waiting[0][0] != asker(header) or reply_fault(header):
+                return -1
+            end = at + HEADER + int.from_bytes(header[32:36], "little")
+            if end > len(data):
+                break
+            self._tell(waiting.popleft()[1], data[at:end], "")
+            at = end
+        return at
+
+    def _tell(self, answered: Answered, reply: bytes, why: str) -> None:
+        """Answers one request, whose fault is no fault of others."""
+        try:
+            answered(reply, why)
+        except Exception as error:
+            said = "a connection failed"
+            self.loop.call_exception_handler({"message": said, "exception": error})
+
+    def ask_soon(self, frame: bytes, answered: Answered) -> None:
+        """Asks for the reply to a request. `answered` gets it, or why there is none: the command
+        ended before it came, or does not serve again soon."""
+        process = self.process
+        if process is None or not self.ready.is_set() or not process.stdin.has_room.is_set():
+            later = asyncio.ensure_future(self._ask_later(frame, answered))
+            self.later.add(later)
+            later.add_done_callback(self.later.discard)
+        else:
+            self._ask(process, frame, answered)
+
+    def _ask(self, process: Process, frame: bytes, answered: Answered) -> None:
+        is_idle = not self.waiting
+        self.waiting.append((asker(frame), answered))
+        process.stdin.write(MOMENT.pack(self.moments.next()) + frame)
+        if is_idle:  # the server waits for it
+            process.stdin.leave()
+
+    async def _ask_later(self, frame: bytes, answered: Answered) -> None:
+        try:
+            self._ask(await self._serving(), frame, answered)
+        except Told as told:
+            answered(b"", str(told))
+
+    async def _serving(self) -> Process:
+        """The command, once it serves, and there is room for a request. Those that wait for that
+        go on one after another."""
         async with self.sending:
-            stdin = await self._input()
-            reply: asyncio.Future[bytes] = asyncio.get_running_loop().create_future()
-            self.waiting.append((asker(frame), reply))
-            stdin.write(struct.pack("<Q", self.moments.next()) + frame)
-            with contextlib.suppress(OSError):  # its end is seen where replies are read
-                await stdin.drain()
-        return await reply
+            while True:
+                process = self.process
+                if process is not None and self.ready.is_set():
+                    if process.stdin.has_room.is_set():
+                        return process
+                    await process.stdin.drain()
+                elif self.is_over:
+                    raise Told(self.ended_as)
+                elif not self.keeps:
+                    await self.ready.wait()
+                elif not await came(self.ready, self._patience()):
+                    raise Told("Starting")
 
-    async def _input(self) -> asyncio.StreamWriter:
-        """Where requests are written, once the command serves."""
-        while self.process is None or not self.ready.is_set():
-            if self.is_over:
-                raise Told(self.ended_as)
-            left = self.away_since + PATIENCE - time.monotonic()
-            if not self.keeps:
-                await self.ready.wait()
-            elif not await came(self.ready, max(left, 0.0)):
-                raise Told("Starting")
-        assert self.process.stdin is not None
-        return self.process.stdin
-
-
-def _drop(reply: asyncio.Future[bytes], why: str) -> None:
-    if not reply.done():
-        reply.set_exception(Told(why))
+    def _patience(self) -> float:
+        """How many seconds a request still waits for a server that is started again."""
+        return max(self.away_since + PATIENCE - time.monotonic(), 0.0)

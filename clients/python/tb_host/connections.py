@@ -4,10 +4,11 @@ from __future__ import annotations
 import argparse
 import asyncio
 import contextlib
+import math
 import time
-from typing import Dict, Protocol, Set, Tuple
+from typing import Any, Callable, List, Optional, Protocol, Set
 
-from tb_client.frames import reply_length, request_fault
+from tb_client.frames import request_fault
 from tb_client.layout import HEADER, REPLY
 from tb_client.names import Operation
 from tb_client.records import u128_at
@@ -15,42 +16,223 @@ from tb_client.records import u128_at
 from .access import Access, Peer
 from .counts import Counts
 from .evictions import Evictions
-from .lines import TOLD, Told, in_time, say_of
-from .process import drain
+from .lines import TOLD, Told, say_of
+from .process import came
 
+READ_AHEAD = 1 << 16  # bytes that are read of a connection beyond the request that is answered
 # seconds for which a client that is told why may still send, so that it reads why and is not cut
 # off before
 LAST_READ = 1.0
-LOOK = 0.05  # seconds after which it is looked for requests that take too long
+LOOK = 0.05  # seconds after which it is looked for connections that take too long
+# what a connection is at: it waits for a request's header, for its body, for its reply; the client
+# is to read the reply; it was told why it is closed, and may still send; it is being closed
+REST, BODY, ASKED, WRITING, LEAVING, CLOSING = range(6)
+# ends that are no fault to be said: of who is gone amid a frame, of the server and of the listener
+UNSAID = ("", "Short", "Starting", "Stopping", "ProgramEnded")
+
+Answered = Callable[[bytes, str], None]
 
 
 class Asked(Protocol):
     """What answers requests."""
 
-    async def ask(self, frame: bytes) -> bytes:
-        """The reply to a request. Raises `Told` where there is none."""
+    def ask_soon(self, frame: bytes, answered: Answered) -> None:
+        """Asks for the reply to a request. `answered` gets it, or why there is none."""
 
 
-class Deadlines:
-    """Cancels tasks that take too long. One look for all of them, twenty times a second, takes
-    less than a timer for each request."""
+class Connection(asyncio.Protocol):
+    """A connection. What comes is cut into requests; one is asked for at a time."""
 
-    def __init__(self) -> None:
-        self.due: Dict[asyncio.Task[None], Tuple[float, str]] = {}
-        self.late: Dict[asyncio.Task[None], str] = {}  # why a task was cancelled
+    def __init__(self, listener: Listener) -> None:
+        self.listener = listener
+        self.phase, self.due = REST, math.inf  # when it takes too long to be there
+        self.parts: List[bytes] = []  # what came, and was not asked for
+        self.have, self.need = 0, HEADER  # bytes of `parts`, and those of what is waited for
+        self.began = 0.0
+        self.has_ended = False  # the client sends no more
+        self.is_lost = self.is_paused = False
+        self.transport: Any = None
+        self.peer: Optional[Peer] = None
 
-    async def watch(self) -> None:
-        """Looks until it is cancelled."""
-        while True:
-            await asyncio.sleep(LOOK)
+    # what the loop tells
+
+    def connection_made(self, transport: Any) -> None:
+        self.transport = transport
+        # so that a reply has left this process before the next request is read
+        transport.set_write_buffer_limits(0)
+        is_served = self.listener.enter(self)
+        try:
+            if not is_served:
+                raise Told("Busy")
+            self.peer = self.listener.access.peer(transport)
+            self._rest(time.monotonic())
+        except Told as told:
+            self.close(str(told), told.peer)
+        except OSError:
+            self.close("")
+
+    def data_received(self, data: bytes) -> None:
+        if self.phase >= LEAVING:
+            return
+        self.parts.append(data)
+        self.have += len(data)
+        if self.phase <= BODY:
+            self._look()
+        elif self.have > READ_AHEAD and not self.is_paused:
+            self.is_paused = True
+            self.transport.pause_reading()
+
+    def eof_received(self) -> bool:
+        self.has_ended = True
+        if self.phase <= BODY:
+            self._look()
+        elif self.phase == LEAVING:
+            self._end()
+        return self.transport.get_extra_info("sslcontext") is None  # TLS has no half of an end
+
+    def resume_writing(self) -> None:
+        if self.phase == WRITING:
+            self._rest(time.monotonic())
+
+    def connection_lost(self, _: Optional[Exception]) -> None:
+        self.is_lost = True
+        if self.phase != ASKED:  # else it counts until its request is answered
+            self._gone()
+
+    # requests
+
+    def _rest(self, now: float) -> None:
+        """Goes on with the next request."""
+        self.phase, self.need, self.due = REST, HEADER, now + self.listener.given.idle
+        if self.listener.why:
+            self.close(self.listener.why)
+        elif self.have or self.has_ended:
+            self._look()
+        elif self.is_paused:
+            self._read_on()
+
+    def _read_on(self) -> None:
+        if self.is_paused and not self.transport.is_closing():
+            self.is_paused = False
+            self.transport.resume_reading()
+
+    def _look(self) -> None:
+        """Asks for the request that came, once it is whole. Its header is tested before the body is
+        waited for."""
+        if self.have >= self.need:
+            data = self.parts[0] if len(self.parts) == 1 else b"".join(self.parts)
+            try:
+                if self.phase == REST:
+                    self._begin(data)
+            except Told as told:
+                self.close(str(told), told.peer)
+                return
+            if self.have >= self.need:
+                self._ask(data)
+                return
+            self.parts = [data]
+        if self.has_ended:
+            self.close(self._how_it_ended())
+        else:
+            self._read_on()
+
+    def _begin(self, data: bytes) -> None:
+        """Takes the header of a request. Raises `Told` where it has a fault or is not allowed."""
+        listener, header = self.listener, data[:HEADER]
+        assert self.peer is not None
+        fault = request_fault(header)
+        if fault:
+            raise Told(fault, self.peer.shown)
+        if not listener.counts.has_begun:
+            raise Told("Starting", self.peer.shown)
+        listener.access.test(self.peer, u128_at(header, 0))
+        self.phase, self.need = BODY, HEADER + int.from_bytes(header[32:36], "little")
+        if self.have < self.need:
+            self.due = time.monotonic() + listener.given.slow
+
+    def _ask(self, data: bytes) -> None:
+        self.phase, self.due, self.began = ASKED, math.inf, time.monotonic()
+        self.have -= self.need
+        self.parts = [data[self.need :]] if self.have else []
+        frame = data[: self.need] if self.have else data
+        self.listener.command.ask_soon(frame, self.answered)
+
+    def answered(self, reply: bytes, fault: str) -> None:
+        """Passes the reply on, or tells why there is none."""
+        if reply:
             now = time.monotonic()
-            for task in [it for it, (at, _) in self.due.items() if at <= now]:
-                self.late[task] = self.due.pop(task)[1]
-                task.cancel()
+            self.listener.count(reply, now - self.began)
+            if not self.is_lost and not self.transport.is_closing():
+                self._pass_on(reply, now)
+                return
+        if self.is_lost:
+            self._gone()
+        else:
+            self.close(fault)
+
+    def _pass_on(self, reply: bytes, now: float) -> None:
+        self.transport.write(reply)
+        if self.transport.get_write_buffer_size():
+            self.phase, self.due = WRITING, now + self.listener.given.slow
+        else:
+            self._rest(now)
+
+    # its end
+
+    def late(self) -> None:
+        """It takes too long."""
+        if self.phase == LEAVING:
+            self._end()
+        elif self.phase == CLOSING:
+            self.transport.abort()
+        elif self.phase == WRITING and not self.transport.get_write_buffer_size():
+            self._rest(time.monotonic())
+        else:
+            self.close(self._why_late())
+
+    def _why_late(self) -> str:
+        if self.phase == REST:
+            return "Idle"
+        return "Slow"
+
+    def _how_it_ended(self) -> str:
+        return "Short" if self.have else ""
+
+    def close(self, why: str, peer: str = "") -> None:
+        """Tells why, where there is something to tell, and closes the connection. Behind a part of
+        a reply nothing can be told."""
+        if self.phase >= LEAVING:
+            return
+        may_be_told = why and self.phase != WRITING and not self.transport.is_closing()
+        self.listener.closes(self, why, peer or (self.peer.shown if self.peer else ""))
+        self.phase, self.due = LEAVING, time.monotonic() + LAST_READ
+        self.parts, self.have = [], 0
+        if not may_be_told:
+            self.phase = CLOSING
+            self.transport.abort()
+            return
+        with contextlib.suppress(OSError, RuntimeError):  # nothing is left to be done
+            self.transport.write(f"{TOLD}{why}\n".encode("ascii"))
+            if self.transport.can_write_eof():
+                self.transport.write_eof()
+        if self.has_ended or len(self.listener.leaving) >= self.listener.given.connections:
+            self._end()
+        else:  # one that is closed before it is read cuts its client off, which may lose the line
+            self.listener.leaving.add(self)
+            self._read_on()
+
+    def _end(self) -> None:
+        self.listener.leaving.discard(self)
+        self.phase, self.due = CLOSING, time.monotonic() + LAST_READ
+        self.transport.close()
+
+    def _gone(self) -> None:
+        self.phase, self.due = CLOSING, math.inf
+        self.listener.leave_out(self)
 
 
 class Listener:
-    """Takes connections, and serves each: a request, its reply, the next request."""
+    """Takes connections, and serves each."""
 
     def __init__(
         self,
@@ -62,63 +244,44 @@ class Listener:
     ) -> None:
         self.command, self.given, self.access = command, given, access
         self.counts, self.evictions = counts, evictions
-        self.open: Set[asyncio.Task[None]] = set()
-        self.served: Set[asyncio.Task[None]] = set()  # those that are not told why they are closed
-        self.at_rest: Set[asyncio.Task[None]] = set()  # those that wait for a request
-        self.deadlines = Deadlines()
-        self.leaving = 0  # connections that were told why, and may still send
+        self.open: Set[Connection] = set()
+        self.served: Set[Connection] = set()  # those that are not told why they are closed
+        self.leaving: Set[Connection] = set()  # those that were told why, and may still send
+        self.none_is_open = asyncio.Event()
+        self.none_is_open.set()
         self.why = ""  # why no more requests are taken
 
-    async def take(self, reader: asyncio.StreamReader, writer: asyncio.StreamWriter) -> None:
-        """Serves a connection until it ends."""
-        task = asyncio.current_task()
-        assert task is not None
-        self.open.add(task)
+    def enter(self, it: Connection) -> bool:
+        """Takes a connection. Says whether it is served: there may be too many."""
+        self.open.add(it)
+        self.none_is_open.clear()
         self.counts.taken += 1
         self.counts.connections += 1
-        try:
-            writer.transport.set_write_buffer_limits(
-                0
-            )  # so that a reply has left this process before the next request is read
-            why = (
-                await self._serve(task, reader, writer)
-                if len(self.served) < self.given.connections
-                else "Busy"
-            )
-            await self._close(reader, writer, why)
-        finally:
+        if len(self.served) >= self.given.connections:
+            return False
+        self.served.add(it)
+        return True
+
+    def closes(self, it: Connection, why: str, peer: str) -> None:
+        """A connection of this peer is closed for this reason."""
+        self.served.discard(it)
+        if why not in UNSAID:
+            self.counts.closed[why] += 1
+            say_of(peer, f"a connection is closed: {why}")
+
+    def leave_out(self, it: Connection) -> None:
+        """A connection is gone."""
+        if it in self.open:
             self.counts.connections -= 1
-            self.open.discard(task)
+        for some in (self.open, self.served, self.leaving):
+            some.discard(it)
+        if not self.open:
+            self.none_is_open.set()
 
-    async def _serve(
-        self, task: asyncio.Task[None], reader: asyncio.StreamReader, writer: asyncio.StreamWriter
-    ) -> str:
-        """Answers requests until the connection is to be closed, and then why that is."""
-        self.served.add(task)
-        try:
-            peer = self.access.peer(writer)
-            while not self.why:
-                writer.write(await self._answer(await self._request(task, reader, peer)))
-                if writer.transport.get_write_buffer_size():
-                    await in_time(writer.drain(), self.given.slow, "Slow")
-            return self.why
-        except Told as told:
-            return str(told)
-        except asyncio.CancelledError:
-            return self.deadlines.late.pop(task, self.why)
-        except asyncio.IncompleteReadError as end:
-            return "Short" if end.partial else ""
-        except OSError:
-            return ""
-        finally:
-            self.served.discard(task)
-
-    async def _answer(self, frame: bytes) -> bytes:
-        """The reply to a request, which is counted."""
-        began = time.monotonic()
-        reply = await self.command.ask(frame)
+    def count(self, reply: bytes, seconds: float) -> None:
+        """Counts a reply, and follows the sessions."""
         _, _, operation, status, _, commit = REPLY.unpack_from(reply, 16)
-        self.counts.answered(operation, status, time.monotonic() - began)
+        self.counts.answered(operation, status, seconds)
         if status == 0:
             client = u128_at(reply, 0)
             evicted = self.evictions.learn(client, operation == Operation.register, commit)
@@ -129,89 +292,24 @@ class Listener:
                     f"client {evicted} was evicted by client {client}: more clients come than "
                     f"there are places ({self.evictions.clients_max})",
                 )
-        return reply
 
-    async def _request(
-        self, task: asyncio.Task[None], reader: asyncio.StreamReader, peer: Peer
-    ) -> bytes:
-        """The next request, whose frame was tested before it is waited for whole."""
-        self.at_rest.add(task)
-        due = self.deadlines.due
-        due[task] = time.monotonic() + self.given.idle, "Idle"
-        try:
-            header = await reader.readexactly(HEADER)
-            fault = request_fault(header)
-            if fault:
-                raise Told(fault, peer.shown)
-            if not self.counts.has_begun:
-                raise Told("Starting", peer.shown)
-            self.access.test(peer, u128_at(header, 0))
-            length = reply_length(header) - HEADER
-            if length == 0:
-                return header
-            due[task] = time.monotonic() + self.given.slow, "Slow"
-            return header + await reader.readexactly(length)
-        except asyncio.IncompleteReadError as end:
-            if end.expected == HEADER:
-                raise
-            raise Told("Short") from None
-        finally:
-            due.pop(task, None)
-            self.at_rest.discard(task)
-
-    async def _close(
-        self, reader: asyncio.StreamReader, writer: asyncio.StreamWriter, why: str
-    ) -> None:
-        """Tells why, where there is something to tell, and closes the connection."""
-        if why not in (
-            "",
-            "Short",
-            "Starting",
-            "Stopping",
-            "ProgramEnded",
-        ):  # who is gone amid a frame is no fault to be told here
-            self.counts.closed[why] += 1
-            say_of("", f"a connection is closed: {why}")
-        with contextlib.suppress(
-            OSError, asyncio.TimeoutError, asyncio.CancelledError
-        ):  # nothing is left to be done
-            try:
-                if (
-                    why and not writer.transport.get_write_buffer_size()
-                ):  # behind a part of a reply nothing can be told
-                    writer.write(f"{TOLD}{why}\n".encode("ascii"))
-                    if writer.can_write_eof():  # TLS has no such half of an end
-                        writer.write_eof()
-                    await self._read_on(reader)
-                    writer.close()
-                    await asyncio.wait_for(writer.wait_closed(), LAST_READ)
-            finally:
-                writer.transport.abort()
-
-    async def _read_on(self, reader: asyncio.StreamReader) -> None:
-        """Reads what still comes, and does nothing with it. A connection that is closed before it
-        is read cuts its client off, and what the client was told may be lost. No more connections
-        stay so than may be served."""
-        if self.leaving >= self.given.connections:
-            return
-        self.leaving += 1
-        try:
-            await asyncio.wait_for(drain(reader), LAST_READ)
-        finally:
-            self.leaving -= 1
+    async def watch(self) -> None:
+        """Looks for connections that take too long, until it is cancelled. One look for all of
+        them, twenty times a second, takes less than a timer for each request."""
+        while True:
+            await asyncio.sleep(LOOK)
+            now = time.monotonic()
+            for it in [it for it in self.open if it.due <= now]:
+                it.late()
 
     async def stop(self, why: str) -> None:
         """Takes no more requests, and waits until those that were taken are answered."""
         self.why = why
-        for task in list(self.at_rest):
-            task.cancel()
-        await self._gone(self.given.slow)
-
-    async def _gone(self, seconds: float) -> None:
-        """Waits until no connection is open."""
-        if self.open:
-            await asyncio.wait(list(self.open), timeout=seconds)
+        for it in list(self.open):
+            if it.phase <= BODY:
+                it.close(why)
+        await came(self.none_is_open, self.given.slow)
 
     async def leave(self) -> None:
         """Waits until those that lost their command are told so."""
-        await self._gone(3 * LAST_READ)
+        await came(self.none_is_open, 3 * LAST_READ)

@@ -10,6 +10,7 @@ from typing import Any, Callable, Counter, Dict, List, Optional, Tuple
 
 from tb_client.names import Operation, Status
 
+SYNCS = 2  # of a commit
 # upper bounds of the histogram of latencies, in seconds
 BUCKETS = (0.0005, 0.001, 0.0025, 0.005, 0.01, 0.025, 0.05, 0.1, 0.25, 0.5, 1.0, 2.5, 5.0)
 
@@ -17,8 +18,13 @@ BUCKETS = (0.0005, 0.001, 0.0025, 0.005, 0.01, 0.025, 0.05, 0.1, 0.25, 0.5, 1.0,
 class Counts:
     """Counts of one run of a host."""
 
-    def __init__(self, file: Optional[str], is_serving: Callable[[], bool]) -> None:
-        self.file, self.is_serving = file, is_serving
+    def __init__(
+        self,
+        file: Optional[str],
+        is_serving: Callable[[], bool],
+        committed: Callable[[], Optional[int]],
+    ) -> None:
+        self.file, self.is_serving, self.committed = file, is_serving, committed
         self.began = time.monotonic()
         self.has_begun = False  # it has served
         self.requests: Counter[Tuple[int, int]] = collections.Counter()
@@ -45,6 +51,7 @@ class Counts:
     def shown(self, lag: float) -> Dict[str, Any]:
         """All of it, as `--status` tells it."""
         requests: Dict[str, Dict[str, int]] = {}
+        commits = self.committed()
         for (operation, status), count in sorted(self.requests.items()):
             requests.setdefault(_name(Operation, operation), {})[_name(Status, status)] = count
         return {
@@ -55,6 +62,8 @@ class Counts:
             "connections_closed_by_fault": dict(self.closed),
             "requests": requests,
             "evictions": self.evictions,
+            "commits": commits,
+            "syncs": None if commits is None else SYNCS * commits,
             "file_bytes": self.file_bytes(),
             "clock_lag_seconds": round(lag, 3),
         }

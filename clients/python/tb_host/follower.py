@@ -4,7 +4,6 @@ from __future__ import annotations
 import asyncio
 import collections
 import contextlib
-import fcntl
 import struct
 from typing import Callable, Deque, Dict, List, Sequence, Tuple
 
@@ -16,11 +15,9 @@ from .entries import NOTHING, Entry, askers, chained
 from .faults import Fault
 from .lines import Ended
 from .local_copy import KEPT, Copy
+from .pipes import READ, Outgoing, Process
 from .process import ServerProcess, kill
 
-F_SETPIPE_SZ = 1031  # of Linux: Python has its name from 3.10 on
-PIPE = 1 << 20  # bytes that a pipe to the server may hold
-READ = 1 << 18  # bytes of replies that are read at a time
 # what is written to `tb_follow`, and what it writes
 ENTRY, QUESTION = b"\1", b"\2"
 NUMBERS, REPLIED = struct.Struct("<QI"), struct.Struct("<QI")
@@ -29,12 +26,6 @@ HASHES = struct.Struct("<Q32s32s")
 
 def _failed(task: asyncio.Future[None]) -> bool:
     return task.done() and not task.cancelled() and task.exception() is not None
-
-
-def _widen(stdin: asyncio.StreamWriter) -> None:
-    """Lets a pipe hold a long request whole, where the system allows that."""
-    with contextlib.suppress(OSError, AttributeError):
-        fcntl.fcntl(stdin.get_extra_info("pipe").fileno(), F_SETPIPE_SZ, PIPE)
 
 
 class Fed:
@@ -68,7 +59,7 @@ class Follower(ServerProcess):
 
     # pairs
 
-    async def _feed(self, stdin: asyncio.StreamWriter) -> None:
+    async def _feed(self, stdin: Outgoing) -> None:
         """Gives a process the copy, from its beginning on."""
         with contextlib.suppress(OSError):  # its end is seen where replies are read
             async for record in self.copy.follow():
@@ -85,10 +76,8 @@ class Follower(ServerProcess):
     # replies
 
     async def read_replies(
-        self, process: asyncio.subprocess.Process, stdout: asyncio.StreamReader
+        self, process: Process, stdout: asyncio.StreamReader
     ) -> None:
-        assert process.stdin is not None
-        _widen(process.stdin)
         self.fed.clear()
         self.answered, self.last, self.digest = 0, NOTHING, NOTHING
         feeding = asyncio.ensure_future(self._feed(process.stdin))
@@ -105,7 +94,7 @@ class Follower(ServerProcess):
         if _failed(feeding):
             feeding.result()
 
-    def _take(self, process: asyncio.subprocess.Process, data: bytes) -> int:
+    def _take(self, process: Process, data: bytes) -> int:
         """Takes what is whole of these bytes. Answers how many bytes it has."""
         at = 0
         try:

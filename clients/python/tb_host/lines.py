@@ -1,16 +1,13 @@
 """What hosts say on standard error, why they end, and why they close a connection."""
 from __future__ import annotations
 
-import asyncio
 import contextlib
 import datetime
 import json
 import select
 import sys
 import time
-from typing import Awaitable, Dict, Tuple, TypeVar
-
-T = TypeVar("T")
+from typing import Dict, Tuple
 
 LINES = 4096  # bytes of what a command said last that are kept
 TOLD = "tb_listen: "  # what a line to a client begins with, of a listener and of a replica
@@ -94,11 +91,3 @@ class Ended(Exception):
 class Wanting(Ended):
     """The command does not start for want of what there may be enough of later, as files or
     memory."""
-
-
-async def in_time(awaited: Awaitable[T], seconds: float, name: str) -> T:
-    """What is awaited. Raises `Told` with this name where it does not come in time."""
-    try:
-        return await asyncio.wait_for(awaited, seconds)
-    except asyncio.TimeoutError:
-        raise Told(name) from None

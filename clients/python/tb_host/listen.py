@@ -21,11 +21,12 @@ line of fewer bytes than a frame has: `tb_listen: ` and a name. Status 0: ended 
 SIGINT, with all that was taken answered. Status 1: it cannot listen, the ledger lies ahead of the
 clock, or the command failed. Status 2: wrong arguments. A fault that the command named is handed
 on, with its own line and status.
+
+It runs by uvloop where that is installed, unless TB_LOOP=asyncio is in its environment.
 """
 from __future__ import annotations
 
 import argparse
-import asyncio
 import sys
 from typing import Sequence
 
@@ -34,6 +35,7 @@ from .arguments import add_command, add_places, add_times, ahead, settle_places
 from .command import Command
 from .evictions import clients_max_of
 from .lines import Ended, say, speak_json
+from .loops import fill_standard_files, run
 from .reports import add_reports
 from .serving import listen_on, stop_signals
 from .sockets import bound, make_room
@@ -83,12 +85,13 @@ def words(given: Sequence[str]) -> argparse.Namespace:
 
 
 def main() -> int:
+    fill_standard_files()
     given = words(sys.argv[1:])
     if given.log_json:
         speak_json()
     try:
         make_room(given.connections)
-        asyncio.run(listen(given))
+        run(listen(given))
     except Ended as ended:
         say(str(ended))
         return ended.status

@@ -10,7 +10,9 @@ import signal
 import time
 from typing import Any, Callable, List, Optional, Sequence, Tuple
 
+from . import pipes
 from .lines import LINES, Ended, Wanting, say
+from .pipes import Process
 
 LAST_WORDS = 1.0  # seconds for which what a command wrote may still come when it has ended
 WATCH = 0.1  # seconds after which a command is looked at again, to see whether it has ended
@@ -20,18 +22,16 @@ STEADY = 60.0  # seconds after which a command that ends is one that was well un
 WANTS = (errno.EMFILE, errno.ENFILE, errno.EAGAIN, errno.ENOMEM)
 
 
-async def started(words: Sequence[str], stdin: int) -> asyncio.subprocess.Process:
-    pipe = asyncio.subprocess.PIPE
+def started(words: Sequence[str]) -> Process:
+    """A process of these words. Raises `Ended` where it does not start."""
     try:
-        return await asyncio.create_subprocess_exec(
-            *words, stdin=stdin, stdout=pipe, stderr=pipe, start_new_session=True
-        )
+        return pipes.started(words)
     except OSError as error:
         kind = Wanting if error.errno in WANTS else Ended
         raise kind(f"{words[0]} does not start: {error.strerror}", 1) from None
 
 
-def kill(process: asyncio.subprocess.Process) -> None:
+def kill(process: Process) -> None:
     """Ends a process, and what it started, at once."""
     with contextlib.suppress(ProcessLookupError):
         os.killpg(process.pid, signal.SIGKILL)
@@ -63,12 +63,30 @@ def fault_name(line: str) -> str:
     return found[1] if found else "ProgramEnded"
 
 
-async def exited(process: asyncio.subprocess.Process) -> int:
+async def exited(process: Process) -> int:
     """The status of a process, once it has ended. What it started may hold its pipes open beyond
-    that, and `wait` would wait for these."""
-    while process.returncode is None:
-        await asyncio.sleep(WATCH)
-    return process.returncode
+    that."""
+    pause = 0.001
+    while (status := process.returncode) is None:
+        await asyncio.sleep(pause)
+        pause = min(2 * pause, WATCH)
+    return status
+
+
+async def finished(process: Process) -> Tuple[bytes, bytes, int]:
+    """The output of a process that is written nothing, what it told last, and its status."""
+    process.stdin.close()
+    telling = asyncio.ensure_future(tail(process.stderr))
+    try:
+        output = await process.stdout.read()
+        return output, await telling, await exited(process)
+    except asyncio.CancelledError:
+        kill(process)
+        await exited(process)
+        raise
+    finally:
+        telling.cancel()
+        process.close()
 
 
 class ServerProcess:
@@ -78,7 +96,7 @@ class ServerProcess:
     def __init__(self, words: Sequence[str], patience: float, keeps: bool) -> None:
         self.words, self.patience, self.keeps = words, patience, keeps
         # while pairs may be written to it
-        self.process: Optional[asyncio.subprocess.Process] = None
+        self.process: Optional[Process] = None
         # it takes requests; the host is to end
         self.ready, self.stopping = asyncio.Event(), asyncio.Event()
         self.is_closed = self.is_over = False
@@ -86,7 +104,7 @@ class ServerProcess:
         self.ended_as = "ProgramEnded"  # what who waits for a reply is told at its end
 
     async def read_replies(
-        self, process: asyncio.subprocess.Process, stdout: asyncio.StreamReader
+        self, process: Process, stdout: asyncio.StreamReader
     ) -> None:
         """Reads what the process writes, until there is no more."""
         raise NotImplementedError
@@ -147,8 +165,7 @@ class ServerProcess:
 
     async def _run_once(self) -> Tuple[int, str]:
         """Runs the command once. Answers its status and its last line on standard error."""
-        process = await started(self.words, asyncio.subprocess.PIPE)
-        assert process.stdin and process.stdout and process.stderr
+        process = started(self.words)
         telling = asyncio.ensure_future(tail(process.stderr, self.is_news))
         reading = asyncio.ensure_future(self.read_replies(process, process.stdout))
         watching = asyncio.ensure_future(exited(process))
@@ -170,13 +187,13 @@ class ServerProcess:
                 self.ended_as = fault_name(last_line(telling.result()))
             self.lost()
             await self._wait_for_end(process, watching, [reading, telling])
-            await close_pipes(process.stdin, process.stdout)
+            process.close()
         reading.result()
         return watching.result(), last_line(telling.result())
 
     async def _wait_for_end(
         self,
-        process: asyncio.subprocess.Process,
+        process: Process,
         watching: asyncio.Future[int],
         pipes: List[asyncio.Task[Any]],
     ) -> None:
@@ -200,7 +217,7 @@ class ServerProcess:
         if self.process is not None and not self.ready.is_set():
             self.is_given_up = True
             kill(self.process)
-        elif self.process is not None and self.process.stdin is not None:
+        elif self.process is not None:
             self.process.stdin.close()
 
     def kill(self) -> None:
@@ -221,21 +238,6 @@ async def tail(
                     kept = (kept + line + b"\n")[-LINES:]
             rest = rest[-LINES:]
     return (kept + rest)[-LINES:]
-
-
-async def drain(stream: asyncio.StreamReader) -> None:
-    while await stream.read(1 << 16):
-        pass
-
-
-async def close_pipes(stdin: asyncio.StreamWriter, stdout: asyncio.StreamReader) -> None:
-    """Waits for the ends of pipes, so that none is open when the listener ends."""
-    for end in (stdin.wait_closed(), drain(stdout)):
-        with contextlib.suppress(
-            asyncio.TimeoutError, OSError
-        ):  # that a pipe broke was seen where replies are read
-            await asyncio.wait_for(end, LAST_WORDS)
-    await asyncio.sleep(0.01)
 
 
 async def first(*futures: asyncio.Future[Any]) -> None:

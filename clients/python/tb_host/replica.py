@@ -11,6 +11,7 @@ import os
 import time
 from typing import Any, Deque, Dict, List, Optional, Set, Tuple
 
+from .connections import Answered
 from .entries import MOMENT, PAIRS_MAX, Claim, Entry, test_pairs
 from .faults import Fault
 from .follower import Follower, PositionFollower
@@ -74,6 +75,7 @@ class Replica:
         self.stopping = self.follower.stopping
         self.queue: Deque[Pair] = collections.deque()
         self.queued = asyncio.Event()
+        self.asking: Set[asyncio.Task[bytes]] = set()
         self.number = 0
         self.sent: Dict[int, List[Pair]] = {}  # own entries that were not read yet, by their number
         self.own: Dict[int, List[Pair]] = {}  # those that were read, by their position
@@ -103,6 +105,22 @@ class Replica:
         self.queued.set()
         return await pair.reply
 
+    def ask_soon(self, frame: bytes, answered: Answered) -> None:
+        """Asks for the reply to a request. `answered` gets it, or why there is none."""
+        asking = asyncio.ensure_future(self.ask(frame))
+        self.asking.add(asking)
+        asking.add_done_callback(lambda it: self._answer(it, answered))
+
+    def _answer(self, asked: asyncio.Task[bytes], answered: Answered) -> None:
+        self.asking.discard(asked)
+        if asked.cancelled():
+            answered(b"", "ProgramEnded")
+            return
+        fault = asked.exception()
+        if fault is not None and not isinstance(fault, Told):
+            raise fault
+        answered(b"" if fault else asked.result(), str(fault or ""))
+
     async def begun(self) -> None:
         """Comes when the server has answered what the copy had at the start. Until then a client is
         told `Starting`, and goes to another replica."""
@@ -110,6 +128,9 @@ class Replica:
 
     def is_serving(self) -> bool:
         return self.served.is_set()
+
+    def committed(self) -> Optional[int]:
+        return None  # the copy of the log is the replica's own
 
     def lag(self) -> float:
         return self.moments.lag()

@@ -3,15 +3,18 @@ from __future__ import annotations
 
 import argparse
 import asyncio
+import concurrent.futures
 import contextlib
 import os
 import socket
-from typing import Any, AsyncIterator, Callable, Iterator
+from typing import Any, AsyncIterator, Callable, Iterator, Optional
 
 from .arguments import address, path
-from .counts import BUCKETS, Counts, _name
+from .counts import BUCKETS, SYNCS, Counts, _name
 from .lines import Ended
 from .sockets import folder_of, shown, unix_socket
+
+WAIT = 2.0  # seconds that a page of metrics waits for the host's thread
 
 
 def add_reports(parser: argparse.ArgumentParser) -> None:
@@ -90,6 +93,20 @@ class _Collector:
 
     def __init__(self, core: Any, counts: Counts, lag: Callable[[], float]) -> None:
         self.core, self.counts, self.lag = core, counts, lag
+        self.loop = asyncio.get_running_loop()
+
+    def _committed(self) -> Optional[int]:
+        """The number of commits, which the host's own thread looks at."""
+
+        async def look() -> Optional[int]:
+            return self.counts.committed()
+
+        looking = look()
+        try:
+            return asyncio.run_coroutine_threadsafe(looking, self.loop).result(WAIT)
+        except (RuntimeError, concurrent.futures.TimeoutError):  # the host ends
+            looking.close()
+            return None
 
     def collect(self) -> Iterator[Any]:
         from tb_client.names import Operation, Status
@@ -121,6 +138,10 @@ class _Collector:
         size = it.file_bytes()
         if size is not None:
             yield core.GaugeMetricFamily("tb_ledger_bytes", "Size of the ledger's file", size)
+        commits = self._committed()
+        if commits is not None:
+            yield core.CounterMetricFamily("tb_commits", "Batches written to the file", commits)
+            yield core.CounterMetricFamily("tb_syncs", "Syncs of these", SYNCS * commits)
         yield core.GaugeMetricFamily(
             "tb_clock_lag_seconds", "Seconds that moments lie behind the clock", self.lag()
         )

@@ -32,6 +32,9 @@ class Server(Asked, Protocol):
     def is_serving(self) -> bool:
         """Whether it serves now: it may be started again."""
 
+    def committed(self) -> Optional[int]:
+        """How many commits its ledger's file has had since it runs, where that is known."""
+
     def lag(self) -> float:
         """How many seconds its moments lie behind the clock."""
 
@@ -75,7 +78,7 @@ async def listen_on(
     """Takes connections at these places and answers their requests, until a signal comes or the
     command ends. `file` is the ledger's, where it has one, and `clients_max` how many sessions it
     has at most, where all requests come through this host."""
-    counts = Counts(file, command.is_serving)
+    counts = Counts(file, command.is_serving, command.committed)
     listener = Listener(command, given, access_of(given), counts, Evictions(clients_max))
     async with reported(given, counts, command.lag):
         await _serve_until(places, command, listener, stopping)
@@ -86,7 +89,7 @@ async def _serve_until(
 ) -> None:
     given = listener.given
     running = asyncio.ensure_future(command.run())
-    watching = asyncio.ensure_future(listener.deadlines.watch())
+    watching = asyncio.ensure_future(listener.watch())
     taking = [asyncio.ensure_future(take_connections(it, listener)) for it in places]
     beginning = asyncio.ensure_future(_begin(places, command, listener))
     await first(running, stopping, *taking)

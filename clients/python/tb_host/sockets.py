@@ -13,12 +13,11 @@ import ssl
 import stat
 from typing import Any, Iterator, List, NamedTuple, Optional, Set
 
-from .connections import Listener
+from .connections import Connection, Listener
 from .lines import Ended, say, say_of
 from .systemd import passed_sockets
 from .tls import context_of, is_loopback
 
-READ_AHEAD = 1 << 16  # bytes that are read of a connection beyond the request that is waited for
 BACKLOG = 1024  # connections that wait to be taken
 ACCEPT_AGAIN = 0.5  # seconds before a connection is taken again for which there was no file
 AGREEMENT = 10.0  # seconds that a connection may take to agree on TLS
@@ -230,17 +229,18 @@ async def _begin(
     it: socket.socket, listener: Listener, tls: Optional[ssl.SSLContext] = None
 ) -> None:
     """Lets a connection be served, once it has agreed on TLS where that is wanted."""
-    reader = asyncio.StreamReader(limit=READ_AHEAD)
+    peer = ""
+    if tls:
+        with contextlib.suppress(OSError):
+            peer = shown(*it.getpeername())
     loop: Any = asyncio.get_running_loop()  # mypy 1.0 knows no connect_accepted_socket
     more = {"ssl": tls, "ssl_handshake_timeout": AGREEMENT} if tls else {}
     try:
-        await loop.connect_accepted_socket(
-            lambda: asyncio.StreamReaderProtocol(reader, listener.take), it, **more
-        )
+        await loop.connect_accepted_socket(lambda: Connection(listener), it, **more)
     except ssl.SSLError as error:
         listener.counts.closed["TLS"] += 1
-        why = (error.reason or "no agreement").lower().replace("_", " ")
-        say_of("", f"a connection is closed: TLS: {why}")
+        said = getattr(error, "verify_message", "") or error.reason or "no agreement"
+        say_of(peer, f"a connection is closed: TLS: {said.lower().replace('_', ' ')}")
         it.close()
     except OSError:
         it.close()

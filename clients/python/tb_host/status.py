@@ -18,7 +18,7 @@ from .lines import Ended
 from .local_copy import records_of
 from .log import Log, LogFull, NoLog
 from .moments import SECOND
-from .process import end_of, last_line, started, tail
+from .process import end_of, exited, last_line, started, tail
 
 
 async def _reports(log: Log) -> Dict[str, Dict[str, Any]]:
@@ -98,8 +98,7 @@ def script(given: argparse.Namespace) -> int:
 
 async def hashes(given: argparse.Namespace) -> int:
     """Prints the hashes of the log and of the replies of a fresh server, up to a position."""
-    process = await started(given.command, asyncio.subprocess.PIPE)
-    assert process.stdin and process.stdout and process.stderr
+    process = started(given.command)
     telling = asyncio.ensure_future(tail(process.stderr))
     log = replies = NOTHING
     position = 0
@@ -113,9 +112,10 @@ async def hashes(given: argparse.Namespace) -> int:
         if position == given.at:
             break
     process.stdin.close()
-    status = await process.wait()
+    status, told = await exited(process), await telling
+    process.close()
     if status:
-        raise Ended(last_line(await telling) or f"{given.command[0]} ended {end_of(status)}", 1)
+        raise Ended(last_line(told) or f"{given.command[0]} ended {end_of(status)}", 1)
     print(f"position {position} log {log.hex()} replies {replies.hex()}")
     return 0
 

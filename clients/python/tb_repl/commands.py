@@ -36,6 +36,9 @@ docs/use/STATEMENTS.md has all fields and flags; the tab key completes them.
     exit       ends, as `quit` and Ctrl-D do
 """
 
+GIVEN_UP = """no reply is waited for: the statement may have been executed, or may be yet. Typed
+  again as it was, it is answered by its first reply, or executed now"""
+
 
 def found(name: str, given: Optional[str], option: str) -> str:
     """The path of a program: the one that is given, else one of this name on PATH."""
@@ -66,7 +69,13 @@ def transport_of(given: argparse.Namespace) -> Transport:
     if given.connect:
         addresses = [address_of(it) for it in given.connect.split(",")]
         return Socket(addresses, tls=context_of(given))  # type: ignore[arg-type]
-    return Program(found("tbs", given.program, "--program"), given.clients_max, given.profile)
+    program = found("tbs", given.program, "--program")
+    if os.path.basename(program) == "tbd":
+        sys.exit(
+            "tb-repl: tbd keeps its ledger in a file: let tb_listen.py serve it, and --connect to "
+            "that (docs/use/TBD.md, Sockets)"
+        )
+    return Program(program, given.clients_max, given.profile)
 
 
 class Repl:
@@ -127,6 +136,11 @@ class Repl:
             return False
         except ClientError as why:
             print(f"tb-repl: {why}", file=sys.stderr, flush=True)
+            return False
+        except KeyboardInterrupt:
+            if not self.lines.is_terminal:
+                raise
+            print(f"\ntb-repl: {GIVEN_UP}", file=sys.stderr, flush=True)
             return False
         return True
 

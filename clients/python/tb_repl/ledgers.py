@@ -36,6 +36,7 @@ class Ledger:
     ) -> None:
         self.transport, self.tbt, self.tell = transport, tbt, tell
         self.client = client
+        self.is_reached = False  # the server has answered
         self.sessions: dict[int, Session] = {}
 
     def serve(self, statement: Typed) -> list[Served]:
@@ -73,11 +74,17 @@ class Ledger:
         return Served(request, self.tbt.spelled(reply))
 
     def _exchange(self, moment: int, frame: bytes) -> bytes:
-        """Sends the same bytes until their reply is here; the last try's fault is the caller's."""
+        """Sends the same bytes until their reply is here; the last try's fault is the caller's, and
+        that of a server that was never there."""
         for turn in range(2, TRIES + 1):
             try:
-                return self.transport.exchange(moment, frame)
+                reply = self.transport.exchange(moment, frame)
+                self.is_reached = True
+                return reply
             except (ReplyLost, NoMemory, CannotConnect) as why:
+                is_there = self.is_reached or "Starting" in str(why)
+                if isinstance(why, CannotConnect) and not is_there:
+                    raise
                 self.tell(f"{why}; the same bytes go out again, try {turn} of {TRIES}")
                 time.sleep(min(PAUSE_MAX, 0.05 * 2**turn))
         return self.transport.exchange(moment, frame)
@@ -90,6 +97,12 @@ class Ledger:
             self.client = client
             last = known.last if known and known.number == reply.session else 0
             self.sessions[client] = Session(reply.session, max(last, request.number))
+        elif reply.status == Status.Collision and known and known.number == request.session:
+            self.sessions[client] = Session(known.number, max(known.last, request.number))
+            self.tell(
+                f"request {request.number} was executed before, with other content, and this "
+                "statement was not. Typed again it is the next request"
+            )
         elif (
             reply.status in (Status.NoSession, Status.SessionTooLow)
             and known

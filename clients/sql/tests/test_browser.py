@@ -92,7 +92,7 @@ class Browser(unittest.TestCase):
 
     @classmethod
     def end_server(cls):
-        cls.server.send_signal(signal.SIGINT)
+        cls.server.send_signal(signal.SIGTERM)
         cls.server.stdout.close()
         cls.server.wait(60)
 

@@ -16,6 +16,11 @@ from support import COMMAND, HERE, Tables
 SECONDS = 60  # on a busy machine
 
 
+def setUpModule():
+    """In the background of a shell SIGINT is ignored, and programs would inherit that."""
+    signal.signal(signal.SIGINT, signal.default_int_handler)
+
+
 def history():
     audit = Audit().register().accounts(account(1), account(2))
     for number in range(1, 6):

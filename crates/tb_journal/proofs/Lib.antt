@@ -9,6 +9,7 @@ pub mod Remainders
 pub mod Past
 pub mod Publishing
 pub mod Waiting
+pub mod Sealing
 pub mod Committing
 pub mod Heads
 pub mod Repairing

@@ -1,11 +1,14 @@
 //! Records that wait for a commit, as the bytes that it writes.
-ghost use Rattle.std.specs.Prelude.{◌≡◌, ◌<◌, ◌^◌, ◌++◌, [], ◌∷◌, List, ℕ, length, take, drop, vec_len};
-ghost use Rattle.std.specs.Prelude.{IfOk, OnOk, OnErr};
+ghost use Rattle.std.specs.Prelude.{◌≡◌, ◌<◌, ◌≤◌, ◌+◌, ◌^◌, ◌++◌, [], ◌∷◌, List, ℕ, length, take, drop, vec_len};
+ghost use Rattle.std.specs.Prelude.{IfOk, IfErr, OnOk, OnErr};
 ghost use Rattle.std.specs.List.{AllByRecursion};
 ghost use Rattle.tb_journal.specs.Contents.{Fits, block, at_rest};
-ghost use Rattle.tb_journal.specs.Batches.{waiting_in, IsBatch};
+ghost use Rattle.tb_journal.specs.Batches.{waiting_in, blank_numbers, IsBatch, IsUnwritten};
 
 use crate::checksums::checksum_of;
+use crate::faults::Fault;
+use crate::journals::RECORD_BYTES_MAX;
+use crate::written::Written;
 use std::alloc::{AllocError, Global};
 use std::marker::Model;
 
@@ -13,6 +16,9 @@ use std::marker::Model;
 pub const OPEN: u8 = 255;
 
 pub const CLOSED: u8 = 0;
+
+// What stands between the gate of a block and its record: length and checksum.
+const NUMBERS: usize = 7;
 
 // Blocks of records, and a closed gate.
 #[derive(Drop)]
@@ -49,6 +55,23 @@ impl Batch {
                 Ok(())
             }
             Err(error) => Err(error),
+        }
+    }
+
+    /// Adds a record whose bytes are written where they wait. Its block has so much room.
+    pub fn add_written<W: Written>(&mut self, content: &W, room: usize) -> Result<(), Fault>
+        ensures ok { OnOk result (self.new ≡ self.old ++ W.bytes content.now ∷ []) }
+        ensures known { OnOk result (W.known content.now) }
+        ensures room { OnOk result (8 + length (W.bytes content.now) ≤ room) }
+        ensures err { OnErr result (self.new ≡ self.old) }
+        ensures why { IfErr result (λ fault. IsUnwritten fault room (length (W.bytes content.now))) }
+    {
+        match write_block(&mut self.bytes, content, room) {
+            Ok(()) => {
+                self.count += 1;
+                Ok(())
+            }
+            Err(fault) => Err(fault),
         }
     }
 
@@ -104,9 +127,112 @@ fn add_parts(bytes: &mut Vec<u8>, content: &[u8]) -> Result<(), AllocError>
     ensures ok { OnOk result (bytes.new.items ≡ bytes.old.items ++ (drop 1 (block content.now) ++ 0 ∷ [])) }
     ensures err { OnErr result (take (vec_len bytes.old) bytes.new.items ≡ bytes.old.items) }
 {
-    let [a, b, c, _] = (content.len() as u32).to_le_bytes();
-    let [s, t, u, v] = checksum_of(&[a, b, c], content).to_le_bytes();
-    bytes.extend_from_slice(&[a, b, c, s, t, u, v])?;
+    bytes.extend_from_slice(&numbers_of(content))?;
     bytes.extend_from_slice(content)?;
     bytes.extend_from_slice(&[CLOSED])
+}
+
+// The length and the checksum that stand before a record.
+fn numbers_of(content: &[u8]) -> [u8; 7]
+    requires { length content.now < 2 ^ 24 }
+    ensures numbers { result ++ content.now ≡ drop 1 (block content.now) }
+    ensures fits { Fits content.now }
+{
+    let [a, b, c, _] = (content.len() as u32).to_le_bytes();
+    let [s, t, u, v] = checksum_of(&[a, b, c], content).to_le_bytes();
+    [a, b, c, s, t, u, v]
+}
+
+// Opens the last gate for one more block, whose record is written there, and closes the one behind it. At an Err the bytes are
+// as they were.
+fn write_block<W: Written>(bytes: &mut Vec<u8>, content: &W, room: usize) -> Result<(), Fault>
+    ensures ok { OnOk result ((front : List ℕ) → bytes.old.items ≡ front ++ 0 ∷ []
+        → bytes.new.items ≡ front ++ (block (W.bytes content.now) ++ 0 ∷ [])) }
+    ensures fits { OnOk result (Fits (W.bytes content.now)) }
+    ensures known { OnOk result (W.known content.now) }
+    ensures room { OnOk result (8 + length (W.bytes content.now) ≤ room) }
+    ensures err { OnErr result (bytes.new.items ≡ bytes.old.items) }
+    ensures why { IfErr result (λ fault. IsUnwritten fault room (length (W.bytes content.now))) }
+{
+    let end = bytes.len();
+    match write_parts(bytes, content, room) {
+        Ok(()) => {
+            if end > 0 {
+                bytes[end - 1] = OPEN;
+            }
+            Ok(())
+        }
+        Err(fault) => {
+            bytes.truncate(end);
+            Err(fault)
+        }
+    }
+}
+
+// Adds all of a block but its gate, and the gate behind it.
+fn write_parts<W: Written>(bytes: &mut Vec<u8>, content: &W, room: usize) -> Result<(), Fault>
+    ensures ok { OnOk result (bytes.new.items ≡ bytes.old.items ++ (drop 1 (block (W.bytes content.now)) ++ 0 ∷ [])) }
+    ensures fits { OnOk result (Fits (W.bytes content.now)) }
+    ensures known { OnOk result (W.known content.now) }
+    ensures room { OnOk result (8 + length (W.bytes content.now) ≤ room) }
+    ensures err { OnErr result (take (vec_len bytes.old) bytes.new.items ≡ bytes.old.items) }
+    ensures why { IfErr result (λ fault. IsUnwritten fault room (length (W.bytes content.now))) }
+{
+    write_sealed(bytes, content, room)?;
+    bytes.extend_from_slice(&[CLOSED])?;
+    Ok(())
+}
+
+// Adds all of a block but its gate. The record comes first, and then the numbers that stand before it.
+fn write_sealed<W: Written>(bytes: &mut Vec<u8>, content: &W, room: usize) -> Result<(), Fault>
+    ensures ok { OnOk result (bytes.new.items ≡ bytes.old.items ++ drop 1 (block (W.bytes content.now))) }
+    ensures fits { OnOk result (Fits (W.bytes content.now)) }
+    ensures known { OnOk result (W.known content.now) }
+    ensures room { OnOk result (8 + length (W.bytes content.now) ≤ room) }
+    ensures err { OnErr result (take (vec_len bytes.old) bytes.new.items ≡ bytes.old.items) }
+    ensures why { IfErr result (λ fault. IsUnwritten fault room (length (W.bytes content.now))) }
+{
+    let at = bytes.len();
+    write_record(bytes, content)?;
+    let count = bytes.len() - at - NUMBERS;
+    fit(count, room)?;
+    seal(bytes, at);
+    Ok(())
+}
+
+// Writes a record behind the place for its numbers.
+fn write_record<W: Written>(bytes: &mut Vec<u8>, content: &W) -> Result<(), AllocError>
+    ensures ok { OnOk result (bytes.new.items ≡ bytes.old.items ++ (blank_numbers ++ W.bytes content.now)) }
+    ensures long { OnOk result (vec_len bytes.new ≡ vec_len bytes.old + 7 + length (W.bytes content.now)) }
+    ensures known { OnOk result (W.known content.now) }
+    ensures err { OnErr result (take (vec_len bytes.old) bytes.new.items ≡ bytes.old.items) }
+{
+    bytes.extend_from_slice(&[0; NUMBERS])?;
+    content.write(bytes)
+}
+
+// Tests that a record of so many bytes is short enough, and that its block has room.
+fn fit(count: usize, room: usize) -> Result<(), Fault>
+    ensures short { OnOk result (count < 2 ^ 24) }
+    ensures room { OnOk result (8 + count ≤ room) }
+    ensures why { IfErr result (λ fault. IsUnwritten fault room count) }
+{
+    if count >= RECORD_BYTES_MAX {
+        return Err(Fault::TooLong);
+    }
+    if count + 8 > room {
+        return Err(Fault::Full);
+    }
+    Ok(())
+}
+
+// Puts its numbers before the record that ends these bytes.
+fn seal(bytes: &mut [u8], at: usize)
+    requires room { at + 7 ≤ length bytes.old }
+    requires short { length bytes.old < at + 7 + 2 ^ 24 }
+    ensures sealed { bytes.new ≡ take at bytes.old ++ drop 1 (block (drop (at + 7) bytes.old)) }
+    ensures fits { Fits (drop (at + 7) bytes.old) }
+{
+    let numbers = numbers_of(&bytes[at + NUMBERS..]);
+    bytes[at..at + NUMBERS].copy_from_slice(&numbers);
 }

@@ -9,6 +9,7 @@ use crate::batches::Batch;
 use crate::calls::publish;
 use crate::devices::Device;
 use crate::faults::Fault;
+use crate::written::Written;
 use std::marker::Model;
 
 /// A record has fewer bytes than this.
@@ -60,6 +61,24 @@ impl<D: Device> Journal<D> {
             Ok(()) => Ok(()),
             Err(_) => Err(Fault::Memory),
         }
+    }
+
+    /// The same of a record that is written where it waits. At an `Err` nothing has changed.
+    pub fn append_written<W: Written>(&mut self, content: &W) -> Result<(), Fault>
+        requires usable { self.old.usable ≡ true }
+        ensures ok { OnOk result
+            (self.new ≡ record self.old { waiting = self.old.waiting ++ W.bytes content.now ∷ [] }) }
+        ensures known { OnOk result (W.known content.now) }
+        ensures err { OnErr result (self.new ≡ self.old) }
+        ensures long { IsErrOf result Fault.TooLong → 2 ^ 24 ≤ length (W.bytes content.now) }
+        ensures full { IsErrOf result Fault.Full
+            → 2 ^ 62 < self.old.end + length (at_rest self.old.waiting) + 8 + length (W.bytes content.now) }
+        ensures failed { IsErrOf result Fault.Failed → ⊥ }
+        ensures not_empty { IsErrOf result Fault.NotEmpty → ⊥ }
+        ensures synced { IsErrOf result Fault.SyncFailed → ⊥ }
+    {
+        let room = FILE_BYTES_MAX - self.end - self.batch.bytes().len();
+        self.batch.add_written(content, room)
     }
 
     /// Writes the records that wait. At `Ok` they are acknowledged: from then on each crash leaves a file that has

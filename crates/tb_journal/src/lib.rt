@@ -10,6 +10,7 @@
 //! - `real`: `Real`, the same over a file of the system, locked, of which nothing is told.
 //! - `tables`: the remainders that CRC-32C looks up.
 //! - `checksums`: CRC-32C, sixteen bytes at a time.
+//! - `written`: `Written`, what writes a record where it waits.
 //! - `batches`: records that wait, as the bytes that a commit writes.
 //! - `calls`: a write and a sync; blocks written behind the closed gate, and then the gate opened.
 //! - `journals`: `Journal`, with `append` and `commit`.
@@ -47,6 +48,7 @@ mod snapshots;
 mod systems;
 mod tables;
 mod windows;
+mod written;
 
 pub use creating::create;
 pub use devices::Device;
@@ -61,3 +63,4 @@ pub use real::{FileFault, HostFile, Real, sync_folder};
 pub use scans::{Scan, read_journal};
 pub use snapshots::Snapshot;
 pub use systems::System;
+pub use written::Written;

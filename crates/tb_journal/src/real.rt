@@ -27,6 +27,11 @@ pub enum FileFault {
 }
 
 impl From<io::Error> for FileFault {
+    ghost use Rattle.std.specs.Prelude.{◌≡◌};
+    ghost use Rattle.tb_journal.specs.declared.real.FileFault.TheVariants.{System};
+
+    ghost from_gives = { λ error fault. fault ≡ System error };
+
     fn from(error: io::Error) -> FileFault {
         FileFault::System(error)
     }
@@ -119,10 +124,14 @@ impl Posix<HostFile> {
     }
 
     /// Opens a file that is there for reading alone: it needs no write permission and takes no lock, so another process may
-    /// append to it meanwhile. A write or a cut of it fails.
+    /// append to it meanwhile. A write or a cut of it fails. A symbolic link to nothing is told as such.
     pub fn look<R: Files<File = File>>(rt: &R, path: &str) -> Result<Real, FileFault> {
+        let found = match fs::metadata(rt, path) {
+            Ok(found) => found,
+            Err(error) => return Err(of_link(rt, path, error)),
+        };
         // A FIFO is not opened: that would wait for a writer.
-        if !fs::metadata(rt, path)?.is_file() {
+        if !found.is_file() {
             return Err(FileFault::NotAFile);
         }
         let file = File::open(rt, path)?;

@@ -1,12 +1,13 @@
 //! A growing file as it was at one moment.
-ghost use Rattle.std.specs.Prelude.{◌≡◌, ◌≤◌, ◌<◌, ◌^◌, List, ℕ, length, Ok, IfOk, OnOk, OnErr, IfErr};
+ghost use Rattle.std.specs.Prelude.{◌≡◌, ◌≤◌, ◌<◌, ◌^◌, List, ℕ, length, drop, Ok, IfOk, OnOk, OnErr, IfErr};
 ghost use Rattle.tb_journal.specs.Device.{IsOfCall};
 ghost use Rattle.tb_journal.specs.Real.{untold};
 ghost use Rattle.tb_journal.specs.declared.hops.Hop.TheVariants as variants;
+ghost use Rattle.tb_journal.specs.Contents.{front};
 ghost use Rattle.tb_journal.specs.Reading.{HasAhead};
 ghost use Rattle.tb_journal.specs.Growing.{Grown};
 ghost use Rattle.tb_journal.specs.Snapshots.{Snapped, IsHeld, Takes, Refreshes};
-ghost use Rattle.tb_journal.specs.Hops.{IsFound, StartsAs, Grows, HopsFrom, Finds, FindsMore, TellsEnd, TellsStart, ReadsBlocks, Closes, IsNear};
+ghost use Rattle.tb_journal.specs.Hops.{IsFound, StartsAs, Grows, HopsFrom, Finds, FindsMore, TellsLatch, TellsEnd, TellsStart, ReadsBlocks, Closes, IsNear};
 
 use crate::batches::CLOSED;
 use crate::devices::Device;
@@ -54,6 +55,7 @@ impl<G: Growing + Drop> Snapshot<G> {
     /// Follows the blocks of a file to the closed latch, and keeps that end. No checksum is looked at: a scan does that.
     pub fn new(alloc: Global, file: G) -> Result<Snapshot<G>, Fault>
         ensures taken { (bytes : List ℕ) → G.grows file bytes → IfOk result (Takes G.grows bytes) }
+        ensures names { IfErr result IsOfCall }
     {
         let mut file = file;
         let mut piece = vec![in alloc; 0u8; PIECE]?;
@@ -67,6 +69,7 @@ impl<G: Growing + Drop> Snapshot<G> {
     pub fn refresh(&mut self) -> Result<(), Fault>
         ensures ok { (shown : List ℕ) → (held : IsHeld G.grows self.old shown) → OnOk result (Refreshes G.grows held.file shown self.new) }
         ensures err { (shown : List ℕ) → IsHeld G.grows self.old shown → OnErr result (IsHeld G.grows self.new shown) }
+        ensures names { IfErr result IsOfCall }
     {
         if !self.found.closed {
             return Ok(());
@@ -175,6 +178,7 @@ fn find<G: Growing>(file: &mut G, piece: &mut [u8]) -> Result<Found, Fault>
     requires { 8 ≤ length piece.old }
     ensures found { (bytes : List ℕ) → G.grows file.old bytes → IfOk result (IsFound (G.grows file.new) bytes) }
     ensures near { IfOk result (λ found. IsNear found.end) }
+    ensures names { IfErr result IsOfCall }
 {
     match begins(file, piece) {
         Ok(true) => find_end(file, piece, START),
@@ -189,7 +193,8 @@ fn find<G: Growing>(file: &mut G, piece: &mut [u8]) -> Result<Found, Fault>
 // Says whether a file begins as a journal does.
 fn begins<G: Growing>(file: &mut G, piece: &mut [u8]) -> Result<bool, Fault>
     requires { 8 ≤ length piece.old }
-    ensures { TellsStart (G.grows file.old) (G.grows file.new) result }
+    ensures tells { TellsStart (G.grows file.old) (G.grows file.new) result }
+    ensures names { IfErr result IsOfCall }
 {
     let count = file.read_at(0, piece)?;
     Ok(is_journal(&piece[..count]))
@@ -208,6 +213,7 @@ fn find_more<G: Growing>(file: &mut G, piece: &mut [u8], end: usize) -> Result<F
     ensures found { FindsMore (G.grows file.old) (G.grows file.new) end result }
     ensures same { Grows (G.grows file.old) (G.grows file.new) }
     ensures near { IfOk result (λ found. IsNear found.end) }
+    ensures names { IfErr result IsOfCall }
 {
     match still_closed(file, piece, end) {
         Ok(true) => Ok(Found { end, closed: true }),
@@ -219,15 +225,29 @@ fn find_more<G: Growing>(file: &mut G, piece: &mut [u8], end: usize) -> Result<F
 // Says whether the latch at this offset is closed, or the file ends there. Fails where the file is shorter.
 fn still_closed<G: Growing>(file: &mut G, piece: &mut [u8], end: usize) -> Result<bool, Fault>
     requires { 8 ≤ length piece.old }
-    ensures { TellsEnd (G.grows file.old) (G.grows file.new) end result }
+    ensures tells { TellsEnd (G.grows file.old) (G.grows file.new) end result }
+    ensures names { IfErr result IsOfCall }
 {
-    if file.len()? < end {
-        return Err(Fault::Failed);
-    }
+    let long = file.len()?;
     match file.read_at(end, piece) {
-        Ok(count) => Ok(is_end(&piece[..count])),
+        Ok(count) => latch_of(&piece[..count], long, end),
         Err(fault) => Err(fault),
     }
+}
+
+// Says whether these bytes at an offset begin with a closed latch, or are the last. An offset is kept where the file reaches it:
+// one that got shorter is another file.
+fn latch_of(rest: &[u8], len: usize, end: usize) -> Result<bool, Fault>
+    ensures reaches { OnOk result (end ≤ len) }
+    ensures shorter { OnErr result (len < end) }
+    ensures tells { (file : List ℕ) → HasAhead 8 end file rest.now
+        → IfOk result (λ closed. TellsLatch closed (front (drop end file))) }
+    ensures names { IfErr result IsOfCall }
+{
+    if len < end {
+        return Err(Fault::Failed);
+    }
+    Ok(is_end(rest))
 }
 
 // Where a file ends whose blocks lead to this offset.
@@ -236,6 +256,7 @@ fn find_end<G: Growing>(file: &mut G, piece: &mut [u8], from: usize) -> Result<F
     ensures found { Finds (G.grows file.old) (G.grows file.new) from result }
     ensures same { Grows (G.grows file.old) (G.grows file.new) }
     ensures near { IfOk result (λ found. IsNear found.end) }
+    ensures names { IfErr result IsOfCall }
 {
     let mut end = from;
     while end < FILE_BYTES_MAX {
@@ -260,6 +281,7 @@ fn hop_from<G: Growing>(file: &mut G, piece: &mut [u8], at: usize) -> Result<Hop
     ensures same { Grows (G.grows file.old) (G.grows file.new) }
     ensures further { (next : ℕ) → result ≡ Ok (variants.Further next) → at < next }
     ensures near { (end : ℕ) → result ≡ Ok (variants.Closed end) → IsNear end }
+    ensures names { IfErr result IsOfCall }
 {
     let count = file.read_at(at, piece)?;
     let len = file.len()?;

@@ -3,6 +3,7 @@ ghost use Rattle.std.specs.Prelude.{◌≡◌, true};
 
 use std::alloc::{Allocator, Global};
 use std::marker::Model;
+use std::mem;
 use tb_journal::{Device, Journal};
 use tb_machine::Machine;
 
@@ -13,8 +14,6 @@ pub struct Keeper<D: Device, A: Allocator + Clone = Global> {
     pub(crate) global: Global,
     pub(crate) journal: Journal<D>,
     pub(crate) machine: Machine<A>,
-    // Room for the record of the next entry.
-    pub(crate) buffer: Vec<u8>,
     // The torn bytes that the start cut off.
     pub(crate) cut: u64,
     // No call of `keep` has failed.
@@ -46,7 +45,6 @@ impl<D: Device, A: Allocator + Clone> Keeper<D, A> {
             global,
             journal,
             machine,
-            buffer: Vec::new(global),
             cut,
             usable: true,
         }
@@ -77,6 +75,20 @@ impl<D: Device, A: Allocator + Clone> Keeper<D, A> {
             ..
         } = self;
         drop(machine);
+        journal.into_device()
+    }
+
+    /// The device, given back at the end of a process. What waits is dropped. The machine is left to the process and to its
+    /// records' allocator, which free their memory as a whole: no record is visited.
+    pub fn leave(self) -> D
+        ensures { result ≡ self.journal.device }
+    {
+        let Keeper {
+            journal,
+            machine,
+            ..
+        } = self;
+        mem::forget(machine);
         journal.into_device()
     }
 

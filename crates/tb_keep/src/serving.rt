@@ -12,8 +12,8 @@ ghost use Rattle.tb_keep.specs.Steps.{IsRefusal, Appends, HoldsReply, KeepsPair,
 use crate::faults::KeepFault;
 use crate::keepers::Keeper;
 use crate::replies::Replies;
-use std::alloc::{Allocator, Global};
-use tb_journal::{Device, Journal};
+use std::alloc::{AllocError, Allocator, Global};
+use tb_journal::{Device, Journal, Written};
 use tb_machine::{Entry, Machine, RunFault, serve_pair, write_entry};
 use tb_records::streams::read_timed_from;
 use tb_records::{Request, Sink, Source, holds_pair, put_all};
@@ -28,22 +28,30 @@ pub const BATCH_BYTES_MAX: usize = 1 << 22;
 /// The greatest block of an entry: 8 bytes, two numbers of 8 bytes, and the frame of a request of 8,190 records.
 pub(crate) const BLOCK_BYTES_MAX: usize = 8 + 16 + 48 + 8190 * 128;
 
-/// Lets the record of an entry wait for the next commit. The buffer is the caller's, so that each record needs no new one.
-fn append_entry<D: Device>(
-    journal: &mut Journal<D>,
-    buffer: &mut Vec<u8>,
-    entry: &Entry,
-) -> Result<(), KeepFault>
+/// An entry whose record is written where it waits for the commit.
+#[derive(Clone, Copy)]
+struct Recorded<'a> {
+    entry: &'a Entry,
+}
+
+impl<'a> Written for Recorded<'a> {
+    ghost bytes = { λ r. dumped r.entry.now };
+
+    ghost known = { λ r. IsRecord (dumped r.entry.now) r.entry.now };
+
+    fn write(&self, out: &mut Vec<u8>) -> Result<(), AllocError> {
+        write_entry(self.entry, out)
+    }
+}
+
+/// Lets the record of an entry wait for the next commit.
+fn append_entry<D: Device>(journal: &mut Journal<D>, entry: &Entry) -> Result<(), KeepFault>
     requires { journal.old.usable ≡ true }
     ensures waits { OnOk result (journal.new ≡ with_record journal.old (dumped entry.now)) }
     ensures fits { OnOk result (IsRecord (dumped entry.now) entry.now) }
     ensures stays { IfErr result (λ f. IsRefusal f journal.old (dumped entry.now) × (journal.new ≡ journal.old)) }
 {
-    buffer.clear();
-    if write_entry(entry, buffer).is_err() {
-        return Err(KeepFault::Serving(RunFault::NoMemory));
-    }
-    journal.append(buffer)?;
+    journal.append_written(&Recorded { entry })?;
     Ok(())
 }
 
@@ -60,7 +68,7 @@ fn append_new<D: Device, A: Allocator + Clone>(
     let Some(entry) = keeper.machine.next_entry(request, moment) else {
         return Err(KeepFault::Serving(RunFault::TimeExhausted));
     };
-    match append_entry(&mut keeper.journal, &mut keeper.buffer, &entry) {
+    match append_entry(&mut keeper.journal, &entry) {
         Ok(()) => Ok(entry.request),
         Err(fault) => Err(fault),
     }

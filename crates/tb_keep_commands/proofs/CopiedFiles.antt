@@ -1,6 +1,6 @@
 -- What is reported of a file that was copied.
 use Rattle.std.proofs.Common.{◌≡◌, ℕ, List, Option, None, refl, ap, subst, ◌∙◌}
-use Rattle.tb_journal.specs.Device.{Disk}
+use Rattle.tb_journal.specs.declared.devices.Device as devices
 use Rattle.tb_records.specs.Transport.{Output}
 use Rattle.tb_keep.specs.declared.faults.StartFault.{StartFault}
 use Rattle.tb_keep.specs.declared.salvaging.Salvaged.{Salvaged}
@@ -8,12 +8,12 @@ use Rattle.tb_keep.specs.Salvaging.{IsSalvaged}
 use Rattle.tb_machine.specs.Histories.{State}
 use Rattle.tb_machine.proofs.Held.{commit_is}
 use Rattle.tb_keep_commands.specs.declared.copies.Copied.{Copied}
-use Rattle.tb_keep_commands.specs.Copies.{IsCopy, PrintsText, EndsCopy, copied_of, copied_text}
-use Rattle.tb_keep_commands.specs.Outcomes.{Outcome}
+use Rattle.tb_keep_commands.specs.Copies.{IsCopy, EndsCopy, copied_of, copied_text}
+use Rattle.tb_keep_commands.specs.Outcomes.{Outcome, PrintsText}
 
-pub copy_is : (tells : Type 0) {N : Type 0} (disk : N → Disk) (holds : List ℕ → Type 0) (len : ℕ) (salvaged : Salvaged N)
-    → IsSalvaged tells disk holds salvaged → IsCopy tells disk holds len salvaged (copied_of len salvaged)
-copy_is tells disk holds len salvaged is =
+pub copy_is : {N : Type 0} (its : devices.Ghosts N) (holds : List ℕ → Type 0) (len : ℕ) (salvaged : Salvaged N)
+    → IsSalvaged its.tells its.disk holds salvaged → IsCopy its holds len salvaged (copied_of len salvaged)
+copy_is its holds len salvaged is =
     let h = is.history in
     record {
       history = h;

@@ -4,7 +4,7 @@ use Rattle.tb_records.specs.declared.faults.FrameFault.{FrameFault}
 use Rattle.tb_records.specs.Transport.{Output, Sent, CutOff, IsSent}
 use Rattle.tb_records.proofs.Sendings.{sent_rest}
 use Rattle.tb_keep_commands.specs.Forms.{Wrong}
-use Rattle.tb_keep_commands.specs.Statuses.{shown_words, wrong_line, cut_line, SaysLine, TellsCut}
+use Rattle.tb_keep_commands.specs.Statuses.{said_text, wrong_line, cut_line, SaysLine, TellsCut}
 
 pub sent_passed : (xs : List ℕ) (old mid new : Output) → Sent xs old mid → Sent [] mid new → Sent xs old new
 sent_passed xs old mid new one two = sent_rest xs [] old mid new xs (append-nil xs) one (Ok tt) two
@@ -21,7 +21,7 @@ cut_told (suc more) at r before after some sent = told_as _ _ r before after ref
 
 -- words and what is wrong with them
 pub wrong_sent : (said : Wrong) (shown : List (List ℕ)) (what : List ℕ) (r : Result (Unit {0}) FrameFault) (old new : Output) → shown ≡ said.shown → what ≡ said.what
-    → IsSent r (codes "tbd: Usage:" ++ (shown_words shown ++ (codes ": " ++ (what ++ codes "\n")))) old new → IsSent r (wrong_line said) old new
+    → IsSent r (codes "tbd: Usage:" ++ said_text shown what) old new → IsSent r (wrong_line said) old new
 wrong_sent said shown what r old new same_shown same_what sent = rw (← same_shown, ← same_what) sent
 
 -- what was cut off is told, with the place where the records end

@@ -1,5 +1,5 @@
 -- The entries that are written of a file as it grows.
-use Rattle.std.proofs.Common.{◌≡◌, ℕ, Bool, true, false, List, [], ◌++◌, Option, Result, Ok, Err, refl, subst, inl, inr, ⊎_elim, append-nil}
+use Rattle.std.proofs.Common.{◌≡◌, ◌⊎◌, ℕ, Bool, true, false, List, [], ◌++◌, Option, Result, Ok, Err, refl, subst, inl, inr, ⊎_elim, append-nil}
 use Rattle.tb_journal.specs.declared.opening.OpenFault.{OpenFault}
 use Rattle.tb_journal.specs.declared.opening.OpenFault.TheVariants as open_faults
 use Rattle.tb_journal.specs.declared.faults.Fault as journal
@@ -19,7 +19,7 @@ use Rattle.tb_keep_commands.specs.declared.faults.Fault.{Fault}
 use Rattle.tb_keep_commands.specs.declared.faults.Fault.TheVariants.{Device}
 use Rattle.tb_keep_commands.specs.declared.faults.Failed.TheVariants as failed
 use Rattle.tb_keep_commands.specs.Statuses.{disk_fault, opened_fault, dumped_fault}
-use Rattle.tb_keep_commands.specs.Following.{GrowsTo, StopsReading, EndsBy, SendsRound, Grown, Breaks, GrowsBy, EndsRounds, WritesPart, start_of, floor_of}
+use Rattle.tb_keep_commands.specs.Following.{GrowsTo, StopsReading, EndsBy, SendsRound, Grown, Breaks, GrowsBy, EndsRounds, WritesSome, WritesPart, start_of, floor_of}
 
 -- two parts that were sent
 pub both : (xs ys : List ℕ) (old mid new : Output) → Sent xs old mid → Sent ys mid new → Sent (xs ++ ys) old new
@@ -98,16 +98,18 @@ module _ {D : Type 0} (holds : D → List ℕ → Type 0) (after : ℕ) (file : 
     ends = inl (record { why = open_faults.Device cause; named = is; refuses = tt; went = g.sent });
   }
 
-  pub reached : (device : D) (scan : Place) (mid : Output) → Grown holds after file device scan start mid → EndsRounds (Ok tt) true after file start mid
-  reached device scan mid g = record { later = g.later; since = g.since; records = g.records; whole = g.whole; sent = g.sent }
+  pub reached : (device : D) (scan : Place) (mid : Output) → Grown holds after file device scan start mid
+      → EndsRounds (holds device) (Ok tt) true after file start mid
+  reached device scan mid g = record { later = g.later; since = g.since; held = g.held; records = g.records; whole = g.whole; sent = g.sent }
 
 -- the entries, behind what stands before them
-module _ (follows : Bool) (after : Option ℕ) (rules : Rules) (file : List ℕ) (old mid new : Output) where
-  pub part_sent : (result : Result (Unit {0}) Fault) → Sent (start_of after rules) old mid → EndsRounds result follows (floor_of after) file mid new
-      → WritesPart result follows after rules file old new
+module _ (holds : List ℕ → Type 0) (follows : Bool) (after : Option ℕ) (rules : Rules) (file : List ℕ) (old mid new : Output) where
+  pub part_sent : (result : Result (Unit {0}) Fault) → Sent (start_of after rules) old mid → EndsRounds holds result follows (floor_of after) file mid new
+      → WritesPart holds result follows after rules file old new
   part_sent (Ok done) one two = record {
     later = two.later;
     since = two.since;
+    held = two.held;
     records = two.records;
     whole = two.whole;
     sent = both _ _ old mid new one two.sent;
@@ -127,7 +129,8 @@ grows_same true file = later_same file
 
 -- what stands before the entries was cut off
 pub start_cut : (follows : Bool) (after : Option ℕ) (rules : Rules) (file : List ℕ) (old new : Output) (fault : Fault)
-    → fault ≡ Device failed.Output → CutOff (start_of after rules) old new → BeginsWith [] file → WritesPart (Err fault) follows after rules file old new
+    → fault ≡ Device failed.Output → CutOff (start_of after rules) old new → BeginsWith [] file
+    → StopsReading fault file (new ≡ old) ⊎ WritesSome fault follows after rules file old new
 start_cut follows after rules file old new fault is cut begins = inr (record {
   later = file;
   since = grows_same follows file;
@@ -150,19 +153,21 @@ module _ {D : Type 0} (holds : D → List ℕ → Type 0) (after : ℕ) (file : 
   }
 
 -- and no other
-pub one_round : (after : ℕ) (file : List ℕ) (scan : Place) (start written : Output) → SendsRound (Ok tt) after [] file scan start written
-    → EndsRounds (Ok tt) false after file start written
-one_round after file scan start written (more, whole, place, sent) = record { later = file; since = refl; records = more; whole = whole; sent = sent }
+pub one_round : (holds : List ℕ → Type 0) (after : ℕ) (file : List ℕ) (scan : Place) (start written : Output) → holds file
+    → SendsRound (Ok tt) after [] file scan start written → EndsRounds holds (Ok tt) false after file start written
+one_round holds after file scan start written held (more, whole, place, sent) =
+    record { later = file; since = refl; held = held; records = more; whole = whole; sent = sent }
 
 -- or a fault in it
 pub first_broken : (follows : Bool) (after : ℕ) (file : List ℕ) (scan : Place) (start written : Output) (fault : Fault)
-    → SendsRound (Err fault) after [] file scan start written → EndsRounds (Err fault) follows after file start written
+    → SendsRound (Err fault) after [] file scan start written → Breaks fault follows after file start written
 first_broken follows after file scan start written fault (more, begins, ends) =
     record { later = file; since = grows_same follows file; records = more; begins = begins; ends = ends }
 
 -- a file of which nothing is read
 pub unread : (follows : Bool) (after : Option ℕ) (rules : Rules) (file : List ℕ) (cause : OpenFault) (fault : Fault) (old : Output)
-    → fault ≡ opened_fault cause → Starts (Err cause) file → WritesPart (Err fault) follows after rules file old old
+    → fault ≡ opened_fault cause → Starts (Err cause) file
+    → StopsReading fault file (old ≡ old) ⊎ WritesSome fault follows after rules file old old
 unread follows after rules file cause fault old is starts = inl (record { why = cause; named = is; refuses = refused cause starts; went = refl })
   where
     refused : (cause : OpenFault) → Starts (Err cause) file → RefusesFile cause file

@@ -1,5 +1,5 @@
--- What was read of a whole file, and what is reported of it.
-use Rattle.std.proofs.Common.{◌≡◌, ℕ, ◌-◌, List, length, Result, Ok, refl, sym, ap, ◌∙◌, subst}
+-- What was read of a whole file.
+use Rattle.std.proofs.Common.{◌≡◌, ℕ, List, length, Result, Ok, refl, sym, ap, ◌∙◌, subst}
 use Rattle.tb_journal.specs.declared.reading.Extent.{Extent}
 use Rattle.tb_journal.specs.declared.reading.Refusal.{Refusal}
 use Rattle.tb_journal.specs.Contents.{Contents, Records, contents, records_of, recorded, records_end}
@@ -8,9 +8,7 @@ use Rattle.tb_machine.specs.Histories.{State}
 use Rattle.tb_machine.proofs.Held.{commit_is}
 use Rattle.tb_keep.specs.declared.heads.Rules.{Rules}
 use Rattle.tb_keep.specs.Reading.{IsHistory}
-use Rattle.tb_keep_commands.specs.declared.summaries.Found.{Found}
-use Rattle.tb_keep_commands.specs.declared.summaries.Summary.{Summary}
-use Rattle.tb_keep_commands.specs.Summaries.{IsFound, IsSummary, summary_of}
+use Rattle.tb_keep_commands.specs.Summaries.{IsFound}
 
 same_extent : (a b : Extent) (found : Result Extent Refusal) → found ≡ Ok a → found ≡ Ok b → b ≡ a
 same_extent a b found one two = cc
@@ -40,15 +38,3 @@ module _ (rules : Rules) (S : State) (extent : Extent) (entries time : ℕ) (fil
         time = as_time ∙ ap (λ (T : State). T.books.time) is.state;
         end = ends.1;
       }
-
-pub summary_is : (found : Found) (s : Summary) (len : ℕ) (file : List ℕ) → s ≡ summary_of found len → IsFound found file → IsSummary len s file
-summary_is found s len file same is = subst (λ (t : Summary). IsSummary len t file) (sym same) (record {
-  history = is.history;
-  stands = is.stands;
-  profile = is.profile;
-  clients = is.clients;
-  records = is.records;
-  entries = is.entries;
-  time = is.time;
-  behind = ap (λ n. len - n - 1) is.end;
-})

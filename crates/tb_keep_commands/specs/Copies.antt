@@ -1,10 +1,11 @@
 -- What is copied of a file into a new one, up to its first damage, and what is reported of it.
 -- Cited by public contracts of: copies.
-use Rattle.std.specs.Prelude.{ℕ, Bool, true, false, ◌≡◌, ◌-◌, List, [], ◌∷◌, ◌++◌, length, codes, Option, None, Some, Result, Ok, Err, IfErr, refl}
+use Rattle.std.specs.Prelude.{ℕ, Bool, true, false, ◌≡◌, ◌-◌, List, [], ◌∷◌, ◌++◌, length, codes, Option, None, Some, Result, Ok, Err, IfErr, MatchResult, refl}
 use Rattle.std.specs.Fmt.{decimal, digits}
 use Rattle.tb_records.specs.Transport.{Output}
+use Rattle.tb_journal.specs.declared.devices.Device as devices
 use Rattle.tb_journal.specs.declared.faults.Fault as journal
-use Rattle.tb_journal.specs.Device.{Disk, LeavesOnly}
+use Rattle.tb_journal.specs.Device.{LeavesOnly}
 use Rattle.tb_keep.specs.declared.faults.SalvageFault.{SalvageFault}
 use Rattle.tb_keep.specs.declared.faults.SalvageFault.TheVariants.{Old, New}
 use Rattle.tb_keep.specs.declared.faults.StartFault.{StartFault}
@@ -20,10 +21,10 @@ use Rattle.tb_keep_commands.specs.declared.copies.Copied.{Copied}
 use Rattle.tb_keep_commands.specs.declared.faults.Damage.{Damage}
 use Rattle.tb_keep_commands.specs.declared.faults.Damage.TheVariants.{Block}
 use Rattle.tb_keep_commands.specs.declared.faults.Fault.{Fault}
-use Rattle.tb_keep_commands.specs.declared.faults.Fault.TheVariants.{NoMemory, Damaged, Making}
+use Rattle.tb_keep_commands.specs.declared.faults.Fault.TheVariants.{Damaged, Opening, Making}
 use Rattle.tb_keep_commands.specs.declared.openers.OpeningFault.{OpeningFault}
 use Rattle.tb_keep_commands.specs.Naming.{Names}
-use Rattle.tb_keep_commands.specs.Outcomes.{Outcome, Prints, IsMeasured, IsRefused, Opens}
+use Rattle.tb_keep_commands.specs.Outcomes.{Outcome, PrintsText, IsMeasured, IsRefused, Opens}
 use Rattle.tb_keep_commands.specs.Statuses.{damage_text, disk_fault, new_fault, started_fault}
 use Rattle.tb_keep_commands.specs.Summaries.{line_before, behind_text}
 
@@ -62,9 +63,9 @@ copied_of len salvaged = record {
 
 -- the new file keeps a history of which the records were copied, up to where no more can be, and this is reported of it: how many entries
 -- it has, the time of the last, where they end, and what is behind that in a file of so many bytes
-pub record IsCopy (tells : Type 0) {N : Type 0} (disk : N → Disk) (holds : List ℕ → Type 0) (len : ℕ) (salvaged : Salvaged N) (c : Copied) : Type 0 where
+pub record IsCopy {N : Type 0} (its : devices.Ghosts N) (holds : List ℕ → Type 0) (len : ℕ) (salvaged : Salvaged N) (c : Copied) : Type 0 where
   pub history : History
-  pub keeper : IsNewKeeper tells disk history salvaged.keeper
+  pub keeper : IsNewKeeper its.tells its.disk history salvaged.keeper
   pub taken : (file : List ℕ) → holds file → IsTaken history salvaged.end salvaged.stop file
   pub entries : c.entries ≡ length history.entries
   pub time : c.time ≡ (state_of history).books.time
@@ -77,46 +78,41 @@ abbrev pub refused_by : Bool → Option StartFault → Option StartFault
 refused_by true stop = stop
 refused_by false stop = None
 
--- a text was printed, or there is no memory for it
-abbrev pub PrintsText : List ℕ → Outcome → Output → Output → Type 0
-PrintsText text (Err NoMemory) start written = written ≡ start
-PrintsText text outcome start written = Prints text outcome start written
-
 -- what was copied was printed; or it is told what is damaged, and nothing was printed
 abbrev pub EndsCopy : Option StartFault → Copied → Outcome → Output → Output → Type 0
 EndsCopy None c outcome start written = PrintsText (copied_text c) outcome start written
 EndsCopy (Some fault) c outcome start written = (outcome ≡ Err (started_fault fault)) × (written ≡ start)
 
-module _ (tells : Type 0) {E : Type 0} (disk : E → Disk) (holds : E → List ℕ → Type 0) where
+module _ {E : Type 0} (its : devices.Ghosts E) where
   -- a fault of the file, with what there is to say of it; or one of the new file
   abbrev pub NamesCopy : SalvageFault → Fault → E → E → Type 0
-  NamesCopy (Old fault) named from after = Names tells disk holds (started_fault fault) named from after
+  NamesCopy (Old fault) named from after = Names its (started_fault fault) named from after
   NamesCopy (New fault) named from after = (named ≡ new_fault (started_fault fault)) × (after ≡ from)
 
   -- the first record of a file was read, which stays
   pub record IsHeadRead (rules : Result Rules StartFault) (from after : E) : Type 0 where
-    pub rules_are : (file : List ℕ) → holds from file → RulesAnswer rules file
-    pub same : (file : List ℕ) → holds from file → holds after file
-    pub untouched : tells → IsUntouched (disk from) (disk after)
-    pub cause : tells → HasStartCause rules (disk from) (disk after)
+    pub rules_are : (file : List ℕ) → its.holds from file → RulesAnswer rules file
+    pub same : (file : List ℕ) → its.holds from file → its.holds after file
+    pub untouched : its.tells → IsUntouched (its.disk from) (its.disk after)
+    pub cause : its.tells → HasStartCause rules (its.disk from) (its.disk after)
 
-module _ (tells : Type 0) {E : Type 0} (disk : E → Disk) (holds whole_read : E → List ℕ → Type 0) (tells_new : Type 0) {D : Type 0} (disk_new : D → Disk) where
+module _ {E : Type 0} (its : devices.Ghosts E) (whole_read : E → List ℕ → Type 0) {D : Type 0} (new_file : devices.Ghosts D) where
   -- a file was read once, and stays; what a crash at any moment may leave of the new one, and why it is not read or written on
   pub record IsCopying (result : Result (Salvaged D) (NotSalvaged D)) (into : D) (from after : E) : Type 0 where
-    pub unsalvaged : (file : List ℕ) → holds from file → IfErr result (λ failed. IsUnsalvaged failed.fault file)
-    pub any_moment : tells_new → LeavesOnly (disk_new into) (disk_new (salvaged_device result)) (MayBeSalvaged (holds from) (disk_new into))
-    pub cause_new : tells_new → HasNewCause (why_new result) (disk_new into) (disk_new (salvaged_device result))
-    pub same : (file : List ℕ) → holds from file → holds after file
-    pub untouched : tells → IsUntouched (disk from) (disk after)
-    pub cause_old : tells → HasStartCause (why_old result) (disk from) (disk after)
+    pub unsalvaged : (file : List ℕ) → its.holds from file → IfErr result (λ failed. IsUnsalvaged failed.fault file)
+    pub any_moment : new_file.tells → LeavesOnly (new_file.disk into) (new_file.disk (salvaged_device result)) (MayBeSalvaged (its.holds from) (new_file.disk into))
+    pub cause_new : new_file.tells → HasNewCause (why_new result) (new_file.disk into) (new_file.disk (salvaged_device result))
+    pub same : (file : List ℕ) → its.holds from file → its.holds after file
+    pub untouched : its.tells → IsUntouched (its.disk from) (its.disk after)
+    pub cause_old : its.tells → HasStartCause (why_old result) (its.disk from) (its.disk after)
 
   -- the new file keeps what was copied, which was printed, or the file is refused; or why there is no new file, or one not to its end
   abbrev pub CopiesBy : Result (Salvaged D) (NotSalvaged D) → ℕ → Bool → Outcome → E → E → E → Output → Output → Type 0
   CopiesBy (Ok salvaged) len whole outcome from between after start written =
-      (c : Copied) × IsCopy tells_new disk_new (holds from) len salvaged c
+      (c : Copied) × IsCopy new_file (its.holds from) len salvaged c
       × EndsCopy (refused_by whole salvaged.stop) c outcome start written × (after ≡ between)
   CopiesBy (Err failed) len whole outcome from between after start written =
-      (named : Fault) × (outcome ≡ Err named) × NamesCopy tells disk holds failed.fault named between after × (written ≡ start)
+      (named : Fault) × (outcome ≡ Err named) × NamesCopy its failed.fault named between after × (written ≡ start)
 
   -- a file of so many bytes was copied
   pub record CopiesLong (len : ℕ) (whole : Bool) (outcome : Outcome) (into : D) (from after : E) (start written : Output) : Type 0 where
@@ -125,46 +121,31 @@ module _ (tells : Type 0) {E : Type 0} (disk : E → Disk) (holds whole_read : E
     pub copying : IsCopying result into from between
     pub copies : CopiesBy result len whole outcome from between after start written
 
-  abbrev pub CopiesMeasured : Result ℕ journal.Fault → Bool → Outcome → D → E → E → Output → Output → Type 0
-  CopiesMeasured (Ok len) whole outcome into from after start written = CopiesLong len whole outcome into from after start written
-  CopiesMeasured (Err fault) whole outcome into from after start written =
-      (outcome ≡ Err (disk_fault fault)) × (after ≡ from) × (written ≡ start)
-
   -- a file's length was asked for, and then it was copied
   pub record CopiesFile (whole : Bool) (outcome : Outcome) (into : D) (from after : E) (start written : Output) : Type 0 where
     pub len : Result ℕ journal.Fault
     pub between : E
-    pub asked : IsMeasured tells disk holds whole_read len from between
-    pub copies : CopiesMeasured len whole outcome into between after start written
+    pub asked : IsMeasured its whole_read len from between
+    pub copies : MatchResult len (λ n. CopiesLong n whole outcome into between after start written)
+        (λ fault. (outcome ≡ Err (disk_fault fault)) × (after ≡ between) × (written ≡ start))
 
   -- the new file was made, and a file was copied into it; or it was not, and nothing was read
-  abbrev pub CopiesMade : Result D OpeningFault → Bool → Outcome → E → E → Output → Output → Type 0
-  CopiesMade (Ok into) whole outcome from after start written = CopiesFile whole outcome into from after start written
-  CopiesMade (Err fault) whole outcome from after start written = (outcome ≡ Err (Making fault)) × (after ≡ from) × (written ≡ start)
+  abbrev pub MakesCopy : {O : Type 0} → (Result D OpeningFault → O → Type 0) → O → Bool → Outcome → E → E → Output → Output → Type 0
+  MakesCopy may left whole outcome from after start written =
+      Opens Making may left outcome ((after ≡ from) × (written ≡ start)) (λ into. CopiesFile whole outcome into from after start written)
 
-  -- making it may answer so, and leave what opens like this
-  pub record MakesCopy {O : Type 0} (may : Result D OpeningFault → O → Type 0) (left : O) (whole : Bool) (outcome : Outcome) (from after : E) (start written : Output) : Type 0 where
-    pub answer : Result D OpeningFault
-    pub answered : may answer left
-    pub copies : CopiesMade answer whole outcome from after start written
-
-  -- a file that begins as a ledger's was copied into a new one; of any other none was made
-  abbrev pub CopiesKnown : {O : Type 0} → Result Rules StartFault → (Result D OpeningFault → O → Type 0) → O → O → Bool → Outcome → E → E → Output → Output → Type 0
-  CopiesKnown (Ok rules) may before left whole outcome from after start written = MakesCopy may left whole outcome from after start written
-  CopiesKnown (Err fault) may before left whole outcome from after start written =
-      IsRefused tells disk holds fault outcome from after × (left ≡ before) × (written ≡ start)
-
-  -- the first record of a file was read, and then it was copied
+  -- the first record of a file was read, and then it was copied into a new one. Of one that does not begin as a ledger's none was made
   pub record CopiesHeaded {O : Type 0} (may : Result D OpeningFault → O → Type 0) (before left : O) (whole : Bool) (outcome : Outcome) (from after : E) (start written : Output) : Type 0 where
     pub rules : Result Rules StartFault
     pub between : E
-    pub head : IsHeadRead tells disk holds rules from between
-    pub copies : CopiesKnown rules may before left whole outcome between after start written
+    pub head : IsHeadRead its rules from between
+    pub copies : MatchResult rules (λ read. MakesCopy may left whole outcome between after start written)
+        (λ fault. IsRefused its fault outcome between after × (left ≡ before) × (written ≡ start))
 
   -- a file was opened and copied into a new one; or it was not opened, and none was made
   pub record CopiesOver {O : Type 0} (opens : Result E OpeningFault → O → Type 0) (makes : O → List ℕ → Result D OpeningFault → O → Type 0) (new : List ℕ) (left : O) (whole : Bool) (outcome : Outcome) (start written : Output) : Type 0 where
     pub middle : O
-    pub copies : Opens opens middle outcome ((left ≡ middle) × (written ≡ start))
+    pub copies : Opens Opening opens middle outcome ((left ≡ middle) × (written ≡ start))
         (λ from. (after : E) × CopiesHeaded (makes middle new) middle left whole outcome from after start written)
 
 -- rows

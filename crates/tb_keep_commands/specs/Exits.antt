@@ -1,8 +1,8 @@
 -- How a command ends: its outcome, exit status and line.
 -- Cited by public contracts of: commands.
-use Rattle.std.specs.Prelude.{ℕ, true, false, ◌||◌, ◌≡◌, List, [], Result, Ok, Err}
+use Rattle.std.specs.Prelude.{ℕ, true, false, ◌||◌, ◌≡◌, List, [], Ok, Err}
 use Rattle.tb_records.specs.Transport.{Input, Output, Sent, CutOff}
-use Rattle.tb_journal.specs.Device.{Disk}
+use Rattle.tb_journal.specs.declared.devices.Device as devices
 use Rattle.tb_keep.specs.Reading.{rules_of}
 use Rattle.tb_keep_commands.specs.declared.arguments.Form.{Form}
 use Rattle.tb_keep_commands.specs.declared.arguments.Form.TheVariants as form
@@ -10,7 +10,7 @@ use Rattle.tb_keep_commands.specs.declared.commands.Terminals.{Terminals}
 use Rattle.tb_keep_commands.specs.declared.faults.Fault.TheVariants.{Device}
 use Rattle.tb_keep_commands.specs.declared.faults.Failed.TheVariants as failed
 use Rattle.tb_keep_commands.specs.declared.help.TheConstants.{USAGE, VERSION}
-use Rattle.tb_keep_commands.specs.declared.openers.OpeningFault.{OpeningFault}
+use Rattle.tb_keep_commands.specs.declared.openers.Opener as openers
 use Rattle.tb_keep_commands.specs.Copies.{CopiesOver}
 use Rattle.tb_keep_commands.specs.Outcomes.{Outcome, Prints, RunsOver, DumpsOver, ChecksOver}
 use Rattle.tb_keep_commands.specs.Statuses.{SaysLine, fault_line, fault_path, fault_status}
@@ -30,24 +30,24 @@ abbrev pub Tells : Outcome → List ℕ → List ℕ → Output → Output → T
 Tells (Ok done) file new before after = after ≡ before
 Tells (Err fault) file new before after = SaysLine (fault_line fault (fault_path fault file new)) before after
 
-module _ (tells : Type 0) {D : Type 0} (disk : D → Disk) (holds : D → List ℕ → Type 0) (tells_read : Type 0) {E : Type 0} (disk_read : E → Disk) (holds_read whole_read : E → List ℕ → Type 0) {O : Type 0} (makes : O → List ℕ → Result D OpeningFault → O → Type 0) (opens : O → List ℕ → Result E OpeningFault → O → Type 0) (makes_new : O → List ℕ → Result D OpeningFault → O → Type 0) (ends : Terminals) (before : O) (name new : List ℕ) (left : O) where
+module _ {D : Type 0} (file : devices.Ghosts D) {E : Type 0} (reading : devices.Ghosts E) (whole : E → List ℕ → Type 0) {O : Type 0} (opener : openers.Ghosts O D E) (ends : Terminals) (before : O) (name new : List ℕ) (left : O) where
   -- what a form does over what opens devices: `run` has the device of a name made where there is none, `dump` and `check` open one that is
   -- there, `salvage` and `backup` open one and make another, and the other forms open none. What it tells while it goes on stands before
   -- the line of its outcome
   abbrev pub Performs : Form → Outcome → Input → Input → Output → Output → Output → Output → Type 0
   Performs (form.Run clients_max profile reports) outcome first last start written quiet told =
-      RunsOver tells disk holds (makes before name) left outcome (rules_of profile clients_max) name (reports || ends.faults) ends.input
+      RunsOver file (opener.makes before name) left outcome (rules_of profile clients_max) name (reports || ends.faults) ends.input
       first last start written quiet told
   Performs (form.Dump from follows) outcome first last start written quiet told =
-      (last ≡ first) × (told ≡ quiet) × DumpsOver tells_read disk_read holds_read (opens before name) left from follows outcome start written
+      (last ≡ first) × (told ≡ quiet) × DumpsOver reading (opener.opens before name) left from follows outcome start written
   Performs form.Check outcome first last start written quiet told =
-      (last ≡ first) × (told ≡ quiet) × ChecksOver tells_read disk_read holds_read (opens before name) left whole_read outcome start written
+      (last ≡ first) × (told ≡ quiet) × ChecksOver reading (opener.opens before name) left whole outcome start written
   Performs form.Salvage outcome first last start written quiet told =
       (last ≡ first) × (told ≡ quiet)
-      × CopiesOver tells_read disk_read holds_read whole_read tells disk (opens before name) makes_new new left false outcome start written
+      × CopiesOver reading whole file (opener.opens before name) opener.makes_new new left false outcome start written
   Performs form.Backup outcome first last start written quiet told =
       (last ≡ first) × (told ≡ quiet)
-      × CopiesOver tells_read disk_read holds_read whole_read tells disk (opens before name) makes_new new left true outcome start written
+      × CopiesOver reading whole file (opener.opens before name) opener.makes_new new left true outcome start written
   Performs form.Help outcome first last start written quiet told =
       (left ≡ before) × (last ≡ first) × (told ≡ quiet) × Prints USAGE.now outcome start written
   Performs form.Version outcome first last start written quiet told =

@@ -16,6 +16,7 @@ use Rattle.tb_keep.specs.Reading.{HasDumpCause}
 use Rattle.tb_keep_commands.specs.declared.faults.Fault.{Fault}
 use Rattle.tb_keep_commands.specs.declared.faults.Fault.TheVariants.{Device}
 use Rattle.tb_keep_commands.specs.declared.faults.Failed.TheVariants as failed
+use Rattle.tb_keep_commands.specs.declared.following.Part.{Part}
 use Rattle.tb_keep_commands.specs.Statuses.{opened_fault, dumped_fault}
 
 -- above which commit number entries are written: all where none is given
@@ -49,10 +50,12 @@ abbrev pub EndsBy : Fault → List ℕ → List ℕ → Output → Output → Ty
 EndsBy fault file bytes start written =
     StopsReading fault file (Sent bytes start written) ⊎ ((fault ≡ Device failed.Output) × CutOff bytes start written)
 
--- all of a file was read, the file itself or, where more was waited for, what it had become; and the part of its records went out
-pub record WritesRead (follows : Bool) (after : Option ℕ) (rules : Rules) (file : List ℕ) (start written : Output) : Type 0 where
+-- all of a file was read, the file itself or, where more was waited for, what it had become: it is the one that the device holds at the
+-- end. The part of its records went out
+pub record WritesRead (holds : List ℕ → Type 0) (follows : Bool) (after : Option ℕ) (rules : Rules) (file : List ℕ) (start written : Output) : Type 0 where
   pub later : List ℕ
   pub since : GrowsTo follows file later
+  pub held : holds later
   pub records : List (List ℕ)
   pub whole : contents later ≡ Records records
   pub sent : Sent (part_of after rules records) start written
@@ -65,9 +68,9 @@ pub record WritesSome (fault : Fault) (follows : Bool) (after : Option ℕ) (rul
   pub begins : BeginsWith records later
   pub ends : EndsBy fault later (part_of after rules records) start written
 
-abbrev pub WritesPart : Result (Unit {0}) Fault → Bool → Option ℕ → Rules → List ℕ → Output → Output → Type 0
-WritesPart (Ok done) follows after rules file start written = WritesRead follows after rules file start written
-WritesPart (Err fault) follows after rules file start written =
+abbrev pub WritesPart : (List ℕ → Type 0) → Result (Unit {0}) Fault → Bool → Option ℕ → Rules → List ℕ → Output → Output → Type 0
+WritesPart holds (Ok done) follows after rules file start written = WritesRead holds follows after rules file start written
+WritesPart holds (Err fault) follows after rules file start written =
     StopsReading fault file (written ≡ start) ⊎ WritesSome fault follows after rules file start written
 
 abbrev pub dump_outcome : Result (Unit {0}) DumpFault → Result (Unit {0}) Fault
@@ -125,13 +128,58 @@ GrowsBy holds (Ok done) after file device scan start written = Grown holds after
 GrowsBy holds (Err fault) after file device scan start written = Breaks fault true after file start written
 
 -- all rounds: nobody waits for more, or a fault
-pub record Reaches (follows : Bool) (after : ℕ) (file : List ℕ) (start written : Output) : Type 0 where
+pub record Reaches (holds : List ℕ → Type 0) (follows : Bool) (after : ℕ) (file : List ℕ) (start written : Output) : Type 0 where
   pub later : List ℕ
   pub since : GrowsTo follows file later
+  pub held : holds later
   pub records : List (List ℕ)
   pub whole : contents later ≡ Records records
   pub sent : Sent (entries_above after [] records) start written
 
-abbrev pub EndsRounds : Result (Unit {0}) Fault → Bool → ℕ → List ℕ → Output → Output → Type 0
-EndsRounds (Ok done) follows after file start written = Reaches follows after file start written
-EndsRounds (Err fault) follows after file start written = Breaks fault follows after file start written
+abbrev pub EndsRounds : (List ℕ → Type 0) → Result (Unit {0}) Fault → Bool → ℕ → List ℕ → Output → Output → Type 0
+EndsRounds holds (Ok done) follows after file start written = Reaches holds follows after file start written
+EndsRounds holds (Err fault) follows after file start written = Breaks fault follows after file start written
+
+-- of whatever file a device holds
+
+abbrev pub WritesHeld : {D : Type 0} → (D → List ℕ → Type 0) → Result (Unit {0}) Fault → Bool → Option ℕ → Rules → D → D → Output → Output → Type 0
+WritesHeld holds outcome follows after rules device last start written =
+    (file : List ℕ) → holds device file → WritesPart (holds last) outcome follows after rules file start written
+
+-- of which a scan has read these records
+abbrev pub OfRead : {D : Type 0} → (D → List ℕ → Type 0) → D → Place → (List ℕ → List (List ℕ) → Type 0) → Type 0
+OfRead holds device scan Is = (file : List ℕ) (read : List (List ℕ)) → holds device file → HasRead read file scan → Is file read
+
+-- of which it has read none
+abbrev pub OfUnread : {D : Type 0} → (D → List ℕ → Type 0) → D → Place → (List ℕ → Type 0) → Type 0
+OfUnread holds device scan Is = (file : List ℕ) → holds device file → HasRead [] file scan → Is file
+
+abbrev pub SendsUnread : {D : Type 0} → (D → List ℕ → Type 0) → Result (Unit {0}) Fault → Bool → ℕ → D → Place → D → Output → Output → Type 0
+SendsUnread holds outcome follows after device scan last start written =
+    OfUnread holds device scan (λ file. EndsRounds (holds last) outcome follows after file start written)
+
+abbrev pub WritesUnread : {D : Type 0} → (D → List ℕ → Type 0) → Result (Unit {0}) Fault → Part → Rules → D → Place → D → Output → Output → Type 0
+WritesUnread holds outcome part rules device scan last start written =
+    OfUnread holds device scan (λ file. WritesPart (holds last) outcome part.follows part.after rules file start written)
+
+-- one more round, behind those that wrote what went out so far
+abbrev pub SendsMore : {D : Type 0} → (D → List ℕ → Type 0) → Result (Unit {0}) Fault → ℕ → D → Place → Output → D → Place → Output → Type 0
+SendsMore holds outcome after device scan before last to written =
+    (file : List ℕ) (start : Output) → Grown holds after file device scan start before → GrowsBy holds outcome after file last to start written
+
+-- all that are left
+abbrev pub SendsOn : {D : Type 0} → (D → List ℕ → Type 0) → Result (Unit {0}) Fault → ℕ → D → Place → Output → D → Output → Type 0
+SendsOn holds outcome after device scan before last written =
+    (file : List ℕ) (start : Output) → Grown holds after file device scan start before → EndsRounds (holds last) outcome true after file start written
+
+-- why, over a device that tells what its calls do
+
+abbrev pub HasRoundCause : Type 0 → Result (Unit {0}) Fault → Disk → Place → Disk → Place → Type 0
+HasRoundCause tells outcome before scan after to =
+    tells → (read : List (List ℕ)) → HasRead read before.seen scan → RoundCause outcome before after to
+
+abbrev pub HasWholeCause : Type 0 → Result (Unit {0}) Fault → Disk → Place → Disk → Type 0
+HasWholeCause tells outcome before scan after = tells → HasRead [] before.seen scan → HasPartCause outcome before after
+
+abbrev pub HasRestCause : Type 0 → Result (Unit {0}) Fault → Disk → Place → Disk → Type 0
+HasRestCause tells outcome before scan after = tells → (read : List (List ℕ)) → HasRead read before.seen scan → HasPartCause outcome before after

@@ -51,6 +51,10 @@ run_four word clients last =
 abbrev pub run_five : List ℕ → List ℕ → List ℕ → List ℕ → Option Form
 run_five word clients profile last = if is_progress last then run_form word clients (profile_of profile) true else None
 
+-- the word that has more entries waited for
+abbrev pub is_follow : List ℕ → Bool
+is_follow word = pointwise nat_eq word (codes "--follow")
+
 -- one digit or more, and nothing else
 abbrev pub is_number : List ℕ → Bool
 is_number word = nat_lt 0 (length word) && list_all is_ascii_digit word
@@ -71,7 +75,7 @@ copy_form asked new = if is_no_file new then None else Some asked
 -- `dump FILE --follow`, `salvage FILE NEW`, `backup FILE NEW`, or `run FILE CLIENTS_MAX`
 abbrev pub form_three : List ℕ → List ℕ → Option Form
 form_three word third =
-    if is_dump word then (if pointwise nat_eq third (codes "--follow") then Some (form.Dump None true) else None)
+    if is_dump word then (if is_follow third then Some (form.Dump None true) else None)
     else if pointwise nat_eq word (codes "salvage") then copy_form form.Salvage third
     else if pointwise nat_eq word (codes "backup") then copy_form form.Backup third
     else run_form word third (Some One) false
@@ -87,11 +91,13 @@ dump_from after commit follows = if pointwise nat_eq after (codes "--after") the
 abbrev pub form_four : List ℕ → List ℕ → List ℕ → Option Form
 form_four word third fourth = if is_dump word then dump_from third fourth false else run_four word third fourth
 
--- `dump FILE --after COMMIT --follow`
+-- `dump FILE --after COMMIT --follow`, or `dump FILE --follow --after COMMIT`
+abbrev pub dump_later : List ℕ → List ℕ → List ℕ → Option Form
+dump_later third fourth fifth =
+    if is_follow fifth then dump_from third fourth true else if is_follow third then dump_from fourth fifth true else None
+
 abbrev pub form_five : List ℕ → List ℕ → List ℕ → List ℕ → Option Form
-form_five word third fourth fifth =
-    if is_dump word then (if pointwise nat_eq fifth (codes "--follow") then dump_from third fourth true else None)
-    else run_five word third fourth fifth
+form_five word third fourth fifth = if is_dump word then dump_later third fourth fifth else run_five word third fourth fifth
 
 -- the form, whatever the word is that names the file
 abbrev pub form_by : List (List ℕ) → Option Form
@@ -209,6 +215,9 @@ a_start_is_reported = refl
 
 pub later_entries_are_followed : form_of (codes "dump" ∷ codes "ledger" ∷ codes "--after" ∷ codes "40" ∷ codes "--follow" ∷ []) ≡ Some (form.Dump (Some 40) true)
 later_entries_are_followed = refl
+
+pub the_options_have_no_order : form_of (codes "dump" ∷ codes "ledger" ∷ codes "--follow" ∷ codes "--after" ∷ codes "40" ∷ []) ≡ Some (form.Dump (Some 40) true)
+the_options_have_no_order = refl
 
 pub a_file_is_salvaged : form_of (codes "salvage" ∷ codes "ledger" ∷ codes "./64" ∷ []) ≡ Some form.Salvage
 a_file_is_salvaged = refl

@@ -1,19 +1,19 @@
 -- What a command does between a std reader and a std writer, each behind a buffer.
 -- Cited by public contracts of: host.
-use Rattle.std.specs.Prelude.{ℕ, ◌≡◌, ◌^◌, List, [], Option, Some, None, Result}
+use Rattle.std.specs.Prelude.{ℕ, ◌≡◌, ◌^◌, List, [], Option, Some, None}
 use Rattle.std.specs.Io.Buffered.{reader_buffer, reader_capacity, reader_inner, reader_remaining, writer_buffer, writer_contents, writer_inner}
 use Rattle.std.specs.declared.io.buffered.BufReader.{BufReader}
 use Rattle.std.specs.declared.io.buffered.BufWriter.{BufWriter}
 use Rattle.std.specs.declared.alloc.Global.{Global}
 use Rattle.tb_records.specs.Transport.{Input, Output}
-use Rattle.tb_journal.specs.Device.{Disk}
+use Rattle.tb_journal.specs.declared.devices.Device as devices
 use Rattle.tb_keep_commands.specs.declared.arguments.Form.{Form}
 use Rattle.tb_keep_commands.specs.declared.commands.Terminals.{Terminals}
 use Rattle.tb_keep_commands.specs.declared.arguments.Form.TheVariants as form
 use Rattle.tb_keep_commands.specs.declared.faults.Fault.TheVariants.{NoMemory}
 use Rattle.tb_keep_commands.specs.Exits.{Exits}
 use Rattle.tb_keep_commands.specs.Forms.{form_of, file_word, new_word}
-use Rattle.tb_keep_commands.specs.declared.openers.OpeningFault.{OpeningFault}
+use Rattle.tb_keep_commands.specs.declared.openers.Opener as openers
 use Rattle.tb_keep_commands.specs.Outlets.{Watched, outgoing}
 use Rattle.tb_keep_commands.specs.Statuses.{SaysLine, fault_line, usage_lines}
 
@@ -32,12 +32,12 @@ output_of contents w = record { written = writer_contents contents w.inner; fail
 abbrev pub WantsMemory : {O : Type 0} → O → O → ℕ → Output → Output → Type 0
 WantsMemory before left status quiet told = (status ≡ 1) × (left ≡ before) × SaysLine (fault_line NoMemory []) quiet told
 
-module _ (tells : Type 0) {D : Type 0} (disk : D → Disk) (holds : D → List ℕ → Type 0) (tells_read : Type 0) {E : Type 0} (disk_read : E → Disk) (holds_read whole_read : E → List ℕ → Type 0) {O : Type 0} (makes : O → List ℕ → Result D OpeningFault → O → Type 0) (opens : O → List ℕ → Result E OpeningFault → O → Type 0) (makes_new : O → List ℕ → Result D OpeningFault → O → Type 0) (ends : Terminals) (before left : O) {R W : Type 0} (remaining : R → Option (List ℕ)) (contents : W → Option (List ℕ)) where
+module _ {D : Type 0} (file : devices.Ghosts D) {E : Type 0} (reading : devices.Ghosts E) (whole : E → List ℕ → Type 0) {O : Type 0} (opener : openers.Ghosts O D E) (ends : Terminals) (before left : O) {R W : Type 0} (remaining : R → Option (List ℕ)) (contents : W → Option (List ℕ)) where
   -- a form was done, or not to its end; where it was done the buffer of the output is empty at its end
   pub record Hosted (form : Form) (name new : List ℕ) (status : ℕ) (input : BufReader R Global) (output : BufWriter W Global) (quiet told : Output) : Type 0 where
     pub last : Watched (BufReader R Global)
     pub final : Watched (BufWriter W Global)
-    pub exits : Exits tells disk holds tells_read disk_read holds_read whole_read makes opens makes_new ends before name new left (writer_buffer final.inner ≡ []) form status
+    pub exits : Exits file reading whole opener ends before name new left (writer_buffer final.inner ≡ []) form status
         (input_of remaining (outgoing input)) (input_of remaining last) (output_of contents (outgoing output)) (output_of contents final) quiet told
 
   -- the form that words ask for was done, or not to its end; or they ask for none, and that is told

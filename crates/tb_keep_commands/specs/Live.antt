@@ -1,10 +1,35 @@
 -- A file that is read while another program may append to it.
 -- Cited by public contracts of: live.
-use Rattle.std.specs.Prelude.{ℕ, List}
-use Rattle.tb_journal.specs.Growing.{Later}
+use Rattle.std.specs.Prelude.{◌≡◌, ℕ, List, length, Result, Ok, Err}
+use Rattle.tb_journal.specs.declared.faults.Fault.{Fault}
+use Rattle.tb_journal.specs.Contents.{Contents, NotAJournal, Damaged, Records, contents}
+use Rattle.tb_journal.specs.Growing.{Extends, Later}
 
--- a device holds a file that is later than this one
-pub record HoldsLater {D : Type 0} (holds : D → List ℕ → Type 0) (device : D) (file : List ℕ) : Type 0 where
+-- a device looked at its file again. What it holds is later than this file, and stands for all that the whole file stood for at some
+-- moment of the call
+pub record LooksAgain {D : Type 0} (whole holds : D → List ℕ → Type 0) (before after : D) (file : List ℕ) : Type 0 where
   pub later : List ℕ
   pub since : Later file later
-  pub held : holds device later
+  pub held : holds after later
+  pub first : List ℕ
+  pub was : whole before first
+  pub moment : List ℕ
+  pub grown : Later first moment
+  pub all : contents later ≡ contents moment
+
+-- or it failed, and holds what it held
+abbrev pub Refreshes : {D : Type 0} → (D → List ℕ → Type 0) → (D → List ℕ → Type 0) → D → D → List ℕ → Result (Unit {0}) Fault → Type 0
+Refreshes whole holds before after file (Ok done) = LooksAgain whole holds before after file
+Refreshes whole holds before after file (Err fault) = holds after file
+
+-- a whole file, by what the part of it stands for that a device holds: it extends these records, or is refused as the part is
+abbrev pub WholeOf : Contents → List ℕ → List ℕ → Type 0
+WholeOf (Records records) file whole = Extends records file whole
+WholeOf (Damaged at) file whole = contents whole ≡ Damaged at
+WholeOf NotAJournal file whole = contents whole ≡ NotAJournal
+
+-- so many bytes has a whole file of which a device holds this one
+pub record IsWholeLength (file : List ℕ) (len : ℕ) : Type 0 where
+  pub whole : List ℕ
+  pub goes_on : WholeOf (contents file) file whole
+  pub long : len ≡ length whole

@@ -1,8 +1,9 @@
 -- What is said of a file that is refused: what it is, by its first bytes, and the rules that it was made with.
 -- Public contracts reach it through: Copies, Outcomes.
 use Rattle.std.specs.Prelude.{ℕ, ◌≡◌, List, Option, Some, None, Result, Ok, Err}
+use Rattle.tb_journal.specs.declared.devices.Device as devices
 use Rattle.tb_journal.specs.declared.faults.Fault as journal
-use Rattle.tb_journal.specs.Device.{Disk, Looks}
+use Rattle.tb_journal.specs.Device.{Looks}
 use Rattle.tb_keep.specs.declared.faults.StartFault.{StartFault}
 use Rattle.tb_keep.specs.declared.faults.StartFault.TheVariants as start
 use Rattle.tb_keep.specs.declared.heads.Rules.{Rules}
@@ -20,12 +21,12 @@ abbrev pub mismatch : Result Rules StartFault → Rules → Option Mismatch
 mismatch (Ok made) asked = Some (record { made = numbers_of made; asked = numbers_of asked })
 mismatch (Err fault) asked = None
 
-module _ (tells : Type 0) {D : Type 0} (disk : D → Disk) (holds : D → List ℕ → Type 0) where
+module _ {D : Type 0} (its : devices.Ghosts D) where
   -- the first bytes of the file of a device were read, or it failed
   pub record IsOfKind (kind : Kind) (device after : D) : Type 0 where
     pub read : Result ℕ journal.Fault
-    pub kind_is : (file : List ℕ) → holds device file → kind ≡ kind_by read file
-    pub looks : tells → Looks read (disk device) (disk after)
+    pub kind_is : (file : List ℕ) → its.holds device file → kind ≡ kind_by read file
+    pub looks : its.tells → Looks read (its.disk device) (its.disk after)
 
   -- of a file that is no journal it is said what it is
   abbrev pub Names : Fault → Fault → D → D → Type 0
@@ -36,10 +37,16 @@ module _ (tells : Type 0) {D : Type 0} (disk : D → Disk) (holds : D → List �
   pub record IsMadeWith (asked : Rules) (numbers : Option Mismatch) (device after : D) : Type 0 where
     pub made : Result Rules StartFault
     pub numbers_are : numbers ≡ mismatch made asked
-    pub of_file : (file : List ℕ) → holds device file → RulesAnswer made file
-    pub cause : tells → HasStartCause made (disk device) (disk after)
+    pub of_file : (file : List ℕ) → its.holds device file → RulesAnswer made file
+    pub cause : its.tells → HasStartCause made (its.disk device) (its.disk after)
 
   -- of one of other rules than were asked for it is said which these are
   abbrev pub NamesAsked : Rules → StartFault → Fault → D → D → Type 0
   NamesAsked asked start.OtherRules fault device after = (numbers : Option Mismatch) × (fault ≡ OtherRules numbers) × IsMadeWith asked numbers device after
   NamesAsked asked cause fault device after = Names (started_fault cause) fault device after
+
+-- what private functions alone cite
+
+-- a call left a device so
+abbrev pub Left : {D : Type 0} → (D → Type 0) → Type 0
+Left {D} Leaves = (after : D) × Leaves after

@@ -1,9 +1,10 @@
 -- What each form does, and its outcome.
 -- Public contracts reach it through: Copies, Exits.
-use Rattle.std.specs.Prelude.{ℕ, Bool, true, false, Option, None, ◌≡◌, ◌-◌, List, length, Result, Ok, Err, IfOk}
+use Rattle.std.specs.Prelude.{ℕ, Bool, true, false, Option, None, ◌≡◌, ◌-◌, List, length, Result, Ok, Err, IfOk, MatchResult}
 use Rattle.tb_records.specs.Transport.{Input, Output, Sent, CutOff}
+use Rattle.tb_journal.specs.declared.devices.Device as devices
 use Rattle.tb_journal.specs.declared.faults.Fault as journal
-use Rattle.tb_journal.specs.Device.{Disk, Looks, LeavesOnly}
+use Rattle.tb_journal.specs.Device.{Looks, LeavesOnly}
 use Rattle.tb_journal.specs.Growing.{Grown}
 use Rattle.tb_keep.specs.declared.faults.DumpFault.{DumpFault}
 use Rattle.tb_keep.specs.declared.faults.KeepFault.{KeepFault}
@@ -21,11 +22,11 @@ use Rattle.tb_keep_commands.specs.declared.faults.Failed.{Failed}
 use Rattle.tb_keep_commands.specs.declared.faults.Failed.TheVariants as failed
 use Rattle.tb_keep_commands.specs.declared.openers.OpeningFault.{OpeningFault}
 use Rattle.tb_keep_commands.specs.declared.summaries.Found.{Found}
-use Rattle.tb_keep_commands.specs.declared.summaries.Summary.{Summary}
 use Rattle.tb_keep_commands.specs.Statuses.{disk_fault, started_fault, kept_fault, failed_pipe, TellsMade, TellsCut, TellsReading, TellsReady, TellsFrames}
+use Rattle.tb_keep_commands.specs.Live.{IsWholeLength}
 use Rattle.tb_keep_commands.specs.Following.{WritesPart, HasPartCause, dump_outcome}
 use Rattle.tb_keep_commands.specs.Naming.{Names, NamesAsked}
-use Rattle.tb_keep_commands.specs.Summaries.{ReadsWhole, IsSummary, summary_text}
+use Rattle.tb_keep_commands.specs.Summaries.{ReadsWhole, summary_of, summary_text}
 
 -- done, or not to its end
 abbrev pub Outcome : Type 0
@@ -36,41 +37,37 @@ abbrev pub Prints : List ℕ → Outcome → Output → Output → Type 0
 Prints text (Ok done) start written = Sent text start written
 Prints text (Err fault) start written = (fault ≡ Device failed.Output) × CutOff text start written
 
--- the text of a summary was printed, or there is no memory for it
-abbrev pub Reports : Outcome → Summary → Output → Output → Type 0
-Reports (Err NoMemory) s start written = written ≡ start
-Reports outcome s start written = Prints (summary_text s) outcome start written
+-- or there is no memory for it
+abbrev pub PrintsText : List ℕ → Outcome → Output → Output → Type 0
+PrintsText text (Err NoMemory) start written = written ≡ start
+PrintsText text outcome start written = Prints text outcome start written
 
 -- where a pipe failed, this one
 abbrev pub kept_outcome : Failed → Result ℕ KeepFault → Outcome
 kept_outcome pipe (Ok count) = Ok tt
 kept_outcome pipe (Err fault) = Err (kept_fault pipe fault)
 
--- a call left a device so
-abbrev pub Left : {D : Type 0} → (D → Type 0) → Type 0
-Left {D} Leaves = (after : D) × Leaves after
-
-module _ (tells : Type 0) {D : Type 0} (disk : D → Disk) (holds : D → List ℕ → Type 0) where
+module _ {D : Type 0} (its : devices.Ghosts D) where
   -- of the file that the reads of a device are of
   abbrev pub OfFile : D → (List ℕ → Type 0) → Type 0
-  OfFile device Is = (file : List ℕ) → holds device file → Is file
+  OfFile device Is = (file : List ℕ) → its.holds device file → Is file
 
   -- a device was read to the end of its file, as one history, or it is told why not; the file stays
   pub record IsReadWhole (found : Result Found StartFault) (device after : D) : Type 0 where
     pub found_is : OfFile device (ReadsWhole found)
-    pub same : OfFile device (holds after)
-    pub cause : tells → HasStartCause found (disk device) (disk after)
+    pub same : OfFile device (its.holds after)
+    pub cause : its.tells → HasStartCause found (its.disk device) (its.disk after)
 
   -- a dump of a file of these rules was written, or as much of it as the answer says
   pub record IsDumped (result : Result (Unit {0}) DumpFault) (rules : Rules) (device after : D) (start written : Output) : Type 0 where
     pub dumps : OfFile device (λ file. Dumps result rules file start written)
-    pub cause : tells → HasDumpCause result (disk device) (disk after)
+    pub cause : its.tells → HasDumpCause result (its.disk device) (its.disk after)
 
   -- a file that was read is refused, with what there is to say of it
   pub record IsRefused (fault : StartFault) (outcome : Outcome) (device after : D) : Type 0 where
     pub named : Fault
     pub outcome_is : outcome ≡ Err named
-    pub names : Names tells disk holds (started_fault fault) named device after
+    pub names : Names its (started_fault fault) named device after
 
   -- where a file was found to be one history its dump was written, or why not; else nothing was
   abbrev pub DumpsFound : Result Found StartFault → Outcome → D → D → Output → Output → Type 0
@@ -85,61 +82,56 @@ module _ (tells : Type 0) {D : Type 0} (disk : D → Disk) (holds : D → List �
     pub whole : IsReadWhole found device between
     pub dumps : DumpsFound found outcome between after start written
 
-  -- where a file was found to be one history a part of it was written, and as long as more was waited for what came later; else nothing was
-  abbrev pub FollowsFound : Result Found StartFault → Option ℕ → Bool → Outcome → D → D → Output → Output → Type 0
-  FollowsFound (Err fault) from follows outcome device after start written = IsRefused fault outcome device after × (written ≡ start)
-  FollowsFound (Ok found) from follows outcome device after start written =
-      OfFile device (λ file. WritesPart outcome follows from found.rules file start written) × (tells → HasPartCause outcome (disk device) (disk after))
+  -- a part of a dump of a file of these rules was written, and as long as more was waited for what came later, or as much of it as the outcome
+  -- says
+  pub record IsFollowed (from : Option ℕ) (follows : Bool) (outcome : Outcome) (rules : Rules) (device after : D) (start written : Output) : Type 0 where
+    pub writes : OfFile device (λ file. WritesPart (its.holds after) outcome follows from rules file start written)
+    pub cause : its.tells → HasPartCause outcome (its.disk device) (its.disk after)
 
-  -- a file was read to its end before a byte of a part of its dump was written: the entries above a commit number, or all
+  -- a file was read to its end before a byte of a part of its dump was written: the entries above a commit number, or all. One that is no
+  -- history is refused, and nothing was written
   pub record FollowsFile (from : Option ℕ) (follows : Bool) (outcome : Outcome) (device after : D) (start written : Output) : Type 0 where
     pub found : Result Found StartFault
     pub between : D
     pub whole : IsReadWhole found device between
-    pub writes : FollowsFound found from follows outcome between after start written
+    pub writes : MatchResult found (λ it. IsFollowed from follows outcome it.rules between after start written)
+        (λ fault. IsRefused fault outcome between after × (written ≡ start))
 
   -- a dump, or a part of one
   abbrev pub DumpsPart : Option ℕ → Bool → Outcome → D → D → Output → Output → Type 0
   DumpsPart None false outcome device after start written = DumpsFile outcome device after start written
   DumpsPart from follows outcome device after start written = FollowsFile from follows outcome device after start written
 
-  -- where a file of so many bytes was found to be one history its summary was printed; else nothing was
-  abbrev pub ChecksFound : Result Found StartFault → ℕ → Outcome → D → D → D → Output → Output → Type 0
-  ChecksFound (Err fault) len outcome device between after start written = IsRefused fault outcome between after × (written ≡ start)
-  ChecksFound (Ok found) len outcome device between after start written =
-      (s : Summary) × OfFile device (IsSummary len s) × Reports outcome s start written
-
-  -- a file of so many bytes was read to its end before its summary was printed
+  -- a file of so many bytes was read to its end before its summary was printed. One that is no history is refused, and nothing was
   pub record ChecksLong (len : ℕ) (outcome : Outcome) (device after : D) (start written : Output) : Type 0 where
     pub found : Result Found StartFault
     pub between : D
     pub whole : IsReadWhole found device between
-    pub checks : ChecksFound found len outcome device between after start written
+    pub checks : MatchResult found (λ it. PrintsText (summary_text (summary_of it len)) outcome start written)
+        (λ fault. IsRefused fault outcome between after × (written ≡ start))
 
   -- a device was asked for the length of its file, which stays
   pub record IsAsked (len : Result ℕ journal.Fault) (device after : D) : Type 0 where
     pub long : OfFile device (λ file. IfOk len (λ n. n ≡ length file))
-    pub same : OfFile device (holds after)
-    pub looks : tells → Looks len (disk device) (disk after)
+    pub same : OfFile device (its.holds after)
+    pub looks : its.tells → Looks len (its.disk device) (its.disk after)
 
   -- a device was asked for the length of the whole file of which it holds a part: that at some moment of the call. What it holds stays
   pub record IsMeasured (whole : D → List ℕ → Type 0) (len : Result ℕ journal.Fault) (device after : D) : Type 0 where
     pub long : (file : List ℕ) → whole device file → Grown (whole after) file (λ later. IfOk len (λ n. n ≡ length later))
+    pub extends : OfFile device (λ file. IfOk len (IsWholeLength file))
     -- nobody else appends to the file of a device that tells what its calls do
-    pub told : tells → IfOk len (λ n. n ≡ length (disk device).seen)
-    pub same : OfFile device (holds after)
-    pub looks : tells → Looks len (disk device) (disk after)
-
-  abbrev pub ChecksBy : Result ℕ journal.Fault → Outcome → D → D → Output → Output → Type 0
-  ChecksBy (Err fault) outcome device after start written = (outcome ≡ Err (disk_fault fault)) × (written ≡ start)
-  ChecksBy (Ok len) outcome device after start written = ChecksLong len outcome device after start written
+    pub told : its.tells → IfOk len (λ n. n ≡ length (its.disk device).seen)
+    pub same : OfFile device (its.holds after)
+    pub looks : its.tells → Looks len (its.disk device) (its.disk after)
 
   -- a file's length was asked for, and then it was checked
   pub record ChecksFile (whole : D → List ℕ → Type 0) (outcome : Outcome) (device after : D) (start written : Output) : Type 0 where
     pub len : Result ℕ journal.Fault
     pub between : D
     pub asked : IsMeasured whole len device between
-    pub checks : ChecksBy len outcome between after start written
+    pub checks : MatchResult len (λ n. ChecksLong n outcome between after start written)
+        (λ fault. (outcome ≡ Err (disk_fault fault)) × (written ≡ start))
 
   -- that its start made a file where there were no bytes was told, and what it cut off behind the records of one of so many bytes, and that
   -- it is done, where that is reported; then a ledger was kept
@@ -151,81 +143,63 @@ module _ (tells : Type 0) {D : Type 0} (disk : D → Disk) (holds : D → List �
     pub ready : TellsReady reports started told
     pub result : Result ℕ KeepFault
     pub after : Keeping D
-    pub served : Served tells disk result keeper after first last start written
+    pub served : Served its.tells its.disk result keeper after first last start written
     pub outcome_is : outcome ≡ kept_outcome (failed_pipe first.failed last.failed) result
 
   -- what a start over a device answers, of one that tells what its calls do; of one that is kept, where no sync has failed before
-  abbrev pub StartAnswers : Result (Keeping D) (NotKept D) → Rules → D → Type 0
-  StartAnswers (Ok keeper) rules device = (disk device).sound ≡ true → IsStarted disk rules.profile rules.clients_max (disk device).seen keeper
-  StartAnswers (Err failed) rules device = IsStartRefused rules.profile rules.clients_max failed.fault (disk device) (disk failed.device)
-
   pub record Starts (result : Result (Keeping D) (NotKept D)) (rules : Rules) (device : D) : Type 0 where
-    pub answers : StartAnswers result rules device
-    pub cause : HasEitherCause (why_left result) (disk device) (disk (device_left result))
+    pub answers : MatchResult result (λ keeper. (its.disk device).sound ≡ true → IsStarted its.disk rules.profile rules.clients_max (its.disk device).seen keeper)
+        (λ failed. IsStartRefused rules.profile rules.clients_max failed.fault (its.disk device) (its.disk failed.device))
+    pub cause : HasEitherCause (why_left result) (its.disk device) (its.disk (device_left result))
     -- a crash at any moment of it, where none has
-    pub any_moment : (disk device).sound ≡ true → LeavesOnly (disk device) (disk (device_left result)) (MayBeStarted rules.profile rules.clients_max (disk device))
+    pub any_moment : (its.disk device).sound ≡ true → LeavesOnly (its.disk device) (its.disk (device_left result)) (MayBeStarted rules.profile rules.clients_max (its.disk device))
 
   -- a start was refused, with what there is to say of the file; nothing was read, written or told but why
   pub record IsUnstarted (failed : NotKept D) (rules : Rules) (outcome : Outcome) (first last : Input) (start written quiet told : Output) : Type 0 where
     pub named : Fault
     pub outcome_is : outcome ≡ Err named
-    pub names : Left (NamesAsked tells disk holds rules failed.fault named failed.device)
+    pub left : D
+    pub names : NamesAsked its rules failed.fault named failed.device left
     pub unread : last ≡ first
     pub unwritten : written ≡ start
     pub silent : told ≡ quiet
 
-  -- a ledger that was started was kept
-  abbrev pub ServesStarted : Result (Keeping D) (NotKept D) → Rules → Outcome → List ℕ → Bool → ℕ → Input → Input → Output → Output → Output → Output → Type 0
-  ServesStarted (Ok keeper) rules outcome path reports len first last start written quiet told =
-      ServesKept outcome keeper path reports len first last start written quiet told
-  ServesStarted (Err failed) rules outcome path reports len first last start written quiet told =
-      IsUnstarted failed rules outcome first last start written quiet told
-
-  -- that the file is read was told, where that is reported, and a ledger was started
+  -- that the file is read was told, where that is reported, and a ledger was started; it was kept, or is refused
   pub record ServesLong (outcome : Outcome) (rules : Rules) (path : List ℕ) (reports : Bool) (len : ℕ) (device : D) (first last : Input) (start written quiet told : Output) : Type 0 where
     pub noted : Output
     pub reading : TellsReading reports path len quiet noted
     pub started : Result (Keeping D) (NotKept D)
-    pub starts : tells → Starts started rules device
+    pub starts : its.tells → Starts started rules device
     pub handed : OfFile device (StartsFile started rules.profile rules.clients_max)
-    pub serves : ServesStarted started rules outcome path reports len first last start written noted told
-
-  abbrev pub ServesBy : Result ℕ journal.Fault → Outcome → Rules → List ℕ → Bool → D → Input → Input → Output → Output → Output → Output → Type 0
-  ServesBy (Err fault) outcome rules path reports device first last start written quiet told =
-      (outcome ≡ Err (disk_fault fault)) × (last ≡ first) × (written ≡ start) × (told ≡ quiet)
-  ServesBy (Ok len) outcome rules path reports device first last start written quiet told =
-      ServesLong outcome rules path reports len device first last start written quiet told
+    pub serves : MatchResult started (λ keeper. ServesKept outcome keeper path reports len first last start written noted told)
+        (λ failed. IsUnstarted failed rules outcome first last start written noted told)
 
   -- the length of the file of this path was asked for, and then a ledger of these rules was started over it, and kept
   pub record ServesFile (outcome : Outcome) (rules : Rules) (path : List ℕ) (reports : Bool) (device : D) (first last : Input) (start written quiet told : Output) : Type 0 where
     pub len : Result ℕ journal.Fault
     pub between : D
     pub asked : IsAsked len device between
-    pub serves : ServesBy len outcome rules path reports between first last start written quiet told
+    pub serves : MatchResult len (λ n. ServesLong outcome rules path reports n between first last start written quiet told)
+        (λ fault. (outcome ≡ Err (disk_fault fault)) × (last ≡ first) × (written ≡ start) × (told ≡ quiet))
 
--- an opening answered this: a device, with which that was done; or a fault, and nothing was done
-abbrev pub DoneWith : {D : Type 0} → Result D OpeningFault → Outcome → Type 0 → (D → Type 0) → Type 0
-DoneWith (Ok device) outcome Nothing Does = Does device
-DoneWith (Err fault) outcome Nothing Does = (outcome ≡ Err (Opening fault)) × Nothing
-
--- an opening may answer so, and leave what opens like this
-pub record Opens {D O : Type 0} (may : Result D OpeningFault → O → Type 0) (left : O) (outcome : Outcome) (Nothing : Type 0) (Does : D → Type 0) : Type 0 where
+-- an opening may answer so, and leave what opens like this: with a device that was done; at a fault, which has this name, nothing was
+pub record Opens {D O : Type 0} (named : OpeningFault → Fault) (may : Result D OpeningFault → O → Type 0) (left : O) (outcome : Outcome) (Nothing : Type 0) (Does : D → Type 0) : Type 0 where
   pub answer : Result D OpeningFault
   pub answered : may answer left
-  pub done : DoneWith answer outcome Nothing Does
+  pub done : MatchResult answer Does (λ fault. (outcome ≡ Err (named fault)) × Nothing)
 
-module _ (tells : Type 0) {D : Type 0} (disk : D → Disk) (holds : D → List ℕ → Type 0) {O : Type 0} (may : Result D OpeningFault → O → Type 0) (left : O) where
+module _ {D : Type 0} (its : devices.Ghosts D) {O : Type 0} (may : Result D OpeningFault → O → Type 0) (left : O) where
   -- where requests would come from a terminal it is told first where words are read
   pub record RunsOver (outcome : Outcome) (rules : Rules) (path : List ℕ) (reports talks : Bool) (first last : Input) (start written quiet told : Output) : Type 0 where
     pub noted : Output
     pub frames : TellsFrames talks quiet noted
-    pub runs : Opens may left outcome ((last ≡ first) × (written ≡ start) × (told ≡ noted))
-        (λ device. ServesFile tells disk holds outcome rules path reports device first last start written noted told)
+    pub runs : Opens Opening may left outcome ((last ≡ first) × (written ≡ start) × (told ≡ noted))
+        (λ device. ServesFile its outcome rules path reports device first last start written noted told)
 
   abbrev pub DumpsOver : Option ℕ → Bool → Outcome → Output → Output → Type 0
   DumpsOver from follows outcome start written =
-      Opens may left outcome (written ≡ start) (λ device. (after : D) × DumpsPart tells disk holds from follows outcome device after start written)
+      Opens Opening may left outcome (written ≡ start) (λ device. (after : D) × DumpsPart its from follows outcome device after start written)
 
   abbrev pub ChecksOver : (D → List ℕ → Type 0) → Outcome → Output → Output → Type 0
   ChecksOver whole outcome start written =
-      Opens may left outcome (written ≡ start) (λ device. (after : D) × ChecksFile tells disk holds whole outcome device after start written)
+      Opens Opening may left outcome (written ≡ start) (λ device. (after : D) × ChecksFile its whole outcome device after start written)

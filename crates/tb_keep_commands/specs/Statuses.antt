@@ -58,6 +58,11 @@ abbrev pub sync_fault : journal.Fault → OpeningFault
 sync_fault disk.Memory = opening.NoMemory
 sync_fault fault = opening.SyncFailed
 
+-- a file was opened, but its length or its first bytes are not read
+abbrev pub unread_fault : journal.Fault → OpeningFault
+unread_fault disk.Memory = opening.NoMemory
+unread_fault fault = opening.Unread
+
 abbrev pub opening_fault : FileFault → OpeningFault
 opening_fault file.Locked = opening.Locked
 opening_fault file.NotAFile = opening.NotAFile
@@ -198,12 +203,13 @@ kind_text kind.Other path = codes "NotAJournal: " ++ (path ++ codes " does not b
 unfoldable pub numbers_text : Numbers → List ℕ
 numbers_text numbers = (codes "CLIENTS_MAX " ++ decimal numbers.clients_max) ++ (codes " and PROFILE " ++ decimal numbers.profile)
 
--- the rules that a file was made with, and those that were asked for
+-- the rules that a file was made with and those that were asked for, with a text between them
+abbrev pub both_text : Mismatch → List ℕ → List ℕ
+both_text both between = numbers_text both.made ++ (between ++ numbers_text both.asked)
+
 abbrev pub mismatch_text : Option Mismatch → List ℕ → List ℕ
 mismatch_text None path = codes "OtherRules: tbd check shows those that the file was made with"
-mismatch_text (Some both) path =
-    (codes "OtherRules: " ++ (path ++ codes " was made with "))
-    ++ (numbers_text both.made ++ (codes ", not with " ++ numbers_text both.asked))
+mismatch_text (Some both) path = (codes "OtherRules: " ++ (path ++ codes " was made with ")) ++ both_text both (codes ", not with ")
 
 -- the fault's name, and words behind it where there is more to say, of a file with this path
 abbrev pub fault_text : Fault → List ℕ → List ℕ
@@ -247,9 +253,11 @@ cut_line bytes at =
     ++ ((codes " bytes of a batch that was not committed, behind byte " ++ decimal at) ++ codes "\n")
 
 -- how far the file of this path was read, in millions of bytes
+abbrev pub read_text : ℕ → ℕ → List ℕ
+read_text read all = (decimal read ++ codes " of ") ++ (decimal all ++ codes " MB")
+
 abbrev pub reading_line : List ℕ → ℕ → ℕ → List ℕ
-reading_line path read all =
-    (codes "tbd: reading " ++ (path ++ codes ", ")) ++ (((decimal read ++ codes " of ") ++ (decimal all ++ codes " MB")) ++ codes "\n")
+reading_line path read all = (codes "tbd: reading " ++ (path ++ codes ", ")) ++ (read_text read all ++ codes "\n")
 
 -- of a start that is reported: that it begins to read a file of a million bytes or more
 abbrev pub TellsReading : Bool → List ℕ → ℕ → Output → Output → Type 0
@@ -279,9 +287,12 @@ TellsCut (suc more) at before after = SaysLine (cut_line (suc more) at) before a
 abbrev pub shown_words : List (List ℕ) → List ℕ
 shown_words words = flat_map (λ word. 32 ∷ word) words
 
--- the line of words that are no form: those that are wrong, and what is wrong with them
+-- words that are no form: those that are wrong, and what is wrong with them
+abbrev pub said_text : List (List ℕ) → List ℕ → List ℕ
+said_text shown what = shown_words shown ++ (codes ": " ++ (what ++ codes "\n"))
+
 abbrev pub wrong_line : Wrong → List ℕ
-wrong_line said = codes "tbd: Usage:" ++ (shown_words said.shown ++ (codes ": " ++ (said.what ++ codes "\n")))
+wrong_line said = codes "tbd: Usage:" ++ said_text said.shown said.what
 
 -- the page of usage where there are no words
 abbrev pub usage_lines : List (List ℕ) → List ℕ

@@ -11,7 +11,8 @@ use Rattle.tb_keep.specs.Reading.{IsNoHistory, rules_of}
 use Rattle.tb_keep_commands.specs.declared.summaries.Found.{Found}
 use Rattle.tb_keep_commands.specs.declared.summaries.Summary.{Summary}
 
--- the file stands for a history, and this is what was read of it
+-- the file stands for a history, and this is what was read of it: the rules that it was made with, its records and entries, the time of
+-- the last one, and where they end
 pub record IsFound (found : Found) (file : List ℕ) : Type 0 where
   pub history : History
   pub stands : IsLedger history file
@@ -27,7 +28,7 @@ abbrev pub ReadsWhole : Result Found StartFault → List ℕ → Type 0
 ReadsWhole (Ok found) file = IsFound found file
 ReadsWhole (Err fault) file = IsNoHistory fault file
 
--- what stands in a file of so many bytes behind the closed latch is not committed yet, or torn
+-- this is what is in it, where it has so many bytes. Those behind the closed latch are not committed yet, or torn: a start cuts them off
 abbrev pub summary_of : Found → ℕ → Summary
 summary_of found len = record {
   rules = found.rules;
@@ -36,18 +37,6 @@ summary_of found len = record {
   time = found.time;
   behind = len - found.end - 1;
 }
-
--- the file stands for a history, and this is what is in it, if it has so many bytes: its records, its entries, the rules that it was made
--- with, the time of the last entry, and the bytes behind the records: a start would cut them off
-pub record IsSummary (len : ℕ) (s : Summary) (file : List ℕ) : Type 0 where
-  pub history : History
-  pub stands : IsLedger history file
-  pub profile : s.rules.profile ≡ history.profile
-  pub clients : s.rules.clients_max ≡ history.clients_max
-  pub records : s.records ≡ length (recorded file)
-  pub entries : s.entries ≡ length history.entries
-  pub time : s.time ≡ (state_of history).books.time
-  pub behind : s.behind ≡ len - records_end (recorded file) - 1
 
 -- a number behind its name, before other lines
 abbrev pub line_before : List ℕ → ℕ → List ℕ → List ℕ

@@ -1,6 +1,6 @@
 //! What the words of the command line ask for, and what is wrong with words that ask for nothing.
 ghost use Rattle.std.specs.Prelude.{◌≡◌, map, take, string_bytes};
-ghost use Rattle.tb_keep_commands.specs.Forms.{form_alone, form_by, form_of, form_over, form_three, form_four, form_five, dump_from, run_form, run_four, run_five, file_word, new_word, copy_form, is_copy, wrong_new, wrong_copy, is_number, is_no_file, is_progress, wrong_last, wrong_five, wrong_clients, wrong_run, wrong_behind, wrong_count, wrong_over, wrong};
+ghost use Rattle.tb_keep_commands.specs.Forms.{form_alone, form_by, form_of, form_over, form_three, form_four, form_five, dump_from, dump_later, is_follow, run_form, run_four, run_five, file_word, new_word, copy_form, is_copy, wrong_new, wrong_copy, is_number, is_no_file, is_progress, wrong_last, wrong_five, wrong_clients, wrong_run, wrong_behind, wrong_count, wrong_over, wrong};
 ghost use Rattle.tb_commands.specs.Forms.{clients_of};
 
 use tb_commands::{number, read_clients_max, read_profile};
@@ -94,12 +94,19 @@ fn run_five(word: &str, clients_max: &str, profile: &str, last: &str) -> Option<
     run_form(word, clients_max, read_profile(profile.as_bytes()), true)
 }
 
+/// Says that a word has more entries waited for.
+fn is_follow(word: &str) -> bool
+    ensures { result ≡ is_follow word.now }
+{
+    word == "--follow"
+}
+
 /// What a word with a file and one more word asks for.
 fn form_three(word: &str, third: &str) -> Option<Form>
     ensures { result ≡ form_three word.now third.now }
 {
     if word == "dump" {
-        return if third == "--follow" {
+        return if is_follow(third) {
             Some(Form::Dump(None, true))
         } else {
             None
@@ -132,6 +139,19 @@ fn dump_from(after: &str, commit: &str, follows: bool) -> Option<Form>
     ))
 }
 
+/// What `dump` with a file and three more words asks for: a commit number and `--follow`, in either order.
+fn dump_later(third: &str, fourth: &str, fifth: &str) -> Option<Form>
+    ensures { result ≡ dump_later third.now fourth.now fifth.now }
+{
+    if is_follow(fifth) {
+        return dump_from(third, fourth, true);
+    }
+    if is_follow(third) {
+        return dump_from(fourth, fifth, true);
+    }
+    None
+}
+
 /// What a word with a file and two more words asks for.
 fn form_four(word: &str, third: &str, fourth: &str) -> Option<Form>
     ensures { result ≡ form_four word.now third.now fourth.now }
@@ -147,11 +167,7 @@ fn form_five(word: &str, third: &str, fourth: &str, fifth: &str) -> Option<Form>
     ensures { result ≡ form_five word.now third.now fourth.now fifth.now }
 {
     if word == "dump" {
-        return if fifth == "--follow" {
-            dump_from(third, fourth, true)
-        } else {
-            None
-        };
+        return dump_later(third, fourth, fifth);
     }
     run_five(word, third, fourth, fifth)
 }

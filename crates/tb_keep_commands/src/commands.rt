@@ -41,7 +41,7 @@ fn run_over<O: Opener, R: Source, W: Sink, E: Sink>(
     writer: &mut W,
     faults: &mut E,
 ) -> Result<(), Fault>
-    ensures { RunsOver O.File.tells O.File.disk O.File.holds (O.makes opener.old told.now.path.now) opener.new result
+    ensures { RunsOver O.File.Device (O.makes opener.old told.now.path.now) opener.new result
         rules told.now.path.now told.now.reports talks (R.input reader.old) (R.input reader.new) (W.output writer.old) (W.output writer.new)
         (E.output faults.old) (E.output faults.new) }
 {
@@ -60,7 +60,7 @@ fn dump_part<O: Opener, W: Outlet>(
     writer: &mut W,
     part: Part,
 ) -> Result<(), Fault>
-    ensures { DumpsPart O.Reading.tells O.Reading.disk O.Reading.holds part.after part.follows result device.old device.new
+    ensures { DumpsPart O.Reading.Device part.after part.follows result device.old device.new
         (W.output writer.old) (W.output writer.new) }
 {
     match (part.after, part.follows) {
@@ -77,7 +77,7 @@ fn dump_over<O: Opener, W: Outlet>(
     writer: &mut W,
     part: Part,
 ) -> Result<(), Fault>
-    ensures { DumpsOver O.Reading.tells O.Reading.disk O.Reading.holds (O.opens opener.old name.now) opener.new
+    ensures { DumpsOver O.Reading.Device (O.opens opener.old name.now) opener.new
         part.after part.follows result (W.output writer.old) (W.output writer.new) }
 {
     let opened = opener.open(name);
@@ -99,7 +99,7 @@ fn check_over<O: Opener, W: Sink>(
     name: &str,
     writer: &mut W,
 ) -> Result<(), Fault>
-    ensures { ChecksOver O.Reading.tells O.Reading.disk O.Reading.holds (O.opens opener.old name.now) opener.new O.Reading.whole
+    ensures { ChecksOver O.Reading.Device (O.opens opener.old name.now) opener.new O.Reading.whole
         result (W.output writer.old) (W.output writer.new) }
 {
     let found = opener.open(name);
@@ -149,8 +149,8 @@ fn perform<O: Opener, R: Source, W: Outlet, E: Sink>(
     writer: &mut W,
     faults: &mut E,
 ) -> Result<(), Fault>
-    ensures { Performs O.File.tells O.File.disk O.File.holds O.Reading.tells O.Reading.disk O.Reading.holds O.Reading.whole
-        O.makes O.opens O.makes_new terminals opener.old paths.now.file.now paths.now.new.now opener.new form
+    ensures { Performs O.File.Device O.Reading.Device O.Reading.whole
+        O.Opener terminals opener.old paths.now.file.now paths.now.new.now opener.new form
         result (R.input reader.old) (R.input reader.new) (W.output writer.old) (W.output writer.new)
         (E.output faults.old) (E.output faults.new) }
 {
@@ -203,8 +203,8 @@ fn exit<O: Opener, R: Source, W: Outlet, E: Sink>(
     writer: &mut W,
     faults: &mut E,
 ) -> u8
-    ensures { Exits O.File.tells O.File.disk O.File.holds O.Reading.tells O.Reading.disk O.Reading.holds O.Reading.whole
-        O.makes O.opens O.makes_new terminals opener.old paths.now.file.now paths.now.new.now opener.new
+    ensures { Exits O.File.Device O.Reading.Device O.Reading.whole
+        O.Opener terminals opener.old paths.now.file.now paths.now.new.now opener.new
         (W.gone writer.new) form result (R.input reader.old) (R.input reader.new) (W.output writer.old)
         (W.output writer.new) (E.output faults.old) (E.output faults.new) }
 {
@@ -239,8 +239,8 @@ pub fn command<O: Opener, R: Source, W: Outlet, E: Sink>(
     ensures told { let said = map string_bytes words.now in
         form_of said ≡ None → SaysLine (usage_lines said) (E.output faults.old) (E.output faults.new) }
     ensures served { (form : Form) → form_of (map string_bytes words.now) ≡ Some form
-        → Exits O.File.tells O.File.disk O.File.holds O.Reading.tells O.Reading.disk O.Reading.holds O.Reading.whole
-        O.makes O.opens O.makes_new terminals opener.old
+        → Exits O.File.Device O.Reading.Device O.Reading.whole
+        O.Opener terminals opener.old
         (file_word (map string_bytes words.now)) (new_word (map string_bytes words.now)) opener.new (W.gone writer.new) form result
         (R.input reader.old) (R.input reader.new) (W.output writer.old) (W.output writer.new)
         (E.output faults.old) (E.output faults.new) }

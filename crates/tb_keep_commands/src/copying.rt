@@ -1,7 +1,7 @@
 //! A file copied into a new one: up to its first damage, or where it is whole.
 ghost use Rattle.std.specs.Prelude.{◌≡◌, true};
-ghost use Rattle.tb_keep_commands.specs.Copies.{PrintsText, copied_of, copied_text, refused_by, EndsCopy, NamesCopy, CopiesLong, CopiesFile, MakesCopy, CopiesHeaded, CopiesOver};
-ghost use Rattle.tb_keep_commands.specs.Outcomes.{Left};
+ghost use Rattle.tb_keep_commands.specs.Copies.{copied_of, copied_text, refused_by, EndsCopy, NamesCopy, CopiesLong, CopiesFile, MakesCopy, CopiesHeaded, CopiesOver};
+ghost use Rattle.tb_keep_commands.specs.Outcomes.{PrintsText};
 
 use crate::copies::{Copied, damage_of};
 use crate::faults::{Failed, Fault, disk_fault, new_fault, started_fault};
@@ -70,7 +70,7 @@ fn end_copy<N: Device + Drop, W: Sink>(
 
 /// The fault of a file that was not copied, with what there is to say of it.
 fn named_copy<D: Device>(from: &mut D, fault: SalvageFault) -> Fault
-    ensures { NamesCopy D.tells D.disk D.holds fault result from.old from.new }
+    ensures { NamesCopy D.Device fault result from.old from.new }
 {
     match fault {
         SalvageFault::Old(fault) => named(from, fault),
@@ -80,7 +80,7 @@ fn named_copy<D: Device>(from: &mut D, fault: SalvageFault) -> Fault
 
 /// The same, of a new file that was not made to its end.
 fn uncopied<D: Device, N: Device + Drop>(from: &mut D, failed: NotSalvaged<N>) -> Fault
-    ensures { NamesCopy D.tells D.disk D.holds failed.fault result from.old from.new }
+    ensures { NamesCopy D.Device failed.fault result from.old from.new }
 {
     let NotSalvaged { device, fault } = failed;
     drop(device);
@@ -97,7 +97,7 @@ fn copy_long<D: Live, N: Device + Drop, W: Sink>(
     writer: &mut W,
 ) -> Result<(), Fault>
     requires { N.tells → (N.disk into).sound ≡ true }
-    ensures { CopiesLong D.tells D.disk D.holds D.whole N.tells N.disk len whole result into from.old from.new (W.output writer.old)
+    ensures { CopiesLong D.Device D.whole N.Device len whole result into from.old from.new (W.output writer.old)
         (W.output writer.new) }
 {
     match salvage(alloc, from, into) {
@@ -116,7 +116,7 @@ pub(crate) fn copy<D: Live, N: Device + Drop, W: Sink>(
     writer: &mut W,
 ) -> Result<(), Fault>
     requires { N.tells → (N.disk into).sound ≡ true }
-    ensures { CopiesFile D.tells D.disk D.holds D.whole N.tells N.disk whole result into from.old from.new (W.output writer.old)
+    ensures { CopiesFile D.Device D.whole N.Device whole result into from.old from.new (W.output writer.old)
         (W.output writer.new) }
 {
     match from.file_len() {
@@ -137,7 +137,7 @@ fn copy_made<O: Opener, W: Sink>(
     whole: bool,
     writer: &mut W,
 ) -> Result<(), Fault>
-    ensures { MakesCopy O.Reading.tells O.Reading.disk O.Reading.holds O.Reading.whole O.File.tells O.File.disk
+    ensures { MakesCopy O.Reading.Device O.Reading.whole O.File.Device
         (O.makes_new opener.old new.now) opener.new whole result from.old from.new (W.output writer.old)
         (W.output writer.new) }
 {
@@ -157,7 +157,7 @@ fn copy_headed<O: Opener, W: Sink>(
     whole: bool,
     writer: &mut W,
 ) -> Result<(), Fault>
-    ensures { CopiesHeaded O.Reading.tells O.Reading.disk O.Reading.holds O.Reading.whole O.File.tells O.File.disk
+    ensures { CopiesHeaded O.Reading.Device O.Reading.whole O.File.Device
         (O.makes_new opener.old new.now) opener.old opener.new whole result from.old from.new (W.output writer.old)
         (W.output writer.new) }
 {
@@ -176,7 +176,7 @@ pub(crate) fn copy_over<O: Opener, W: Sink>(
     whole: bool,
     writer: &mut W,
 ) -> Result<(), Fault>
-    ensures { CopiesOver O.Reading.tells O.Reading.disk O.Reading.holds O.Reading.whole O.File.tells O.File.disk
+    ensures { CopiesOver O.Reading.Device O.Reading.whole O.File.Device
         (O.opens opener.old name.now) O.makes_new new.now opener.new whole result (W.output writer.old)
         (W.output writer.new) }
 {

@@ -2,8 +2,8 @@
 ghost use Rattle.std.specs.Prelude.{◌≡◌, ℕ, List, Ok};
 ghost use Rattle.tb_keep.specs.Opening.{IsUntouched};
 ghost use Rattle.tb_keep.specs.Restoration.{HasStartCause};
-ghost use Rattle.tb_keep_commands.specs.Summaries.{ReadsWhole};
-ghost use Rattle.tb_keep_commands.specs.Outcomes.{DumpsFound, DumpsFile, ChecksLong, ChecksFile, Reports};
+ghost use Rattle.tb_keep_commands.specs.Summaries.{ReadsWhole, summary_text};
+ghost use Rattle.tb_keep_commands.specs.Outcomes.{DumpsFound, DumpsFile, ChecksLong, ChecksFile, PrintsText};
 
 use crate::faults::{Failed, Fault, disk_fault, dumped_fault};
 use crate::live::Live;
@@ -46,7 +46,7 @@ fn dump_found<D: Device, W: Sink>(
     found: Found,
     writer: &mut W,
 ) -> Result<(), Fault>
-    ensures { DumpsFound D.tells D.disk D.holds (Ok found) result device.old device.new (W.output writer.old)
+    ensures { DumpsFound D.Device (Ok found) result device.old device.new (W.output writer.old)
         (W.output writer.new) }
 {
     match write_dump(alloc, device, found.rules, writer) {
@@ -61,7 +61,7 @@ pub(crate) fn dump<D: Device, W: Sink>(
     device: &mut D,
     writer: &mut W,
 ) -> Result<(), Fault>
-    ensures { DumpsFile D.tells D.disk D.holds result device.old device.new (W.output writer.old)
+    ensures { DumpsFile D.Device result device.old device.new (W.output writer.old)
         (W.output writer.new) }
 {
     match read_whole(alloc, device) {
@@ -72,7 +72,7 @@ pub(crate) fn dump<D: Device, W: Sink>(
 
 /// Writes what is in a file.
 fn report<W: Sink>(alloc: Global, summary: Summary, writer: &mut W) -> Result<(), Fault>
-    ensures { Reports result summary (W.output writer.old) (W.output writer.new) }
+    ensures { PrintsText (summary_text summary) result (W.output writer.old) (W.output writer.new) }
 {
     match format!(in alloc; "{summary}") {
         Ok(text) => match put_all(writer, text.as_bytes()) {
@@ -90,7 +90,7 @@ fn check_long<D: Device, W: Sink>(
     len: usize,
     writer: &mut W,
 ) -> Result<(), Fault>
-    ensures { ChecksLong D.tells D.disk D.holds len result device.old device.new (W.output writer.old)
+    ensures { ChecksLong D.Device len result device.old device.new (W.output writer.old)
         (W.output writer.new) }
 {
     match read_whole(alloc, device) {
@@ -105,7 +105,7 @@ pub(crate) fn check<D: Live, W: Sink>(
     device: &mut D,
     writer: &mut W,
 ) -> Result<(), Fault>
-    ensures { ChecksFile D.tells D.disk D.holds D.whole result device.old device.new (W.output writer.old)
+    ensures { ChecksFile D.Device D.whole result device.old device.new (W.output writer.old)
         (W.output writer.new) }
 {
     match device.file_len() {

@@ -1,8 +1,7 @@
 //! The entries of a file above a commit number, written as the file grows.
-ghost use Rattle.std.specs.Prelude.{◌≡◌, ℕ, true, List, []};
-ghost use Rattle.tb_records.specs.Transport.{Output};
-ghost use Rattle.tb_journal.specs.Scans.{HasRead};
-ghost use Rattle.tb_keep_commands.specs.Following.{floor_of, start_of, SendsRound, Grown, GrowsBy, EndsRounds, WritesPart, RoundCause, HasPartCause};
+ghost use Rattle.std.specs.Prelude.{◌≡◌, ℕ, List, OnOk};
+ghost use Rattle.tb_keep_commands.specs.Following.{floor_of, start_of, OfRead, SendsRound, SendsMore, SendsOn, SendsUnread, WritesUnread, WritesHeld, HasRoundCause, HasRestCause, HasWholeCause, HasPartCause};
+ghost use Rattle.tb_keep_commands.specs.Live.{LooksAgain};
 ghost use Rattle.tb_keep_commands.specs.Outcomes.{Prints, FollowsFile};
 
 use crate::faults::{Failed, Fault, disk_fault, dumped_fault, opened_fault};
@@ -33,11 +32,10 @@ fn send_round<D: Device, W: Outlet>(
     writer: &mut W,
     after: u64,
 ) -> Result<(), Fault>
-    ensures sends { (file : List ℕ) (read : List (List ℕ)) → D.holds device.old file → HasRead read file scan.old
-        → SendsRound result after read file scan.new (W.output writer.old) (W.output writer.new) }
+    ensures sends { OfRead D.holds device.old scan.old
+        (λ file read. SendsRound result after read file scan.new (W.output writer.old) (W.output writer.new)) }
     ensures same { (file : List ℕ) → D.holds device.old file → D.holds device.new file }
-    ensures cause { D.tells → (read : List (List ℕ)) → HasRead read (D.disk device.old).seen scan.old
-        → RoundCause result (D.disk device.old) (D.disk device.new) scan.new }
+    ensures cause { HasRoundCause D.tells result (D.disk device.old) scan.old (D.disk device.new) scan.new }
 {
     match write_entries(scan, device, writer, after) {
         Ok(_) => match writer.finish() {
@@ -48,17 +46,17 @@ fn send_round<D: Device, W: Outlet>(
     }
 }
 
-/// Goes on to what has been committed by now, and writes the entries of it.
+/// Looks at a file again, and writes the entries of what has been committed by now.
 fn send_more<D: Live, W: Outlet>(
     scan: &mut Scan,
     device: &mut D,
     writer: &mut W,
     after: u64,
 ) -> Result<(), Fault>
-    ensures sends { (file : List ℕ) (start : Output) → Grown D.holds after file device.old scan.old start (W.output writer.old)
-        → GrowsBy D.holds result after file device.new scan.new start (W.output writer.new) }
-    ensures cause { D.tells → (read : List (List ℕ)) → HasRead read (D.disk device.old).seen scan.old
-        → RoundCause result (D.disk device.old) (D.disk device.new) scan.new }
+    ensures sends { SendsMore D.holds result after device.old scan.old (W.output writer.old)
+        device.new scan.new (W.output writer.new) }
+    ensures looks { (file : List ℕ) → D.holds device.old file → OnOk result (LooksAgain D.whole D.holds device.old device.new file) }
+    ensures cause { HasRoundCause D.tells result (D.disk device.old) scan.old (D.disk device.new) scan.new }
 {
     match device.refresh() {
         Ok(()) => {
@@ -77,11 +75,9 @@ fn send_on<O: Opener, W: Outlet>(
     writer: &mut W,
     after: u64,
 ) -> Result<(), Fault>
-    ensures sends { (file : List ℕ) (start : Output)
-        → Grown O.Reading.holds after file device.old scan.old start (W.output writer.old)
-        → EndsRounds result true after file start (W.output writer.new) }
-    ensures cause { O.Reading.tells → (read : List (List ℕ)) → HasRead read (O.Reading.disk device.old).seen scan.old
-        → HasPartCause result (O.Reading.disk device.old) (O.Reading.disk device.new) }
+    ensures sends { SendsOn O.Reading.holds result after device.old scan.old (W.output writer.old)
+        device.new (W.output writer.new) }
+    ensures cause { HasRestCause O.Reading.tells result (O.Reading.disk device.old) scan.old (O.Reading.disk device.new) }
 {
     for _ in 0..u64::MAX {
         if !opener.pause() {
@@ -104,10 +100,9 @@ fn send_entries<O: Opener, W: Outlet>(
     after: u64,
     follows: bool,
 ) -> Result<(), Fault>
-    ensures sends { (file : List ℕ) → O.Reading.holds device.old file → HasRead [] file scan.old
-        → EndsRounds result follows after file (W.output writer.old) (W.output writer.new) }
-    ensures cause { O.Reading.tells → HasRead [] (O.Reading.disk device.old).seen scan.old
-        → HasPartCause result (O.Reading.disk device.old) (O.Reading.disk device.new) }
+    ensures sends { SendsUnread O.Reading.holds result follows after device.old scan.old device.new
+        (W.output writer.old) (W.output writer.new) }
+    ensures cause { HasWholeCause O.Reading.tells result (O.Reading.disk device.old) scan.old (O.Reading.disk device.new) }
 {
     match send_round(scan, device, writer, after) {
         Ok(()) => {
@@ -154,10 +149,9 @@ fn send_part<O: Opener, W: Outlet>(
     writer: &mut W,
     part: Part,
 ) -> Result<(), Fault>
-    ensures writes { (file : List ℕ) → O.Reading.holds device.old file → HasRead [] file scan.old
-        → WritesPart result part.follows part.after rules file (W.output writer.old) (W.output writer.new) }
-    ensures cause { O.Reading.tells → HasRead [] (O.Reading.disk device.old).seen scan.old
-        → HasPartCause result (O.Reading.disk device.old) (O.Reading.disk device.new) }
+    ensures writes { WritesUnread O.Reading.holds result part rules device.old scan.old device.new
+        (W.output writer.old) (W.output writer.new) }
+    ensures cause { HasWholeCause O.Reading.tells result (O.Reading.disk device.old) scan.old (O.Reading.disk device.new) }
 {
     match send_start(writer, rules, part.after) {
         Ok(()) => {
@@ -177,8 +171,8 @@ fn part_found<O: Opener, W: Outlet>(
     writer: &mut W,
     part: Part,
 ) -> Result<(), Fault>
-    ensures writes { (file : List ℕ) → O.Reading.holds device.old file
-        → WritesPart result part.follows part.after rules file (W.output writer.old) (W.output writer.new) }
+    ensures writes { WritesHeld O.Reading.holds result part.follows part.after rules device.old device.new
+        (W.output writer.old) (W.output writer.new) }
     ensures cause { O.Reading.tells → HasPartCause result (O.Reading.disk device.old) (O.Reading.disk device.new) }
 {
     match Scan::start(alloc, device) {
@@ -201,7 +195,7 @@ pub(crate) fn follow<O: Opener, W: Outlet>(
     writer: &mut W,
     part: Part,
 ) -> Result<(), Fault>
-    ensures { FollowsFile O.Reading.tells O.Reading.disk O.Reading.holds part.after part.follows result device.old device.new (W.output writer.old)
+    ensures { FollowsFile O.Reading.Device part.after part.follows result device.old device.new (W.output writer.old)
         (W.output writer.new) }
 {
     match read_whole(alloc, device) {

@@ -43,8 +43,8 @@ fn between<O: Opener, R: Read + Drop, W: Write + Drop, E: Sink>(
     faults: &mut E,
 ) -> u8
     ensures { let said = map string_bytes words.now in
-        Commands O.File.tells O.File.disk O.File.holds O.Reading.tells O.Reading.disk O.Reading.holds O.Reading.whole
-        O.makes O.opens O.makes_new terminals opener.old opener.new R.remaining
+        Commands O.File.Device O.Reading.Device O.Reading.whole
+        O.Opener terminals opener.old opener.new R.remaining
         W.contents (form_of said) said result input output (E.output faults.old) (E.output faults.new) }
 {
     let mut reader = Buffered::new(input);
@@ -70,8 +70,8 @@ pub fn serve<O: Opener, R: Read + Drop, W: Write + Drop, E: Sink>(
     output: W,
     faults: &mut E,
 ) -> u8
-    ensures { Serves O.File.tells O.File.disk O.File.holds O.Reading.tells O.Reading.disk O.Reading.holds O.Reading.whole
-        O.makes O.opens O.makes_new terminals opener.old opener.new R.remaining
+    ensures { Serves O.File.Device O.Reading.Device O.Reading.whole
+        O.Opener terminals opener.old opener.new R.remaining
         W.contents (map string_bytes words.now) result input output (E.output faults.old) (E.output faults.new)
         ⊎ WantsMemory opener.old opener.new result (E.output faults.old) (E.output faults.new) }
 {

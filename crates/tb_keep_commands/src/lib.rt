@@ -55,7 +55,7 @@ pub use host::{refuse, serve};
 pub use kinds::Kind;
 pub use lines::{tell, tell_usage};
 pub use live::Live;
-pub use openers::{Opener, OpeningFault, opening_fault};
+pub use openers::{Opener, OpeningFault, opening_fault, unread_fault};
 pub use outlets::{Outgoing, Outlet};
 pub use reports::Reported;
 pub use summaries::Summary;

@@ -2,7 +2,7 @@
 ghost use Rattle.std.specs.Prelude.{◌≡◌, ◌++◌, Some, codes, map, string_bytes};
 ghost use Rattle.std.specs.Fmt.{decimal};
 ghost use Rattle.tb_records.specs.Transport.{IsSent};
-ghost use Rattle.tb_keep_commands.specs.Statuses.{damage_text, opening_text, failed_text, kind_text, numbers_text, mismatch_text, fault_text, fault_line, reading_line, shown_words, wrong_line, usage_lines, SaysLine, TellsMade, TellsCut, TellsReading, TellsReady, TellsFrames};
+ghost use Rattle.tb_keep_commands.specs.Statuses.{damage_text, opening_text, failed_text, kind_text, numbers_text, both_text, mismatch_text, fault_text, fault_line, read_text, reading_line, shown_words, said_text, wrong_line, usage_lines, SaysLine, TellsMade, TellsCut, TellsReading, TellsReady, TellsFrames};
 ghost use Rattle.tb_keep_commands.specs.Forms.{wrong};
 
 use crate::arguments::wrong;
@@ -224,8 +224,7 @@ fn put_both_numbers<E: Sink>(
     both: Mismatch,
     between: &str,
 ) -> Result<(), FrameFault>
-    ensures { IsSent result (numbers_text both.made ++ (between.now ++ numbers_text both.asked))
-        (E.output faults.old) (E.output faults.new) }
+    ensures { IsSent result (both_text both between.now) (E.output faults.old) (E.output faults.new) }
 {
     put_numbers(faults, both.made)?;
     put_asked(faults, between, both.asked)
@@ -242,7 +241,7 @@ fn put_rules<E: Sink>(
     between: &str,
 ) -> Result<(), FrameFault>
     ensures { IsSent result
-        ((first.now ++ (path.now ++ last.now)) ++ (numbers_text both.made ++ (between.now ++ numbers_text both.asked)))
+        ((first.now ++ (path.now ++ last.now)) ++ both_text both between.now)
         (E.output faults.old) (E.output faults.new) }
 {
     put_named(faults, first, path, last)?;
@@ -434,7 +433,7 @@ fn put_wrong<E: Sink>(
     what: &str,
 ) -> Result<(), FrameFault>
     ensures { IsSent result
-        (first.now ++ (shown_words (map string_bytes shown.now) ++ (codes ": " ++ (what.now ++ codes "\n"))))
+        (first.now ++ said_text (map string_bytes shown.now) what.now)
         (E.output faults.old) (E.output faults.new) }
 {
     put_all(faults, first.as_bytes())?;
@@ -464,7 +463,7 @@ pub(crate) fn tell_made<E: Sink>(len: usize, path: &str, faults: &mut E)
 #[tactic(auto, using(tb_records::proofs::Sendings::sent_rest, tb_records::proofs::Sendings::sent_few))]
 fn put_read<E: Sink>(faults: &mut E, read: u64, all: u64) -> Result<(), FrameFault>
     ensures { IsSent result
-        (((decimal read ++ codes " of ") ++ (decimal all ++ codes " MB")) ++ codes "\n") (E.output faults.old)
+        (read_text read all ++ codes "\n") (E.output faults.old)
         (E.output faults.new) }
 {
     put_torn(faults, read, " of ", all, " MB")?;
@@ -482,7 +481,7 @@ fn put_reading<E: Sink>(
     all: u64,
 ) -> Result<(), FrameFault>
     ensures { IsSent result
-        ((first.now ++ (path.now ++ last.now)) ++ (((decimal read ++ codes " of ") ++ (decimal all ++ codes " MB")) ++ codes "\n"))
+        ((first.now ++ (path.now ++ last.now)) ++ (read_text read all ++ codes "\n"))
         (E.output faults.old) (E.output faults.new) }
 {
     put_named(faults, first, path, last)?;

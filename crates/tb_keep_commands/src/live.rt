@@ -1,32 +1,33 @@
 //! A file that is read while another program may append to it.
-ghost use Rattle.std.specs.Prelude.{◌≡◌, ℕ, List, length, IfOk, IfErr, MatchResult};
+ghost use Rattle.std.specs.Prelude.{◌≡◌, ℕ, List, length, IfOk, IfErr};
 ghost use Rattle.tb_journal.specs.Device.{Looks, IsOfCall};
 ghost use Rattle.tb_journal.specs.Growing.{Grown};
-ghost use Rattle.tb_keep_commands.specs.Live.{HoldsLater};
+ghost use Rattle.tb_keep_commands.specs.Live.{IsWholeLength, Refreshes};
 
 use tb_journal::{Device, Fault, Growing, Memory, Snapshot};
 
 /// A file that is read as it was at some moment, while another program may append to it. What it holds begins each later moment of
 /// the file, unless the machine lost power meanwhile (`tb_journal::laws`).
 pub trait Live: Device {
-    /// These are the bytes of the whole file at this moment, those too that are behind what the device holds. None are, of a file that
-    /// does not say which.
-    ghost whole: { Self → List ℕ → Type 0 } = { λ device file. ⊥ };
+    /// These are the bytes of the whole file at this moment, those too that are behind what the device holds.
+    ghost whole: { Self → List ℕ → Type 0 };
 
     /// The number of bytes of the whole file now.
     fn file_len(&mut self) -> Result<usize, Fault>
         ensures long { (file : List ℕ) → whole self.old file
             → Grown (whole self.new) file (λ later. IfOk result (λ len. len ≡ length later)) }
+        // Of any device: what it holds begins the file whose length that is.
+        ensures extends { (file : List ℕ) → Self.holds self.old file → IfOk result (IsWholeLength file) }
         // Of a device that tells what its calls do: nobody else appends to that.
         ensures told { Self.tells → IfOk result (λ len. len ≡ length (Self.disk self.old).seen) }
         ensures same { (file : List ℕ) → Self.holds self.old file → Self.holds self.new file }
         ensures names { IfErr result IsOfCall }
         ensures looks { Self.tells → Looks result (Self.disk self.old) (Self.disk self.new) };
 
-    /// Goes on to what has been committed by now. On a fault it holds what it held.
+    /// Goes on to what has been committed by now: to all that the whole file stood for at some moment of the call. On a fault it
+    /// holds what it held.
     fn refresh(&mut self) -> Result<(), Fault>
-        ensures later { (file : List ℕ) → Self.holds self.old file
-            → MatchResult result (λ _. HoldsLater Self.holds self.new file) (λ _. Self.holds self.new file) }
+        ensures later { (file : List ℕ) → Self.holds self.old file → Refreshes whole Self.holds self.old self.new file result }
         ensures looks { Self.tells → Looks result (Self.disk self.old) (Self.disk self.new) };
 }
 
@@ -38,6 +39,7 @@ impl<G: Growing + Drop> Live for Snapshot<G> {
         Snapshot::file_len(self)
     }
 
+    #[tactic(auto, using(crate::proofs::Lives::refreshed))]
     fn refresh(&mut self) -> Result<(), Fault> {
         Snapshot::refresh(self)
     }

@@ -11,7 +11,7 @@ use tb_keep::{Rules, StartFault, read_rules};
 
 /// What a file is that holds no ledger. Its first bytes are read.
 fn kind_in<D: Device>(device: &mut D) -> Kind
-    ensures { IsOfKind D.tells D.disk D.holds result device.old device.new }
+    ensures { IsOfKind D.Device result device.old device.new }
 {
     let mut first = [0; FIRST];
     let first: &mut [u8] = &mut first;
@@ -23,7 +23,7 @@ fn kind_in<D: Device>(device: &mut D) -> Kind
 
 /// The fault of a file that is refused, with what there is to say of it.
 pub(crate) fn named<D: Device>(device: &mut D, fault: StartFault) -> Fault
-    ensures { Names D.tells D.disk D.holds (started_fault fault) result device.old device.new }
+    ensures { Names D.Device (started_fault fault) result device.old device.new }
 {
     match started_fault(fault) {
         Fault::NotAJournal(_) => Fault::NotAJournal(kind_in(device)),
@@ -33,7 +33,7 @@ pub(crate) fn named<D: Device>(device: &mut D, fault: StartFault) -> Fault
 
 /// The rules that a file was made with, next to those that were asked for; None where they are not read.
 fn made_with<D: Device>(alloc: Global, device: &mut D, asked: Rules) -> Option<Mismatch>
-    ensures { IsMadeWith D.tells D.disk D.holds asked result device.old device.new }
+    ensures { IsMadeWith D.Device asked result device.old device.new }
 {
     match read_rules(alloc, device) {
         Ok(made) => Some(Mismatch {
@@ -51,7 +51,7 @@ pub(crate) fn named_asked<D: Device>(
     asked: Rules,
     fault: StartFault,
 ) -> Fault
-    ensures { NamesAsked D.tells D.disk D.holds asked fault result device.old device.new }
+    ensures { NamesAsked D.Device asked fault result device.old device.new }
 {
     match fault {
         StartFault::OtherRules => Fault::OtherRules(made_with(alloc, device, asked)),

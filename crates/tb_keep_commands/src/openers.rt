@@ -1,7 +1,7 @@
 //! What opens the device of a name.
 ghost use Rattle.std.specs.Prelude.{◌≡◌, true, ℕ, List, Result, IfOk};
 ghost use Rattle.tb_keep_commands.specs.declared.openers.OpeningFault.{OpeningFault};
-ghost use Rattle.tb_keep_commands.specs.Statuses.{opening_fault};
+ghost use Rattle.tb_keep_commands.specs.Statuses.{opening_fault, unread_fault};
 
 use crate::live::Live;
 use std::io::ErrorKind;
@@ -49,6 +49,16 @@ pub fn opening_fault(fault: &FileFault) -> OpeningFault
             ErrorKind::OutOfMemory => OpeningFault::NoMemory,
             _ => OpeningFault::Unopened,
         },
+    }
+}
+
+/// The fault of a file that was opened, where its length or its first bytes are not read.
+pub fn unread_fault(fault: Fault) -> OpeningFault
+    ensures { result ≡ unread_fault fault }
+{
+    match fault {
+        Fault::Memory => OpeningFault::NoMemory,
+        _ => OpeningFault::Unread,
     }
 }
 

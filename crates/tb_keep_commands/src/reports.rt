@@ -1,6 +1,6 @@
 //! A file that reports how far it was read.
-ghost use Rattle.std.specs.Prelude.{◌≡◌, MatchResult};
-ghost use Rattle.tb_journal.specs.Device.{IsOfCall};
+ghost use Rattle.std.specs.Prelude.{◌≡◌, ℕ, List, IfOk, MatchResult};
+ghost use Rattle.tb_journal.specs.Device.{IsOfCall, IsLookedAt};
 
 use crate::lines::{MEGABYTE, tell_read};
 use std::alloc::Global;
@@ -30,7 +30,11 @@ impl<D: Device + Drop, E: Sink + Drop> Reported<D, E> {
         path: &str,
         lines: E,
         reports: bool,
-    ) -> Result<Reported<D, E>, Fault> {
+    ) -> Result<Reported<D, E>, Fault>
+        ensures same { (file : List ℕ) → D.holds device file
+            → IfOk result (λ reported. ⟦<Reported<D, E> as Device>⟧.holds reported file) }
+        ensures looks { D.tells → IfOk result (λ reported. IsLookedAt (D.disk device) (⟦<Reported<D, E> as Device>⟧.disk reported)) }
+    {
         let mut device = device;
         let len = device.len()?;
         let path = String::from_str(alloc, path)?;

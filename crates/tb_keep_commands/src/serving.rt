@@ -1,8 +1,8 @@
 //! The serving of a ledger over a device.
 ghost use Rattle.std.specs.Prelude.{◌≡◌, true};
 ghost use Rattle.tb_keep.specs.Keeping.{IsFresh, IsUsable};
-ghost use Rattle.tb_keep_commands.specs.Naming.{NamesAsked};
-ghost use Rattle.tb_keep_commands.specs.Outcomes.{ServesKept, ServesLong, ServesFile, kept_outcome, Left};
+ghost use Rattle.tb_keep_commands.specs.Naming.{NamesAsked, Left};
+ghost use Rattle.tb_keep_commands.specs.Outcomes.{ServesKept, ServesLong, ServesFile, kept_outcome};
 ghost use Rattle.tb_keep_commands.specs.Statuses.{failed_pipe};
 
 use crate::faults::{Failed, Fault, disk_fault, kept_fault};
@@ -23,7 +23,7 @@ pub(crate) struct Told<'a> {
 
 /// The fault of a ledger of these rules that was not opened, with what there is to say of its file.
 fn refused<D: Device + Drop>(alloc: Global, failed: NotKept<D>, asked: Rules) -> Fault
-    ensures { Left (NamesAsked D.tells D.disk D.holds asked failed.fault result failed.device) }
+    ensures { Left (NamesAsked D.Device asked failed.fault result failed.device) }
 {
     let NotKept { device, fault } = failed;
     let mut device = device;
@@ -66,7 +66,7 @@ fn serve<D: Device + Drop, A: Allocator + Clone, R: Source, W: Sink, E: Sink>(
 ) -> Result<(), Fault>
     requires usable { IsUsable keeper }
     requires fresh { D.tells → IsFresh D.disk keeper }
-    ensures { ServesKept D.tells D.disk D.holds result keeper told.now.path.now told.now.reports len (R.input reader.old) (R.input reader.new)
+    ensures { ServesKept D.Device result keeper told.now.path.now told.now.reports len (R.input reader.old) (R.input reader.new)
         (W.output writer.old) (W.output writer.new) (E.output faults.old) (E.output faults.new) }
 {
     let mut keeper = keeper;
@@ -77,7 +77,7 @@ fn serve<D: Device + Drop, A: Allocator + Clone, R: Source, W: Sink, E: Sink>(
     tell_ready(told.reports, faults);
     let failures = reader.failures();
     let kept = keep(alloc, &mut keeper, reader, writer);
-    drop(keeper);
+    drop(keeper.leave());
     kept_outcome(kept, failed_pipe(failures, reader.failures()))
 }
 
@@ -95,7 +95,7 @@ fn start<D: Device + Drop, A: Allocator + Copy, R: Source, W: Sink, E: Sink>(
     faults: &mut E,
 ) -> Result<(), Fault>
     requires { D.tells → (D.disk device).sound ≡ true }
-    ensures { ServesLong D.tells D.disk D.holds result rules told.now.path.now told.now.reports len device (R.input reader.old) (R.input reader.new)
+    ensures { ServesLong D.Device result rules told.now.path.now told.now.reports len device (R.input reader.old) (R.input reader.new)
         (W.output writer.old) (W.output writer.new) (E.output faults.old) (E.output faults.new) }
 {
     tell_reading(told.reports, told.path, len, faults);
@@ -117,7 +117,7 @@ pub(crate) fn run<D: Device + Drop, R: Source, W: Sink, E: Sink>(
     faults: &mut E,
 ) -> Result<(), Fault>
     requires { D.tells → (D.disk device).sound ≡ true }
-    ensures { ServesFile D.tells D.disk D.holds result rules told.now.path.now told.now.reports device (R.input reader.old) (R.input reader.new)
+    ensures { ServesFile D.Device result rules told.now.path.now told.now.reports device (R.input reader.old) (R.input reader.new)
         (W.output writer.old) (W.output writer.new) (E.output faults.old) (E.output faults.new) }
 {
     let mut device = device;

@@ -1,36 +1,22 @@
-//! Kept ledgers over a file in memory: what is told, what a crash leaves, and what is opened again.
+//! Tests of the libraries that keep a ledger in a file or follow a log, by their public calls alone: so none of them is proved a
+//! second time for its tests.
 //!
-//! Modules, each over those before it:
+//! Modules:
 //!
-//! - `scripts`: scripts by the bytes of the formats.
-//! - `openings`: files opened, created or refused.
-//! - `dumps`: the history of a file, read without a write.
-//! - `entries`: the entries of a file above a commit number.
-//! - `crashes`: crashes at each moment, and each call that fails.
-//! - `serving`: what is served over a file.
-//! - `pieces`: files longer than a piece.
-//! - `torn`: torn bytes that are cut off, or refused.
-//! - `salvaging`: files that are salvaged or backed up.
-//! - `conversations`: replies that leave before the next pair is waited for.
+//! - `journal`: of tb_journal.
+//! - `log`: of tb_log.
+//! - `keep`: of tb_keep.
+//! - `keep_log`: of tb_keep_log.
+//! - `keep_commands`: of tb_keep_commands.
 #![tactic(auto)]
 
 #[cfg(test)]
-mod conversations;
+mod journal;
 #[cfg(test)]
-mod crashes;
+mod keep;
 #[cfg(test)]
-mod dumps;
+mod keep_commands;
 #[cfg(test)]
-mod entries;
+mod keep_log;
 #[cfg(test)]
-mod openings;
-#[cfg(test)]
-mod pieces;
-#[cfg(test)]
-mod salvaging;
-#[cfg(test)]
-mod scripts;
-#[cfg(test)]
-mod serving;
-#[cfg(test)]
-mod torn;
+mod log;

@@ -1,5 +1,5 @@
 -- What is read of an entry behind its kind, and why it is refused.
--- Public contracts reach it through: Follows.
+-- Cited by public contracts of: entries.
 use Rattle.std.specs.Prelude.{ℕ, ◌≡◌, ◌≢◌, ◌⊎◌, ◌+◌, ◌≤◌, nat_le, nat_lt, List, [], ◌++◌, length, Option, Some, None, if◌then◌else◌, Err}
 use Rattle.std.specs.Io.KnownBytes.{Consumes, IsAtEnd}
 use Rattle.tb_records.specs.declared.faults.FrameFault.{FrameFault}

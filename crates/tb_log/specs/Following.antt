@@ -1,5 +1,5 @@
 -- What a follower makes of a log, item by item.
--- Public contracts reach it through: Follows, LogLaws.
+-- Cited by public contracts of: followers.
 use Rattle.std.specs.Prelude.{ℕ, ◌+◌, List, [], ◌∷◌, ◌++◌, fold}
 use Rattle.tb_records.specs.declared.limits.Profile.{Profile}
 use Rattle.tb_records.specs.Messages.{Answer}

@@ -1,5 +1,5 @@
 -- What a follower's steps do: for private functions alone.
--- Cited by private contracts alone, of: entries, followers, following, inputs.
+-- Cited by public contracts of: followers, following, inputs.
 use Rattle.std.specs.Prelude.{ℕ, true, false, ◌≡◌, ◌≢◌, ◌⊎◌, ◌≤◌, ◌<◌, Bool, List, [], ◌∷◌, ◌++◌, length, take, Option, Some, None, Result, Ok, Err, MatchResult}
 use Rattle.std.specs.Io.KnownBytes.{Consumes, IsAtEnd}
 use Rattle.tb_records.specs.Ordered.{Each}

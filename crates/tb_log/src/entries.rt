@@ -81,7 +81,7 @@ fn pair_fault(position: u64, fault: FrameFault) -> LogFault
 }
 
 /// Tests that the content of the entry at a position is pairs, before the first of them is served.
-fn check_pairs(global: Global, position: u64, content: &[u8]) -> Result<(), LogFault>
+pub fn check_pairs(global: Global, position: u64, content: &[u8]) -> Result<(), LogFault>
     requires { length content.now ≤ content_max }
     ensures pairs { OnOk result (IsPairs content.now) }
     ensures bad { IfErr result (λ fault. IsNoPairs fault position content.now) }
@@ -99,7 +99,7 @@ fn check_pairs(global: Global, position: u64, content: &[u8]) -> Result<(), LogF
 
 /// Reads the entry behind the last position: its position and its content, which is pairs.
 #[tactic(auto, using(crate::proofs::Taking::entry_read, crate::proofs::Taking::entry_lost, crate::proofs::Taking::entry_wrong))]
-pub(crate) fn entry_from<S: Source>(
+pub fn entry_from<S: Source>(
     alloc: Global,
     source: &mut S,
     last: u64,

@@ -14,7 +14,7 @@ use tb_records::{ClientsMax, Counting, Profile, Request, Sink, put_all};
 
 /// A machine, the position of the last entry, and the hashes of the log and of the replies.
 #[derive(Drop)]
-pub(crate) struct Follower<A: Allocator + Clone> {
+pub struct Follower<A: Allocator + Clone> {
     machine: Machine<A>,
     position: u64,
     log: Chain,
@@ -72,7 +72,7 @@ fn numbered(global: Global, position: u64, index: u32, frame: &[u8]) -> Result<V
 
 impl<A: Allocator + Clone> Follower<A> {
     /// A follower that has read nothing, with the records of its machine in memory of `alloc`.
-    pub(crate) fn new_in(
+    pub fn new_in(
         global: Global,
         alloc: A,
         profile: Profile,
@@ -89,14 +89,14 @@ impl<A: Allocator + Clone> Follower<A> {
     }
 
     /// The position of the last entry.
-    pub(crate) fn position(&self) -> u64
+    pub fn position(&self) -> u64
         ensures { result ≡ self.now.position }
     {
         self.position
     }
 
     /// Takes the entry at the next position, before its pairs.
-    pub(crate) fn begin(&mut self, position: u64, content: &[u8])
+    pub fn begin(&mut self, position: u64, content: &[u8])
         requires { position ≡ self.old.position + 1 }
         ensures { self.new ≡ with_content self.old content.now }
     {
@@ -124,7 +124,7 @@ impl<A: Allocator + Clone> Follower<A> {
 
     /// The bytes of the answer to a question.
     #[tactic(auto, using(crate::proofs::Numbers::eight_written))]
-    fn standing(&self, global: Global) -> Result<Vec<u8>, AllocError>
+    pub fn standing(&self, global: Global) -> Result<Vec<u8>, AllocError>
         ensures { IfOk result
             (λ line. line.items ≡ standing_of self.now) }
     {
@@ -137,7 +137,7 @@ impl<A: Allocator + Clone> Follower<A> {
     }
 
     /// Writes the position and both hashes.
-    pub(crate) fn tell<W: Sink>(&self, global: Global, writer: &mut W) -> Result<(), LogFault>
+    pub fn tell<W: Sink>(&self, global: Global, writer: &mut W) -> Result<(), LogFault>
         ensures { TellsStanding result self.now (W.output writer.old) (W.output writer.new) }
     {
         write(writer, &self.standing(global)?)

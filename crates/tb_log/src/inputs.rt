@@ -39,7 +39,7 @@ fn fill_all<S: Source>(source: &mut S, buffer: &mut [u8]) -> Result<(), LogFault
 
 /// The byte that begins the next item; None where the input ends before it.
 #[tactic(auto, using(crate::proofs::Taking::none_filled, crate::proofs::Taking::one_filled))]
-pub(crate) fn kind_from<S: Source>(source: &mut S) -> Result<Option<u8>, LogFault>
+pub fn kind_from<S: Source>(source: &mut S) -> Result<Option<u8>, LogFault>
     ensures { Begins result (S.input source.old) (S.input source.new) }
 {
     let mut bytes = [0; 1];

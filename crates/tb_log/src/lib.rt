@@ -23,5 +23,8 @@ mod inputs;
 pub mod laws;
 
 pub use chains::Chain;
+pub use entries::{check_pairs, entry_from};
 pub use faults::LogFault;
-pub use following::follow;
+pub use followers::Follower;
+pub use following::{follow, serve_content};
+pub use inputs::kind_from;

@@ -1,8 +1,13 @@
-//! What is compared, in one place: whoever calls this has one call to prove, and no text to put together.
+//! What is compared, each in one place: whoever calls these has one call to prove, and no text to put together.
 use std::fmt::Debug;
 use std::process::Abort;
 
-/// It is so. What is asked, or the row that it is asked of, stands in the message.
+/// What is found is what is wanted.
+pub fn same<T: PartialEq + Debug>(rt: &impl Abort, found: &T, wanted: &T, at: &impl Debug) {
+    assert_eq!(rt; *found, *wanted, "at {at:?}");
+}
+
+/// It is so. What is asked, or the row that it is asked of, is in the message.
 pub fn holds(rt: &impl Abort, is_so: bool, at: &impl Debug) {
     assert!(rt; is_so, "at {at:?}");
 }

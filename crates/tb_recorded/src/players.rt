@@ -5,7 +5,7 @@ use crate::notes::{Known, Note};
 use tb_records::{Reply, Status};
 
 /// How often a patient client asks its seat for a reply.
-const TURNS: u32 = 2000;
+const LOOKS_PER_CALL: u32 = 2000;
 
 /// Strangers, of whom no thread keeps a session, register by these numbers and the ones above.
 const STRANGERS: u64 = 1000;
@@ -35,7 +35,11 @@ impl Player {
 
     /// How often a seat is asked before the last time; an impatient client asks twice at the most.
     pub fn turns(&mut self) -> u32 {
-        if self.chances.below(4) == 0 { 1 } else { TURNS }
+        if self.chances.below(4) == 0 {
+            1
+        } else {
+            LOOKS_PER_CALL
+        }
     }
 
     /// The request behind one of an order: now and then the same again.

@@ -7,7 +7,7 @@ use tb_records::{Account, Body, ClientsMax, Profile, Reply, Transfer};
 use tb_sessions::Class;
 
 /// The bytes that the replies of all clients may have.
-const ROOM: usize = 1 << 20;
+const ROOM_BYTES: usize = 1 << 20;
 
 /// Whatever a script names.
 #[derive(Drop)]
@@ -80,7 +80,7 @@ impl Shown {
             time: 0,
             accounts: Vec::with_capacity(alloc, named.accounts.len())?,
             transfers: Vec::with_capacity(alloc, named.transfers.len())?,
-            replies: Vec::with_capacity(alloc, ROOM)?,
+            replies: Vec::with_capacity(alloc, ROOM_BYTES)?,
         })
     }
 

@@ -1,4 +1,4 @@
-//! `Port::call` beside `Server::run`, each in a thread of its own: what is refused is called again, until it is answered.
+//! `Port::call` next to `Server::run`, each in a thread of its own: what is refused is called again, until it is answered.
 ghost use Rattle.std.specs.Prelude.{◌≡◌};
 
 use crate::offering::{Listed, next_port};
@@ -15,10 +15,10 @@ use tb_records::{ClientsMax, Reply, Request, Status};
 use tb_service::{Ended, Finished, Open, Port, PortCount, service};
 
 /// So many calls are made for a request at most.
-const CALLS: u32 = 200;
+const CALLS_MAX: u32 = 200;
 
 /// So often a call asks its seat.
-const TURNS: u32 = 20_000;
+const LOOKS_PER_CALL: u32 = 20_000;
 
 /// The server takes nothing more: a copy of the request comes back.
 fn is_gone<R: Wait>(rt: &R, alloc: Global, port: &mut Port, request: &Request) -> bool {
@@ -51,7 +51,7 @@ fn note_fault<R: Eprint>(rt: &R, fault: SeatFault) {
     }
 }
 
-/// A port and the seat beside it.
+/// A port and its seat.
 #[derive(Drop)]
 struct Client<J: Naming> {
     port: Port,
@@ -68,7 +68,7 @@ impl<J: Naming> Client<J> {
         out: &mut Vec<u8>,
     ) -> Result<bool, Trouble> {
         let seen = self.seat.seen();
-        let called = self.port.call(rt, &mut self.seat, request, TURNS);
+        let called = self.port.call(rt, &mut self.seat, request, LOOKS_PER_CALL);
         if self.seat.seen() < seen {
             drop(called);
             return Err(Trouble::Wrong(Why::SeenFell));
@@ -98,7 +98,7 @@ impl<J: Naming> Client<J> {
         request: &Request,
         out: &mut Vec<u8>,
     ) -> Result<(), Trouble> {
-        for _ in 0..CALLS {
+        for _ in 0..CALLS_MAX {
             if self.call_once(rt, alloc, request, out)? {
                 return Ok(());
             }

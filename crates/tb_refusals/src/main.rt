@@ -1,5 +1,5 @@
 //! `tb_refusals FORM CLIENTS_MAX`: serves the script of standard input by calls that may want memory, and makes a call that
-//! was refused again. checks/refusals.py runs it with each growth refused in turn, one a run.
+//! was refused again. checks/refusals.py runs it with each growth refused in turn, one a run. `tb_refusals read` reads frames.
 //!
 //! The forms `apply`, `take`, `offer` and `call` look at what a refused call left behind; `run`, `dump` and `replay` (which
 //! reads a dump) end at their first fault, and tell of which kind it is. What was answered goes to standard output, a line for
@@ -13,8 +13,9 @@
 //! - `applying`: `apply`, one machine.
 //! - `taking`: `take`, a publisher and a seat.
 //! - `offering`: `offer`, ports that are closed before the server runs.
-//! - `calling`: `call`, a port's calls beside the server.
+//! - `calling`: `call`, a port's calls next to the server.
 //! - `running`: `run`, `dump` and `replay`.
+//! - `reading`: `read`: frames that are read, and written again.
 #![tactic(auto)]
 
 ghost use Rattle.std.specs.Prelude.{◌≡◌};
@@ -23,6 +24,7 @@ mod applying;
 mod calling;
 mod offering;
 mod openings;
+mod reading;
 mod running;
 mod scripts;
 mod taking;
@@ -42,7 +44,7 @@ use tb_records::{ClientsMax, Profile};
 use troubles::{Trouble, Why};
 
 /// The bytes that may be answered.
-const ROOM: usize = 1 << 20;
+const ROOM_BYTES: usize = 1 << 20;
 
 /// How the script reaches a publisher.
 #[derive(Clone, Copy)]
@@ -51,13 +53,13 @@ enum Way {
     Take,
     /// By ports that are closed before the server runs.
     Offer,
-    /// By a port's calls, beside the server's thread.
+    /// By a port's calls, next to the server's thread.
     Call,
 }
 
 /// What the script is served by.
 #[derive(Clone, Copy)]
-enum Form {
+enum Served {
     /// One machine.
     Apply,
     /// A publisher and a seat.
@@ -66,36 +68,49 @@ enum Form {
     Once(Call),
 }
 
-/// The form that a word names.
-fn form_of(word: &str) -> Option<Form> {
+/// What the program was asked to do.
+#[derive(Clone, Copy)]
+enum Form {
+    /// A script is served, with so many clients.
+    Serve(Served, ClientsMax),
+    /// Frames are read.
+    Read,
+}
+
+/// What a word has a script served by.
+fn served_by(word: &str) -> Option<Served> {
     match word {
-        "apply" => Some(Form::Apply),
-        "take" => Some(Form::Publish(Way::Take)),
-        "offer" => Some(Form::Publish(Way::Offer)),
-        "call" => Some(Form::Publish(Way::Call)),
-        "run" => Some(Form::Once(Call::Run)),
-        "dump" => Some(Form::Once(Call::Dump)),
-        "replay" => Some(Form::Once(Call::Replay)),
+        "apply" => Some(Served::Apply),
+        "take" => Some(Served::Publish(Way::Take)),
+        "offer" => Some(Served::Publish(Way::Offer)),
+        "call" => Some(Served::Publish(Way::Call)),
+        "run" => Some(Served::Once(Call::Run)),
+        "dump" => Some(Served::Once(Call::Dump)),
+        "replay" => Some(Served::Once(Call::Replay)),
         _ => None,
     }
 }
 
-/// The form and the number of clients that words name.
-fn task_of(words: &[String]) -> Result<(Form, ClientsMax), Trouble> {
-    let form = words.get(0).ok_or(Trouble::SetUp)?;
+/// The form that words name.
+fn form_of(words: &[String]) -> Result<Form, Trouble> {
+    let word = words.get(0).ok_or(Trouble::SetUp)?;
+    if word.as_str() == "read" {
+        return Ok(Form::Read);
+    }
     let clients = words.get(1).ok_or(Trouble::SetUp)?;
-    let form = form_of(form.as_str()).ok_or(Trouble::SetUp)?;
+    let served = served_by(word.as_str()).ok_or(Trouble::SetUp)?;
     let clients = clients.as_str().parse::<u32>().map_err(|_| Trouble::SetUp)?;
-    Ok((form, ClientsMax::new(clients).ok_or(Trouble::SetUp)?))
+    let clients_max = ClientsMax::new(clients).ok_or(Trouble::SetUp)?;
+    Ok(Form::Serve(served, clients_max))
 }
 
-/// The form and the number of clients that the program's words name.
-fn read_words(rt: &HostRuntime) -> Result<(Form, ClientsMax), Trouble> {
+/// The form that the program's words name.
+fn read_words(rt: &HostRuntime) -> Result<Form, Trouble> {
     let mut words = Vec::new(rt.alloc());
     for word in env::args(rt)?.skip(1) {
         words.push(word)?;
     }
-    task_of(words.as_slice())
+    form_of(words.as_slice())
 }
 
 /// Serves a script by an opening. False where the opening, or its service, is refused.
@@ -142,23 +157,23 @@ fn serve_published<R: Threads + Wait + Eprint + Sync>(
 fn serve<R: Threads + Wait + Eprint + Sync>(
     rt: &R,
     alloc: Global,
-    form: Form,
+    by: Served,
     clients_max: ClientsMax,
     script: &[u8],
     out: &mut Vec<u8>,
 ) -> Result<(), Trouble> {
-    match form {
-        Form::Once(call) => {
+    match by {
+        Served::Once(call) => {
             call_once(rt, alloc, call, clients_max, script, out);
             Ok(())
         }
-        Form::Apply => {
+        Served::Apply => {
             let pairs = read_pairs(alloc, script)?;
             let served = applying::apply_all(rt, alloc, clients_max, pairs.as_slice(), out);
             drop(pairs);
             served
         }
-        Form::Publish(way) => {
+        Served::Publish(way) => {
             let pairs = read_pairs(alloc, script)?;
             let served = serve_published(rt, alloc, way, clients_max, pairs.as_slice(), out);
             drop(pairs);
@@ -167,44 +182,35 @@ fn serve<R: Threads + Wait + Eprint + Sync>(
     }
 }
 
-/// What the program was asked to do.
+/// What the program was asked to do, what it was given, and what it answers.
 #[derive(Drop)]
 struct Task {
     form: Form,
-    clients_max: ClientsMax,
-    script: Vec<u8>,
+    input: Vec<u8>,
     out: Vec<u8>,
 }
 
-/// Reads the program's words and the script, and makes room for what is answered.
+/// Reads the program's words and its input, and makes room for what is answered.
 fn read_task(rt: &HostRuntime) -> Result<Task, Trouble> {
-    let (form, clients_max) = read_words(rt)?;
-    let mut script = Vec::new(rt.alloc());
-    rt.stdin().read_to_end(&mut script)?;
-    let out = Vec::with_capacity(rt.alloc(), ROOM)?;
-    Ok(Task {
-        form,
-        clients_max,
-        script,
-        out,
-    })
+    let form = read_words(rt)?;
+    let mut input = Vec::new(rt.alloc());
+    rt.stdin().read_to_end(&mut input)?;
+    let out = Vec::with_capacity(rt.alloc(), ROOM_BYTES)?;
+    Ok(Task { form, input, out })
 }
 
-/// Serves the script.
+/// Serves the script, or reads the frames.
 fn serve_task<R: Threads + Wait + Eprint + Sync>(
     rt: &R,
     alloc: Global,
     task: &mut Task,
 ) -> Result<(), Trouble> {
-    let script = task.script.as_slice();
-    serve(
-        rt,
-        alloc,
-        task.form,
-        task.clients_max,
-        script,
-        &mut task.out,
-    )
+    let form = task.form;
+    let input = task.input.as_slice();
+    match form {
+        Form::Serve(by, clients_max) => serve(rt, alloc, by, clients_max, input, &mut task.out),
+        Form::Read => reading::read_all(alloc, input, &mut task.out),
+    }
 }
 
 fn main(rt: HostRuntime) -> ExitCode {

@@ -53,6 +53,14 @@ impl<B: Allocator> Refusing<B> {
         }
     }
 
+    /// Grants so many growths from now on, and refuses all behind them until it relents.
+    pub fn allow(&self, count: u64) {
+        let mut now = self.tally.get();
+        now.refused_at = now.asked.wrapping_add(count).wrapping_add(1);
+        now.refused_until = u64::MAX;
+        self.tally.set(now);
+    }
+
     /// Refuses no growth any more.
     pub fn relent(&self) {
         let mut now = self.tally.get();

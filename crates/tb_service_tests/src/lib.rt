@@ -1,27 +1,21 @@
-//! Worked rows through ports and a server, by public calls of tb_service alone.
+//! Tests of tb_service, of what it is built on above tb_machine, and of what is built on it, by their public calls alone.
 //!
-//! Modules, each over those before it:
+//! Modules:
 //!
-//! - `making`: what the rows are made of.
-//! - `handovers`: one port.
-//! - `audits`: places that audits name.
-//! - `gates`: a gate passed before a request has its moment.
-//! - `progress`: answers while the server still runs.
-//! - `seats`: seats beside a server.
-//! - `threads`: ports, a server and seats in threads.
+//! - `comparing`: what is compared, in one place.
+//! - `published`: of tb_published.
+//! - `service`: of tb_service.
+//! - `storm`: of tb_storm.
+//! - `uses`: of tb_uses.
 #![tactic(auto)]
 
 #[cfg(test)]
-mod audits;
+mod comparing;
 #[cfg(test)]
-mod gates;
+mod published;
 #[cfg(test)]
-mod handovers;
+mod service;
 #[cfg(test)]
-mod making;
+mod storm;
 #[cfg(test)]
-mod progress;
-#[cfg(test)]
-mod seats;
-#[cfg(test)]
-mod threads;
+mod uses;

@@ -2,8 +2,10 @@ pub mod Choosing
 pub mod Extents
 pub mod Placing
 pub mod ExplainedRuns
+pub mod ReplayedRuns
 pub mod Taking
 pub mod TypedParts
 pub mod Watching
 pub mod AuditSteps
 pub mod AuditTexts
+pub mod Beginning

@@ -1,12 +1,16 @@
 -- How a form of the program ends: whether its reader or its writer failed.
 -- Cited by public contracts of: commands.
-use Rattle.std.specs.Prelude.{ℕ, Bool, true, false, ◌≡◌, ◌⊎◌, List, OnOk, Result, Ok, Err}
+use Rattle.std.specs.Prelude.{ℕ, Bool, true, false, ◌≡◌, ◌⊎◌, List, IfSome, OnOk, Option, Some, None, Result, Ok, Err}
 use Rattle.tb_records.specs.Transport.{Input, Output, risen, Refuses}
+use Rattle.tb_commands.specs.Statuses.{TellsLine}
 use Rattle.tb_text_commands.specs.declared.faults.Fault.{Fault}
 use Rattle.tb_text_commands.specs.declared.faults.Fault.TheVariants.{Device, Text, Late}
 use Rattle.tb_text_commands.specs.declared.arguments.Form.{Form}
 use Rattle.tb_text_commands.specs.declared.arguments.Form.TheVariants as forms
+use Rattle.tb_text_commands.specs.declared.kinds.Awaited.{Awaited}
+use Rattle.tb_text_commands.specs.declared.kinds.Kind.{Kind}
 use Rattle.tb_text_commands.specs.Explanations.{Explained}
+use Rattle.tb_text_commands.specs.Kinds.{IsForeign, foreign_line, is_of_bytes}
 use Rattle.tb_text_commands.specs.Statuses.{device_named, fault_status, TellsOf}
 use Rattle.tb_text_commands.specs.Typed.{IsReadBy, is_typed}
 use Rattle.tb_text_commands.specs.Whole.{WasWhole}
@@ -84,18 +88,30 @@ abbrev pub named : Result (Unit {0}) Fault → ℕ → ℕ → Result (Unit {0})
 named (Ok done) before after = Ok done
 named (Err fault) before after = Err (device_named fault before after)
 
+-- what is told of a fault, where the input is of another kind than the form reads: if it is one of what was read, what the
+-- input is
+abbrev pub TellsWhere : Bool → Awaited × Kind → Fault → Output → Output → Type 0
+TellsWhere true it fault quiet told = TellsLine (foreign_line it.0 it.1) quiet told
+TellsWhere false it fault quiet told = TellsOf fault quiet told
+
+abbrev pub TellsAs : Option (Awaited × Kind) → Fault → Output → Output → Type 0
+TellsAs None fault quiet told = TellsOf fault quiet told
+TellsAs (Some it) fault quiet told = TellsWhere (is_of_bytes fault) it fault quiet told
+
 -- what is told of an outcome: nothing of one that was done, and of a fault its line
-abbrev pub Tells : Result (Unit {0}) Fault → Output → Output → Type 0
-Tells (Ok done) quiet told = told ≡ quiet
-Tells (Err fault) quiet told = TellsOf fault quiet told
+abbrev pub Tells : Option (Awaited × Kind) → Result (Unit {0}) Fault → Output → Output → Type 0
+Tells foreign (Ok done) quiet told = told ≡ quiet
+Tells foreign (Err fault) quiet told = TellsAs foreign fault quiet told
 
 -- a form of the program was done, or a fault ended it: the status is the outcome's, and a device failed exactly where that
 -- says so; with status 0 a whole input was read, and `explain` says where `tbs` stops in it; where no statements are typed,
--- nothing but its line is told
+-- nothing but its line is told, and the input is of another kind than the form reads where that line says so
 pub record Exits (form : Form) (talks : Bool) (status : ℕ) (before after : Input) (start written quiet told : Output) : Type 0 where
   pub outcome : Result (Unit {0}) Fault
   pub ended : Ended outcome before after start written
   pub status_is : status ≡ outcome_status outcome
   pub whole : status ≡ 0 → WasWhole (IsReadBy form talks) before.left
-  pub line : is_typed form talks ≡ false → Tells (named outcome before.failed after.failed) quiet told
+  pub foreign : Option (Awaited × Kind)
+  pub is_foreign : IfSome foreign (λ it. IsForeign form talks it.0 it.1 before.left)
+  pub line : is_typed form talks ≡ false → Tells foreign (named outcome before.failed after.failed) quiet told
   pub explained : form ≡ forms.Explain → status ≡ 0 → Explained before start written

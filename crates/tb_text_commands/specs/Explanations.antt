@@ -1,7 +1,6 @@
 -- What `explain` prints: the place and the name of the fault at which `tbs` stops over the same bytes, or that it ends well.
 -- Public contracts reach it through: Ends.
-use Rattle.std.specs.Prelude.{ℕ, Bool, true, false, ◌≡◌, nat_eq, List, [], ◌++◌, length, take, codes}
-use Rattle.std.specs.Cmp.Lexicographic.{pointwise}
+use Rattle.std.specs.Prelude.{ℕ, Bool, true, false, ◌≡◌, List, [], ◌++◌, length, codes}
 use Rattle.std.specs.Fmt.{decimal}
 use Rattle.tb_records.specs.Faults.{fault_name}
 use Rattle.tb_records.specs.DumpFaults.{dump_fault_name}
@@ -14,11 +13,9 @@ use Rattle.tb_text_commands.specs.declared.stops.ScriptEnd.TheVariants as script
 use Rattle.tb_text_commands.specs.declared.stops.Stop.{Stop}
 use Rattle.tb_text_commands.specs.declared.stops.Stop.TheVariants as stop
 use Rattle.tb_text_commands.specs.Explained.{DumpEnds, ScriptEnds}
+use Rattle.tb_text_commands.specs.Kinds.{begins_with, kind_text}
+use Rattle.tb_text_commands.specs.declared.kinds.Kind.TheVariants.{Ledger}
 use Rattle.tb_text_commands.specs.Whole.{WasWhole}
-
--- what bytes begin with
-abbrev pub begins_with : List ℕ → List ℕ → Bool
-begins_with name bytes = pointwise nat_eq (take (length name) bytes) name
 
 -- a unit's number, the bytes before it, why `tbs` stops there in words, and the name that `tbs` prints; more may stand behind
 -- the line
@@ -78,7 +75,7 @@ pub record SaysDump (bytes line : List ℕ) : Type 0 where
 
 -- what is told of bytes: of a dump by its first 8 bytes, of a ledger's file that it is one, and else of a script
 abbrev pub ExplainsBy : Bool → Bool → List ℕ → List ℕ → Type 0
-ExplainsBy true dump bytes line = line ≡ codes "a ledger's file of tbd: tbd check FILE tells where it ends, tbd dump FILE makes a dump of it\n"
+ExplainsBy true dump bytes line = line ≡ kind_text Ledger
 ExplainsBy false true bytes line = SaysDump bytes line
 ExplainsBy false false bytes line = SaysScript bytes line
 

@@ -10,8 +10,10 @@ pub mod Explanations
 pub mod ExplainLaws
 pub mod Heads
 pub mod Forms
+pub mod Kinds
 pub mod Names
 pub mod Options
+pub mod Refusals
 pub mod Results
 pub mod Statuses
 pub mod Taken

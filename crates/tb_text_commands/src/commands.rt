@@ -1,12 +1,14 @@
 //! The program's forms, over any reader and writer.
-ghost use Rattle.std.specs.Prelude.{◌≡◌, ◌<◌, false, None, OnOk, Option, Some, map, string_bytes, ℕ};
+ghost use Rattle.std.specs.Prelude.{◌≡◌, ◌<◌, false, IfErr, IfSome, None, OnOk, Option, Some, map, string_bytes, ℕ};
 ghost use Rattle.tb_text_commands.specs.declared.arguments.Form.{Form};
 ghost use Rattle.tb_text_commands.specs.declared.wanted.Wanted.{Wanted};
 ghost use Rattle.tb_text_commands.specs.AuditLines.{IsJsonLine};
 ghost use Rattle.tb_text_commands.specs.AuditRuns.{AuditRan, AuditedBy};
-ghost use Rattle.tb_text_commands.specs.Ends.{Converts, Exits};
+ghost use Rattle.tb_text_commands.specs.Ends.{Converts, Exits, TellsAs};
 ghost use Rattle.tb_text_commands.specs.Explanations.{Explained};
 ghost use Rattle.tb_text_commands.specs.Forms.{form_of};
+ghost use Rattle.tb_text_commands.specs.Kinds.{IsForeign};
+ghost use Rattle.tb_text_commands.specs.Refusals.{fault_in};
 ghost use Rattle.tb_text_commands.specs.Typed.{IsReadBy, is_typed};
 ghost use Rattle.tb_text_commands.specs.Wanted.{is_wanted};
 ghost use Rattle.tb_text_commands.specs.Whole.{IsInputOf};
@@ -19,6 +21,7 @@ use crate::explaining::explain;
 use crate::faults::Fault;
 use crate::help::{USAGE, VERSION};
 use crate::intake::Intake;
+use crate::kinds::{Awaited, Kind, foreign_in, tell_foreign};
 use crate::running::{Conversation, converse};
 use crate::script_standings::ScriptStandings;
 use crate::scripts::{Replies, Script, Statements, put};
@@ -91,6 +94,60 @@ fn usage_fault(alloc: Global, words: &[String]) -> Fault {
     }
 }
 
+/// Why a form ended; where its input is of another kind than it reads, also what it reads and what the input is.
+#[derive(Drop)]
+struct Refused {
+    fault: Fault,
+    foreign: Option<(Awaited, Kind)>,
+}
+
+/// Looks what the input is, and does what the form asks for.
+#[tactic(auto, using(crate::proofs::Beginning::converts_begun, crate::proofs::Beginning::converts_none, crate::proofs::Beginning::audit_begun, crate::proofs::Beginning::audit_none, crate::proofs::Beginning::keeps_whole))]
+fn perform_known<C: Clock, R: Source, W: Sink, E: Sink>(
+    alloc: Global,
+    clock: &C,
+    form: Form,
+    talks: bool,
+    reader: &mut R,
+    writer: &mut W,
+    faults: &mut E,
+) -> Result<(), Refused>
+    ensures done { Converts (IsReadBy form talks) (fault_in result) (R.input reader.old) (R.input reader.new)
+        (W.output writer.old) (W.output writer.new) }
+    ensures silent { is_typed form talks ≡ false → faults.new ≡ faults.old }
+    ensures audited { (wanted : Wanted) → form ≡ Form.Audit wanted
+        → AuditRan IsJsonLine (is_wanted wanted) (fault_in result) wanted.account
+        (R.input reader.old) (R.input reader.new) (W.output writer.old) (W.output writer.new) }
+    ensures explained { form ≡ Form.Explain → OnOk result
+        (Explained (R.input reader.old) (W.output writer.old) (W.output writer.new)) }
+    ensures foreign { IfErr result (λ refused. IfSome refused.foreign
+        (λ it. IsForeign form talks it.0 it.1 (R.input reader.old).left)) }
+{
+    let foreign = match foreign_in(&form, talks, reader) {
+        Ok(foreign) => foreign,
+        Err(fault) => {
+            return Err(Refused {
+                fault,
+                foreign: None,
+            });
+        }
+    };
+    match perform(alloc, clock, form, talks, reader, writer, faults) {
+        Ok(()) => Ok(()),
+        Err(fault) => Err(Refused { fault, foreign }),
+    }
+}
+
+/// Tells why a form ended: where the fault is one of what was read and the input is of another kind, what it is.
+fn tell<E: Sink>(fault: &Fault, foreign: Option<(Awaited, Kind)>, faults: &mut E)
+    ensures { TellsAs foreign fault.now (E.output faults.old) (E.output faults.new) }
+{
+    match foreign {
+        Some((awaited, kind)) if fault.is_of_bytes() => tell_foreign(awaited, kind, faults),
+        _ => fault.tell(faults),
+    }
+}
+
 /// Does what the words ask for, and answers the exit status: 0 done, 1 a device or memory failed, 2 the input or the
 /// arguments are wrong. With a status other than 0 one line goes to `faults`, with 0 nothing. Where `run` talks, prompts and
 /// mistakes go there as they come, and it ends with status 0 at the end of the input, `exit` or `quit`. Arguments that are
@@ -121,11 +178,12 @@ pub fn command<C: Clock, R: Source, W: Sink, E: Sink>(
         return 2;
     };
     let failures = reader.failures();
-    match perform(alloc, clock, form, talks, reader, writer, faults) {
+    match perform_known(alloc, clock, form, talks, reader, writer, faults) {
         Ok(()) => 0,
-        Err(fault) => {
+        Err(Refused { fault, foreign }) => {
             let status = fault.status();
-            fault.of_device(failures, reader.failures()).tell(faults);
+            let fault = fault.of_device(failures, reader.failures());
+            tell(&fault, foreign, faults);
             status
         }
     }

@@ -1,10 +1,11 @@
 //! Where and why `tbs` stops in a script or a dump, in words.
 ghost use Rattle.std.specs.Prelude.{◌≡◌, IfOk, OnOk, length, string_bytes};
 ghost use Rattle.tb_text_commands.specs.Ends.{Ended};
-ghost use Rattle.tb_text_commands.specs.Explanations.{Explained, Explains, NamesHead, NamesStop, SaysDump, SaysRefused, SaysScript, TellsDump, TellsScript, begins_with, head_text, stop_text};
+ghost use Rattle.tb_text_commands.specs.Explanations.{Explained, Explains, NamesHead, NamesStop, SaysDump, SaysRefused, SaysScript, TellsDump, TellsScript, head_text, stop_text};
 
 use crate::faults::Fault;
 use crate::intake::Intake;
+use crate::kinds::{DUMP, Kind, LEDGER, begins_with, kind_words};
 use crate::scripts::put;
 use crate::stops::{Cause, DumpEnd, Place, ScriptEnd, Stop, dump_end, script_end};
 use std::alloc::{AllocError, Global};
@@ -14,23 +15,6 @@ use tb_records::{DumpFault, FrameFault, Sink, Source};
 
 /// The bytes of which it is said whether they look like text.
 const SAMPLE: usize = 32;
-
-/// What a dump begins with.
-const DUMP: &[u8] = b"TBSDUMP1";
-
-/// What a ledger's file begins with, of `tbd`.
-const LEDGER: &[u8] = b"TBJRNL01";
-
-/// What is told of a ledger's file.
-const LEDGER_TOLD: &str =
-    "a ledger's file of tbd: tbd check FILE tells where it ends, tbd dump FILE makes a dump of it\n";
-
-/// Says that bytes begin with a name.
-fn begins_with(bytes: &[u8], name: &[u8]) -> bool
-    ensures { result ≡ begins_with name.now bytes.now }
-{
-    bytes.get(..name.len()).unwrap_or(bytes) == name
-}
 
 /// Why a pair is not served for which no time is left.
 const LATE: &str = "its moment is above 2^63 - 1; where its request is new, no time is left";
@@ -212,7 +196,7 @@ fn told_of(alloc: Global, bytes: &[u8]) -> Result<String, AllocError>
     ensures { IfOk result (λ line. Explains bytes.now (string_bytes line)) }
 {
     if begins_with(bytes, LEDGER) {
-        LEDGER_TOLD.to_string(alloc)
+        kind_words(Kind::Ledger).to_string(alloc)
     } else if begins_with(bytes, DUMP) {
         explain_dump(alloc, bytes)
     } else {

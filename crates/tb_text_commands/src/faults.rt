@@ -2,6 +2,7 @@
 ghost use Rattle.std.specs.Prelude.{◌≡◌, ◌<◌, ◌≤◌, length};
 ghost use Rattle.tb_commands.specs.Statuses.{TellsLine};
 ghost use Rattle.tb_text_commands.specs.declared.faults.Fault.TheVariants.{NoMemory};
+ghost use Rattle.tb_text_commands.specs.Kinds.{is_of_bytes};
 ghost use Rattle.tb_text_commands.specs.Statuses.{device_named, dump_fault_of, fault_status, frame_fault_of, line_named, TellsOf};
 
 use crate::help::USAGE;
@@ -142,6 +143,13 @@ impl Fault {
             Fault::Device if before < u64::MAX => Fault::Writer,
             fault => fault,
         }
+    }
+
+    /// Says that what was read is at fault.
+    pub fn is_of_bytes(&self) -> bool
+        ensures { result ≡ is_of_bytes self.now }
+    {
+        matches!(self, Fault::Frame(_) | Fault::Dump(_) | Fault::Text(_))
     }
 
     /// 1 where a device or memory failed, 2 where the input or the arguments are wrong.

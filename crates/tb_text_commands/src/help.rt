@@ -27,8 +27,7 @@ CLIENTS_MAX is 1 to 64, PROFILE 1 or 2. The exit status is 0 where all is done, 
 device or memory failed, 2 where the input or the arguments are wrong.
 
 On a terminal tbt run 2 shows a prompt, and help there shows statements. Its ledger ends with it.
-A ledger in a file is served by tbd: tbt script < a.text | tbd run FILE 2 | tbt replies. At a
-terminal, tb-repl takes statements to it.
+tbd keeps a ledger in a file: tbt script < a.text | tbd run FILE 2 | tbt replies, or tb-repl.
 
 Example: two accounts, a transfer of 100, and how an account stands then.
 

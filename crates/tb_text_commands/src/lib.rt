@@ -9,6 +9,7 @@
 //! - `help`: the page of usage, and what a terminal is shown.
 //! - `told_lines`: lines that may go to a terminal.
 //! - `faults`: why the program ends with a status other than 0, and its line.
+//! - `kinds`: what an input is that a form does not read.
 //! - `intake`: bytes that were read and wait to be taken.
 //! - `heads`: what stands before the operation of a statement.
 //! - `completing`: what a statement leaves out, and what stands for it.
@@ -59,6 +60,7 @@ mod help;
 mod host;
 mod intake;
 mod judged;
+mod kinds;
 mod lines;
 mod lists;
 mod objects;

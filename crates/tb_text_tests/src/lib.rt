@@ -1,9 +1,16 @@
-//! Tests of statements: each field, operation and flag by its name, and faults by their places.
+//! Tests of statements and of the commands of the programs, by their public calls alone: so no library is proved a second time for
+//! its tests.
 //!
-//! Module:
+//! Modules:
 //!
-//! - `tests`: each field, operation and flag by name; faults by place.
+//! - `text`: of tb_text.
+//! - `commands`: of tb_commands.
+//! - `text_commands`: of tb_text_commands.
 #![tactic(auto)]
 
 #[cfg(test)]
-mod tests;
+mod commands;
+#[cfg(test)]
+mod text;
+#[cfg(test)]
+mod text_commands;

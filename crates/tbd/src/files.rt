@@ -1,9 +1,9 @@
 //! The files of the system, by their paths.
 use std::io::{BufWriter, Stderr};
+use std::thread;
 use std::time::Duration;
-use std::{fs, thread};
-use tb_journal::{Fault, FileFault, Real, Snapshot};
-use tb_keep_commands::{Opener, OpeningFault, Reported, opening_fault};
+use tb_journal::{Real, Snapshot};
+use tb_keep_commands::{Opener, OpeningFault, Reported, opening_fault, unread_fault};
 use tb_records::Counting;
 
 /// The files of the system.
@@ -33,9 +33,7 @@ fn reported(
     reports: bool,
 ) -> Result<Reported<Real, Counting<BufWriter<Stderr>>>, OpeningFault> {
     let out = Counting::new(lines(rt));
-    Reported::new(rt.alloc(), real, path, out, reports).map_err(|fault| opening_fault(
-        &FileFault::Sync(fault),
-    ))
+    Reported::new(rt.alloc(), real, path, out, reports).map_err(unread_fault)
 }
 
 impl<'a> Opener for SystemFiles<'a> {
@@ -59,10 +57,8 @@ impl<'a> Opener for SystemFiles<'a> {
 
     fn open(&mut self, name: &str) -> Result<Snapshot<Real>, OpeningFault> {
         match Real::look(self.rt, name) {
-            Ok(real) => {
-                Snapshot::new(self.rt.alloc(), real).map_err(|fault| reading_fault(fault))
-            }
-            Err(fault) => Err(looked_fault(self.rt, name, opening_fault(&fault))),
+            Ok(real) => { Snapshot::new(self.rt.alloc(), real).map_err(unread_fault) }
+            Err(fault) => Err(opening_fault(&fault)),
         }
     }
 
@@ -74,22 +70,3 @@ impl<'a> Opener for SystemFiles<'a> {
 
 /// How long more commits are waited for at a time, in milliseconds.
 const PAUSE: u64 = 50;
-
-/// The fault of a file whose first snapshot was not taken.
-fn reading_fault(fault: Fault) -> OpeningFault {
-    match fault {
-        Fault::Memory => OpeningFault::NoMemory,
-        _ => OpeningFault::Unread,
-    }
-}
-
-/// The fault of a file that was not opened for reading: one that is missing may be a symbolic link to nothing.
-fn looked_fault(rt: &HostRuntime, path: &str, fault: OpeningFault) -> OpeningFault {
-    match fault {
-        OpeningFault::Missing => match fs::symlink_metadata(rt, path) {
-            Ok(found) if found.is_symlink() => OpeningFault::Dangling,
-            _ => OpeningFault::Missing,
-        },
-        fault => fault,
-    }
-}

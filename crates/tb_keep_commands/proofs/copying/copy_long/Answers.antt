@@ -17,7 +17,7 @@ returns-in-Ok g c = record {
   };
   copies = (
     copied_of c.args.len c.in-Ok.salvaged,
-    copy_is g.N.Device.tells g.N.Device.disk (g.D.Device.holds c.args.from.now) c.args.len c.in-Ok.salvaged c.in-Ok.ensures.salvaged,
+    copy_is g.N.Device (g.D.Device.holds c.args.from.now) c.args.len c.in-Ok.salvaged c.in-Ok.ensures.salvaged,
     c.end_copy.ensures,
     refl,
   );

@@ -1,5 +1,4 @@
 use Rattle.std.proofs.Common.{Ok, Err, refl}
-use Rattle.tb_keep_commands.proofs.Wholes.{summary_is}
 use Rattle.tb_keep_commands.proofs.files.check_long.Goals as goal
 
 pub returns-in-Ok : goal.returns-in-Ok
@@ -7,11 +6,7 @@ returns-in-Ok g c = record {
   found = Ok c.in-Ok.found;
   between = c.read_whole.new.device;
   whole = record { found_is = c.in-Ok.ensures.found; same = c.in-Ok.ensures.same; cause = c.in-Ok.ensures.cause };
-  checks = (
-    c.summary.result,
-    λ file holds. summary_is c.in-Ok.found c.summary.result c.args.len file c.summary.ensures (c.in-Ok.ensures.found file holds),
-    c.report.ensures,
-  );
+  checks = rw c.summary.ensures at c.report.ensures;
 }
 
 pub returns-in-Err : goal.returns-in-Err

@@ -1,4 +1,4 @@
-use Rattle.std.proofs.Common.{Ok}
+use Rattle.std.proofs.Common.{Ok, Err, refl}
 use Rattle.tb_keep_commands.proofs.following.follow.Goals as goal
 
 pub returns-in-Ok : goal.returns-in-Ok
@@ -6,5 +6,13 @@ returns-in-Ok g c = record {
   found = Ok c.in-Ok.found;
   between = c.read_whole.new.device;
   whole = record { found_is = c.in-Ok.ensures.found; same = c.in-Ok.ensures.same; cause = c.in-Ok.ensures.cause };
-  writes = (c.part_found.ensures.writes, c.part_found.ensures.cause);
+  writes = record { writes = c.part_found.ensures.writes; cause = c.part_found.ensures.cause };
+}
+
+pub returns-in-Err : goal.returns-in-Err
+returns-in-Err g c = record {
+  found = Err c.in-Err.fault;
+  between = c.read_whole.new.device;
+  whole = record { found_is = c.in-Err.ensures.found; same = c.in-Err.ensures.same; cause = c.in-Err.ensures.cause };
+  writes = (record { named = c.named.result; outcome_is = refl; names = c.named.ensures }, refl);
 }

@@ -17,7 +17,10 @@ returns-then-follows g c = record {
 
 pub returns-else-follows : goal.returns-else-follows
 returns-else-follows g c = record {
-  sends = λ file holds place. rw c.if-follows.false (one_round c.args.after file _ _ _ (c.in-Ok.ensures.sends file [] holds place));
+  sends = λ file holds place.
+      rw c.if-follows.false
+      (one_round (g.O.Reading.Device.holds c.send_round.new.device) c.args.after file _ _ _ (c.in-Ok.ensures.same file holds)
+      (c.in-Ok.ensures.sends file [] holds place));
   cause = λ t has. all_quiet _ _ (c.in-Ok.ensures.cause t [] has).quiet;
 }
 

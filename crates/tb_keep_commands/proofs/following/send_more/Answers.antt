@@ -1,4 +1,5 @@
 use Rattle.tb_journal.proofs.Growths.{later_then}
+use Rattle.tb_keep_commands.proofs.Lives.{looked_still}
 use Rattle.tb_keep_commands.proofs.PartCauses.{round_cause_then, look_failed, later_seen}
 use Rattle.tb_keep_commands.proofs.Rounds.{once_more, no_more}
 use Rattle.tb_keep_commands.proofs.following.send_more.Goals as goal
@@ -10,6 +11,11 @@ returns-in-Ok-clause-sends g c file start grown =
     once_more g.D.Device.holds c.args.after file start grown.records next.later c.send_round.new.device c.send_round.new.scan c.send_round.result _ _
     (later_then file grown.later next.later grown.since next.since) (c.send_round.ensures.same next.later next.held) grown.sent
     (c.send_round.ensures.sends next.later grown.records next.held place)
+
+pub returns-in-Ok-clause-looks : goal.returns-in-Ok-clause-looks
+returns-in-Ok-clause-looks g c file held =
+    looked_still g.D.Live.whole g.D.Device.holds c.args.device.now c.refresh.new.self c.send_round.new.device file c.send_round.result
+    (c.in-Ok.ensures.later file held) c.send_round.ensures.same
 
 pub returns-in-Ok-clause-cause : goal.returns-in-Ok-clause-cause
 returns-in-Ok-clause-cause g c t read has =

@@ -6,7 +6,8 @@ use Rattle.tb_keep_commands.proofs.following.send_part.Goals as goal
 pub returns-in-Ok : goal.returns-in-Ok
 returns-in-Ok g c = record {
   writes = λ file holds place.
-      part_sent c.args.part.follows c.args.part.after c.args.rules file _ _ _ c.send_entries.result c.in-Ok.ensures
+      part_sent (g.O.Reading.Device.holds c.send_entries.new.device) c.args.part.follows c.args.part.after c.args.rules file _ _ _ c.send_entries.result
+      c.in-Ok.ensures
       (rw c.floor_of-after.ensures at (c.send_entries.ensures.sends file holds place));
   cause = c.send_entries.ensures.cause;
 }

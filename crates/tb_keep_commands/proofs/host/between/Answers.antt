@@ -13,7 +13,7 @@ returns g c =
     let words = map string_bytes c.args.words.now in
     let ran = c.command.ensures in
     by_form
-    (λ (asked : Option Form). Commands g.O.File.Device.tells g.O.File.Device.disk g.O.File.Device.holds g.O.Reading.Device.tells g.O.Reading.Device.disk g.O.Reading.Device.holds g.O.Reading.Live.whole g.O.Opener.makes g.O.Opener.opens g.O.Opener.makes_new c.args.terminals c.args.opener.now c.command.new.opener
+    (λ (asked : Option Form). Commands g.O.File.Device g.O.Reading.Device g.O.Reading.Live.whole g.O.Opener c.args.terminals c.args.opener.now c.command.new.opener
     g.R.Read.remaining g.W.Write.contents asked words c.command.result c.args.input c.args.output (g.E.Sink.output c.args.faults.now) (g.E.Sink.output c.command.new.faults))
     (form_of words)
     (λ is. (ran.usage is, ran.unopened is, ran.told is))

@@ -18,5 +18,13 @@ returns-in-Err g c = record {
   started = Err c.in-Err.failed;
   starts = λ t. record { answers = c.in-Err.ensures.refused t; cause = c.in-Err.ensures.cause t; any_moment = c.in-Err.ensures.any_moment t };
   handed = c.in-Err.ensures.handed;
-  serves = record { named = c.refused.result; outcome_is = refl; names = c.refused.ensures; unread = refl; unwritten = refl; silent = refl };
+  serves = record {
+    named = c.refused.result;
+    outcome_is = refl;
+    left = c.refused.ensures.0;
+    names = c.refused.ensures.1;
+    unread = refl;
+    unwritten = refl;
+    silent = refl;
+  };
 }

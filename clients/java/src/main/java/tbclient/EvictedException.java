@@ -2,7 +2,7 @@ package tbclient;
 
 /**
  * The session has ended, and its requests are refused for ever. The last one may have been executed
- * before that: register anew, by a new client id, and create its records again with the same ids.
+ * before that: register again, by a new client id, and create its records again with the same ids.
  */
 public abstract class EvictedException extends RefusedException {
     private static final long serialVersionUID = 1L;

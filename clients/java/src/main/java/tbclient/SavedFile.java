@@ -94,8 +94,8 @@ final class SavedFile {
     // Writing
 
     /**
-     * Puts a file at this path. Where that fails the old file is left, and nothing beside it. Only
-     * a kill may leave the new one beside it, which nobody reads.
+     * Puts a file at this path. Where that fails the old file is left, and nothing next to it. Only
+     * a kill may leave the new one next to it, which nobody reads.
      */
     static void write(Path path, Saved saved) {
         try {

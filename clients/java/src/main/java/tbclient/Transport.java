@@ -9,7 +9,7 @@ public interface Transport extends AutoCloseable {
      * Sends a request, and waits for its reply.
      *
      * @param frame the request's bytes, which are not to be changed
-     * @param within the caller's limit, or null for none beside the transport's own
+     * @param within the caller's limit, or null for none but the transport's own
      * @return the bytes of a reply
      * @throws ReplyLostException where none came
      * @throws BadReplyException where what came is no reply to this request

@@ -18,7 +18,7 @@ use types.Run.{stop, fld, addr, lit, no_more, and_then, first, branches, skips, 
 use types.Part.{agg}
 use types.Kit.{some, pick, at_ret, ‵, raw, ◌⊛◌, later, given, learn, ◌$◌, ◌∵◌, !, qed, move, keep, use0, use1, use2, split, join, fsplit, fjoin, suffices, await, done}
 use types.ByLocal.{env, alloc_all, pass_all, free_all, look_at, get, through, sets, lands_as}
-use Rattle.core.proofs.alloc.Shapes.{after}
+use Rattle.std.proofs.alloc.Shapes.{after}
 use denote.Exit.{yes}
 use denote.RattleType.{owns}
 use denote.Ref.{shr_vals}

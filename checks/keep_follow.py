@@ -1,0 +1,182 @@
+#!/usr/bin/env python3
+"""Kills the built tb_keep_follow amid its work: a start wants the log from the right position, and
+answers as a follower without a file that has read it all.
+
+    checks/keep_follow.py [--kept PROGRAM] [--followed PROGRAM] [--kills N] [--entries N] [--seed N]
+
+Build both first, by `rt run` in crates/tb_keep_follow and crates/tb_follow. The log has as many
+entries as asked for, each of some requests, repeats among them. Behind each kill the file is
+opened again, its position is asked for, and the log goes on behind it. Ends in 'N passed, M
+failed'.
+"""
+import os
+import random
+import struct
+import subprocess
+import sys
+import tempfile
+
+import tried
+
+ROOT = os.path.dirname(os.path.dirname(os.path.abspath(__file__)))
+sys.path.insert(0, os.path.join(ROOT, "clients", "python"))
+
+from tb_client import Account, Operation, Transfer, request_frame  # noqa: E402
+from tb_host.checksums import crc32c  # noqa: E402
+
+CLIENTS = "8"
+QUESTION = b"\2"
+STANDING = 73  # the bytes of its answer
+
+
+def pair(moment, session, number, operation, body=b""):
+    """A moment and the frame of a request of client 7."""
+    return struct.pack("<Q", moment) + request_frame(7, session, number, operation, body)
+
+
+def contents(count, rng):
+    """The pairs of so many entries: client 7 registers, creates two accounts and moves money, and
+    sends its last request again now and then."""
+    accounts = b"".join(
+        Account(id=number, ledger=700, code=10).to_bytes() for number in (1, 2)
+    )
+    yield pair(10, 0, 0, Operation.register) + pair(10, 1, 1, Operation.create_accounts, accounts)
+    number, last = 1, b""
+    for _ in range(count - 1):
+        pairs = last if last and rng.random() < 0.2 else b""
+        for _ in range(rng.randrange(1, 5)):
+            number += 1
+            moved = Transfer(
+                id=number,
+                debit_account_id=1,
+                credit_account_id=2,
+                amount=number,
+                ledger=700,
+                code=10,
+            )
+            last = pair(10 + number, 1, number, Operation.create_transfers, moved.to_bytes())
+            pairs += last
+        yield pairs
+
+
+def item(position, pairs):
+    """An entry as it is written to a follower."""
+    numbers = struct.pack("<QI", position, len(pairs))
+    return b"\1" + numbers + struct.pack("<I", crc32c(numbers + pairs)) + pairs
+
+
+def standing(program, path):
+    """The position and the hashes that a start of a file answers to a question."""
+    status, output, said = tried.ran([program, "follow", path, CLIENTS], QUESTION)
+    if status or len(output) != STANDING:
+        return None, said
+    return output, said
+
+
+def killed(program, path, data, wanted, rng):
+    """Gives a program these items and kills it: what it has told by then begins the wanted."""
+    with subprocess.Popen(
+        [program, "follow", path, CLIENTS],
+        stdin=subprocess.PIPE,
+        stdout=subprocess.PIPE,
+        stderr=subprocess.DEVNULL,
+    ) as process:
+        end = rng.randrange(len(data) + 1)
+        told = b""
+        try:
+            process.stdin.write(data[:end])
+            process.stdin.flush()
+            told = process.stdout.read(rng.randrange(1, 200))
+        except BrokenPipeError:
+            pass
+        process.kill()
+        told += process.stdout.read()
+    return told, wanted.startswith(told)
+
+
+def kills(options, folder, log, rng):
+    """One file that is killed and opened again, until it has the whole log."""
+    items = [item(place + 1, pairs) for place, pairs in enumerate(log)]
+    answers = []  # to the entries, one by one, by a follower without a file
+    before = b""
+    _, whole, _ = tried.ran([options.followed, CLIENTS], b"".join(items))
+    for place in range(len(items) + 1):
+        given = b"".join(items[:place])
+        _, output, _ = tried.ran([options.followed, CLIENTS], given + QUESTION)
+        answers.append((len(output) - STANDING, output[-STANDING:]))
+        tried.case("a follower answers", whole.startswith(output[:-STANDING]), quietly=True)
+        before = output
+    tried.case("the whole log is answered", before[:-STANDING] == whole, quietly=True)
+    for turn in range(options.kills):
+        path = os.path.join(folder, f"{turn}.tbl")
+        position = 0
+        for _ in range(3):
+            begin = answers[position][0]
+            told, right = killed(
+                options.kept, path, b"".join(items[position:]), whole[begin:], rng
+            )
+            tried.case("what was told is right", right, quietly=True)
+            answer, said = standing(options.kept, path)
+            if not tried.case("a start is answered", answer is not None, said, quietly=True):
+                return
+            found = struct.unpack_from("<Q", answer, 1)[0]
+            tried.case("no entry is lost", found >= position, quietly=True)
+            tried.case("the hashes are right", answer == answers[found][1], quietly=True)
+            tried.case(
+                "what was told is in the file",
+                begin + len(told) <= answers[found][0],
+                quietly=True,
+            )
+            position = found
+        begin = answers[position][0]
+        status, output, _ = tried.ran(
+            [options.kept, "follow", path, CLIENTS], b"".join(items[position:])
+        )
+        right = status == 0 and output == whole[begin:]
+        tried.case("the log goes on", right, quietly=True)
+    refused(options, folder, items)
+
+
+def refused(options, folder, items):
+    """Entries out of their turn, other rules and other files."""
+    path = os.path.join(folder, "0.tbl")
+    kept = options.kept
+    status, output, said = tried.ran([kept, "follow", path, CLIENTS], items[0])
+    tried.case("an entry again is refused", status == 2 and b"Repeat at 1" in said, said)
+    path = os.path.join(folder, "new.tbl")
+    status, output, said = tried.ran([kept, "follow", path, CLIENTS], items[1])
+    tried.case("an entry too early is refused", status == 2 and b"Gap at 2" in said, said)
+    status, output, said = tried.ran([kept, "follow", path, CLIENTS], items[0])
+    tried.case("the first entry is taken", status == 0 and b"position 0" in said, said)
+    status, output, said = tried.ran([kept, "follow", path, "9"])
+    tried.case("other rules are refused", status == 7 and b"OtherRules" in said, said)
+    with open(path, "r+b") as file:
+        file.seek(100)
+        byte = file.read(1)
+        file.seek(100)
+        file.write(bytes([byte[0] ^ 1]))
+    status, output, said = tried.ran([kept, "follow", path, CLIENTS])
+    tried.case("a damaged file is refused", status == 6, said)
+    status, output, said = tried.ran([kept, "follow", __file__, CLIENTS])
+    tried.case("another file is refused", status == 5, said)
+    status, output, said = tried.ran([kept, "follow", path])
+    tried.case("words that are wrong", status == 2 and b"Usage" in said, said)
+
+
+def main():
+    parser = tried.arguments(__doc__)
+    out = "crates/{0}/out/{0}"
+    parser.add_argument("--kept", default=os.path.join(ROOT, out.format("tb_keep_follow")))
+    parser.add_argument("--followed", default=os.path.join(ROOT, out.format("tb_follow")))
+    parser.add_argument("--kills", type=tried.count, default=20)
+    parser.add_argument("--entries", type=tried.count, default=30)
+    parser.add_argument("--seed", type=int, default=1)
+    options = parser.parse_args()
+    tried.built(options.kept, options.followed)
+    rng = random.Random(options.seed)
+    with tempfile.TemporaryDirectory() as folder:
+        kills(options, folder, list(contents(options.entries, rng)), rng)
+    return tried.status()
+
+
+tried.main(main)

@@ -1,0 +1,131 @@
+-- An entry that is served in memory.
+use Rattle.std.proofs.Common.{◌≡◌, ◌≢◌, ◌⊎◌, inl, inr, ⊎_elim, ℕ, ◌+◌, ◌≤◌, List, [], length, drop, fold, Option, Some, Result, Ok, Err, OnOk, IfErr, refl, sym, ap, subst, ◌∙◌, append-nil}
+use Rattle.std.specs.Io.KnownBytes.{Appends}
+use Rattle.tb_records.specs.declared.limits.Profile.{Profile}
+use Rattle.tb_records.specs.Transport.{Output}
+use Rattle.tb_machine.specs.Scripts.{Pair}
+use Rattle.tb_log.specs.declared.faults.LogFault.{LogFault}
+use Rattle.tb_log.specs.declared.faults.LogFault.TheVariants.{Device, NoMemory, Short, UnknownKind, Gap, Repeat, TooLong, Damaged, BadEntry, TimeExhausted, TooMany}
+use Rattle.tb_log.specs.Format.{content_max, content_of}
+use Rattle.tb_log.specs.Following.{Following, Entry, with_pair, with_content, AreAnswered, replies_from}
+use Rattle.tb_log.specs.Entries.{IsNoPairs}
+use Rattle.tb_log.specs.Follows.{Answers, Serves, Stops}
+use Rattle.tb_keep_log.specs.declared.faults.LogStartFault.{LogStartFault}
+use Rattle.tb_keep_log.specs.declared.faults.LogStartFault.TheVariants as start
+use Rattle.tb_keep_log.specs.Keeping.{record_bytes}
+use Rattle.tb_keep_log.specs.Restoring.{StopsAt, RefusesContent, RefusesMark, fixed_bytes}
+use Rattle.tb_keep_log.specs.Steps.{in_memory, of_log, HoldsEntry, DropsEntry, Enters}
+
+pub holds_entry : (content held : List ℕ) (F G : Following) (start written : Output) → length content ≤ content_max → start.written ≡ Some [] → written.written ≡ Some held
+    → (ps : List Pair) × Serves ps (with_content F content) G content [] start written
+    → HoldsEntry content held F G
+holds_entry content held F G start written few none is (ps, serves) = record {
+  pairs = ps;
+  spelled = same;
+  fit = (subst (λ (bs : List ℕ). length bs ≤ content_max) same few, serves.fit);
+  answered = subst (λ (bs : List ℕ). AreAnswered (with_content F bs) ps) same serves.answered;
+  now = serves.state ∙ ap (λ (bs : List ℕ). fold with_pair (with_content F bs) ps) same;
+  holds = grown ∙ ap (λ (bs : List ℕ). replies_from (with_content F bs) 0 ps) same;
+}
+  where
+    same : content ≡ content_of ps
+    same = serves.spelled ∙ append-nil (content_of ps)
+
+    grown : held ≡ replies_from (with_content F content) 0 ps
+    grown =
+        subst (λ (o : Option (List ℕ)). Appends (Some []) o (replies_from (with_content F content) 0 ps)) is
+        (subst (λ (o : Option (List ℕ)). Appends o written.written (replies_from (with_content F content) 0 ps)) none serves.sent.grown)
+
+never : (fault : LogFault) (F : Following) (content : List ℕ) (start written : Output) → (fault ≡ NoMemory → ⊥)
+    → ((index : ℕ) (G H : Following) (p : Pair) (a b : Output) → Answers index (Err fault) G H p a b → ⊥)
+    → Stops fault F content start written
+    → ⊥
+never fault F content start written not none stops =
+    ⊎_elim (λ is. not is.0) (λ other. none (length stops.pairs) stops.now other.later other.pair stops.middle written other.stop) stops.stop
+
+pub drops_entry : (fault : LogFault) (content : List ℕ) (F : Following) (start written : Output) → Stops fault (with_content F content) content start written
+    → DropsEntry (in_memory fault) content F
+drops_entry Device content F start written stops = inl refl
+drops_entry NoMemory content F start written stops = inl refl
+drops_entry (TimeExhausted at) content F start written stops = inr (start, written, stops)
+drops_entry Short content F start written stops = absurd (never Short (with_content F content) content start written (λ is. let no : Short ≡ NoMemory = is in absurd (cc)) (λ i G H p a b none. none) stops)
+drops_entry (UnknownKind kind) content F start written stops =
+    absurd (never (UnknownKind kind) (with_content F content) content start written (λ is. let no : UnknownKind kind ≡ NoMemory = is in absurd (cc)) (λ i G H p a b none. none) stops)
+drops_entry (Gap at) content F start written stops =
+    absurd (never (Gap at) (with_content F content) content start written (λ is. let no : Gap at ≡ NoMemory = is in absurd (cc)) (λ i G H p a b none. none) stops)
+drops_entry (Repeat at) content F start written stops =
+    absurd (never (Repeat at) (with_content F content) content start written (λ is. let no : Repeat at ≡ NoMemory = is in absurd (cc)) (λ i G H p a b none. none) stops)
+drops_entry (TooLong at) content F start written stops =
+    absurd (never (TooLong at) (with_content F content) content start written (λ is. let no : TooLong at ≡ NoMemory = is in absurd (cc)) (λ i G H p a b none. none) stops)
+drops_entry (Damaged at) content F start written stops =
+    absurd (never (Damaged at) (with_content F content) content start written (λ is. let no : Damaged at ≡ NoMemory = is in absurd (cc)) (λ i G H p a b none. none) stops)
+drops_entry (BadEntry at fault) content F start written stops =
+    absurd (never (BadEntry at fault) (with_content F content) content start written (λ is. let no : BadEntry at fault ≡ NoMemory = is in absurd (cc)) (λ i G H p a b none. none) stops)
+drops_entry TooMany content F start written stops =
+    absurd (never TooMany (with_content F content) content start written (λ is. let no : TooMany ≡ NoMemory = is in absurd (cc)) (λ i G H p a b none. none) stops)
+
+-- the entry of a record
+
+stops_of : (profile : Profile) (clients_max : ℕ) (F : Following) (bytes : List ℕ) (fault : LogFault) → (fault ≡ NoMemory) ⊎ RefusesContent fault F (drop fixed_bytes bytes) → StopsAt (of_log fault) profile clients_max F bytes
+stops_of profile clients_max F bytes NoMemory why = tt
+stops_of profile clients_max F bytes Device why = ⊎_elim (λ is. let no : Device ≡ NoMemory = is in absurd (cc)) (λ refuses. refuses) why
+stops_of profile clients_max F bytes Short why = ⊎_elim (λ is. let no : Short ≡ NoMemory = is in absurd (cc)) (λ refuses. refuses) why
+stops_of profile clients_max F bytes (UnknownKind kind) why = ⊎_elim (λ is. let no : UnknownKind kind ≡ NoMemory = is in absurd (cc)) (λ refuses. refuses) why
+stops_of profile clients_max F bytes (Gap at) why = ⊎_elim (λ is. let no : Gap at ≡ NoMemory = is in absurd (cc)) (λ refuses. refuses) why
+stops_of profile clients_max F bytes (Repeat at) why = ⊎_elim (λ is. let no : Repeat at ≡ NoMemory = is in absurd (cc)) (λ refuses. refuses) why
+stops_of profile clients_max F bytes (TooLong at) why = ⊎_elim (λ is. let no : TooLong at ≡ NoMemory = is in absurd (cc)) (λ refuses. refuses) why
+stops_of profile clients_max F bytes (Damaged at) why = ⊎_elim (λ is. let no : Damaged at ≡ NoMemory = is in absurd (cc)) (λ refuses. refuses) why
+stops_of profile clients_max F bytes (BadEntry at fault) why = ⊎_elim (λ is. let no : BadEntry at fault ≡ NoMemory = is in absurd (cc)) (λ refuses. refuses) why
+stops_of profile clients_max F bytes (TimeExhausted at) why = ⊎_elim (λ is. let no : TimeExhausted at ≡ NoMemory = is in absurd (cc)) (λ refuses. refuses) why
+stops_of profile clients_max F bytes TooMany why = ⊎_elim (λ is. let no : TooMany ≡ NoMemory = is in absurd (cc)) (λ refuses. refuses) why
+
+module _ (profile : Profile) (clients_max : ℕ) (F : Following) (content bytes : List ℕ) (behind : content ≡ drop fixed_bytes bytes) (fault : LogFault) (told : LogStartFault) (told_is : told ≡ of_log fault) where
+  pub bad_content : (position : ℕ) → position ≡ F.position + 1 → IsNoPairs fault position content → StopsAt told profile clients_max F bytes
+  bad_content position next bad =
+      subst (λ (f : LogStartFault). StopsAt f profile clients_max F bytes) (sym told_is)
+      (stops_of profile clients_max F bytes fault (inr (inl (subst (λ (p : ℕ). IsNoPairs fault p (drop fixed_bytes bytes)) next (subst (λ (bs : List ℕ). IsNoPairs fault position bs) behind bad)))))
+
+  pub halted_content : DropsEntry fault content F → StopsAt told profile clients_max F bytes
+  halted_content drops =
+      subst (λ (f : LogStartFault). StopsAt f profile clients_max F bytes) (sym told_is)
+      (stops_of profile clients_max F bytes fault (⊎_elim (λ is. inl is) (λ halted. inr (inr halted)) (subst (λ (bs : List ℕ). DropsEntry fault bs F) behind drops)))
+
+-- the first bytes of a record
+
+pub mark_stops : (fault : LogStartFault) (profile : Profile) (clients_max : ℕ) (F : Following) (bytes : List ℕ) → RefusesMark fault profile clients_max F.position bytes → StopsAt fault profile clients_max F bytes
+mark_stops (start.Journal fault) profile clients_max F bytes why = absurd why
+mark_stops start.Plain profile clients_max F bytes why = why
+mark_stops start.OtherRules profile clients_max F bytes why = why
+mark_stops (start.NoEntry last) profile clients_max F bytes why = why
+mark_stops (start.Entry fault) profile clients_max F bytes why = absurd why
+mark_stops (start.OtherHashes position) profile clients_max F bytes why = absurd why
+mark_stops start.NoMemory profile clients_max F bytes why = absurd why
+mark_stops (start.TornTooLong at torn) profile clients_max F bytes why = absurd why
+
+module _ (profile : Profile) (clients_max : ℕ) (position : ℕ) (bytes content held : List ℕ) (F G : Following) (next : position ≡ F.position + 1) (behind : content ≡ drop fixed_bytes bytes)
+    (holds : HoldsEntry content held F G) where
+  compared_not : (fault : LogStartFault) → (fault ≡ start.NoMemory) ⊎ ((fault ≡ start.OtherHashes position) × (bytes ≢ record_bytes profile clients_max G content))
+      → StopsAt fault profile clients_max F bytes
+  compared_not fault (inl is) = subst (λ (f : LogStartFault). StopsAt f profile clients_max F bytes) (sym is) tt
+  compared_not fault (inr (is, differs)) = subst (λ (f : LogStartFault). StopsAt f profile clients_max F bytes) (sym is) (record {
+    place = next;
+    pairs = holds.pairs;
+    fit = holds.fit;
+    answered = holds.answered;
+    pairs_are = sym behind ∙ holds.spelled;
+    other = λ same.
+        differs (same ∙ sym (ap (λ (K : Following). record_bytes profile clients_max K (content_of holds.pairs)) holds.now)
+        ∙ sym (ap (λ (bs : List ℕ). record_bytes profile clients_max G bs) holds.spelled));
+  })
+
+  pub compared : (result : Result (Unit {0}) LogStartFault) → OnOk result (bytes ≡ record_bytes profile clients_max G content)
+      → IfErr result (λ fault. (fault ≡ start.NoMemory) ⊎ ((fault ≡ start.OtherHashes position) × (bytes ≢ record_bytes profile clients_max G content)))
+      → Enters result profile clients_max bytes F G
+  compared (Ok done) same other = record {
+    pairs = holds.pairs;
+    fit = holds.fit;
+    answered = holds.answered;
+    now = holds.now;
+    spelled = same ∙ ap (λ (bs : List ℕ). record_bytes profile clients_max G bs) holds.spelled;
+  }
+  compared (Err fault) same other = compared_not fault other

@@ -1,0 +1,36 @@
+use Rattle.std.proofs.Common.{◌++◌}
+use Rattle.tb_keep.proofs.Entered.{stays_none, stays_then}
+use Rattle.tb_keep_log.proofs.Dumped.{dumped_none, dumped_more, dumped_all}
+use Rattle.tb_keep_log.proofs.dumps.dump_all.Goals as goal
+
+pub loop-fault-init : goal.loop-fault-init
+loop-fault-init g c = record {
+  same = λ file holds. holds;
+  stays = λ t. stays_none (g.D.Device.disk c.args.device.now) (g.met.D.Device.only_now c.args.device.now);
+  dumped = λ file read holds has. dumped_none read file c.args.scan.now c.args.machine.now (g.W.Sink.output c.args.writer.now) has;
+}
+
+pub loop-fault-preserved : goal.loop-fault-preserved
+loop-fault-preserved g c = record {
+  same = λ file holds. c.in-Ok-true.ensures.same file (c.loop-fault.invariant.same file holds);
+  stays = λ t.
+      stays_then (g.D.Device.disk c.args.device.now) (g.D.Device.disk c.loop-fault.device) (g.D.Device.disk c.dump_next.new.device) (g.met.D.Device.counts_now c.loop-fault.device)
+      (c.loop-fault.invariant.stays t) (c.dump_next.ensures.stays t);
+  dumped = λ file read holds has.
+      let so_far = c.loop-fault.invariant.dumped file read holds has in
+      dumped_more read file c.loop-fault.scan c.dump_next.new.scan c.args.machine.now c.loop-fault.machine c.dump_next.new.machine (g.W.Sink.output c.args.writer.now) (g.W.Sink.output c.loop-fault.writer)
+      (g.W.Sink.output c.dump_next.new.writer) so_far
+      ((rw c.in-Ok-true.field-0-test at c.in-Ok-true.ensures.dumps) file (read ++ so_far.records) (c.loop-fault.invariant.same file holds) so_far.has);
+}
+
+pub returns-in-Ok-false-clause-dumps : goal.returns-in-Ok-false-clause-dumps
+returns-in-Ok-false-clause-dumps g c file read holds has =
+    let so_far = c.loop-fault.invariant.dumped file read holds has in
+    dumped_all read file c.loop-fault.scan c.dump_next.new.scan c.args.machine.now c.loop-fault.machine c.dump_next.new.machine (g.W.Sink.output c.args.writer.now) (g.W.Sink.output c.loop-fault.writer)
+    (g.W.Sink.output c.dump_next.new.writer) so_far
+    ((rw c.in-Ok-false.field-0-test at c.in-Ok-false.ensures.dumps) file (read ++ so_far.records) (c.loop-fault.invariant.same file holds) so_far.has)
+
+pub returns-in-Err-clause-stays : goal.returns-in-Err-clause-stays
+returns-in-Err-clause-stays g c t =
+    stays_then (g.D.Device.disk c.args.device.now) (g.D.Device.disk c.loop-fault.device) (g.D.Device.disk c.dump_next.new.device) (g.met.D.Device.counts_now c.loop-fault.device)
+    (c.loop-fault.invariant.stays t) (c.dump_next.ensures.stays t)

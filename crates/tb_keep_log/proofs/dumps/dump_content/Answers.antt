@@ -1,0 +1,17 @@
+use Rattle.std.proofs.Common.{arith}
+use Rattle.tb_keep_log.proofs.Dumped.{dumping_none, dumping_on, dumping_few, dumping_done}
+use Rattle.tb_keep_log.proofs.dumps.dump_content.Goals as goal
+
+pub loop-index-init : goal.loop-index-init
+loop-index-init g c = rw c.new-source.ensures (dumping_none c.args.machine.now c.args.content.now (g.W.Sink.output c.args.writer.now))
+
+pub returns-in-Ok-None : goal.returns-in-Ok-None
+returns-in-Ok-None g c = dumping_done _ _ _ _ _ _ _ _ c.loop-index.invariant (rw c.in-Ok-None.field-0-is at c.in-Ok-None.ensures.answer)
+
+pub loop-index-preserved : goal.loop-index-preserved
+loop-index-preserved g c =
+    dumping_on c.loop-index.index _ _ _ (c.in-Ok-Some.moment, c.in-Ok-Some.request) _ _ _ _ _ _ c.loop-index.invariant
+    (rw c.in-Ok-Some.field-0-is at c.in-Ok-Some.ensures.answer) c.in-Ok.ensures
+
+pub unreachable-requires : goal.unreachable-requires
+unreachable-requires g c = omega (arith, dumping_few _ _ _ _ _ _ _ c.loop-index.invariant)

@@ -1,0 +1,32 @@
+-- The names of faults.
+-- Cited by public contracts of: faults.
+use Rattle.std.specs.Prelude.{ℕ, List, codes}
+use Rattle.tb_journal.specs.Faults as journal_faults
+use Rattle.tb_log.specs.Faults as log_faults
+use Rattle.tb_keep_log.specs.declared.faults.DumpLogFault.{DumpLogFault}
+use Rattle.tb_keep_log.specs.declared.faults.DumpLogFault.TheVariants as dump
+use Rattle.tb_keep_log.specs.declared.faults.LogStartFault.{LogStartFault}
+use Rattle.tb_keep_log.specs.declared.faults.LogStartFault.TheVariants as start
+use Rattle.tb_keep_log.specs.declared.faults.KeepLogFault.{KeepLogFault}
+use Rattle.tb_keep_log.specs.declared.faults.KeepLogFault.TheVariants as keep
+
+abbrev pub start_fault_name : LogStartFault → List ℕ
+start_fault_name (start.Journal fault) = codes "Journal"
+start_fault_name start.Plain = codes "Plain"
+start_fault_name start.OtherRules = codes "OtherRules"
+start_fault_name (start.NoEntry last) = codes "NoEntry"
+start_fault_name (start.Entry fault) = codes "Entry"
+start_fault_name (start.OtherHashes position) = codes "OtherHashes"
+start_fault_name start.NoMemory = codes "NoMemory"
+start_fault_name (start.TornTooLong at bytes) = codes "TornTooLong"
+
+abbrev pub keep_fault_name : KeepLogFault → List ℕ
+keep_fault_name (keep.Log fault) = log_faults.fault_name fault
+keep_fault_name (keep.Journal fault) = journal_faults.fault_name fault
+
+abbrev pub dump_fault_name : DumpLogFault → List ℕ
+dump_fault_name (dump.Start fault) = start_fault_name fault
+dump_fault_name dump.NoPairs = codes "NoPairs"
+dump_fault_name dump.TimeExhausted = codes "TimeExhausted"
+dump_fault_name dump.NoMemory = codes "NoMemory"
+dump_fault_name dump.Writer = codes "Writer"

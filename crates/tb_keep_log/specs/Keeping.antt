@@ -1,0 +1,72 @@
+-- What the file of a kept log stands for, and what a keeper is that keeps it.
+-- Cited by public contracts of: keepers, opening, serving.
+use Rattle.std.specs.Prelude.{ℕ, ◌≡◌, Bool, true, List, [], ◌∷◌, ◌++◌, codes, refl}
+use Rattle.tb_records.specs.declared.limits.Profile.{Profile}
+use Rattle.tb_records.specs.declared.limits.Profile.TheVariants.{Two}
+use Rattle.tb_records.specs.DumpBytes.{profile_number}
+use Rattle.tb_records.specs.Ordered.{Each}
+use Rattle.tb_journal.specs.Device.{Disk}
+use Rattle.tb_journal.specs.Contents.{recorded}
+use Rattle.tb_journal.specs.Ready.{Kept, IsReady}
+use Rattle.tb_log.specs.Format.{content_of, standing_item}
+use Rattle.tb_log.specs.Following.{Following, begun, Item, Entry, Question, with_item, after_items, AllAnswered}
+use Rattle.tb_log.specs.Follows.{ItemFits}
+use Rattle.tb_keep.specs.declared.heads.Rules.{Rules}
+
+-- the first bytes of each record: the text TBF1, the profile's number, and the number of clients that can have a session at one time
+abbrev pub mark : Profile → ℕ → List ℕ
+mark profile clients_max = codes "TBF1" ++ profile_number profile ∷ clients_max ∷ []
+
+-- the record of an entry: the mark, what a follower answers a question behind the entry (its position and both hashes), and its pairs
+abbrev pub record_bytes : Profile → ℕ → Following → List ℕ → List ℕ
+record_bytes profile clients_max behind content = mark profile clients_max ++ (standing_item behind.position behind.log behind.replies ++ content)
+
+-- what an item leaves in the file: an entry one record, and a question none
+abbrev pub record_of : Profile → ℕ → Following → Item → List (List ℕ)
+record_of profile clients_max F (Entry ps) = record_bytes profile clients_max (with_item F (Entry ps)) (content_of ps) ∷ []
+record_of profile clients_max F Question = []
+
+abbrev pub records_from : Profile → ℕ → Following → List Item → List (List ℕ)
+records_from profile clients_max F [] = []
+records_from profile clients_max F (item ∷ items) = record_of profile clients_max F item ++ records_from profile clients_max (with_item F item) items
+
+-- the records are what some items leave, and these items lead a follower from one place to another
+pub record Leads (profile : Profile) (clients_max : ℕ) (F : Following) (records : List (List ℕ)) (G : Following) : Type 0 where
+  pub items : List Item
+  pub fit : Each ItemFits items
+  pub answered : AllAnswered F items
+  pub spelled : records ≡ records_from profile clients_max F items
+  pub now : G ≡ after_items F items
+
+-- the records of a whole file: they lead from the beginning of the log
+abbrev pub IsKept : Profile → ℕ → List (List ℕ) → Following → Type 0
+IsKept profile clients_max records F = Leads profile clients_max (begun profile clients_max) records F
+
+-- the rules of a log, the journal on a device, the follower beside it, how many torn bytes a start cut off, and whether no call has failed
+pub record Keeping (D : Type 0) : Type 0 where
+  pub rules : Rules
+  pub journal : Kept D
+  pub now : Following
+  pub cut : ℕ
+  pub usable : Bool
+
+-- a keeper that may go on, whatever the device: no call of it has failed, no commit of its journal, and nothing waits
+pub record IsUsable {D : Type 0} (keeper : Keeping D) : Type 0 where
+  pub kept : keeper.usable ≡ true
+  pub journal : keeper.journal.usable ≡ true
+  pub none_waits : keeper.journal.waiting ≡ []
+
+-- the keeper's file has these records, and the follower stands behind them
+pub record Keeps {D : Type 0} (disk : D → Disk) (records : List (List ℕ)) (keeper : Keeping D) : Type 0 where
+  pub ready : IsReady disk keeper.journal
+  pub file : recorded (disk keeper.journal.device).seen ≡ records
+  pub kept : IsKept keeper.rules.profile keeper.rules.clients_max records keeper.now
+
+-- rows
+
+pub mark_of_profile_two : mark Two 8 ≡ 84 ∷ 66 ∷ 70 ∷ 49 ∷ 2 ∷ 8 ∷ []
+mark_of_profile_two = refl
+
+-- a question leaves nothing
+pub no_record_of_a_question : records_from Two 8 (begun Two 8) (Question ∷ []) ≡ []
+no_record_of_a_question = refl

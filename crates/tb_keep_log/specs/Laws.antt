@@ -1,0 +1,74 @@
+-- What holds of every kept log: at each moment what was told is in the file, and what is opened goes on as if it had read all before.
+-- Cited by public contracts of: laws.
+use Rattle.std.specs.Prelude.{ℕ, ◌≡◌, ◌≤◌, List, [], ◌∷◌, ◌++◌, length, Result}
+use Rattle.tb_records.specs.declared.limits.Profile.{Profile}
+use Rattle.tb_records.specs.Transport.{Input, Output, Sent}
+use Rattle.tb_journal.specs.Device.{Disk, LeavesOnly}
+use Rattle.tb_journal.specs.Contents.{Records, contents, recorded}
+use Rattle.tb_journal.specs.Steps.{IsBeforeOrAfter}
+use Rattle.tb_keep.specs.Keeping.{head_record}
+use Rattle.tb_keep.specs.Rounds.{Commits}
+use Rattle.tb_log.specs.Following.{Following, begun, Item, after_items, bytes_of, given}
+use Rattle.tb_keep_log.specs.declared.faults.KeepLogFault.{KeepLogFault}
+use Rattle.tb_keep_log.specs.Keeping.{record_bytes, record_of, records_from, IsKept, Keeping, Keeps}
+use Rattle.tb_keep_log.specs.Serving.{Point, point, Turns, Served}
+
+-- a follower that has read some items is answered further on as one that reads them all from the beginning
+abbrev pub GoesOn : Type 0
+GoesOn = (F : Following) (read more : List Item)
+    → (bytes_of F (read ++ more) ≡ bytes_of F read ++ bytes_of (after_items F read) more)
+    × (given F (read ++ more) ≡ given F read ++ given (after_items F read) more)
+    × (after_items F (read ++ more) ≡ after_items (after_items F read) more)
+
+-- so is one that was opened: its file stands for items from the beginning of the log up to its position, and it wants those behind them
+abbrev pub OpenedGoesOn : Type 0
+OpenedGoesOn = (profile : Profile) (clients_max : ℕ) (records : List (List ℕ)) (F : Following) (more : List Item) → (kept : IsKept profile clients_max records F)
+    → (bytes_of (begun profile clients_max) (kept.items ++ more) ≡ bytes_of (begun profile clients_max) kept.items ++ bytes_of F more)
+    × (given (begun profile clients_max) (kept.items ++ more) ≡ given (begun profile clients_max) kept.items ++ given F more)
+
+-- the records of a file lead to one place: of a file that is opened at a position there is one follower
+abbrev pub OneLog : Type 0
+OneLog = (profile : Profile) (clients_max : ℕ) (records : List (List ℕ)) (F G : Following) → IsKept profile clients_max records F → IsKept profile clients_max records G → F ≡ G
+
+-- a record of an entry is no head of a ledger without positions, and the other way round
+abbrev pub OtherFormat : Type 0
+OtherFormat = (profile other : Profile) (clients_max number : ℕ) (F : Following) (content : List ℕ) → record_bytes profile clients_max F content ≡ head_record other number → ⊥
+
+-- the file has the records from before, and those of some first items, and a follower opened over it stands behind these
+pub record HasFirst (profile : Profile) (clients_max : ℕ) (records : List (List ℕ)) (F : Following) (all : List Item) (file : List ℕ) : Type 0 where
+  pub items : List Item
+  pub others : List Item
+  pub all_are : all ≡ items ++ others
+  pub reads : contents file ≡ Records (records ++ records_from profile clients_max F items)
+  pub kept : IsKept profile clients_max (records ++ records_from profile clients_max F items) (after_items F items)
+
+module _ (tells : Type 0) {D : Type 0} (disk : D → Disk) where
+  -- a crash at any moment of a run: the items are those that were served, and at most one behind them, of which no reply was told in full
+  abbrev pub AnyCrash : Type 0
+  AnyCrash = (records : List (List ℕ)) (result : Result ℕ KeepLogFault) (keeper after : Keeping D) (first last : Input) (start written : Output) (file : List ℕ)
+      → tells → Keeps disk records keeper
+      → (served : Served tells disk keeper.rules.profile keeper.rules.clients_max result (point keeper.now keeper.journal first start) (point after.now after.journal last written))
+      → (disk after.journal.device).left_since (disk keeper.journal.device).moment file
+      → (next : List Item) × (length next ≤ 1) × HasFirst keeper.rules.profile keeper.rules.clients_max records keeper.now (served.items ++ next) file
+
+  -- while the record of one more item is committed, be it done or not, a crash leaves the records of all items that were answered, and that
+  -- one or not
+  abbrev pub WhileCommitting : Type 0
+  WhileCommitting = (profile : Profile) (clients_max : ℕ) (done : List Item) (item : Item) (first before : Point D) (after : D) (file : List ℕ)
+      → tells → Turns tells disk profile clients_max done first before
+      → LeavesOnly (disk before.journal.device) (disk after) (IsBeforeOrAfter (recorded (disk before.journal.device).seen) (record_of profile clients_max before.now item))
+      → (disk after).left_since (disk before.journal.device).moment file
+      → IsBeforeOrAfter (recorded (disk first.journal.device).seen ++ records_from profile clients_max first.now done) (record_of profile clients_max before.now item) file
+
+  -- and what was told until then are the answers to these
+  abbrev pub TellsTheDone : Type 0
+  TellsTheDone = (profile : Profile) (clients_max : ℕ) (done : List Item) (first before : Point D) → Turns tells disk profile clients_max done first before
+      → Sent (given first.now done) first.output before.output
+
+  -- once it is committed, when its answers are told, a crash leaves that one too
+  abbrev pub WhileTelling : Type 0
+  WhileTelling = (profile : Profile) (clients_max : ℕ) (done : List Item) (item : Item) (first before : Point D) (after : D) (file : List ℕ)
+      → tells → Turns tells disk profile clients_max done first before
+      → Commits (record_of profile clients_max before.now item) (disk before.journal.device) (disk after)
+      → (disk after).may_leave file
+      → contents file ≡ Records (recorded (disk first.journal.device).seen ++ records_from profile clients_max first.now (done ++ item ∷ []))

@@ -1,0 +1,105 @@
+-- How the items of a log are served over a file: an item is read, its record is committed, and then it is answered.
+-- Cited by public contracts of: serving.
+use Rattle.std.specs.Prelude.{ℕ, false, ◌≡◌, ◌⊎◌, ◌-◌, ◌^◌, List, [], ◌∷◌, length, Result, Ok, Err}
+use Rattle.std.specs.Io.KnownBytes.{IsAtEnd}
+use Rattle.tb_records.specs.declared.limits.Profile.{Profile}
+use Rattle.tb_records.specs.Transport.{Input, Output, Sent, CutOff}
+use Rattle.tb_journal.specs.declared.faults.Fault.{Fault}
+use Rattle.tb_journal.specs.Device.{Disk, LeavesOnly, HasFailed}
+use Rattle.tb_journal.specs.Contents.{recorded}
+use Rattle.tb_journal.specs.Steps.{IsBeforeOrAfter}
+use Rattle.tb_journal.specs.Ready.{Kept}
+use Rattle.tb_log.specs.declared.faults.LogFault.{LogFault}
+use Rattle.tb_log.specs.declared.faults.LogFault.TheVariants as log
+use Rattle.tb_log.specs.Following.{Following, Item, with_item, item_bytes, given_to, IsAnswered}
+use Rattle.tb_log.specs.Entries.{Breaks}
+use Rattle.tb_log.specs.Follows.{ItemFits, IsUnknown, IsRefused, IsStopped}
+use Rattle.tb_log.specs.Steps.{Takes}
+use Rattle.tb_keep.specs.Rounds.{Commits, RefusesRecord}
+use Rattle.tb_keep_log.specs.declared.faults.KeepLogFault.{KeepLogFault}
+use Rattle.tb_keep_log.specs.declared.faults.KeepLogFault.TheVariants as keep
+use Rattle.tb_keep_log.specs.Keeping.{record_of}
+
+-- a follower, the journal on a device, what is left to read, and what was written
+pub record Point (D : Type 0) : Type 0 where
+  pub now : Following
+  pub journal : Kept D
+  pub input : Input
+  pub output : Output
+
+abbrev pub point : {D : Type 0} → Following → Kept D → Input → Output → Point D
+point now journal input output = record { now = now; journal = journal; input = input; output = output }
+
+-- an entry was read whole, and one of its pairs, which is new, has no time
+abbrev pub IsHalted : LogFault → Following → Input → Input → Type 0
+IsHalted (log.TimeExhausted at) F before after = (start : Output) × (written : Output) × IsStopped (log.TimeExhausted at) F before after start written
+IsHalted fault F before after = ⊥
+
+-- why an item is refused: the input ended within it or failed, or there is no memory; its first byte begins none; the entry is refused; or
+-- it cannot be answered
+abbrev pub RefusesItem : LogFault → Following → Input → Input → Type 0
+RefusesItem fault F before after = Breaks fault before after ⊎ IsUnknown fault before after ⊎ IsRefused fault F before after ⊎ IsHalted fault F before after
+
+module _ (tells : Type 0) {D : Type 0} (disk : D → Disk) (profile : Profile) (clients_max : ℕ) where
+  -- an item was read whole, and each of its pairs can be answered
+  pub record IsRead (item : Item) (before : Point D) (after : Input) : Type 0 where
+    pub fit : ItemFits item
+    pub read : Takes (item_bytes before.now item) before.input after
+    pub answered : IsAnswered before.now item
+
+  -- one item: it is read, the file grows by its record, whole or not at all, while nothing is told, and then it is answered
+  pub record Turn (item : Item) (before after : Point D) : Type 0 where
+    pub read : IsRead item before after.input
+    pub now : after.now ≡ with_item before.now item
+    pub commits : tells → Commits (record_of profile clients_max before.now item) (disk before.journal.device) (disk after.journal.device)
+    pub told : Sent (given_to before.now item) before.output after.output
+    pub passed : after.output.held ≡ false
+
+  abbrev pub Turns : List Item → Point D → Point D → Type 0
+  Turns [] before after = after ≡ before
+  Turns (item ∷ items) before after = (middle : Point D) × Turn item before middle × Turns items middle after
+
+  -- the file is as it was, and nothing was told
+  pub record Quits (before after : Point D) : Type 0 where
+    pub same : after.journal ≡ before.journal
+    pub silent : after.output ≡ before.output
+
+  -- why the record of an item is not committed: the journal let it not wait; or its commit failed, and a crash leaves all of it or nothing
+  abbrev pub IsUncommitted : Fault → Item → Point D → Point D → Type 0
+  IsUncommitted fault item before after =
+      ((after.journal ≡ before.journal) × ((bytes : List ℕ) × (record_of profile clients_max before.now item ≡ bytes ∷ []) × RefusesRecord fault before.journal bytes))
+      ⊎ (tells → HasFailed (disk before.journal.device) (disk after.journal.device) fault
+      × LeavesOnly (disk before.journal.device) (disk after.journal.device) (IsBeforeOrAfter (recorded (disk before.journal.device).seen) (record_of profile clients_max before.now item)))
+
+  -- an item was read, and its record not committed: nothing of it was told
+  pub record IsLost (fault : Fault) (before after : Point D) : Type 0 where
+    pub item : Item
+    pub read : IsRead item before after.input
+    pub silent : after.output ≡ before.output
+    pub why : IsUncommitted fault item before after
+
+  -- an item was read and its record committed, and the writer failed: a prefix of the answer was told
+  pub record BreaksOff (before after : Point D) : Type 0 where
+    pub item : Item
+    pub read : IsRead item before after.input
+    pub commits : tells → Commits (record_of profile clients_max before.now item) (disk before.journal.device) (disk after.journal.device)
+    pub cut : CutOff (given_to before.now item) before.output after.output
+
+  -- why no item more was served behind a point: the input is at its end, or a fault
+  abbrev pub Halts : Result ℕ KeepLogFault → Point D → Point D → Type 0
+  Halts (Ok position) before after =
+      (position ≡ before.now.position) × (after.now ≡ before.now) × Takes [] before.input after.input × IsAtEnd after.input.left × Quits before after
+  Halts (Err (keep.Journal fault)) before after = IsLost fault before after
+  Halts (Err (keep.Log fault)) before after =
+      (RefusesItem fault before.now before.input after.input × Quits before after) ⊎ ((fault ≡ log.Device) × BreaksOff before after)
+
+  -- so many items were served that they cannot be counted
+  abbrev pub AreTooMany : Result ℕ KeepLogFault → ℕ → Point D → Point D → Type 0
+  AreTooMany result count before after = (result ≡ Err (keep.Log log.TooMany)) × (count ≡ 2 ^ 64 - 1) × (after ≡ before)
+
+  -- a whole run: some items were served one after another, and then it ended
+  pub record Served (result : Result ℕ KeepLogFault) (before after : Point D) : Type 0 where
+    pub items : List Item
+    pub middle : Point D
+    pub turns : Turns items before middle
+    pub ended : Halts result middle after ⊎ AreTooMany result (length items) middle after

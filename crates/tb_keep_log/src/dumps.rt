@@ -1,0 +1,202 @@
+//! The history of a kept log as a dump, which has no positions.
+ghost use Rattle.std.specs.Prelude.{◌≡◌, ◌≤◌, true, ℕ, List, [], length, IfOk};
+ghost use Rattle.tb_journal.specs.Scans.{HasRead, GoesFurther};
+ghost use Rattle.tb_log.specs.Format.{content_max};
+ghost use Rattle.tb_machine.specs.Runs.{is_new_in};
+ghost use Rattle.tb_keep.specs.Entering.{StaysKept};
+ghost use Rattle.tb_keep.specs.Opening.{IsUntouched};
+ghost use Rattle.tb_keep_log.specs.Dumping.{DumpsLog};
+ghost use Rattle.tb_keep_log.specs.DumpSteps.{DumpsPair, DumpsContent, DumpsRecord, DumpsNext, DumpsAll};
+
+use crate::faults::{DumpLogFault, LogStartFault};
+use crate::marks::{FIXED, check_mark};
+use crate::restoring::read_record;
+use std::alloc::Global;
+use tb_journal::{Device, Scan};
+use tb_keep::Rules;
+use tb_machine::{Machine, write_entry};
+use tb_records::dumps::send_head;
+use tb_records::streams::read_timed_from;
+use tb_records::{Counting, DumpHead, Request, Sink, put_all};
+use tb_sessions::Class;
+
+/// Writes the entry of a new pair, and enters it.
+fn dump_new<W: Sink>(
+    global: Global,
+    machine: &mut Machine<Global>,
+    writer: &mut W,
+    moment: u64,
+    request: Request,
+) -> Result<(), DumpLogFault>
+    requires { is_new_in machine.old (moment, request) ≡ true }
+    ensures { DumpsPair result machine.old machine.new (moment, request) (W.output writer.old) (W.output writer.new) }
+{
+    let Some(entry) = machine.next_entry(request, moment) else {
+        return Err(DumpLogFault::TimeExhausted);
+    };
+    let mut bytes = Vec::new(global);
+    if write_entry(&entry, &mut bytes).is_err() {
+        return Err(DumpLogFault::NoMemory);
+    }
+    if put_all(writer, &bytes).is_err() {
+        return Err(DumpLogFault::Writer);
+    }
+    match machine.enter(entry) {
+        Ok(()) => Ok(()),
+        Err(_) => Err(DumpLogFault::NoMemory),
+    }
+}
+
+/// Writes the entry of a pair that is new, and enters it. Of any other pair nothing is written.
+fn dump_pair<W: Sink>(
+    global: Global,
+    machine: &mut Machine<Global>,
+    writer: &mut W,
+    moment: u64,
+    request: Request,
+) -> Result<(), DumpLogFault>
+    ensures { DumpsPair result machine.old machine.new (moment, request) (W.output writer.old) (W.output writer.new) }
+{
+    match machine.class(&request) {
+        Class::New => dump_new(global, machine, writer, moment, request),
+        _ => Ok(()),
+    }
+}
+
+/// Writes the entries of the pairs of a content.
+fn dump_content<W: Sink>(
+    global: Global,
+    machine: &mut Machine<Global>,
+    content: &[u8],
+    writer: &mut W,
+) -> Result<(), DumpLogFault>
+    requires { length content.now ≤ content_max }
+    ensures { DumpsContent result machine.old machine.new content.now (W.output writer.old) (W.output writer.new) }
+{
+    let mut source = Counting::new(content);
+    for index in 0..0x100_0000u32 {
+        match read_timed_from(global, &mut source) {
+            Ok(Some((moment, request))) => match dump_pair(
+                global, machine, writer, moment, request,
+            ) {
+                Ok(()) => {}
+                Err(fault) => return Err(fault),
+            },
+            Ok(None) => return Ok(()),
+            Err(_) => return Err(DumpLogFault::NoPairs),
+        }
+    }
+    unreachable!()
+}
+
+/// Writes the entries of the pairs of a record.
+fn dump_record<W: Sink>(
+    global: Global,
+    rules: Rules,
+    machine: &mut Machine<Global>,
+    bytes: &[u8],
+    writer: &mut W,
+) -> Result<(), DumpLogFault>
+    ensures { DumpsRecord result machine.old machine.new bytes.now (W.output writer.old) (W.output writer.new) }
+{
+    match check_mark(bytes, rules, 0) {
+        Ok(_) => dump_content(global, machine, &bytes[FIXED..], writer),
+        Err(fault) => Err(DumpLogFault::Start(fault)),
+    }
+}
+
+/// Reads the next record, and writes the entries of its pairs: false where there is none.
+fn dump_next<D: Device, W: Sink>(
+    global: Global,
+    rules: Rules,
+    machine: &mut Machine<Global>,
+    scan: &mut Scan,
+    device: &mut D,
+    writer: &mut W,
+) -> Result<bool, DumpLogFault>
+    ensures dumps { (file : List ℕ) (read : List (List ℕ)) → D.holds device.old file → HasRead read file scan.old
+        → DumpsNext result read file scan.new machine.old machine.new (W.output writer.old) (W.output writer.new) }
+    ensures same { (file : List ℕ) → D.holds device.old file → D.holds device.new file }
+    ensures stays { D.tells → StaysKept (D.disk device.old) (D.disk device.new) }
+    ensures further { IfOk result (λ more. more ≡ true → GoesFurther scan.old scan.new) }
+{
+    match read_record(scan, device) {
+        Ok(true) => match dump_record(global, rules, machine, scan.record(), writer) {
+            Ok(()) => Ok(true),
+            Err(fault) => Err(fault),
+        },
+        Ok(false) => Ok(false),
+        Err(fault) => Err(DumpLogFault::Start(LogStartFault::Journal(fault))),
+    }
+}
+
+/// Writes the entries of the pairs of the records that are left.
+fn dump_all<D: Device, W: Sink>(
+    global: Global,
+    rules: Rules,
+    machine: &mut Machine<Global>,
+    scan: &mut Scan,
+    device: &mut D,
+    writer: &mut W,
+) -> Result<(), DumpLogFault>
+    ensures dumps { (file : List ℕ) (read : List (List ℕ)) → D.holds device.old file → HasRead read file scan.old
+        → DumpsAll result read file machine.old (W.output writer.old) (W.output writer.new) }
+    ensures same { (file : List ℕ) → D.holds device.old file → D.holds device.new file }
+    ensures stays { D.tells → StaysKept (D.disk device.old) (D.disk device.new) }
+{
+    loop {
+        let same = rules;
+        match dump_next(global, same, machine, scan, device, writer) {
+            Ok(true) => {}
+            Ok(false) => return Ok(()),
+            Err(fault) => return Err(fault),
+        }
+    }
+}
+
+/// Writes the dump of a file of which nothing was read.
+fn dump_by<D: Device, W: Sink>(
+    global: Global,
+    rules: Rules,
+    scan: &mut Scan,
+    device: &mut D,
+    writer: &mut W,
+) -> Result<(), DumpLogFault>
+    ensures dumps { (file : List ℕ) → D.holds device.old file → HasRead [] file scan.old
+        → DumpsLog result rules.profile rules.clients_max file (W.output writer.old) (W.output writer.new) }
+    ensures same { (file : List ℕ) → D.holds device.old file → D.holds device.new file }
+    ensures stays { D.tells → StaysKept (D.disk device.old) (D.disk device.new) }
+{
+    let _clients = rules.clients_max.get();
+    let Ok(mut machine) = Machine::new_in(global, global, rules.profile, rules.clients_max) else {
+        return Err(DumpLogFault::NoMemory);
+    };
+    let head = DumpHead {
+        profile: rules.profile,
+        clients_max: rules.clients_max,
+    };
+    match send_head(writer, head) {
+        Ok(()) => dump_all(global, rules, &mut machine, scan, device, writer),
+        Err(_) => Err(DumpLogFault::Writer),
+    }
+}
+
+/// Writes the history of a kept log of these rules as a dump, which `replay` of tb_machine reads. It has no positions. The file is read,
+/// and nothing is written to it. After a fault a prefix went out.
+pub fn write_log_dump<D: Device, W: Sink>(
+    global: Global,
+    device: &mut D,
+    rules: Rules,
+    writer: &mut W,
+) -> Result<(), DumpLogFault>
+    // Of any device, by the file that its reads are of.
+    ensures dumps { (file : List ℕ) → D.holds device.old file
+        → DumpsLog result rules.profile rules.clients_max file (W.output writer.old) (W.output writer.new) }
+    ensures same { (file : List ℕ) → D.holds device.old file → D.holds device.new file }
+    ensures untouched { D.tells → IsUntouched (D.disk device.old) (D.disk device.new) }
+{
+    match Scan::start(global, device) {
+        Ok(mut scan) => dump_by(global, rules, &mut scan, device, writer),
+        Err(fault) => Err(DumpLogFault::Start(LogStartFault::Journal(fault))),
+    }
+}

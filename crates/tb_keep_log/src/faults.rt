@@ -1,0 +1,131 @@
+//! Why a kept log is not opened, and why it does not go on.
+ghost use Rattle.std.specs.Prelude.{◌≡◌};
+ghost use Rattle.tb_keep_log.specs.Faults.{dump_fault_name, keep_fault_name, start_fault_name};
+
+use std::fmt;
+use tb_journal::{Fault, OpenFault};
+use tb_log::LogFault;
+use thiserror::Error;
+
+/// Why a file is not opened as a kept log. The file keeps its records.
+#[derive(Clone, Copy, Debug, PartialEq, Eq, Error)]
+pub enum LogStartFault {
+    /// The journal is not opened or created.
+    Journal(OpenFault),
+    /// The next record is the head of a ledger without positions.
+    Plain,
+    /// The next record names other rules.
+    OtherRules,
+    /// The record behind the entry of this position is that of no entry.
+    NoEntry(u64),
+    /// The entry of the next record cannot be served.
+    Entry(LogFault),
+    /// The record of the entry at this position has another position or other hashes than that entry leaves behind.
+    OtherHashes(u64),
+    /// There is no memory.
+    NoMemory,
+    /// Behind the last whole record, which ends at this offset, are more bytes than a commit can leave that was cut short: so many,
+    /// behind the latch there. They are not cut off.
+    TornTooLong { at: u64, bytes: u64 },
+}
+
+impl LogStartFault {
+    /// The fault's name, as a message shows it.
+    pub fn name(self) -> &'static str
+        ensures { result.now ≡ start_fault_name self }
+    {
+        match self {
+            LogStartFault::Journal(_) => "Journal",
+            LogStartFault::Plain => "Plain",
+            LogStartFault::OtherRules => "OtherRules",
+            LogStartFault::NoEntry(_) => "NoEntry",
+            LogStartFault::Entry(_) => "Entry",
+            LogStartFault::OtherHashes(_) => "OtherHashes",
+            LogStartFault::NoMemory => "NoMemory",
+            LogStartFault::TornTooLong { .. } => "TornTooLong",
+        }
+    }
+}
+
+impl fmt::Display for LogStartFault {
+    ghost use Rattle.std.specs.Prelude.{Some};
+    ghost use Rattle.tb_keep_log.specs.Faults.{start_fault_name};
+
+    ghost output = { λ fault. Some (start_fault_name fault) };
+
+    fn fmt<W: fmt::Write>(&self, f: &mut fmt::Formatter<W>) -> fmt::Result {
+        f.write_str(self.name())
+    }
+}
+
+/// Why serving ends before the log does. Nothing more is answered, and the keeper is not used again: its follower may be ahead of the
+/// file. The file is opened again.
+#[derive(Clone, Copy, Debug, PartialEq, Eq, Error)]
+pub enum KeepLogFault {
+    /// A fault that following without a file has too.
+    Log(LogFault),
+    /// The journal failed.
+    Journal(Fault),
+}
+
+impl KeepLogFault {
+    /// The fault's name, as a message shows it.
+    pub fn name(self) -> &'static str
+        ensures { result.now ≡ keep_fault_name self }
+    {
+        match self {
+            KeepLogFault::Log(fault) => fault.name(),
+            KeepLogFault::Journal(fault) => fault.name(),
+        }
+    }
+}
+
+impl fmt::Display for KeepLogFault {
+    fn fmt<W: fmt::Write>(&self, f: &mut fmt::Formatter<W>) -> fmt::Result {
+        match self {
+            KeepLogFault::Log(fault) => write!(f, "{fault}"),
+            KeepLogFault::Journal(fault) => write!(f, "{fault}"),
+        }
+    }
+}
+
+/// Why the dump of a kept log is not written, or not to its end.
+#[derive(Clone, Copy, Debug, PartialEq, Eq, Error)]
+pub enum DumpLogFault {
+    /// The file is not read.
+    Start(LogStartFault),
+    /// A record has what is no pair.
+    NoPairs,
+    /// A request is new, and the end of time leaves no time for it.
+    TimeExhausted,
+    /// There is no memory.
+    NoMemory,
+    /// The writer failed, or took nothing.
+    Writer,
+}
+
+impl DumpLogFault {
+    /// The fault's name, as a message shows it.
+    pub fn name(self) -> &'static str
+        ensures { result.now ≡ dump_fault_name self }
+    {
+        match self {
+            DumpLogFault::Start(fault) => fault.name(),
+            DumpLogFault::NoPairs => "NoPairs",
+            DumpLogFault::TimeExhausted => "TimeExhausted",
+            DumpLogFault::NoMemory => "NoMemory",
+            DumpLogFault::Writer => "Writer",
+        }
+    }
+}
+
+impl fmt::Display for DumpLogFault {
+    ghost use Rattle.std.specs.Prelude.{Some};
+    ghost use Rattle.tb_keep_log.specs.Faults.{dump_fault_name};
+
+    ghost output = { λ fault. Some (dump_fault_name fault) };
+
+    fn fmt<W: fmt::Write>(&self, f: &mut fmt::Formatter<W>) -> fmt::Result {
+        f.write_str(self.name())
+    }
+}

@@ -1,0 +1,96 @@
+//! A keeper: a follower, and the journal that its entries are in.
+ghost use Rattle.std.specs.Prelude.{◌≡◌, true, IfOk};
+ghost use Rattle.tb_log.specs.Steps.{standing_of};
+
+use std::alloc::{AllocError, Allocator, Global};
+use std::marker::Model;
+use tb_journal::{Device, Journal};
+use tb_keep::Rules;
+use tb_log::Follower;
+
+/// A follower, and the journal that its entries are in. After a fault it cannot go on: the file is opened again. The records of its
+/// machine take their memory of `A`, all else of the global allocator.
+#[derive(Drop)]
+pub struct LogKeeper<D: Device, A: Allocator + Clone = Global> {
+    pub(crate) rules: Rules,
+    pub(crate) journal: Journal<D>,
+    pub(crate) follower: Follower<A>,
+    // The torn bytes that the start cut off.
+    pub(crate) cut: u64,
+    // No call has failed.
+    pub(crate) usable: bool,
+}
+
+impl<D: Device, A: Allocator + Clone> Model for LogKeeper<D, A> {
+    ghost use Rattle.tb_keep_log.specs.Keeping.{Keeping};
+
+    ghost Value = { Keeping D };
+
+    ghost view = { λ k. record { rules = k.rules; journal = k.journal; now = k.follower; cut = k.cut; usable = k.usable } };
+}
+
+impl<D: Device, A: Allocator + Clone> LogKeeper<D, A> {
+    /// A keeper of a follower that is behind the journal's entries. So many torn bytes were cut off.
+    pub(crate) fn new(
+        rules: Rules,
+        journal: Journal<D>,
+        follower: Follower<A>,
+        cut: u64,
+    ) -> LogKeeper<D, A>
+        ensures rules { result.rules ≡ rules }
+        ensures journal { result.journal ≡ journal }
+        ensures now { result.now ≡ follower }
+        ensures cut { result.cut ≡ cut }
+        ensures usable { result.usable ≡ true }
+    {
+        LogKeeper {
+            rules,
+            journal,
+            follower,
+            cut,
+            usable: true,
+        }
+    }
+
+    /// The position of the last entry. The log is wanted from the next one on.
+    pub fn position(&self) -> u64
+        ensures { result ≡ self.now.now.position }
+    {
+        self.follower.position()
+    }
+
+    /// What a question is answered: 2, the position, and both hashes.
+    pub fn standing(&self, global: Global) -> Result<Vec<u8>, AllocError>
+        ensures { IfOk result (λ line. line.items ≡ standing_of self.now.now) }
+    {
+        self.follower.standing(global)
+    }
+
+    /// How many bytes the start cut off: what a commit that was cut short had left behind the records and the latch there. 0 where
+    /// there were none.
+    pub fn cut_bytes(&self) -> u64
+        ensures { result ≡ self.now.cut }
+    {
+        self.cut
+    }
+
+    /// The journal.
+    pub fn journal(&self) -> &Journal<D>
+        ensures { result.now ≡ self.now.journal }
+    {
+        &self.journal
+    }
+
+    /// The device, given back. The follower is dropped.
+    pub fn into_device(self) -> D
+        ensures { result ≡ self.journal.device }
+    {
+        let LogKeeper {
+            journal,
+            follower,
+            ..
+        } = self;
+        drop(follower);
+        journal.into_device()
+    }
+}

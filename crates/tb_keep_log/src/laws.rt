@@ -1,0 +1,36 @@
+//! What holds of every kept log, over the definitions alone. A call does nothing; its promise is the law.
+ghost use Rattle.tb_keep_log.specs.Dumping.{PairsOfLog};
+ghost use Rattle.tb_keep_log.specs.Laws.{AnyCrash, GoesOn, OneLog, OpenedGoesOn, OtherFormat, TellsTheDone, WhileCommitting, WhileTelling};
+
+use tb_journal::Device;
+
+/// What is opened goes on exactly as if it had read all entries up to its position: the same bytes are wanted, and the same answers are
+/// given. And a file has one such follower.
+pub fn goes_on()
+    ensures each { GoesOn }
+    ensures opened { OpenedGoesOn }
+    ensures one { OneLog }
+{}
+
+/// A record with a position is no head of a ledger without positions.
+pub fn other_format()
+    ensures { OtherFormat }
+{}
+
+/// A crash at any moment of `keep_log` leaves a file that stands for some first items of those that were read, and nothing else.
+pub fn any_crash<D: Device>()
+    ensures { AnyCrash D.tells D.disk }
+{}
+
+/// Whatever was told is in the file: while an entry is committed only the answers to earlier ones were told, and while its answers are told
+/// each file that a crash leaves has its record.
+pub fn told_is_kept<D: Device>()
+    ensures committing { WhileCommitting D.tells D.disk }
+    ensures told { TellsTheDone D.tells D.disk }
+    ensures telling { WhileTelling D.tells D.disk }
+{}
+
+/// The dump of a file is that of the pairs of its entries, and of no others.
+pub fn dumps_the_log()
+    ensures { PairsOfLog }
+{}

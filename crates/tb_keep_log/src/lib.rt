@@ -1,0 +1,32 @@
+//! A follower of a log that outlives its process: each entry of the log is in a file, with the position and both hashes behind it, before
+//! its replies are told. What is opened at a position goes on as if it had read all entries up to it.
+//!
+//! Modules, each over those before it:
+//!
+//! - `faults`: why a kept log is not opened, and why it does not go on.
+//! - `marks`: the record of an entry: the rules, the position, both hashes, and the pairs.
+//! - `keepers`: `LogKeeper`, a follower, and the journal that its entries are in.
+//! - `entries`: an entry served in memory; the entry of a record entered again, and compared with it.
+//! - `restoring`: `read_log`, a follower behind all records of a file.
+//! - `opening`: `LogKeeper::open` and `LogKeeper::start`.
+//! - `serving`: `keep_log`, items read, entries committed, and then answers told.
+//! - `dumps`: `write_log_dump`, the history of a kept log without positions.
+//! - `laws`: what holds of every kept log: functions that do nothing.
+#![tactic(auto)]
+
+mod dumps;
+mod entries;
+mod faults;
+mod keepers;
+pub mod laws;
+mod marks;
+mod opening;
+mod restoring;
+mod serving;
+
+pub use dumps::write_log_dump;
+pub use faults::{DumpLogFault, KeepLogFault, LogStartFault};
+pub use keepers::LogKeeper;
+pub use opening::NotStarted;
+pub use restoring::read_log;
+pub use serving::keep_log;

@@ -1,0 +1,130 @@
+//! A follower behind all records of a file.
+ghost use Rattle.std.specs.Prelude.{◌≡◌, ◌≤◌, true, ℕ, List, [], IfOk, OnOk};
+ghost use Rattle.tb_journal.specs.Device.{IsOnDisk};
+ghost use Rattle.tb_journal.specs.Opening.{HasOpenCause};
+ghost use Rattle.tb_journal.specs.Scans.{HasRead, GoesFurther};
+ghost use Rattle.tb_keep.specs.Entering.{StaysKept};
+ghost use Rattle.tb_keep.specs.Opening.{IsUntouched};
+ghost use Rattle.tb_keep.specs.Sources.{IsNext};
+ghost use Rattle.tb_keep_log.specs.Restoring.{HasLogCause, Restores};
+ghost use Rattle.tb_keep_log.specs.Steps.{EntersNext, EntersAll, ReadCause};
+
+use crate::entries::enter_record;
+use crate::faults::LogStartFault;
+use std::alloc::{Allocator, Global};
+use tb_journal::{Device, Extent, OpenFault, Scan};
+use tb_keep::Rules;
+use tb_log::Follower;
+
+/// Reads the next record, and answers whether there is one.
+pub(crate) fn read_record<D: Device>(scan: &mut Scan, device: &mut D) -> Result<bool, OpenFault>
+    ensures reads { (file : List ℕ) (read : List (List ℕ))
+        → D.holds device.old file → HasRead read file scan.old → IsNext result read file scan.new }
+    ensures same { (file : List ℕ) → D.holds device.old file → D.holds device.new file }
+    ensures stays { D.tells → StaysKept (D.disk device.old) (D.disk device.new) }
+    ensures cause { D.tells → (read : List (List ℕ)) → HasRead read (D.disk device.old).seen scan.old
+        → HasOpenCause result (D.disk device.old) (D.disk device.new) }
+    ensures further { IfOk result (λ more. more ≡ true → GoesFurther scan.old scan.new) }
+{
+    scan.next(device)
+}
+
+/// Reads the next record and enters its entry: false where there is none.
+fn enter_next<D: Device, A: Allocator + Clone>(
+    global: Global,
+    rules: Rules,
+    follower: &mut Follower<A>,
+    scan: &mut Scan,
+    device: &mut D,
+) -> Result<bool, LogStartFault>
+    ensures enters { (file : List ℕ) (read : List (List ℕ)) → D.holds device.old file → HasRead read file scan.old
+        → EntersNext result rules.profile rules.clients_max read file scan.new follower.old follower.new }
+    ensures same { (file : List ℕ) → D.holds device.old file → D.holds device.new file }
+    ensures stays { D.tells → StaysKept (D.disk device.old) (D.disk device.new) }
+    ensures cause { D.tells → ReadCause result scan.old (D.disk device.old) (D.disk device.new) }
+    ensures further { IfOk result (λ more. more ≡ true → GoesFurther scan.old scan.new) }
+{
+    match read_record(scan, device) {
+        Ok(true) => match enter_record(global, rules, follower, scan.record()) {
+            Ok(()) => Ok(true),
+            Err(fault) => Err(fault),
+        },
+        Ok(false) => Ok(false),
+        Err(fault) => Err(LogStartFault::Journal(fault)),
+    }
+}
+
+/// Enters the entries of the records that are left, each before the next is read.
+fn enter_all<D: Device, A: Allocator + Clone>(
+    global: Global,
+    rules: Rules,
+    follower: &mut Follower<A>,
+    scan: &mut Scan,
+    device: &mut D,
+) -> Result<(), LogStartFault>
+    ensures enters { (file : List ℕ) (read : List (List ℕ)) → D.holds device.old file → HasRead read file scan.old
+        → EntersAll result rules.profile rules.clients_max read file scan.new follower.old follower.new }
+    ensures same { (file : List ℕ) → D.holds device.old file → D.holds device.new file }
+    ensures stays { D.tells → StaysKept (D.disk device.old) (D.disk device.new) }
+    ensures cause { D.tells → ReadCause result scan.old (D.disk device.old) (D.disk device.new) }
+{
+    loop {
+        let same = rules;
+        match enter_next(global, same, follower, scan, device) {
+            Ok(true) => {}
+            Ok(false) => return Ok(()),
+            Err(fault) => return Err(fault),
+        }
+    }
+}
+
+/// The follower behind the entries of a file of which nothing was read, and where its records end.
+fn read_by<D: Device, A: Allocator + Clone>(
+    global: Global,
+    alloc: A,
+    rules: Rules,
+    scan: &mut Scan,
+    device: &mut D,
+) -> Result<(Follower<A>, Extent), LogStartFault>
+    ensures found { (file : List ℕ) → D.holds device.old file → HasRead [] file scan.old
+        → Restores result rules.profile rules.clients_max file }
+    ensures few { IfOk result (λ found. found.1.count ≤ found.1.end) }
+    ensures same { (file : List ℕ) → D.holds device.old file → D.holds device.new file }
+    ensures stays { D.tells → StaysKept (D.disk device.old) (D.disk device.new) }
+    ensures cause { D.tells → HasRead [] (D.disk device.old).seen scan.old
+        → HasLogCause result (D.disk device.old) (D.disk device.new) }
+{
+    let _clients = rules.clients_max.get();
+    let Ok(mut follower) = Follower::new_in(global, alloc, rules.profile, rules.clients_max) else {
+        return Err(LogStartFault::NoMemory);
+    };
+    match enter_all(global, rules, &mut follower, scan, device) {
+        Ok(()) => Ok((follower, scan.extent())),
+        Err(fault) => Err(fault),
+    }
+}
+
+/// Reads the file of a kept log of these rules record by record, serves the pairs of each again, and compares what they leave behind with
+/// the position and the hashes of the record: the follower behind the last entry, and where the records end. What was read is on the disk;
+/// nothing is written. The first record that is damaged, or that is not that of the next entry, is told.
+pub fn read_log<D: Device, A: Allocator + Clone>(
+    global: Global,
+    alloc: A,
+    rules: Rules,
+    device: &mut D,
+) -> Result<(Follower<A>, Extent), LogStartFault>
+    // Of any device, by the file that its reads are of.
+    ensures found { (file : List ℕ) → D.holds device.old file → Restores result rules.profile rules.clients_max file }
+    ensures few { IfOk result (λ found. found.1.count ≤ found.1.end) }
+    // Where no sync has failed before.
+    ensures kept { D.tells → (D.disk device.old).sound ≡ true → OnOk result (IsOnDisk (D.disk device.new)) }
+    ensures sound { D.tells → OnOk result ((D.disk device.new).sound ≡ (D.disk device.old).sound) }
+    ensures same { (file : List ℕ) → D.holds device.old file → D.holds device.new file }
+    ensures untouched { D.tells → IsUntouched (D.disk device.old) (D.disk device.new) }
+    ensures cause { D.tells → HasLogCause result (D.disk device.old) (D.disk device.new) }
+{
+    match Scan::start(global, device) {
+        Ok(mut scan) => read_by(global, alloc, rules, &mut scan, device),
+        Err(fault) => Err(LogStartFault::Journal(fault)),
+    }
+}

@@ -1,0 +1,97 @@
+//! A device that fails at one call.
+use crate::journal::crashes::expect_records;
+use crate::journal::steps::{ONE_RECORD, commit_two, expect, expect_at, file_of};
+use std::alloc::Global;
+use std::process::Abort;
+use tb_journal::{Fault, Memory, OpenFault, recover};
+
+/// How a small run ends: the step that failed, and with what fault.
+#[derive(Clone, Copy, PartialEq, Eq)]
+enum End {
+    Opening(Fault),
+    Committing(Fault),
+    Nowhere,
+}
+
+impl End {
+    /// How many records are in the file at least, and at most.
+    fn records(self) -> (usize, usize) {
+        match self {
+            End::Opening(_) => (1, 1),
+            End::Committing(_) => (1, 3),
+            End::Nowhere => (3, 3),
+        }
+    }
+}
+
+/// How the opening of a journal ends that is not opened.
+fn opening(rt: &impl Abort, fault: OpenFault) -> End {
+    match fault {
+        OpenFault::Device(fault) => End::Opening(fault),
+        OpenFault::Refused(_) => {
+            expect(rt, false);
+            End::Nowhere
+        }
+    }
+}
+
+/// Opens a journal of one record and commits two more, over a device whose call of this number fails so.
+fn end_at(rt: &impl Abort, alloc: Global, number: u64, why: Fault) -> (End, Memory) {
+    let mut file = file_of(rt, alloc, &ONE_RECORD);
+    file.fail_with(number, why);
+    match recover(alloc, file) {
+        Ok(journal) => {
+            let mut journal = journal;
+            let end = match commit_two(&mut journal) {
+                Ok(()) => End::Nowhere,
+                Err(fault) => End::Committing(fault),
+            };
+            (end, journal.into_device())
+        }
+        Err(failed) => (opening(rt, failed.fault), failed.device),
+    }
+}
+
+/// What a sync answers that fails so.
+fn of_sync(why: Fault) -> Fault {
+    if why == Fault::Memory {
+        why
+    } else {
+        Fault::SyncFailed
+    }
+}
+
+/// How the run ends whose call of this number fails.
+fn want_at(number: u64, why: Fault) -> End {
+    match number {
+        // To open a journal takes a sync, two looks, a cut, a sync, a write and a sync.
+        1 | 5 | 7 => End::Opening(of_sync(why)),
+        2..=4 | 6 => End::Opening(why),
+        // A commit takes a write, a sync, a write and a sync.
+        8 | 10 => End::Committing(why),
+        9 | 11 => End::Committing(of_sync(why)),
+        _ => End::Nowhere,
+    }
+}
+
+#[test]
+fn each_call_of_a_small_run_fails_once(rt: HostRuntime) {
+    let alloc = rt.alloc();
+    for number in 0..=12u64 {
+        let (end, file) = end_at(&rt, alloc, number, Fault::Failed);
+        expect_at(&rt, number, end == want_at(number, Fault::Failed));
+        let (least, most) = end.records();
+        expect_records(&rt, alloc, &file, file.moments(), least, most);
+    }
+}
+
+#[test]
+fn each_failure_keeps_its_name(rt: HostRuntime) {
+    let alloc = rt.alloc();
+    for why in [Fault::Full, Fault::Memory] {
+        for number in 0..=12u64 {
+            let (end, _) = end_at(&rt, alloc, number, why);
+            expect_at(&rt, number, end == want_at(number, why));
+        }
+    }
+}

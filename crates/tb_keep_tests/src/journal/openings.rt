@@ -1,0 +1,64 @@
+//! Files that are opened, refused or created over: worked rows.
+use crate::journal::scans::expect_records;
+use crate::journal::steps::{created, expect, expect_bytes, expect_journal, file_of, opened};
+use std::alloc::Global;
+use std::process::Abort;
+use tb_journal::{Fault, Memory, OpenFault, Refusal, create, recover};
+
+/// The file of a record without bytes, whose checksum is that of three bytes of 0.
+const EMPTY_RECORD: [u8; 17] = [
+    84, 66, 74, 82, 78, 76, 48, 49, 255, 0, 0, 0, 122, 163, 100, 96, 0,
+];
+
+/// The same, and three bytes behind its closed gate.
+const MORE_BEHIND: [u8; 20] = [
+    84, 66, 74, 82, 78, 76, 48, 49, 255, 0, 0, 0, 122, 163, 100, 96, 0, 1, 2, 3,
+];
+
+/// The same file, in which a byte of the checksum is another.
+const BAD_CHECKSUM: [u8; 17] = [
+    84, 66, 74, 82, 78, 76, 48, 49, 255, 0, 0, 0, 123, 163, 100, 96, 0,
+];
+
+#[test]
+fn what_stands_behind_the_records_is_cut_off(rt: HostRuntime) {
+    let journal = opened(&rt, rt.alloc(), &MORE_BEHIND);
+    expect_journal(&rt, &journal, &EMPTY_RECORD, 1, 1);
+}
+
+/// A file of these bytes is refused so, and is as it was. It is given back.
+fn refused(rt: &impl Abort, alloc: Global, bytes: &[u8], why: Refusal) -> Memory {
+    let file = file_of(rt, alloc, bytes);
+    let failed = recover(alloc, file).err().expect(rt, "a fault");
+    expect(rt, failed.fault == OpenFault::Refused(why));
+    let device = failed.device;
+    expect_bytes(rt, device.bytes(), bytes);
+    device
+}
+
+#[test]
+fn a_bad_checksum_is_told_with_its_place(rt: HostRuntime) {
+    let why = Refusal::Damaged { at: 8 };
+    drop(refused(&rt, rt.alloc(), &BAD_CHECKSUM, why));
+}
+
+#[test]
+fn another_file_is_left_alone(rt: HostRuntime) {
+    let alloc = rt.alloc();
+    let file = refused(&rt, alloc, b"hello", Refusal::NotAJournal);
+    let again = create(alloc, file).err().expect(&rt, "a fault");
+    expect(&rt, again.fault == OpenFault::Device(Fault::NotEmpty));
+    expect_bytes(&rt, again.device.bytes(), b"hello");
+}
+
+#[test]
+fn a_creation_that_was_cut_short_is_made_again(rt: HostRuntime) {
+    let journal = created(&rt, rt.alloc(), &[84, 66, 0, 0]);
+    expect_journal(&rt, &journal, b"TBJRNL01\0", 0, 1);
+}
+
+#[test]
+fn the_records_of_a_file_are_read(rt: HostRuntime) {
+    let extent = expect_records(&rt, rt.alloc(), &EMPTY_RECORD, &[&[]], Ok(false));
+    expect(&rt, extent.end == 16 && extent.count == 1);
+}

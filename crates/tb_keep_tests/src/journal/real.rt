@@ -1,0 +1,153 @@
+//! Journals over files of the system, in the folder that the tests run in.
+use crate::journal::steps::{ONE_RECORD, THREE_RECORDS, expect, expect_bytes, sure};
+use std::fs;
+use std::fs::{File, Files, Permissions};
+use std::os::unix::fs::{MetadataExt, PermissionsExt};
+use std::process::Abort;
+use tb_journal::{
+    Device, Fault, FileFault, OpenFault, Real, Refusal, Snapshot, create, read_journal, recover,
+};
+
+/// The journal of one record, and what a crash left behind its closed gate.
+const TORN: [u8; 21] = [
+    84, 66, 74, 82, 78, 76, 48, 49, //
+    255, 2, 0, 0, 0x89, 0xf7, 0x93, 0x26, 97, 98, //
+    0, 2, 0,
+];
+
+/// The journal of one record, of which a byte turned.
+const DAMAGED: [u8; 19] = [
+    84, 66, 74, 82, 78, 76, 48, 49, //
+    255, 2, 0, 0, 0x89, 0xf7, 0x93, 0x26, 97, 99, //
+    0,
+];
+
+/// Opens a file that is there.
+fn file_at<R: Abort + Files<File = File>>(rt: &R, path: &str) -> Real {
+    sure(rt, Real::open(rt, path))
+}
+
+/// Says whether a file that is not opened is locked; otherwise it is for what the system answers.
+fn is_locked<R: Abort + Files<File = File>>(rt: &R, path: &str) -> bool {
+    let fault = Real::open(rt, path).err().expect(rt, "a fault");
+    matches!(fault, FileFault::Locked)
+}
+
+/// A file has these bytes.
+fn expect_file<R: Abort + Files<File = File> + AllocGlobal>(rt: &R, path: &str, want: &[u8]) {
+    let found = sure(rt, fs::read(rt, path));
+    expect_bytes(rt, &found, want);
+}
+
+/// Makes a journal of one record. As long as it is held no other opens its file.
+fn make<R: Abort + Files<File = File> + AllocGlobal>(rt: &R, path: &str) {
+    let real = sure(rt, Real::make(rt, path));
+    let mut journal = sure(rt, create(rt.alloc(), real));
+    sure(rt, journal.append(&[97, 98]));
+    sure(rt, journal.commit());
+    expect(rt, is_locked(rt, path));
+}
+
+/// Opens the journal again, and commits two records more.
+fn go_on<R: Abort + Files<File = File> + AllocGlobal>(rt: &R, path: &str) {
+    let real = file_at(rt, path);
+    let mut journal = sure(rt, recover(rt.alloc(), real));
+    expect(rt, journal.count() == 1);
+    sure(rt, journal.append(&[]));
+    sure(rt, journal.append(b"second"));
+    sure(rt, journal.commit());
+}
+
+#[test]
+fn a_journal_in_a_file(rt: HostRuntime) {
+    let path = "a_journal_in_a_file.tbj";
+    let _ = fs::remove_file(&rt, path);
+    make(&rt, path);
+    expect_file(&rt, path, &ONE_RECORD);
+    go_on(&rt, path);
+    expect_file(&rt, path, &THREE_RECORDS);
+    sure(&rt, fs::remove_file(&rt, path));
+}
+
+/// Opens the journal of a file: the number of its records, or why it is refused.
+fn opened<R: Abort + Files<File = File> + AllocGlobal>(
+    rt: &R,
+    path: &str,
+) -> Result<usize, OpenFault> {
+    match recover(rt.alloc(), file_at(rt, path)) {
+        Ok(journal) => Ok(journal.count()),
+        Err(failed) => Err(failed.fault),
+    }
+}
+
+/// Opens a file of these bytes, and compares what it holds, and what is left of it.
+fn expect_opened<R: Abort + Files<File = File> + AllocGlobal>(
+    rt: &R,
+    bytes: &[u8],
+    want: Result<usize, OpenFault>,
+    left: &[u8],
+) {
+    let path = "a_file_that_is_opened.tbj";
+    sure(rt, fs::write(rt, path, bytes));
+    expect(rt, opened(rt, path) == want);
+    expect_file(rt, path, left);
+    sure(rt, fs::remove_file(rt, path));
+}
+
+#[test]
+fn files_that_are_opened_or_refused(rt: HostRuntime) {
+    let foreign = OpenFault::Refused(Refusal::NotAJournal);
+    let damaged = OpenFault::Refused(Refusal::Damaged { at: 8 });
+    expect_opened(&rt, &TORN, Ok(1), &ONE_RECORD);
+    expect_opened(&rt, b"a text", Err(foreign), b"a text");
+    expect_opened(&rt, &DAMAGED, Err(damaged), &DAMAGED);
+    expect(&rt, !is_locked(&rt, "no_file.tbj"));
+}
+
+/// Counts the records of a file that is only looked at.
+fn looked_at<R: Abort + Files<File = File> + AllocGlobal>(rt: &R, path: &str) -> usize {
+    let mut snapshot = sure(
+        rt,
+        Snapshot::new(rt.alloc(), sure(rt, Real::look(rt, path))),
+    );
+    sure(rt, read_journal(rt.alloc(), &mut snapshot)).count
+}
+
+#[test]
+fn a_file_is_looked_at_while_it_is_written(rt: HostRuntime) {
+    let path = "a_file_that_is_looked_at.tbj";
+    let _ = fs::remove_file(&rt, path);
+    let real = sure(&rt, Real::make_new(&rt, path));
+    expect(
+        &rt,
+        matches!(Real::make_new(&rt, path), Err(FileFault::Exists)),
+    );
+    let mut journal = sure(&rt, create(rt.alloc(), real));
+    expect(&rt, looked_at(&rt, path) == 0);
+    sure(&rt, journal.append(b"ab"));
+    sure(&rt, journal.commit());
+    expect(&rt, looked_at(&rt, path) == 1);
+    drop(journal);
+    // Its owner alone may read and write it.
+    let mode = sure(&rt, fs::metadata(&rt, path)).mode();
+    expect(&rt, mode & 0o777 == 0o600);
+    sure(
+        &rt,
+        fs::set_permissions(&rt, path, Permissions::from_mode(0o400)),
+    );
+    expect(&rt, looked_at(&rt, path) == 1);
+    let mut looked = sure(&rt, Real::look(&rt, path));
+    expect(
+        &rt,
+        Device::write_at(&mut looked, 0, b"x") == Err(Fault::Failed),
+    );
+    sure(&rt, fs::remove_file(&rt, path));
+    expect(
+        &rt,
+        matches!(Real::look(&rt, path), Err(FileFault::System(_))),
+    );
+    expect(
+        &rt,
+        matches!(Real::look(&rt, "."), Err(FileFault::NotAFile)),
+    );
+}

@@ -1,0 +1,196 @@
+//! Snapshots of files that grow, tear, are damaged or get shorter while they are read.
+use crate::journal::live::Live;
+use crate::journal::scans::expect_records;
+use crate::journal::steps::{
+    NO_RECORDS, ONE_RECORD, THREE_RECORDS, expect, expect_at, file_of, file_of_two, sevens, sure,
+};
+use std::alloc::Global;
+use std::cell::Cell;
+use std::process::Abort;
+use tb_journal::{Device, Fault, Growing, OpenFault, Refusal, Scan, Snapshot};
+
+/// A file is read in pieces of so many bytes.
+const PIECE_BYTES: usize = 65_536;
+
+/// The first record written in part behind its closed latch.
+const PART: [u8; 13] = [84, 66, 74, 82, 78, 76, 48, 49, 0, 2, 0, 0, 0x89];
+
+/// The same, written in whole.
+const WRITTEN: [u8; 19] = [
+    84, 66, 74, 82, 78, 76, 48, 49, //
+    0, 2, 0, 0, 0x89, 0xf7, 0x93, 0x26, 97, 98, //
+    0,
+];
+
+/// The second batch written behind the first, its latch closed still.
+const WRITTEN_TWO: [u8; 41] = [
+    84, 66, 74, 82, 78, 76, 48, 49, //
+    255, 2, 0, 0, 0x89, 0xf7, 0x93, 0x26, 97, 98, //
+    0, 0, 0, 0, 0x7a, 0xa3, 0x64, 0x60, //
+    255, 6, 0, 0, 0x53, 0x98, 0x6c, 0xa5, 115, 101, 99, 111, 110, 100, //
+    0,
+];
+
+/// Two commits, of one record and of two, and how many records each moment of them stands for.
+const MOMENTS: [&[u8]; 6] = [
+    &NO_RECORDS,
+    &PART,
+    &WRITTEN,
+    &ONE_RECORD,
+    &WRITTEN_TWO,
+    &THREE_RECORDS,
+];
+
+const COUNTS: [usize; 6] = [0, 0, 0, 1, 1, 3];
+
+/// Says whether the record of this number has these bytes.
+fn is_record(number: usize, found: &[u8]) -> bool {
+    match number {
+        0 => found == b"ab".as_slice(),
+        1 => found.is_empty(),
+        _ => number == 2 && found == b"second".as_slice(),
+    }
+}
+
+/// Reads on to the end of what a snapshot holds: each record is the next one. Says how many were read.
+fn read_on<G: Growing>(rt: &impl Abort, scan: &mut Scan, snapshot: &mut Snapshot<G>) -> usize {
+    for _ in 0..4 {
+        let number = scan.extent().count;
+        if !sure(rt, scan.next(snapshot)) {
+            return number;
+        }
+        expect(rt, is_record(number, scan.record()));
+    }
+    4
+}
+
+/// At each call of a read the next moment comes or not: what is read is what some moment of the reading stands for, and each
+/// record is read once.
+#[test]
+fn commits_between_any_two_reads(rt: HostRuntime) {
+    let alloc = rt.alloc();
+    for moves in 0..512 {
+        let now = Cell::new(0);
+        let live = Live {
+            moments: &MOMENTS,
+            now: &now,
+            moves: moves * 513,
+        };
+        let mut snapshot = sure(&rt, Snapshot::new(alloc, live));
+        let mut latest = COUNTS[now.get().min(5)];
+        let mut scan = sure(&rt, Scan::start(alloc, &mut snapshot));
+        let mut least = 0;
+        for _ in 0..5 {
+            let count = read_on(&rt, &mut scan, &mut snapshot);
+            expect_at(&rt, moves, least <= count && count <= latest);
+            least = COUNTS[now.get().min(5)];
+            sure(&rt, snapshot.refresh());
+            latest = COUNTS[now.get().min(5)];
+            scan.go_on();
+        }
+    }
+}
+
+/// Compares the records of a snapshot of these bytes, what comes behind them, and its length.
+fn expect_snapshot(
+    rt: &impl Abort,
+    alloc: Global,
+    bytes: &[u8],
+    records: &[&[u8]],
+    behind: Result<bool, OpenFault>,
+    len: usize,
+) {
+    let _extent = expect_records(rt, alloc, bytes, records, behind);
+    let mut snapshot = sure(rt, Snapshot::new(alloc, file_of(rt, alloc, bytes)));
+    let mut scan = sure(rt, Scan::start(alloc, &mut snapshot));
+    for want in records {
+        expect(rt, scan.next(&mut snapshot) == Ok(true));
+        expect(rt, scan.record() == *want);
+    }
+    expect(rt, scan.next(&mut snapshot) == behind);
+    expect(rt, Device::len(&mut snapshot) == Ok(len));
+    expect(rt, snapshot.file_len() == Ok(bytes.len()));
+}
+
+/// The last block is cut at each byte: a scan of the snapshot says what one of the file says, and bytes behind the closed
+/// latch are not shown.
+#[test]
+fn torn_and_damaged_files(rt: HostRuntime) {
+    let alloc = rt.alloc();
+    expect_snapshot(&rt, alloc, &WRITTEN_TWO, &[b"ab"], Ok(false), 19);
+    for len in 26..40 {
+        let (bytes, _) = THREE_RECORDS.split_at(len);
+        let damaged = Err(OpenFault::Refused(Refusal::Damaged { at: 26 }));
+        let (behind, shown) = if len < 28 {
+            (Ok(false), 27)
+        } else {
+            (damaged, len)
+        };
+        expect_snapshot(&rt, alloc, bytes, &[b"ab", &[]], behind, shown);
+    }
+    // Damage with whole blocks behind it.
+    let mut bytes = THREE_RECORDS;
+    bytes[17] = 99;
+    let damaged = Err(OpenFault::Refused(Refusal::Damaged { at: 8 }));
+    expect_snapshot(&rt, alloc, &bytes, &[], damaged, 41);
+}
+
+#[test]
+fn files_that_are_no_journal(rt: HostRuntime) {
+    let alloc = rt.alloc();
+    for bytes in [&b""[..], &b"TBJRNL0"[..], &b"a text of some length"[..]] {
+        let mut snapshot = sure(&rt, Snapshot::new(alloc, file_of(&rt, alloc, bytes)));
+        let scan = Scan::start(alloc, &mut snapshot);
+        expect(
+            &rt,
+            matches!(scan, Err(OpenFault::Refused(Refusal::NotAJournal))),
+        );
+        expect(&rt, Device::len(&mut snapshot) == Ok(bytes.len()));
+    }
+}
+
+/// The second block begins at each of the last places of a piece, and behind it.
+#[test]
+fn blocks_in_two_pieces(rt: HostRuntime) {
+    let alloc = rt.alloc();
+    let long = sevens(&rt, alloc, 3 * PIECE_BYTES);
+    for place in 0..20 {
+        let (first, _) = long.split_at(PIECE_BYTES - 16 - place);
+        let file = file_of_two(&rt, alloc, first, &long);
+        let len = file.bytes().len();
+        let mut snapshot = sure(&rt, Snapshot::new(alloc, file));
+        expect(&rt, Device::len(&mut snapshot) == Ok(len));
+    }
+}
+
+/// A file that gets shorter than what a snapshot holds: no call reads on as if nothing were there.
+#[test]
+fn a_file_gets_shorter(rt: HostRuntime) {
+    let alloc = rt.alloc();
+    let now = Cell::new(0);
+    let live = Live {
+        moments: &[&THREE_RECORDS, &ONE_RECORD],
+        now: &now,
+        moves: 0,
+    };
+    let mut snapshot = sure(&rt, Snapshot::new(alloc, live));
+    now.set(1);
+    let mut scan = Scan::start(alloc, &mut snapshot);
+    expect(&rt, matches!(scan, Err(OpenFault::Device(Fault::Failed))));
+    expect(&rt, snapshot.refresh() == Err(Fault::Failed));
+    now.set(0);
+    scan = Scan::start(alloc, &mut snapshot);
+    expect(&rt, scan.is_ok());
+}
+
+#[test]
+fn a_snapshot_is_not_written(rt: HostRuntime) {
+    let alloc = rt.alloc();
+    let mut snapshot = sure(&rt, Snapshot::new(alloc, file_of(&rt, alloc, &ONE_RECORD)));
+    expect(&rt, snapshot.write_at(18, &[255]) == Err(Fault::Failed));
+    expect(&rt, snapshot.cut(8) == Err(Fault::Failed));
+    expect(&rt, snapshot.sync() == Ok(()));
+    let mut found = [7; 5];
+    expect(&rt, Device::read_at(&mut snapshot, 16, &mut found) == Ok(3));
+    expect(&rt, found == [97, 98, 0, 7, 7]);
+}

@@ -1,0 +1,24 @@
+//! Kept ledgers over a file in memory: what is told, what a crash leaves, and what is opened again.
+//!
+//! Modules, each over those before it:
+//!
+//! - `scripts`: scripts by the bytes of the formats.
+//! - `openings`: files opened, created or refused.
+//! - `dumps`: the history of a file, read without a write.
+//! - `entries`: the entries of a file above a commit number.
+//! - `crashes`: crashes at each moment, and each call that fails.
+//! - `serving`: what is served over a file.
+//! - `pieces`: files longer than a piece.
+//! - `torn`: torn bytes that are cut off, or refused.
+//! - `salvaging`: files that are salvaged or backed up.
+//! - `conversations`: replies that leave before the next pair is waited for.
+mod conversations;
+mod crashes;
+mod dumps;
+mod entries;
+mod openings;
+mod pieces;
+mod salvaging;
+mod scripts;
+mod serving;
+mod torn;

@@ -1,0 +1,235 @@
+//! Crashes at each moment of serving, and files that fail at each of their calls: what was told is in the file.
+ghost use Rattle.tb_journal.specs.Memory.{memory_disk};
+ghost use Rattle.tb_keep.specs.Keeping.{IsFresh, IsUsable};
+
+use crate::keep::scripts::{
+    answered, bytes_left, bytes_of, created, expect, file_of, kept, outcome, replies, rules,
+    script, script_from, serve, sure,
+};
+use std::alloc::Global;
+use std::process::Abort;
+use tb_journal::{Fault, Memory, OpenFault};
+use tb_keep::{KeepFault, Keeper, StartFault, create};
+
+/// What a torn write leaves in its range.
+const TORN: &[&[u8]] = &[&[], &[0; 40], &[255; 40], &[255]];
+
+/// The pair from which on a client sends again where so many entries are in the file: that of the last one.
+const AGAIN: &[usize] = &[0, 0, 1, 2, 5];
+
+/// The ledger of a file with these bytes.
+fn started(rt: &impl Abort, alloc: Global, left: &[u8]) -> Keeper<Memory>
+    ensures fresh { IsFresh memory_disk result }
+    ensures usable { IsUsable result }
+{
+    let file = file_of(rt, alloc, left);
+    sure(rt, Keeper::start(alloc, alloc, file, rules(rt)))
+}
+
+/// The number of its entries.
+pub fn entries_in(rt: &impl Abort, alloc: Global, left: &[u8]) -> u64 {
+    let keeper = started(rt, alloc, left);
+    let entries = keeper.machine().commit();
+    drop(keeper);
+    entries
+}
+
+/// What serving a script over such a file answers, the replies, and the entries then.
+fn served_again(
+    rt: &impl Abort,
+    alloc: Global,
+    left: &[u8],
+    script: &[u8],
+) -> (bool, Vec<u8>, u64) {
+    let mut keeper = started(rt, alloc, left);
+    let (well, replies) = serve(alloc, &mut keeper, script);
+    let entries = keeper.machine().commit();
+    drop(keeper.leave());
+    (well, replies, entries)
+}
+
+/// Opens a file that has so many entries at least, and so many at most, and sends again what may be in doubt: the replies
+/// are those that were given or would have been.
+fn expect_goes_on(rt: &impl Abort, alloc: Global, left: &[u8], told: &[u8], entries: (u64, u64)) {
+    let commit = entries_in(rt, alloc, left);
+    let from = AGAIN.get(commit as usize).expect(rt, "at most 4 entries");
+    let again = script_from(rt, alloc, *from);
+    let (well, replies, last) = served_again(rt, alloc, left, &again);
+    expect(rt, entries.0 <= commit);
+    expect(rt, commit <= entries.1);
+    expect(rt, well);
+    expect(rt, last == 4);
+    expect(rt, told.ends_with(&replies));
+}
+
+/// Crashes at a moment, with the last write torn in each way.
+fn expect_crash(
+    rt: &impl Abort,
+    alloc: Global,
+    file: &Memory,
+    told: &[u8],
+    moment: usize,
+    entries: (u64, u64),
+) {
+    expect(rt, moment <= file.moments());
+    for torn in TORN {
+        let left = sure(rt, file.after_crash(moment, torn));
+        expect_goes_on(rt, alloc, &left, told, entries);
+        drop(left);
+    }
+}
+
+/// Crashes at each moment of serving, in which four entries are committed one after another, in four calls each.
+fn expect_crashes(rt: &impl Abort, alloc: Global, file: &Memory, told: &[u8]) {
+    let begin = file.moments().saturating_sub(16);
+    for k in 0..=16usize {
+        let whole = (k / 4) as u64;
+        // The gate of the next entry is open behind the third call of its commit, if that is not torn.
+        let most = if k % 4 == 3 { whole + 1 } else { whole };
+        expect_crash(
+            rt,
+            alloc,
+            file,
+            told,
+            begin.saturating_add(k),
+            (whole, most),
+        );
+    }
+}
+
+#[test]
+fn a_crash_at_each_moment(rt: HostRuntime) {
+    let alloc = rt.alloc();
+    let script = script(&rt, alloc, 6);
+    let mut keeper = created(&rt, alloc);
+    let (well, told) = serve(alloc, &mut keeper, &script);
+    expect(&rt, well);
+    expect_crashes(&rt, alloc, keeper.journal().device(), &told);
+    drop(keeper);
+}
+
+/// Says whether so many bytes have the replies to the first so many pairs.
+fn is_told(rt: &impl Abort, alloc: Global, length: usize, count: usize) -> bool {
+    replies(rt, alloc, &script(rt, alloc, count)).len() <= length
+}
+
+/// The pairs of which the last rests on one entry, on two, on three and on four.
+const RESTING: &[usize] = &[1, 2, 3, 6];
+
+/// The entries that so many bytes of replies rest on.
+fn entries_told(rt: &impl Abort, alloc: Global, length: usize) -> u64 {
+    let mut entries = 0u64;
+    for count in RESTING {
+        if is_told(rt, alloc, length, *count) {
+            entries = entries.saturating_add(1);
+        }
+    }
+    entries
+}
+
+/// Serves the script over a keeper; gives the file as it reads, and the replies.
+fn served_by(rt: &impl Abort, alloc: Global, keeper: Keeper<Memory>) -> (Vec<u8>, Vec<u8>)
+    requires fresh { IsFresh memory_disk keeper }
+    requires usable { IsUsable keeper }
+{
+    let mut keeper = keeper;
+    let (_, told) = serve(alloc, &mut keeper, &script(rt, alloc, 6));
+    (bytes_of(rt, alloc, keeper), told)
+}
+
+/// Serves the script over a new file whose call of a number fails; gives the file as it reads, and the replies.
+fn served_failing(rt: &impl Abort, alloc: Global, number: u64) -> (Vec<u8>, Vec<u8>) {
+    let mut file = file_of(rt, alloc, &[]);
+    file.fail_at(number);
+    match create(alloc, alloc, file, rules(rt)) {
+        Ok(keeper) => served_by(rt, alloc, keeper),
+        Err(failed) => (bytes_left(rt, alloc, failed), Vec::new(alloc)),
+    }
+}
+
+/// The call of a number fails: nothing was told that is not in the file, and an opening goes on.
+fn expect_failing(rt: &impl Abort, alloc: Global, number: u64, whole: &[u8]) {
+    let (left, told) = served_failing(rt, alloc, number);
+    expect(rt, whole.starts_with(&told));
+    let least = entries_told(rt, alloc, told.len());
+    expect_goes_on(rt, alloc, &left, whole, (least, least.saturating_add(1)));
+}
+
+#[test]
+fn each_call_fails_once(rt: HostRuntime) {
+    let alloc = rt.alloc();
+    let whole = replies(&rt, alloc, &script(&rt, alloc, 6));
+    // Creating takes 10 calls, and serving 16.
+    for number in 1..=28u64 {
+        expect_failing(&rt, alloc, number, &whole);
+    }
+}
+
+/// What is told where each call of an opening fails, one after another: a sync, the file and its end, its length, and the
+/// repair with two syncs.
+const OPENING: [Fault; 8] = [
+    Fault::SyncFailed,
+    Fault::Failed,
+    Fault::Failed,
+    Fault::Failed,
+    Fault::Failed,
+    Fault::SyncFailed,
+    Fault::Failed,
+    Fault::SyncFailed,
+];
+
+/// A call of a number fails: that is told, and the next opening finds all entries.
+fn expect_opening(
+    rt: &impl Abort,
+    alloc: Global,
+    bytes: &[u8],
+    number: u64,
+    want: Option<StartFault>,
+) {
+    let mut file = file_of(rt, alloc, bytes);
+    file.fail_at(number);
+    let (found, left) = outcome(rt, alloc, Keeper::open(alloc, alloc, file, rules(rt)));
+    expect(rt, found == want);
+    expect(rt, entries_in(rt, alloc, &left) == 4);
+}
+
+#[test]
+fn each_call_of_an_opening_fails_once(rt: HostRuntime) {
+    let alloc = rt.alloc();
+    let (_, bytes) = kept(&rt, alloc, &script(&rt, alloc, 6));
+    let mut number = 1u64;
+    for fault in OPENING {
+        let want = StartFault::Journal(OpenFault::Device(fault));
+        expect_opening(&rt, alloc, &bytes, number, Some(want));
+        number = number.saturating_add(1);
+    }
+    expect_opening(&rt, alloc, &bytes, number, None);
+}
+
+/// The calls that create a ledger.
+const CREATING: u64 = 9;
+
+/// The calls of serving by turns that are syncs, of the first entry and of the second: each ends it, with the replies to so many
+/// bytes told before.
+const SYNCS: [(u64, usize); 4] = [(2, 0), (4, 0), (6, 48), (8, 48)];
+
+/// What serving the script over a new file answers whose call of a number fails, and how many bytes of replies it told.
+fn ended_by(rt: &impl Abort, alloc: Global, number: u64) -> (Result<u64, KeepFault>, usize) {
+    let mut file = file_of(rt, alloc, &[]);
+    file.fail_at(number);
+    let mut keeper = sure(rt, create(alloc, alloc, file, rules(rt)));
+    let (result, told) = answered(alloc, &mut keeper, &script(rt, alloc, 6));
+    drop(keeper);
+    (result, told.len())
+}
+
+/// A sync fails, and then the device works again: serving goes on with nothing.
+#[test]
+fn a_failed_sync_ends_serving(rt: HostRuntime) {
+    let alloc = rt.alloc();
+    let failed = Err(KeepFault::Journal(Fault::SyncFailed));
+    for (number, told) in SYNCS {
+        let ended = ended_by(&rt, alloc, CREATING.saturating_add(number));
+        expect(&rt, ended == (failed, told));
+    }
+}

@@ -1,0 +1,106 @@
+//! The history of a kept file, read without a write.
+use crate::keep::scripts::{expect, file_of, kept, rules, same, script, sure};
+use std::alloc::Global;
+use std::process::Abort;
+use tb_journal::{Fault, Memory, OpenFault};
+use tb_keep::{DumpFault, StartFault, read_history, read_rules, write_dump};
+use tb_machine::dump;
+use tb_records::{Counting, Profile};
+
+/// The file over which the script was served.
+fn kept_file(rt: &impl Abort, alloc: Global) -> Memory {
+    let (_, bytes) = kept(rt, alloc, &script(rt, alloc, 6));
+    file_of(rt, alloc, &bytes)
+}
+
+/// The dump that a server without a file writes of the script.
+fn dump_of(rt: &impl Abort, alloc: Global) -> Vec<u8> {
+    let script = script(rt, alloc, 6);
+    let mut reader = Counting::new(script.as_slice());
+    let mut writer = Counting::new(Vec::new(alloc));
+    let result = dump(alloc, rules(rt).clients_max, None, &mut reader, &mut writer);
+    sure(rt, result);
+    writer.into_inner()
+}
+
+/// What a dump of a file answers, and what went out.
+fn dumped(rt: &impl Abort, alloc: Global, file: &mut Memory) -> (Result<(), DumpFault>, Vec<u8>) {
+    let mut writer = Counting::new(Vec::new(alloc));
+    let result = write_dump(alloc, file, rules(rt), &mut writer);
+    (result, writer.into_inner())
+}
+
+#[test]
+fn a_dump_is_that_of_the_script(rt: HostRuntime) {
+    let alloc = rt.alloc();
+    let want = dump_of(&rt, alloc);
+    let mut file = kept_file(&rt, alloc);
+    let (result, written) = dumped(&rt, alloc, &mut file);
+    drop(file);
+    expect(&rt, result == Ok(()));
+    expect(&rt, same(&written, &want));
+}
+
+/// The calls of a dump: a sync, and the file with its end.
+const CALLS: u64 = 3;
+
+/// The dump of a file whose call of a number fails is a prefix of the whole one, and the fault is told.
+fn expect_failing(rt: &impl Abort, alloc: Global, file: &mut Memory, number: u64, want: &[u8]) {
+    file.fail_at(number);
+    let (result, written) = dumped(rt, alloc, file);
+    let fault = if number == 1 {
+        Fault::SyncFailed
+    } else {
+        Fault::Failed
+    };
+    let failed = DumpFault::Journal(OpenFault::Device(fault));
+    expect(
+        rt,
+        result == if number <= CALLS { Err(failed) } else { Ok(()) },
+    );
+    expect(rt, want.starts_with(&written));
+}
+
+#[test]
+fn each_call_of_a_dump_fails_once(rt: HostRuntime) {
+    let alloc = rt.alloc();
+    let want = dump_of(&rt, alloc);
+    let mut file = kept_file(&rt, alloc);
+    for number in 1..=CALLS + 1 {
+        expect_failing(&rt, alloc, &mut file, number, &want);
+    }
+    drop(file);
+}
+
+/// The entries, the rules and the records that a file is read to have.
+fn read(alloc: Global, file: &mut Memory) -> Result<(u64, Profile, u32, usize), StartFault> {
+    match read_history(alloc, file) {
+        Ok((rules, machine, extent)) => {
+            let commit = machine.commit();
+            drop(machine);
+            Ok((commit, rules.profile, rules.clients_max.get(), extent.count))
+        }
+        Err(fault) => Err(fault),
+    }
+}
+
+#[test]
+fn a_history_is_read(rt: HostRuntime) {
+    let alloc = rt.alloc();
+    let mut file = kept_file(&rt, alloc);
+    let found = read(alloc, &mut file);
+    drop(file);
+    expect(&rt, found == Ok((4, Profile::One, 2, 5)));
+}
+
+#[test]
+fn a_file_without_records_has_no_rules(rt: HostRuntime) {
+    let alloc = rt.alloc();
+    let mut file = file_of(&rt, alloc, b"TBJRNL01\0");
+    let is_head = match read_rules(alloc, &mut file) {
+        Err(fault) => fault == StartFault::Head,
+        Ok(_) => false,
+    };
+    drop(file);
+    expect(&rt, is_head);
+}

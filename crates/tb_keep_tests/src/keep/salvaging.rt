@@ -1,0 +1,278 @@
+//! Files that are salvaged or backed up: what stands before the first damage, as a new file.
+ghost use Rattle.std.specs.Prelude.{◌≡◌, true};
+ghost use Rattle.tb_journal.specs.Memory.{memory_disk};
+
+use crate::keep::openings::file_with;
+use crate::keep::scripts::{bytes_of, change, created, expect, file_of, kept, same, script, sure};
+use std::alloc::Global;
+use std::process::Abort;
+use tb_journal::{Fault, Memory, OpenFault, Refusal};
+use tb_keep::{BATCH_BYTES_MAX, NotSalvaged, SalvageFault, Salvaged, StartFault, backup, salvage};
+use tb_machine::{RestoreFault, Unfit};
+use tb_records::FrameFault;
+
+/// Where the blocks of the script's file begin: the head, the entries of a register, two accounts, a transfer and a lookup (8 bytes
+/// and the entry), and the latch behind them.
+const BLOCKS: [usize; 6] = [8, 22, 94, 422, 622, 710];
+
+/// The file over which the script was served.
+fn whole(rt: &impl Abort, alloc: Global) -> Vec<u8> {
+    let (_, bytes) = kept(rt, alloc, &script(rt, alloc, 6));
+    bytes
+}
+
+/// What a salvage gives: the entries, where they end, why no more, and the bytes of the new file.
+type Outcome = (
+    Result<(u64, u64, Option<StartFault>), SalvageFault>,
+    Vec<u8>,
+);
+
+/// The same of a new file that was made, which is let go.
+fn made(rt: &impl Abort, alloc: Global, salvaged: Salvaged<Memory>) -> Outcome {
+    let commit = salvaged.keeper.machine().commit();
+    let found = (commit, salvaged.end, salvaged.stop);
+    (Ok(found), bytes_of(rt, alloc, salvaged.keeper))
+}
+
+/// The same of one that was not.
+fn not_made(rt: &impl Abort, alloc: Global, failed: NotSalvaged<Memory>) -> Outcome {
+    let fault = failed.fault;
+    let bytes = Vec::from_slice(alloc, failed.device.bytes());
+    drop(failed);
+    (Err(fault), sure(rt, bytes))
+}
+
+/// Salvages a file of these bytes into one that has others.
+fn salvaged_into(rt: &impl Abort, alloc: Global, bytes: &[u8], there: &[u8]) -> Outcome {
+    let mut from = file_of(rt, alloc, bytes);
+    let given = salvage(alloc, &mut from, file_of(rt, alloc, there));
+    expect(rt, same(from.bytes(), bytes));
+    drop(from);
+    match given {
+        Ok(salvaged) => made(rt, alloc, salvaged),
+        Err(failed) => not_made(rt, alloc, failed),
+    }
+}
+
+/// The first so many bytes of a file, up to where a block begins, and a closed latch.
+fn cut_to(rt: &impl Abort, alloc: Global, bytes: &[u8], end: usize) -> Vec<u8> {
+    let mut cut = sure(
+        rt,
+        Vec::from_slice(alloc, bytes.get(..end).unwrap_or_default()),
+    );
+    sure(rt, cut.push(0));
+    cut
+}
+
+#[test]
+fn a_whole_file_is_taken_over_whole(rt: HostRuntime) {
+    let alloc = rt.alloc();
+    let bytes = whole(&rt, alloc);
+    let (found, new) = salvaged_into(&rt, alloc, &bytes, &[]);
+    expect(&rt, found == Ok((4, 710, None)));
+    expect(&rt, same(&new, &bytes));
+}
+
+/// A changed byte of the block of this number, the head's at 0: all entries before it are taken, and damage is told where it begins.
+fn expect_before(rt: &impl Abort, alloc: Global, number: usize, at: usize) {
+    let mut bytes = whole(rt, alloc);
+    let end = BLOCKS.get(number).copied().unwrap_or(0);
+    let byte = bytes.get(at).copied().unwrap_or(0);
+    change(&mut bytes, at, byte ^ 16);
+    let (found, new) = salvaged_into(rt, alloc, &bytes, &[]);
+    let damage = StartFault::Journal(OpenFault::Refused(Refusal::Damaged { at: end }));
+    if number == 0 {
+        expect(rt, found == Err(SalvageFault::Old(damage)));
+        expect(rt, new.is_empty());
+    } else {
+        let entries = number.saturating_sub(1) as u64;
+        expect(rt, found == Ok((entries, end as u64, Some(damage))));
+        expect(rt, same(&new, &cut_to(rt, alloc, &bytes, end)));
+    }
+}
+
+/// Blocks, and places in each: its length, its checksum, its first byte, and its last.
+const PLACES: [(usize, usize); 20] = [
+    (0, 9),
+    (0, 12),
+    (0, 16),
+    (0, 21), //
+    (1, 23),
+    (1, 26),
+    (1, 30),
+    (1, 93), //
+    (2, 95),
+    (2, 98),
+    (2, 102),
+    (2, 421), //
+    (3, 423),
+    (3, 426),
+    (3, 430),
+    (3, 621), //
+    (4, 623),
+    (4, 626),
+    (4, 630),
+    (4, 709),
+];
+
+#[test]
+fn what_is_before_a_changed_byte(rt: HostRuntime) {
+    for (number, at) in PLACES {
+        expect_before(&rt, rt.alloc(), number, at);
+    }
+}
+
+/// Two records behind a head, of which the second is none of the next entry: the first is taken.
+fn expect_first(rt: &impl Abort, alloc: Global, first: &[u8], second: &[u8], stop: StartFault) {
+    let bytes = whole(rt, alloc);
+    let head = bytes.get(16..22).unwrap_or_default();
+    let file = file_with(rt, alloc, head, first, second);
+    let copy = sure(rt, Vec::from_slice(alloc, file.bytes()));
+    drop(file);
+    let (found, new) = salvaged_into(rt, alloc, &copy, &[]);
+    expect(rt, found == Ok((1, 94, Some(stop))));
+    expect(rt, same(&new, &cut_to(rt, alloc, &copy, 94)));
+}
+
+#[test]
+fn an_entry_that_may_not_come_next(rt: HostRuntime) {
+    let alloc = rt.alloc();
+    let bytes = whole(&rt, alloc);
+    let register = bytes.get(30..94).unwrap_or_default();
+    let again = StartFault::Entry(RestoreFault {
+        place: 2,
+        cause: Unfit::Commit,
+    });
+    expect_first(&rt, alloc, register, register, again);
+    let short = StartFault::Record {
+        place: 2,
+        fault: FrameFault::Short,
+    };
+    expect_first(&rt, alloc, register, &[1, 2], short);
+}
+
+/// A file from which nothing is taken, and why: nothing is made.
+fn expect_none(rt: &impl Abort, alloc: Global, bytes: &[u8], fault: StartFault) {
+    let (found, new) = salvaged_into(rt, alloc, bytes, &[]);
+    expect(rt, found == Err(SalvageFault::Old(fault)));
+    expect(rt, new.is_empty());
+}
+
+#[test]
+fn nothing_is_made_of_what_is_no_ledger(rt: HostRuntime) {
+    let alloc = rt.alloc();
+    let none = StartFault::Journal(OpenFault::Refused(Refusal::NotAJournal));
+    expect_none(&rt, alloc, &[], none);
+    expect_none(&rt, alloc, b"TBSDUMP1", none);
+    expect_none(&rt, alloc, b"TBJRNL01\0", StartFault::Head);
+}
+
+#[test]
+fn what_is_there_is_left_alone(rt: HostRuntime) {
+    let alloc = rt.alloc();
+    let bytes = whole(&rt, alloc);
+    let (found, new) = salvaged_into(&rt, alloc, &bytes, b"TBX");
+    let there = StartFault::Journal(OpenFault::Device(Fault::NotEmpty));
+    expect(&rt, found == Err(SalvageFault::New(there)));
+    expect(&rt, same(&new, b"TBX"));
+}
+
+/// So many torn bytes behind the latch are told where they are more than a batch has.
+fn expect_torn(rt: &impl Abort, alloc: Global, count: usize, stop: Option<StartFault>) {
+    let bytes = whole(rt, alloc);
+    let mut torn = sure(rt, Vec::from_slice(alloc, &bytes));
+    sure(rt, torn.resize(bytes.len().saturating_add(count), 1));
+    let (found, new) = salvaged_into(rt, alloc, &torn, &[]);
+    expect(rt, found == Ok((4, 710, stop)));
+    expect(rt, same(&new, &bytes));
+}
+
+#[test]
+fn torn_bytes_are_not_taken(rt: HostRuntime) {
+    expect_torn(&rt, rt.alloc(), 40, None);
+    let many = StartFault::TornTooLong {
+        at: 710,
+        bytes: 4194305,
+    };
+    expect_torn(
+        &rt,
+        rt.alloc(),
+        BATCH_BYTES_MAX.saturating_add(1),
+        Some(many),
+    );
+}
+
+/// Why a file of these bytes is not backed up, if it is not, and the bytes of the new file.
+fn backed_up(rt: &impl Abort, alloc: Global, bytes: &[u8]) -> (Option<SalvageFault>, Vec<u8>) {
+    let mut from = file_of(rt, alloc, bytes);
+    let given = backup(alloc, &mut from, file_of(rt, alloc, &[]));
+    drop(from);
+    match given {
+        Ok(keeper) => (None, bytes_of(rt, alloc, keeper)),
+        Err(failed) => {
+            let (fault, new) = not_made(rt, alloc, failed);
+            (fault.err(), new)
+        }
+    }
+}
+
+#[test]
+fn a_backup_is_the_same_file(rt: HostRuntime) {
+    let alloc = rt.alloc();
+    let bytes = whole(&rt, alloc);
+    let (fault, new) = backed_up(&rt, alloc, &bytes);
+    expect(&rt, fault == None);
+    expect(&rt, same(&new, &bytes));
+}
+
+#[test]
+fn a_damaged_file_is_not_backed_up(rt: HostRuntime) {
+    let alloc = rt.alloc();
+    let mut bytes = whole(&rt, alloc);
+    change(&mut bytes, 650, 255);
+    let (fault, new) = backed_up(&rt, alloc, &bytes);
+    let damage = StartFault::Journal(OpenFault::Refused(Refusal::Damaged { at: 622 }));
+    expect(&rt, fault == Some(SalvageFault::Old(damage)));
+    expect(&rt, same(&new, &cut_to(&rt, alloc, &bytes, 622)));
+}
+
+/// The calls of a salvage of the script's file: of the old file a sync, the file with its end, and its length; of the new one those of
+/// its creation, its head and one commit.
+const OLD_CALLS: u64 = 4;
+
+const NEW_CALLS: u64 = 20;
+
+/// A salvage where a call of a number fails, of the old file or of the new one: what the new file has then is the first bytes of the
+/// whole one, a latch behind them, or it is blank.
+fn salvage_failing(rt: &impl Abort, alloc: Global, old: u64, new: u64) -> bool {
+    let mut from = file_of(rt, alloc, &whole(rt, alloc));
+    let mut into = file_of(rt, alloc, &[]);
+    from.fail_at(old);
+    into.fail_at(new);
+    let given = salvage(alloc, &mut from, into);
+    drop(from);
+    match given {
+        Ok(salvaged) => {
+            drop(salvaged);
+            true
+        }
+        Err(failed) => {
+            let is_old = matches!(failed.fault, SalvageFault::Old(_));
+            drop(failed);
+            expect(rt, is_old == (old != 0));
+            false
+        }
+    }
+}
+
+#[test]
+fn each_call_of_a_salvage_fails_once(rt: HostRuntime) {
+    for number in 1..=OLD_CALLS {
+        let well = salvage_failing(&rt, rt.alloc(), number, 0);
+        expect(&rt, !well);
+    }
+    let well = salvage_failing(&rt, rt.alloc(), OLD_CALLS + 1, 0);
+    expect(&rt, well);
+    let well = salvage_failing(&rt, rt.alloc(), 0, NEW_CALLS);
+    expect(&rt, well);
+}

@@ -1,0 +1,250 @@
+//! Scripts by the bytes that the formats give, and what serves them.
+ghost use Rattle.std.specs.Prelude.{◌≡◌, true, Ok};
+ghost use Rattle.tb_journal.specs.Memory.{memory_disk};
+ghost use Rattle.tb_keep.specs.Keeping.{IsFresh, IsUsable};
+
+use std::alloc::{Allocator, Global};
+use std::process::Abort;
+use tb_journal::Memory;
+use tb_keep::{KeepFault, Keeper, NotKept, Rules, StartFault, create, keep};
+use tb_machine::run;
+use tb_records::{ClientsMax, Counting, Profile};
+
+/// Bytes as they are written in hex, 16 a line.
+pub type Line = u128;
+
+/// Client 7.
+pub const CLIENT: Line = 0x07000000000000000000000000000000;
+
+const REGISTER: Line = 0x00000000000000000000000002000000;
+
+/// The end of an account or a transfer: ledger 700, code 10.
+const END: Line = 0xbc0200000a0000000000000000000000;
+
+/// A moment of 10 nanoseconds.
+pub const TEN: [u8; 8] = [10, 0, 0, 0, 0, 0, 0, 0];
+
+/// The requests of the script, each with the moment 10: a register, accounts 1 and 2, 128 moved from 1 to 2 as transfer 11,
+/// the same request again, the request before it, and a lookup of account 2.
+const SCRIPT: [&[&[Line]]; 6] = [
+    &[&[CLIENT, REGISTER, 0]],
+    &[
+        &CREATE,
+        &[1 << 120],
+        &ZEROS,
+        &[END],
+        &[2 << 120],
+        &ZEROS,
+        &[END],
+    ],
+    &[&TRANSFER],
+    &[&TRANSFER],
+    &[
+        &[CLIENT, 0x01000000000000000100000083000000],
+        &[0x10000000000000000000000000000000, 1 << 120],
+    ],
+    &[&LOOK_UP],
+];
+
+/// Request 1, that creates two accounts, before its body.
+const CREATE: [Line; 3] = [
+    CLIENT,
+    0x01000000000000000100000081000000,
+    0x00010000000000000000000000000000,
+];
+
+/// An account's balances and user data, all zero.
+const ZEROS: [Line; 6] = [0; 6];
+
+/// Request 2: 128 moved from account 1 to account 2 as transfer 11.
+pub const TRANSFER: [Line; 11] = [
+    CLIENT,
+    0x01000000000000000200000082000000,
+    0x80000000000000000000000000000000,
+    11 << 120,
+    1 << 120,
+    2 << 120,
+    128 << 120,
+    0,
+    0,
+    0,
+    END,
+];
+
+/// Request 3: account 2 is looked up.
+pub const LOOK_UP: [Line; 4] = [
+    CLIENT,
+    0x01000000000000000300000083000000,
+    0x10000000000000000000000000000000,
+    2 << 120,
+];
+
+/// The value of a call that a test wants to succeed.
+pub fn sure<T: Drop, E: Drop>(rt: &impl Abort, answer: Result<T, E>) -> T
+    ensures { answer ≡ Ok result }
+{
+    answer.ok().expect(rt, "no fault")
+}
+
+/// What a test wants to hold.
+pub fn expect(rt: &impl Abort, holds: bool)
+    ensures { holds ≡ true }
+{
+    assert!(rt; holds);
+}
+
+/// Says whether these bytes are those: compared here alone, since a comparison of bytes is dear to prove.
+pub fn same(found: &[u8], wanted: &[u8]) -> bool {
+    found == wanted
+}
+
+/// Changes a byte of a file.
+pub fn change(bytes: &mut [u8], at: usize, value: u8) {
+    if let Some(byte) = bytes.get_mut(at) {
+        *byte = value;
+    }
+}
+
+/// Appends lines.
+fn put_lines(rt: &impl Abort, out: &mut Vec<u8>, lines: &[Line]) {
+    for line in lines {
+        sure(rt, out.extend_from_slice(&line.to_be_bytes()));
+    }
+}
+
+/// Appends a moment and the lines of a frame, which stand in parts.
+pub fn put_pair(rt: &impl Abort, out: &mut Vec<u8>, parts: &[&[Line]]) {
+    sure(rt, out.extend_from_slice(&TEN));
+    for lines in parts {
+        put_lines(rt, out, lines);
+    }
+}
+
+/// The first so many pairs of the script, from one on.
+fn pairs(rt: &impl Abort, alloc: Global, first: usize, end: usize) -> Vec<u8> {
+    let mut bytes = Vec::new(alloc);
+    for parts in SCRIPT.get(first..end).unwrap_or_default() {
+        put_pair(rt, &mut bytes, parts);
+    }
+    bytes
+}
+
+/// The first so many pairs of the script.
+pub fn script(rt: &impl Abort, alloc: Global, count: usize) -> Vec<u8> {
+    pairs(rt, alloc, 0, count)
+}
+
+/// The pairs of the script from one on.
+pub fn script_from(rt: &impl Abort, alloc: Global, first: usize) -> Vec<u8> {
+    pairs(rt, alloc, first, SCRIPT.len())
+}
+
+/// Profile 1 and two clients.
+pub fn rules(rt: &impl Abort) -> Rules {
+    Rules {
+        profile: Profile::One,
+        clients_max: ClientsMax::new(2).expect(rt, "2 is a number of clients"),
+    }
+}
+
+/// A file in memory with these bytes.
+pub fn file_of(rt: &impl Abort, alloc: Global, bytes: &[u8]) -> Memory
+    ensures { (memory_disk result).sound ≡ true }
+{
+    let copy = sure(rt, Vec::from_slice(alloc, bytes));
+    sure(rt, Memory::new(alloc, copy))
+}
+
+/// A ledger that is created in a new file.
+pub fn created(rt: &impl Abort, alloc: Global) -> Keeper<Memory>
+    ensures fresh { IsFresh memory_disk result }
+    ensures usable { IsUsable result }
+{
+    let file = file_of(rt, alloc, &[]);
+    sure(rt, create(alloc, alloc, file, rules(rt)))
+}
+
+/// The bytes of a keeper's file. The keeper is let go.
+pub fn bytes_of<A: Allocator + Clone>(
+    rt: &impl Abort,
+    alloc: Global,
+    keeper: Keeper<Memory, A>,
+) -> Vec<u8> {
+    let bytes = Vec::from_slice(alloc, keeper.journal().device().bytes());
+    drop(keeper);
+    sure(rt, bytes)
+}
+
+/// The bytes of the file that is given back where no ledger is opened.
+pub fn bytes_left(rt: &impl Abort, alloc: Global, failed: NotKept<Memory>) -> Vec<u8> {
+    let bytes = Vec::from_slice(alloc, failed.device.bytes());
+    drop(failed);
+    sure(rt, bytes)
+}
+
+/// Why a call gives no ledger, and the bytes of the file behind it.
+pub fn outcome(
+    rt: &impl Abort,
+    alloc: Global,
+    given: Result<Keeper<Memory>, NotKept<Memory>>,
+) -> (Option<StartFault>, Vec<u8>) {
+    match given {
+        Ok(keeper) => (None, bytes_of(rt, alloc, keeper)),
+        Err(failed) => {
+            let fault = failed.fault;
+            (Some(fault), bytes_left(rt, alloc, failed))
+        }
+    }
+}
+
+/// What serving over a keeper answers, and the replies.
+pub fn answered<A: Allocator + Clone>(
+    alloc: Global,
+    keeper: &mut Keeper<Memory, A>,
+    script: &[u8],
+) -> (Result<u64, KeepFault>, Vec<u8>)
+    requires fresh { IsFresh memory_disk keeper.old }
+    requires usable { IsUsable keeper.old }
+{
+    let mut reader = Counting::new(script);
+    let mut writer = Counting::new(Vec::new(alloc));
+    let result = keep(alloc, keeper, &mut reader, &mut writer);
+    (result, writer.into_inner())
+}
+
+/// Whether serving over a keeper ends well, and the replies.
+pub fn serve<A: Allocator + Clone>(
+    alloc: Global,
+    keeper: &mut Keeper<Memory, A>,
+    script: &[u8],
+) -> (bool, Vec<u8>)
+    requires fresh { IsFresh memory_disk keeper.old }
+    requires usable { IsUsable keeper.old }
+{
+    let (result, replies) = answered(alloc, keeper, script);
+    (result.is_ok(), replies)
+}
+
+/// What serving a script over a new file tells, and the bytes of the file then.
+pub fn kept(rt: &impl Abort, alloc: Global, script: &[u8]) -> (Vec<u8>, Vec<u8>) {
+    let mut keeper = created(rt, alloc);
+    let (well, told) = serve(alloc, &mut keeper, script);
+    expect(rt, well);
+    (told, bytes_of(rt, alloc, keeper))
+}
+
+/// The replies that a server without a file gives.
+pub fn replies(rt: &impl Abort, alloc: Global, script: &[u8]) -> Vec<u8> {
+    let rules = rules(rt);
+    let mut reader = Counting::new(script);
+    let mut writer = Counting::new(Vec::new(alloc));
+    let result = run(
+        alloc,
+        rules.profile,
+        rules.clients_max,
+        &mut reader,
+        &mut writer,
+    );
+    sure(rt, result);
+    writer.into_inner()
+}

@@ -1,0 +1,224 @@
+//! Files that are salvaged and backed up.
+use crate::keep_commands::files::Has;
+use crate::keep_commands::news::{Disk, WELL_MADE};
+use crate::keep_commands::rows::{New, Out, Row, WELL, run};
+use tb_journal::Fault;
+use tb_keep_commands::OpeningFault;
+
+type Words = &'static [&'static str];
+
+type Line = &'static str;
+
+const SALVAGE: Words = &["salvage", "ledger", "new"];
+
+const BACKUP: Words = &["backup", "ledger", "new"];
+
+/// A copy that is done, and what it prints.
+fn done(words: Words, has: Has, text: &'static str, new: New) -> Row {
+    Row {
+        words,
+        has,
+        out: Out::Text(text),
+        new,
+        ..WELL
+    }
+}
+
+/// One that is refused, with nothing printed.
+fn refused(words: Words, has: Has, status: u8, line: Line, new: New) -> Row {
+    Row {
+        words,
+        has,
+        status,
+        line,
+        new,
+        ..WELL
+    }
+}
+
+/// The entries of the script end at byte 94, after the first, and at 182.
+const WHOLE: &str = "entries 2\nlast commit 2\nlast time 11\nbytes behind 0\n";
+
+const TORN: &str =
+    "entries 2\nlast commit 2\nlast time 11\nbytes behind 5, not committed yet or torn\n";
+
+const TORN_LONG: &str =
+    "entries 2\nlast commit 2\nlast time 11\nbytes lost 4194305 behind byte 182: Damaged: 4194305 bytes behind byte 182, more than one batch can have\n";
+
+const SECOND_LOST: &str =
+    "entries 1\nlast commit 1\nlast time 10\nbytes lost 88 behind byte 94: Damaged: at byte 94\n";
+
+const BOTH_LOST: &str =
+    "entries 0\nlast commit 0\nlast time 0\nbytes lost 160 behind byte 22: Damaged: at byte 22\n";
+
+const NO_ENTRY: &str =
+    "entries 0\nlast commit 0\nlast time 0\nbytes lost 11 behind byte 22: Damaged: record 1: Short\n";
+
+const DONE: &[(Words, Has, &str, New)] = &[
+    (SALVAGE, Has::Entries, WHOLE, New::UpTo(182)),
+    (BACKUP, Has::Entries, WHOLE, New::UpTo(182)),
+    (SALVAGE, Has::Torn, TORN, New::UpTo(182)),
+    (BACKUP, Has::Torn, TORN, New::UpTo(182)),
+    (SALVAGE, Has::TornLong, TORN_LONG, New::UpTo(182)),
+    (SALVAGE, Has::Rot, SECOND_LOST, New::UpTo(94)),
+    (SALVAGE, Has::RotFirst, BOTH_LOST, New::UpTo(22)),
+    (SALVAGE, Has::NoEntry, NO_ENTRY, New::UpTo(22)),
+];
+
+#[test]
+fn what_is_whole_is_copied(rt: HostRuntime) {
+    for (words, has, text, new) in DONE {
+        run(&rt, rt.alloc(), done(words, *has, text, *new));
+    }
+}
+
+const A_TEXT: Line =
+    "tbd: NotAJournal: ledger is a text; tbt script makes request frames of statements\n";
+
+const NO_HEAD: Line = "tbd: NotAJournal: the first record is no ledger's head\n";
+
+const MISSING: Line = "tbd: Device: cannot find ledger\n";
+
+const TOO_TORN: Line =
+    "tbd: Damaged: 4194305 bytes behind byte 182, more than one batch can have\n";
+
+const REFUSED: &[(Words, Has, u8, Line, New)] = &[
+    (SALVAGE, Has::Text, 5, A_TEXT, New::Unmade),
+    (BACKUP, Has::Text, 5, A_TEXT, New::Unmade),
+    (SALVAGE, Has::NoRecord, 5, NO_HEAD, New::Unmade),
+    (BACKUP, Has::NoHead, 5, NO_HEAD, New::Unmade),
+    (SALVAGE, Has::Nothing, 1, MISSING, New::Unmade),
+    (
+        SALVAGE,
+        Has::RotHead,
+        6,
+        "tbd: Damaged: at byte 8\n",
+        New::Unmade,
+    ),
+    (
+        BACKUP,
+        Has::Rot,
+        6,
+        "tbd: Damaged: at byte 94\n",
+        New::UpTo(94),
+    ),
+    (BACKUP, Has::TornLong, 6, TOO_TORN, New::UpTo(182)),
+    (
+        BACKUP,
+        Has::NoEntry,
+        6,
+        "tbd: Damaged: record 1: Short\n",
+        New::UpTo(22),
+    ),
+];
+
+#[test]
+fn a_file_is_not_copied(rt: HostRuntime) {
+    for (words, has, status, line, new) in REFUSED {
+        run(&rt, rt.alloc(), refused(words, *has, *status, line, *new));
+    }
+}
+
+/// The new file is there already, or cannot be made: nothing is printed.
+#[test]
+fn a_new_file_is_not_made(rt: HostRuntime) {
+    for words in [SALVAGE, BACKUP] {
+        for (fault, status, line) in [
+            (OpeningFault::Exists, 2, "tbd: Usage: new exists\n"),
+            (OpeningFault::Missing, 1, "tbd: Device: cannot find new\n"),
+            (OpeningFault::Locked, 4, LOCKED),
+        ] {
+            let disk = Disk {
+                fault: Some(fault),
+                ..WELL_MADE
+            };
+            let row = Row {
+                disk,
+                ..refused(words, Has::Entries, status, line, New::Unmade)
+            };
+            run(&rt, rt.alloc(), row);
+        }
+    }
+}
+
+const LOCKED: Line = "tbd: Locked: another program has the file open\n";
+
+const FULL: Line = "tbd: Full\n";
+
+const FAILED: Line = "tbd: Device: new\n";
+
+const SYNC: Line = "tbd: SyncFailed: restart the machine or copy the file before the next start\n";
+
+/// The calls on the new file: its length and a sync, a read, the first 9 bytes and a sync; then for the head, and for both entries, the
+/// batch, a sync, its latch and a sync.
+const CALLS: &[(u64, Fault, u8, Line, New)] = &[
+    (1, Fault::Failed, 1, FAILED, New::Empty),
+    (1, Fault::Full, 8, FULL, New::Empty),
+    (2, Fault::Failed, 9, SYNC, New::Empty),
+    (4, Fault::Full, 8, FULL, New::Empty),
+    (6, Fault::Full, 8, FULL, New::NoRecord),
+    (10, Fault::Full, 8, FULL, New::UpTo(22)),
+    (10, Fault::Failed, 1, FAILED, New::UpTo(22)),
+    (10, Fault::Memory, 1, "tbd: NoMemory\n", New::UpTo(22)),
+];
+
+#[test]
+fn a_call_on_the_new_file_fails(rt: HostRuntime) {
+    for words in [SALVAGE, BACKUP] {
+        for (fails_at, why, status, line, new) in CALLS {
+            let disk = Disk {
+                fault: None,
+                fails_at: *fails_at,
+                why: *why,
+            };
+            let row = Row {
+                disk,
+                ..refused(words, Has::Entries, *status, line, *new)
+            };
+            run(&rt, rt.alloc(), row);
+        }
+    }
+}
+
+const UNREAD: Line = "tbd: Device: ledger\n";
+
+/// The calls on the file: for its head a sync and a read; its length; and a sync and reads.
+const READS: &[(u64, u8, Line, New)] = &[
+    (1, 9, SYNC, New::Unmade),
+    (2, 1, UNREAD, New::Unmade),
+    (3, 1, UNREAD, New::Empty),
+    (4, 9, SYNC, New::Empty),
+    (5, 1, UNREAD, New::Empty),
+];
+
+#[test]
+fn a_read_of_the_file_fails(rt: HostRuntime) {
+    for words in [SALVAGE, BACKUP] {
+        for (fails_at, status, line, new) in READS {
+            let row = Row {
+                fails_at: *fails_at,
+                ..refused(words, Has::Entries, *status, line, *new)
+            };
+            run(&rt, rt.alloc(), row);
+        }
+    }
+}
+
+/// What was copied is in the new file, also where it is not printed.
+#[test]
+fn an_output_fails_behind_a_copy(rt: HostRuntime) {
+    for room in [0, 9] {
+        let row = Row {
+            room,
+            out: Out::Prefix(WHOLE),
+            ..refused(
+                SALVAGE,
+                Has::Entries,
+                1,
+                "tbd: Device: standard output\n",
+                New::UpTo(182),
+            )
+        };
+        run(&rt, rt.alloc(), row);
+    }
+}

@@ -1,0 +1,163 @@
+//! A file to which another program appends while it is read.
+use crate::keep_commands::files::{Has, file_of};
+use crate::keep_commands::frames::{dump, later};
+use crate::keep_commands::pipes::Pipe;
+use crate::keep_commands::rows::{NO_TERMINALS, cut_to, same, words_of};
+use std::alloc::Global;
+use std::cell::Cell;
+use std::process::Abort;
+use tb_journal::{Fault, Growing, Memory, Snapshot};
+use tb_keep_commands::{Opener, OpeningFault, serve};
+use tb_records::Counting;
+
+/// A file that has one commit more at each third time that its length is asked for.
+#[derive(Drop)]
+pub struct Growth<G> {
+    shown: G,
+    /// What it shows later, the last first.
+    stages: Vec<G>,
+    asked: u8,
+}
+
+impl<G: Growing + Drop> Growing for Growth<G> {
+    fn read_at(&mut self, at: usize, into: &mut [u8]) -> Result<usize, Fault> {
+        Growing::read_at(&mut self.shown, at, into)
+    }
+
+    fn len(&mut self) -> Result<usize, Fault> {
+        self.asked = self.asked.wrapping_add(1);
+        if self.asked % 3 == 0 {
+            if let Some(next) = self.stages.pop() {
+                self.shown = next;
+            }
+        }
+        Growing::len(&mut self.shown)
+    }
+}
+
+/// Where the head and the first entry of the script's ledger end: a block is 8 bytes and a record, of 6 bytes, then of 64.
+const HEAD_END: usize = 22;
+
+const FIRST_END: usize = 94;
+
+/// A file with these bytes.
+fn memory(rt: &impl Abort, alloc: Global, bytes: Vec<u8>) -> Memory {
+    Memory::new(alloc, bytes).ok().expect(rt, "memory")
+}
+
+/// The ledger of the script, with its head at first, then an entry more, then all.
+fn growing_ledger(rt: &impl Abort, alloc: Global) -> Growth<Memory> {
+    let shown = memory(rt, alloc, cut_to(rt, alloc, Has::Entries, HEAD_END));
+    let next = memory(rt, alloc, cut_to(rt, alloc, Has::Entries, FIRST_END));
+    let last = memory(rt, alloc, file_of(rt, alloc, Has::Entries));
+    let mut stages = Vec::new(alloc);
+    stages.push(last).ok().expect(rt, "memory");
+    stages.push(next).ok().expect(rt, "memory");
+    Growth {
+        shown,
+        stages,
+        asked: 0,
+    }
+}
+
+/// A folder with that file alone, for whose commits is waited so often.
+#[derive(Drop)]
+struct Growths {
+    alloc: Global,
+    file: Option<Growth<Memory>>,
+    pauses: Cell<u32>,
+}
+
+impl Opener for Growths {
+    type File = Memory;
+
+    type Reading = Snapshot<Growth<Memory>>;
+
+    fn make(&mut self, _name: &str) -> Result<Memory, OpeningFault> {
+        Err(OpeningFault::Forbidden)
+    }
+
+    fn make_new(&mut self, _name: &str) -> Result<Memory, OpeningFault> {
+        Err(OpeningFault::Forbidden)
+    }
+
+    fn open(&mut self, _name: &str) -> Result<Snapshot<Growth<Memory>>, OpeningFault> {
+        match self.file.take() {
+            Some(file) => { Snapshot::new(self.alloc, file).map_err(|_| OpeningFault::NoMemory) }
+            None => Err(OpeningFault::Missing),
+        }
+    }
+
+    fn pause(&self) -> bool {
+        let left = self.pauses.get();
+        self.pauses.set(left.saturating_sub(1));
+        left > 0
+    }
+}
+
+/// What the words write of that file, for whose commits is waited so often.
+fn written(rt: &impl Abort, alloc: Global, words: &[&str], pauses: u32) -> Vec<u8> {
+    let mut folder = Growths {
+        alloc,
+        file: Some(growing_ledger(rt, alloc)),
+        pauses: Cell::new(pauses),
+    };
+    let words = words_of(rt, alloc, words);
+    let mut pipe = Pipe::new(alloc, 4096, true);
+    let mut lines = Counting::new(Vec::new(alloc));
+    let none: &[u8] = &[];
+    let status = serve(
+        alloc,
+        &mut folder,
+        words.as_slice(),
+        NO_TERMINALS,
+        none,
+        &mut pipe,
+        &mut lines,
+    );
+    assert!(rt; status == 0);
+    Vec::from_slice(alloc, pipe.bytes()).expect(rt, "memory")
+}
+
+/// How many bytes of the dump went out where was waited so often: the head has 16, the entries 64 and 80.
+const LENGTHS: &[(u32, usize)] = &[(0, 16), (1, 80), (2, 160), (3, 160)];
+
+/// Each entry is written once, in the order of commits, behind the head or without one.
+#[test]
+fn a_followed_dump_goes_on(rt: HostRuntime) {
+    let alloc = rt.alloc();
+    let all = dump(&rt, alloc);
+    let second = later(&rt, alloc);
+    for (pauses, len) in LENGTHS {
+        let found = written(&rt, alloc, &["dump", "ledger", "--follow"], *pauses);
+        assert!(rt; found.len() == *len && all.starts_with(&found));
+    }
+    let found = written(
+        &rt,
+        alloc,
+        &["dump", "ledger", "--after", "1", "--follow"],
+        2,
+    );
+    assert!(rt; same(&found, &second));
+}
+
+/// A dump that does not wait has what was there when it was opened.
+#[test]
+fn a_dump_has_one_moment(rt: HostRuntime) {
+    let alloc = rt.alloc();
+    let all = dump(&rt, alloc);
+    let found = written(&rt, alloc, &["dump", "ledger"], 2);
+    assert!(rt; found.len() == 16 && all.starts_with(&found));
+    let found = written(&rt, alloc, &["dump", "ledger", "--after", "0"], 2);
+    assert!(rt; found.is_empty());
+}
+
+/// The first entry was committed while the file was read: it has 72 bytes.
+#[test]
+fn what_was_committed_meanwhile_is_behind(rt: HostRuntime) {
+    let alloc = rt.alloc();
+    let found = written(&rt, alloc, &["check", "ledger"], 0);
+    let text =
+        "records 1\nentries 0\nprofile 1\nclients_max 2\nlast time 0\nbytes behind 72, not committed yet or torn\n";
+    assert!(rt; same(&found, text.as_bytes()));
+}

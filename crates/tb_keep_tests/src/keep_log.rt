@@ -1,0 +1,10 @@
+//! Kept logs over a file in memory, by public calls alone.
+//!
+//! Modules, each over those before it:
+//!
+//! - `logs`: a log, what it is answered, and what keeps it.
+//! - `keeping`: logs that are kept, opened again, refused and dumped.
+//! - `crashing`: crashes at each moment, and each call that fails.
+mod crashing;
+mod keeping;
+mod logs;

@@ -1,0 +1,116 @@
+//! Crashes at each moment of keeping a log, and files that fail at each of their calls: what was told is in the file.
+ghost use Rattle.std.specs.Prelude.{◌≡◌, true};
+ghost use Rattle.tb_journal.specs.Memory.{memory_disk};
+ghost use Rattle.tb_journal.specs.Ready.{IsReady};
+ghost use Rattle.tb_keep_log.specs.Keeping.{IsUsable};
+
+use crate::keep_log::logs::{
+    answers, bytes_of, expect, file_of, kept, log, part, rules, started, sure,
+};
+use std::alloc::Global;
+use std::process::Abort;
+use tb_journal::Memory;
+use tb_keep_log::{LogKeeper, NotStarted};
+
+/// What a torn write leaves in its range.
+const TORN: &[&[u8]] = &[&[], &[0; 40], &[255; 40], &[255]];
+
+/// Where the entry behind each position begins in the log.
+const BEGINS: &[usize] = &[0, 386, 587, 861];
+
+/// The position of a file, and what is answered to the log from there on.
+fn goes_on(rt: &impl Abort, alloc: Global, left: &[u8], log: &[u8]) -> (u64, Vec<u8>) {
+    let mut keeper = started(rt, alloc, left);
+    let position = keeper.position();
+    let begin = BEGINS
+        .get(position as usize)
+        .expect(rt, "at most 3 entries");
+    let (answer, told) = kept(alloc, &mut keeper, part(log, *begin, log.len()));
+    drop(keeper);
+    expect(rt, answer == Ok(3));
+    (position, told)
+}
+
+/// A file has so many entries at least, and one more at most, and the log goes on behind them with the last answers.
+fn expect_crash(rt: &impl Abort, alloc: Global, left: &[u8], least: u64, most: u64) {
+    let log = log(rt, alloc);
+    let (position, told) = goes_on(rt, alloc, left, &log);
+    expect(rt, least <= position);
+    expect(rt, position <= most);
+    expect(rt, answers(rt, alloc, &log).ends_with(&told));
+}
+
+#[test]
+fn a_crash_at_each_moment(rt: HostRuntime) {
+    let alloc = rt.alloc();
+    let mut keeper = started(&rt, alloc, &[]);
+    let (answer, _) = kept(alloc, &mut keeper, &log(&rt, alloc));
+    expect(&rt, answer == Ok(3));
+    let file = keeper.journal().device();
+    // Three entries are committed one after another, in four calls each.
+    let begin = file.moments().saturating_sub(12);
+    for k in 0..=12usize {
+        let whole = (k / 4) as u64;
+        let most = if k % 4 == 3 { whole + 1 } else { whole };
+        for torn in TORN {
+            let left = sure(&rt, file.after_crash(begin.saturating_add(k), torn));
+            expect_crash(&rt, alloc, &left, whole, most);
+        }
+    }
+    drop(keeper);
+}
+
+/// The entries that so many bytes of answers rest on.
+fn entries_told(told: usize) -> u64 {
+    match told {
+        0 => 0,
+        1..=195 => 1,
+        196..=256 => 2,
+        _ => 3,
+    }
+}
+
+/// Keeps the log over a keeper: the file as it reads, and what was told.
+fn kept_by(rt: &impl Abort, alloc: Global, keeper: LogKeeper<Memory>) -> (Vec<u8>, Vec<u8>)
+    requires usable { IsUsable keeper }
+    requires ready { IsReady memory_disk keeper.journal }
+{
+    let mut keeper = keeper;
+    let (_, told) = kept(alloc, &mut keeper, &log(rt, alloc));
+    (bytes_of(rt, alloc, keeper), told)
+}
+
+/// The same over a new file whose call of a number fails.
+fn kept_failing(rt: &impl Abort, alloc: Global, number: u64) -> (Vec<u8>, Vec<u8>) {
+    let mut file = file_of(rt, alloc, &[]);
+    file.fail_at(number);
+    let opened: Result<LogKeeper<Memory>, NotStarted<Memory>> = LogKeeper::start(
+        alloc,
+        alloc,
+        file,
+        rules(rt),
+    );
+    match opened {
+        Ok(keeper) => kept_by(rt, alloc, keeper),
+        Err(failed) => {
+            let bytes = sure(rt, Vec::from_slice(alloc, failed.device.bytes()));
+            drop(failed);
+            (bytes, Vec::new(alloc))
+        }
+    }
+}
+
+#[test]
+fn each_call_fails_once(rt: HostRuntime) {
+    let alloc = rt.alloc();
+    let log = log(&rt, alloc);
+    let whole = answers(&rt, alloc, &log);
+    // Creating takes 5 calls, and keeping 12.
+    for number in 1..=18u64 {
+        let (left, told) = kept_failing(&rt, alloc, number);
+        expect(&rt, whole.starts_with(&told));
+        let (position, more) = goes_on(&rt, alloc, &left, &log);
+        expect(&rt, entries_told(told.len()) <= position);
+        expect(&rt, whole.ends_with(&more));
+    }
+}

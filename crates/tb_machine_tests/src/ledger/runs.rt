@@ -1,0 +1,68 @@
+//! A ledger that one request after another moves on, each as soon as it may come.
+ghost use Rattle.std.specs.Prelude.{◌+◌, ◌≤◌, max};
+ghost use Rattle.tb_ledger.specs.Verdicts.{max_time};
+
+use crate::comparing::holds;
+use std::alloc::Global;
+use std::process::Abort;
+use tb_fixtures::account;
+use tb_ledger::Ledger;
+use tb_records::{Account, EventResult, Profile, Transfer};
+
+/// Far from the last moment, so that the time of an entry is in range.
+const LATEST: u64 = 9_000_000_000_000_000_000;
+
+/// A ledger and what it takes its memory from.
+#[derive(Drop)]
+pub struct Run {
+    pub alloc: Global,
+    pub ledger: Ledger<Global>,
+}
+
+/// Results have these codes, each at its index.
+fn expect_codes(rt: &impl Abort, results: Vec<EventResult>, want: &[(u32, u32)]) {
+    let mut pairs = results.iter().zip(want);
+    let same = pairs.all(|(one, pair)| (one.index, one.result) == *pair);
+    holds(rt, same && results.len() == want.len(), &"results");
+    drop(results);
+}
+
+/// The time of an entry of n events that comes as soon as it may.
+fn next_time(rt: &impl Abort, run: &Run, n: usize) -> u64
+    ensures count { n ≤ 8190 }
+    ensures later { run.now.ledger.time + max n 1 ≤ result }
+    ensures in_range { result ≤ max_time }
+{
+    assert!(rt; n <= 8190 && run.ledger.time() < LATEST);
+    run.ledger.time() + (n as u64).max(1)
+}
+
+/// Accounts in one request.
+pub fn create(rt: &impl Abort, run: &mut Run, events: &[Account], want: &[(u32, u32)]) {
+    let time = next_time(rt, run, events.len());
+    let results = run.ledger.create_accounts(run.alloc, time, events);
+    expect_codes(rt, results.expect(rt, "memory"), want);
+}
+
+/// Transfers in one request.
+pub fn ask(rt: &impl Abort, run: &mut Run, events: &[Transfer], want: &[(u32, u32)]) {
+    let time = next_time(rt, run, events.len());
+    let results = run.ledger.create_transfers(run.alloc, time, events);
+    expect_codes(rt, results.expect(rt, "memory"), want);
+}
+
+pub fn empty(alloc: Global, profile: Profile) -> Run {
+    Run {
+        alloc,
+        ledger: Ledger::new_in(alloc, profile),
+    }
+}
+
+/// The time 10, then accounts 1 and 2.
+pub fn start(rt: &impl Abort, alloc: Global, profile: Profile) -> Run {
+    let mut run = empty(alloc, profile);
+    assert!(rt; run.ledger.time() < 10);
+    run.ledger.expire(10);
+    create(rt, &mut run, &[account(1), account(2)], &[]);
+    run
+}

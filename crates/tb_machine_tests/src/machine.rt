@@ -1,0 +1,46 @@
+//! What machines, scripts and dumps do, by public calls alone: worked rows, value for value and byte for byte.
+//!
+//! Modules, each over those before it:
+//!
+//! - `scripts`: scripts and wanted replies, put together field by field.
+//! - `fixtures`: transfers that balance and that close, besides those of tb_fixtures.
+//! - `steps`: a script as data: each step with its answer.
+//! - `frames`: frames in hexadecimal.
+//! - `machines`: what machines are asked.
+//! - `records`: what the machine's own lookups find.
+//! - `classes`: sessions by the machine's own calls.
+//! - `serving`: scripts served.
+//! - `accounts`: accounts that are created or refused.
+//! - `amounts`: balancing, and sums that would pass 128 bits.
+//! - `chains`: chains undone or left open, and failed ids.
+//! - `pending`: posts, voids, closing and expiry.
+//! - `sessions`: registers, repeats, refusals and evictions, by scripts.
+//! - `forms`: `run`, `dump` and `replay` as one call.
+//! - `conversations`: replies leave before the program waits.
+//! - `holding`: nothing is asked for while something is held back.
+//! - `asking`: nothing is asked again, and what was read is answered.
+//! - `faults`: scripts that end before their time.
+//! - `entries`: entries by themselves.
+//! - `dumps`: scripts dumped, dumps replayed.
+//! - `restoring`: records of a journal, and machines restored from them.
+mod accounts;
+mod amounts;
+mod asking;
+mod chains;
+mod classes;
+mod conversations;
+mod dumps;
+mod entries;
+mod faults;
+mod fixtures;
+mod forms;
+mod frames;
+mod holding;
+mod machines;
+mod pending;
+mod records;
+mod restoring;
+mod scripts;
+mod serving;
+mod sessions;
+mod steps;

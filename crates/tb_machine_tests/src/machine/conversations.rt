@@ -1,0 +1,134 @@
+//! Replies leave before the program waits: a reader that fails where it is asked for more while a reply is still held back.
+use crate::comparing::holds;
+use crate::machine::forms::{Form, Outcome, serve};
+use crate::machine::scripts::Script;
+use crate::machine::steps::{begin, put_steps, third};
+use std::alloc::Global;
+use std::cell::Cell;
+use std::io::{self, BufReader, Error, ErrorKind, Read, Write};
+use std::process::Abort;
+use tb_records::{Buffered, Counting};
+
+/// Where a part of the input ends, and how many bytes are to be passed on before more is asked for.
+type Turn = (usize, usize);
+
+/// A register, two accounts, and a lookup of both: the replies to each.
+const SERVED: [Turn; 4] = [(0, 0), (56, 48), (368, 96), (472, 400)];
+
+/// The dump of the same script: its head, which goes out before the script is read, and each entry; before the second one a
+/// mark.
+const DUMPED: [Turn; 4] = [(0, 16), (56, 80), (368, 416), (472, 528)];
+
+/// The replay of that dump: a head, an entry, a mark, and two entries.
+const REPLAYED: [Turn; 6] = [(0, 0), (16, 0), (80, 48), (96, 48), (416, 96), (528, 400)];
+
+/// The lengths of the pieces in which an input comes: parts of a pair, a pair, and more than one.
+const PIECES: [usize; 10] = [1, 7, 16, 55, 56, 57, 100, 368, 471, 1000];
+
+/// A reader whose bytes come in pieces. It is answered before it goes on: it fails where fewer or more bytes are passed on
+/// than what came so far is answered by.
+#[derive(Drop)]
+struct Waiting<'a> {
+    rest: &'a [u8],
+    piece: usize,
+    given: usize,
+    turns: &'a [Turn],
+    passed: &'a Cell<usize>,
+}
+
+impl Waiting<'_> {
+    /// How many bytes answer what came so far.
+    fn due(&self) -> usize {
+        let whole = self.turns.iter().filter(|turn| turn.0 <= self.given);
+        whole.last().map_or(0, |turn| turn.1)
+    }
+}
+
+impl Read for Waiting<'_> {
+    fn read(&mut self, buf: &mut [u8]) -> io::Result<usize> {
+        if self.passed.get() != self.due() {
+            return Err(Error::from(ErrorKind::TimedOut));
+        }
+        let most = buf.len().min(self.piece);
+        let count = self.rest.read(&mut buf[..most])?;
+        self.given = self.given.wrapping_add(count);
+        Ok(count)
+    }
+}
+
+/// A writer that holds back what it takes until it is flushed, and tells how much went out.
+#[derive(Drop)]
+struct Holding<'a> {
+    taken: Vec<u8>,
+    passed: &'a Cell<usize>,
+}
+
+impl Write for Holding<'_> {
+    fn write(&mut self, bytes: &[u8]) -> io::Result<usize> {
+        self.taken.extend_from_slice(bytes)?;
+        Ok(bytes.len())
+    }
+
+    fn flush(&mut self) -> io::Result<()> {
+        self.passed.set(self.taken.len());
+        Ok(())
+    }
+}
+
+/// Serves an input that comes in pieces. All is passed on at the end, and what was written is given back.
+fn converse(
+    rt: &impl Abort,
+    alloc: Global,
+    form: Form,
+    input: &[u8],
+    turns: &[Turn],
+    piece: usize,
+) -> Vec<u8> {
+    let passed = Cell::new(0);
+    let waiting = Waiting {
+        rest: input,
+        piece,
+        given: 0,
+        turns,
+        passed: &passed,
+    };
+    let mut reader = Buffered::new(BufReader::new(alloc, waiting).expect(rt, "memory"));
+    let taken = Vec::new(alloc);
+    let mut writer = Counting::new(Holding {
+        taken,
+        passed: &passed,
+    });
+    let outcome = serve(rt, alloc, form, &mut reader, &mut writer);
+    drop(reader);
+    holds(rt, outcome == Outcome::Done, &piece);
+    let Holding { taken, passed } = writer.into_inner();
+    holds(rt, passed.get() == taken.len(), &piece);
+    taken
+}
+
+/// Serves a script, dumps it and replays its dump, in pieces of a length.
+fn expect_answers(rt: &impl Abort, script: &Script, piece: usize) {
+    let alloc = script.alloc;
+    let bytes = script.bytes.as_slice();
+    let wanted = script.replies.as_slice();
+    let replies = converse(rt, alloc, Form::Run, bytes, &SERVED, piece);
+    holds(rt, replies.as_slice() == wanted, &piece);
+    drop(replies);
+    let history = converse(rt, alloc, Form::Dump, bytes, &DUMPED, piece);
+    let again = converse(rt, alloc, Form::Replay, &history, &REPLAYED, piece);
+    holds(rt, again.as_slice() == wanted, &piece);
+    drop(again);
+    drop(history);
+}
+
+/// Puts the three requests into a script, and serves it in pieces of each length.
+#[test]
+fn answered_before_it_waits(rt: HostRuntime) {
+    let mut script = Script::new(rt.alloc());
+    put_steps(&rt, &mut script, &begin());
+    put_steps(&rt, &mut script, &third());
+    for piece in PIECES {
+        expect_answers(&rt, &script, piece);
+    }
+    drop(script);
+}

@@ -1,0 +1,106 @@
+//! A script as data: one step after another, with what each is to be answered.
+use crate::machine::scripts::Script;
+use std::process::Abort;
+use tb_fixtures::{account, found};
+use tb_records::{Account, CreateAccountResult, CreateTransferResult, Operation, Status, Transfer};
+
+/// What a script asks next, and what it is to be answered.
+#[derive(Clone, Copy)]
+pub enum Step {
+    /// The moment of what follows.
+    Moment(u64),
+    /// A client's register, which makes a session.
+    Register(u128, u64),
+    /// A lookup of no account by client, session and number, the status of its reply, and the commit number.
+    Look(u128, u64, u32, Status, u64),
+    /// Client 7's request of a number with one transfer, the status of its reply, and the commit number.
+    Numbered(u32, Transfer, Status, u64),
+    /// Client 7's request of a number, which looks accounts 2, 9 and 1 up, and the status that it is refused with.
+    Again(u32, Status),
+    /// An account of client 7's next request, and its result.
+    Account(Account, CreateAccountResult),
+    /// A transfer of client 7's next request, and its result.
+    Transfer(Transfer, CreateTransferResult),
+    /// An id of client 7's next lookup.
+    Id(u128),
+    /// An account that the lookup finds.
+    FoundAccount(Account),
+    /// A transfer that the lookup finds.
+    FoundTransfer(Transfer),
+    /// Client 7's next request, of all that came since the last one.
+    Send(Operation),
+    /// A transfer in a request of its own, and its result.
+    Single(Transfer, CreateTransferResult),
+    /// A lookup of account 1, and its sums.
+    First([u128; 4]),
+}
+
+/// Client 7's next request, which looks account 1 up and finds these sums.
+fn look_up_first(rt: &impl Abort, script: &mut Script, sums: [u128; 4]) {
+    script.put_id(rt, 1);
+    script.put_found_account(rt, &found(sums, 11, account(1)));
+    script.send(rt, Operation::LookupAccounts);
+}
+
+/// Client 7's next request, which creates one transfer.
+fn send_single(rt: &impl Abort, script: &mut Script, row: &Transfer, code: u32) {
+    script.put_transfer(rt, row, code);
+    script.send(rt, Operation::CreateTransfers);
+}
+
+/// Sets the moment of what follows.
+fn set_moment(script: &mut Script, moment: u64) {
+    script.moment = moment;
+}
+
+/// Appends a step to a script.
+fn put_step(rt: &impl Abort, script: &mut Script, step: Step) {
+    match step {
+        Step::Moment(moment) => set_moment(script, moment),
+        Step::Register(client, session) => script.register(rt, client, session),
+        Step::Look(client, session, number, status, commit) => {
+            script.look(rt, client, session, number, status, commit)
+        }
+        Step::Numbered(number, row, status, commit) => {
+            script.transfer(rt, number, &row, status, commit)
+        }
+        Step::Again(number, status) => script.look_again(rt, number, status),
+        Step::Account(row, result) => script.put_account(rt, &row, result as u32),
+        Step::Transfer(row, result) => script.put_transfer(rt, &row, result as u32),
+        Step::Id(id) => script.put_id(rt, id),
+        Step::FoundAccount(row) => script.put_found_account(rt, &row),
+        Step::FoundTransfer(row) => script.put_found_transfer(rt, &row),
+        Step::Send(operation) => script.send(rt, operation),
+        Step::Single(row, result) => send_single(rt, script, &row, result as u32),
+        Step::First(sums) => look_up_first(rt, script, sums),
+    }
+}
+
+/// Appends steps to a script.
+pub fn put_steps(rt: &impl Abort, script: &mut Script, steps: &[Step]) {
+    for step in steps {
+        put_step(rt, script, *step);
+    }
+}
+
+/// The first two requests: client 7 registers at moment 10 and creates accounts 1 and 2, which takes the moments 11 and 12.
+pub fn begin() -> [Step; 4] {
+    [
+        Step::Register(7, 1),
+        Step::Account(account(1), CreateAccountResult::Ok),
+        Step::Account(account(2), CreateAccountResult::Ok),
+        Step::Send(Operation::CreateAccounts),
+    ]
+}
+
+/// The third request: a lookup of accounts 2, 9 and 1.
+pub fn third() -> [Step; 6] {
+    [
+        Step::Id(2),
+        Step::Id(9),
+        Step::Id(1),
+        Step::FoundAccount(found([0; 4], 12, account(2))),
+        Step::FoundAccount(found([0; 4], 11, account(1))),
+        Step::Send(Operation::LookupAccounts),
+    ]
+}

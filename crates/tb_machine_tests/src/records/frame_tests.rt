@@ -1,0 +1,441 @@
+//! The vectors of requests and records, and what readers do that fail, end or stay at a fault.
+use crate::comparing::holds;
+use crate::records::vectors::{CREATION, REGISTER, account, creation, first, lookup, record, with};
+use std::alloc::{AllocError, Global};
+use std::io;
+use std::io::{BufReader, Error, ErrorKind, Read};
+use std::process::Abort;
+use tb_records::{
+    Account, Body, Buffered, Counting, FrameFault, Operation, Request, RequestStream, Source,
+    Transfer, read_request, read_timed_from,
+};
+
+/// A register, a creation and a lookup, one behind the other.
+fn frames() -> [u8; 448] {
+    let mut bytes = [0; 448];
+    bytes[..48].copy_from_slice(&REGISTER);
+    bytes[48..352].copy_from_slice(&creation(&CREATION));
+    bytes[352..].copy_from_slice(&lookup());
+    bytes
+}
+
+/// Says that the request is of client 7, with these numbers.
+fn has_numbers(request: &Request, session: u64, number: u32, operation: Operation) -> bool {
+    request.client() == 7
+        && request.session() == session
+        && request.request() == number
+        && request.operation() == operation.code()
+}
+
+/// Says that the request creates accounts 1 and 2.
+fn creates(request: &Request) -> bool {
+    match request.body() {
+        Body::CreateAccounts(events) => {
+            events.as_slice() == [account(1, 0), account(2, 0)].as_slice()
+        }
+        _ => false,
+    }
+}
+
+/// Says that the request looks up accounts 2, 9 and 1.
+fn looks_up(request: &Request) -> bool {
+    match request.body() {
+        Body::LookupAccounts(ids) => ids.as_slice() == [2u128, 9, 1].as_slice(),
+        _ => false,
+    }
+}
+
+/// Which of the three frames the request has: 1 the register, 2 the creation, 3 the lookup; 0 none of them.
+fn frame_of(request: &Request) -> u32 {
+    if has_numbers(request, 0, 0, Operation::Register) {
+        1
+    } else if has_numbers(request, 1, 1, Operation::CreateAccounts) && creates(request) {
+        2
+    } else if has_numbers(request, 1, 2, Operation::LookupAccounts) && looks_up(request) {
+        3
+    } else {
+        0
+    }
+}
+
+/// Which of the three frames is read, and its length.
+fn read_frame(alloc: Global, bytes: &[u8]) -> Result<(u32, usize), FrameFault> {
+    let (request, n) = read_request(alloc, bytes)?;
+    let frame = frame_of(&request);
+    drop(request);
+    Ok((frame, n))
+}
+
+/// Which of the three frames comes next; None at the end.
+fn next_frame<R: Source + Drop>(
+    alloc: Global,
+    stream: &mut RequestStream<R>,
+) -> Result<Option<u32>, FrameFault> {
+    match stream.next_request(alloc)? {
+        Some(request) => {
+            let frame = frame_of(&request);
+            drop(request);
+            Ok(Some(frame))
+        }
+        None => Ok(None),
+    }
+}
+
+/// The moment that comes next, and which of the three frames is behind it; None at the end.
+fn timed_frame(
+    answer: Result<Option<(u64, Request)>, FrameFault>,
+) -> Result<Option<(u64, u32)>, FrameFault> {
+    match answer? {
+        Some((moment, request)) => {
+            let frame = frame_of(&request);
+            drop(request);
+            Ok(Some((moment, frame)))
+        }
+        None => Ok(None),
+    }
+}
+
+/// The bytes 0, 1, 2 and so on.
+fn counted() -> [u8; 128] {
+    let mut bytes = [0u8; 128];
+    for (i, byte) in bytes.iter_mut().enumerate() {
+        *byte = i as u8;
+    }
+    bytes
+}
+
+#[test]
+fn accounts_in_bytes(rt: HostRuntime) {
+    holds(&rt, account(1, 0).to_bytes() == record(1, 0), &"accounts");
+    holds(
+        &rt,
+        Account::from_bytes(&record(2, 0)) == account(2, 0),
+        &"accounts",
+    );
+    holds(
+        &rt,
+        Account::from_bytes(&counted()).to_bytes() == counted(),
+        &"accounts",
+    );
+}
+
+#[test]
+fn transfers_in_bytes(rt: HostRuntime) {
+    let transfer = Transfer::from_bytes(&counted());
+    holds(
+        &rt,
+        transfer.id == 0x0f0e_0d0c_0b0a_0908_0706_0504_0302_0100,
+        &"transfers",
+    );
+    holds(
+        &rt,
+        transfer.pending_id == 0x4f4e_4d4c_4b4a_4948_4746_4544_4342_4140,
+        &"transfers",
+    );
+    holds(
+        &rt,
+        transfer.timeout == 0x6f6e_6d6c && transfer.flags == 0x7776,
+        &"transfers",
+    );
+    holds(&rt, transfer.to_bytes() == counted(), &"transfers");
+}
+
+/// One of the three frames is read, of this length.
+fn expect_frame(rt: &impl Abort, alloc: Global, bytes: &[u8], frame: u32, length: usize) {
+    holds(
+        rt,
+        read_frame(alloc, bytes) == Ok((frame, length)),
+        &"a frame",
+    );
+}
+
+#[test]
+fn frames_are_read(rt: HostRuntime) {
+    let alloc = rt.alloc();
+    expect_frame(&rt, alloc, &REGISTER, 1, 48);
+    expect_frame(&rt, alloc, &creation(&CREATION), 2, 304);
+    expect_frame(&rt, alloc, &lookup(), 3, 96);
+}
+
+#[test]
+fn request_faults_in_order(rt: HostRuntime) {
+    let alloc = rt.alloc();
+    let cases = [
+        (0, 0, 0, 0, FrameFault::ClientZero),
+        (28, 3, 28, 3, FrameFault::UnknownOperation),
+        (0, 0, 28, 3, FrameFault::ClientZero),
+        (28, 3, 29, 1, FrameFault::UnknownOperation),
+        (29, 1, 29, 1, FrameFault::Reserved),
+        (47, 1, 47, 1, FrameFault::Reserved),
+        (16, 1, 16, 1, FrameFault::RegisterNumbers),
+        (32, 1, 32, 1, FrameFault::BadLength),
+    ];
+    for (at, byte, also, other, fault) in cases {
+        let header = with(&with(&REGISTER, at, byte), also, other);
+        holds(&rt, read_frame(alloc, &header) == Err(fault), &at);
+    }
+    holds(
+        &rt,
+        read_frame(alloc, &REGISTER[..47]) == Err(FrameFault::Short),
+        &"a cut",
+    );
+}
+
+#[test]
+fn creation_faults_in_order(rt: HostRuntime) {
+    let alloc = rt.alloc();
+    let cases = [
+        (24, 0, 0, 1, 0, FrameFault::RequestZero),
+        (24, 1, 0xff, 0, 0, FrameFault::BadLength),
+        (24, 1, 0x80, 0xff, 0x0f, FrameFault::TooMany),
+        (24, 1, 0x80, 1, 0, FrameFault::Short),
+    ];
+    for (at, byte, low, middle, high, fault) in cases {
+        let header = with(&with(&CREATION, at, byte), 32, low);
+        let header = with(&with(&header, 33, middle), 34, high);
+        holds(
+            &rt,
+            read_frame(alloc, &creation(&header)) == Err(fault),
+            &low,
+        );
+    }
+}
+
+/// The frame that creates 8190 accounts, or with 0x80 as the lowest byte of its length 8191.
+fn many(alloc: Global, low: u8) -> Result<Vec<u8>, AllocError> {
+    let header = with(&with(&with(&CREATION, 32, low), 33, 0xff), 34, 0x0f);
+    let mut bytes = Vec::new(alloc);
+    bytes.extend_from_slice(&header)?;
+    let item = record(1, 0);
+    for _ in 0..8191 {
+        bytes.extend_from_slice(&item)?;
+    }
+    Ok(bytes)
+}
+
+/// The number of items that are read, and the length of their frame.
+fn read_count(alloc: Global, bytes: &[u8]) -> Result<(usize, usize), FrameFault> {
+    let (request, n) = read_request(alloc, bytes)?;
+    let count = request.body().len();
+    drop(request);
+    Ok((count, n))
+}
+
+#[test]
+fn largest_body(rt: HostRuntime) {
+    let alloc = rt.alloc();
+    let most = many(alloc, 0).expect(&rt, "memory");
+    holds(
+        &rt,
+        read_count(alloc, most.as_slice()) == Ok((8190, 1_048_368)),
+        &"bodies",
+    );
+    let more = many(alloc, 0x80).expect(&rt, "memory");
+    holds(
+        &rt,
+        read_count(alloc, more.as_slice()) == Err(FrameFault::TooMany),
+        &"bodies",
+    );
+}
+
+#[test]
+fn stream_of_frames(rt: HostRuntime) {
+    let bytes = frames();
+    let mut stream = RequestStream::new(Counting::new(&bytes[..]));
+    for frame in [Some(1), Some(2), Some(3), None, None] {
+        holds(
+            &rt,
+            next_frame(rt.alloc(), &mut stream) == Ok(frame),
+            &"a frame",
+        );
+    }
+}
+
+#[test]
+fn stream_is_cut(rt: HostRuntime) {
+    let bytes = frames();
+    let mut stream = RequestStream::new(Counting::new(first(&bytes, 100)));
+    for answer in [Ok(Some(1)), Err(FrameFault::Short), Err(FrameFault::Short)] {
+        holds(&rt, next_frame(rt.alloc(), &mut stream) == answer, &"a cut");
+    }
+}
+
+/// A moment of 10 and a register, and 8 bytes more.
+fn timed_register() -> [u8; 64] {
+    let mut bytes = [0; 64];
+    bytes[0] = 10;
+    bytes[8..56].copy_from_slice(&REGISTER);
+    bytes
+}
+
+#[test]
+fn stream_of_moments(rt: HostRuntime) {
+    let bytes = timed_register();
+    let mut stream = RequestStream::new(Counting::new(&bytes[..]));
+    let one = timed_frame(stream.next_timed(rt.alloc()));
+    holds(&rt, one == Ok(Some((10, 1))), &"a moment");
+    let next = timed_frame(stream.next_timed(rt.alloc()));
+    holds(&rt, next == Err(FrameFault::Short), &"a moment alone");
+}
+
+#[test]
+fn moments_of_a_reader(rt: HostRuntime) {
+    let bytes = timed_register();
+    let mut source = Counting::new(first(&bytes, 56));
+    for answer in [Some((10, 1)), None] {
+        let read = timed_frame(read_timed_from(rt.alloc(), &mut source));
+        holds(&rt, read == Ok(answer), &"a moment");
+    }
+    let cut = timed_frame(read_timed_from(rt.alloc(), &mut Counting::new(first(&bytes, 7))));
+    holds(&rt, cut == Err(FrameFault::Short), &"a cut moment");
+}
+
+/// A creation with a reserved byte that is not 0, and a register behind it.
+fn damaged() -> [u8; 352] {
+    let mut bytes = [0; 352];
+    bytes[..304].copy_from_slice(&creation(&with(&CREATION, 29, 1)));
+    bytes[304..].copy_from_slice(&REGISTER);
+    bytes
+}
+
+#[test]
+fn stream_stays_at_its_fault(rt: HostRuntime) {
+    let bytes = damaged();
+    for calls in 1..3 {
+        let mut stream = RequestStream::new(Counting::new(&bytes[..]));
+        for _ in 0..calls {
+            holds(
+                &rt,
+                next_frame(rt.alloc(), &mut stream) == Err(FrameFault::Reserved),
+                &"the fault",
+            );
+        }
+        let unread = stream.into_source().into_inner().len();
+        holds(&rt, unread == 304, &calls);
+    }
+}
+
+/// A reader that fails after some reads, each of 40 bytes at most.
+#[derive(Drop)]
+struct Failing<'a> {
+    rest: &'a [u8],
+    good: u32,
+}
+
+impl Read for Failing<'_> {
+    fn read(&mut self, buf: &mut [u8]) -> io::Result<usize> {
+        if self.good == 0 {
+            return Err(Error::from(ErrorKind::Other));
+        }
+        self.good -= 1;
+        let most = buf.len().min(40);
+        self.rest.read(&mut buf[..most])
+    }
+}
+
+#[test]
+fn reader_fails_in_mid_stream(rt: HostRuntime) {
+    let bytes = creation(&CREATION);
+    for good in 0..3 {
+        let rest = &bytes[..];
+        let mut stream = RequestStream::new(Counting::new(Failing { rest, good }));
+        for _ in 0..2 {
+            let answer = next_frame(rt.alloc(), &mut stream);
+            holds(&rt, answer == Err(FrameFault::Device), &good);
+        }
+        holds(&rt, stream.into_source().failures() == 1, &good);
+    }
+}
+
+/// A register, a creation and a lookup, each behind the moment 10.
+fn timed_frames() -> [u8; 472] {
+    let mut bytes = [0; 472];
+    bytes[0] = 10;
+    bytes[8..56].copy_from_slice(&REGISTER);
+    bytes[56] = 10;
+    bytes[64..368].copy_from_slice(&creation(&CREATION));
+    bytes[368] = 10;
+    bytes[376..].copy_from_slice(&lookup());
+    bytes
+}
+
+#[test]
+fn pairs_of_a_buffer(rt: HostRuntime) {
+    let bytes = timed_frames();
+    for capacity in [1, 56, 400, 4096] {
+        let reader = BufReader::with_capacity(rt.alloc(), capacity, &bytes[..]);
+        let mut source = Buffered::new(reader.expect(&rt, "a buffer"));
+        for answer in [Some((10, 1)), Some((10, 2)), Some((10, 3)), None] {
+            let read = timed_frame(read_timed_from(rt.alloc(), &mut source));
+            holds(&rt, read == Ok(answer), &"a pair");
+        }
+    }
+}
+
+#[test]
+fn bytes_that_are_skipped(rt: HostRuntime) {
+    let bytes = timed_frames();
+    let reader = BufReader::with_capacity(rt.alloc(), 400, &bytes[..]);
+    let mut source = Buffered::new(reader.expect(&rt, "a buffer"));
+    let first = timed_frame(read_timed_from(rt.alloc(), &mut source));
+    holds(&rt, first == Ok(Some((10, 1))), &"a pair");
+    holds(&rt, source.at_hand() == &bytes[56..400], &"buffered bytes");
+    if source.at_hand().len() >= 312 {
+        source.skip(312);
+    }
+    holds(&rt, source.at_hand() == &bytes[368..400], &"buffered bytes");
+    let last = timed_frame(read_timed_from(rt.alloc(), &mut source));
+    holds(&rt, last == Ok(Some((10, 3))), &"a pair");
+}
+
+/// How many of these three pairs come of a stream that is asked five times, and whether its end does. What else comes is the
+/// device's fault.
+fn take_five(
+    rt: &impl Abort,
+    alloc: Global,
+    stream: &mut RequestStream<Counting<Failing<'_>>>,
+) -> (u32, bool) {
+    let mut pairs = 0_u32;
+    for _ in 0..5 {
+        match timed_frame(stream.next_timed(alloc)) {
+            Ok(Some(_)) => pairs = pairs.wrapping_add(1),
+            Ok(None) => return (pairs, true),
+            Err(fault) => holds(rt, fault == FrameFault::Device, &"a fault"),
+        }
+    }
+    (pairs, false)
+}
+
+/// How many of the three pairs lie in so many bytes.
+fn pairs_within(read: usize) -> u32 {
+    match read {
+        0..56 => 0,
+        56..368 => 1,
+        368..472 => 2,
+        _ => 3,
+    }
+}
+
+/// The read behind so many fails: all pairs before it come, and then its fault, which stays. Says whether one failed.
+fn expect_fault(rt: &impl Abort, alloc: Global, good: u32) -> bool {
+    let bytes = timed_frames();
+    let rest = &bytes[..];
+    let mut stream = RequestStream::new(Counting::new(Failing { rest, good }));
+    let (pairs, ended) = take_five(rt, alloc, &mut stream);
+    let source = stream.into_source();
+    let failures = source.failures();
+    let read = bytes.len().wrapping_sub(source.into_inner().rest.len());
+    holds(rt, pairs == pairs_within(read), &good);
+    holds(rt, failures == u64::from(!ended), &good);
+    !ended
+}
+
+/// Each read of three pairs fails in turn: of a moment, of a header in two pieces, of each record in three or four.
+#[test]
+fn each_read_of_a_stream_fails(rt: HostRuntime) {
+    let mut failed = 0_u32;
+    for good in 0..100 {
+        failed = failed.wrapping_add(u32::from(expect_fault(&rt, rt.alloc(), good)));
+    }
+    holds(&rt, (19..100).contains(&failed), &failed);
+}

@@ -1,0 +1,20 @@
+//! What maps, ledgers and machines do where an allocation is refused: each in turn.
+//!
+//! Modules, each over those before it:
+//!
+//! - `comparing`: what is compared, in one function.
+//! - `map_tests`: each growth of a map refused.
+//! - `turns`: the requests of worked rows.
+//! - `shown`: what a machine shows.
+//! - `applying`: the requests, applied as entries.
+//! - `pooling`: the same, served as pairs.
+//! - `growth_tests`: each growth and each chunk refused.
+//! - `batch_tests`: how many bytes a batch of transfers asks for.
+mod applying;
+mod batch_tests;
+mod comparing;
+mod growth_tests;
+mod map_tests;
+mod pooling;
+mod shown;
+mod turns;

@@ -1,8 +1,0 @@
-//! What is compared, in one place: whoever calls this has one call to prove, and no text to put together.
-use std::fmt::Debug;
-use std::process::Abort;
-
-/// It is so. What is asked, or the row that it is asked of, stands in the message.
-pub(crate) fn holds(rt: &impl Abort, is_so: bool, at: &impl Debug) {
-    assert!(rt; is_so, "at {at:?}");
-}

@@ -1,0 +1,24 @@
+//! Worked rows through `take` and seats, by public calls of tb_published alone.
+//!
+//! Modules, each over those before it:
+//!
+//! - `making`: what the rows are made of.
+//! - `frames`: reply frames in hexadecimal.
+//! - `rows`: the first requests, their bytes, and what the seat looks up.
+//! - `showing`: what is entered and not yet shown.
+//! - `touching`: orders over many accounts.
+//! - `progress`: all that was entered is shown by the next call that shows.
+//! - `learning`: two seats, and what a seat learns.
+//! - `refusals`: what earlier requests have refused.
+//! - `times`: no time is left.
+//! - `threads`: seats next to the writer, in threads.
+mod frames;
+mod learning;
+mod making;
+mod progress;
+mod refusals;
+mod rows;
+mod showing;
+mod threads;
+mod times;
+mod touching;

@@ -1,0 +1,18 @@
+//! Worked rows through ports and a server, by public calls of tb_service alone.
+//!
+//! Modules, each over those before it:
+//!
+//! - `making`: what the rows are made of.
+//! - `handovers`: one port.
+//! - `audits`: places that audits name.
+//! - `gates`: a gate passed before a request has its moment.
+//! - `progress`: answers while the server still runs.
+//! - `seats`: seats next to a server.
+//! - `threads`: ports, a server and seats in threads.
+mod audits;
+mod gates;
+mod handovers;
+mod making;
+mod progress;
+mod seats;
+mod threads;

@@ -1,0 +1,76 @@
+//! A register that one port hands over, and two seats that are asked for it.
+ghost use Rattle.std.specs.Prelude.{◌≡◌};
+
+use crate::comparing::holds;
+use crate::uses::making::{register, two_clients};
+use std::alloc::Global;
+use std::marker::Brand;
+use std::process::Abort;
+use std::sync::Wait;
+use tb_published::{Naming, Opening, Publisher, Seat, SeatCount, open};
+use tb_records::{Profile, Reply, Request, Status};
+use tb_service::{Moments, Open};
+use tb_uses::seating::ask_two;
+use tb_uses::serving::serve_one;
+
+/// Always the same moment.
+#[derive(Drop)]
+struct Still;
+
+impl Moments for Still {
+    ghost tells = { λ before moment after. moment ≡ 10 };
+
+    fn now(&mut self) -> u64 {
+        10
+    }
+}
+
+/// Says whether a reply is of entry 1.
+fn is_first(reply: &Reply) -> bool {
+    reply.status() == Status::Reply && reply.commit() == 1
+}
+
+/// Says whether there are answers, both of entry 1.
+fn are_first(answers: &Option<(Reply, Reply)>) -> bool {
+    match answers {
+        Some((first, second)) => is_first(first) && is_first(second),
+        None => false,
+    }
+}
+
+/// Both seats find the register answered by entry 1.
+fn expect_both<J: Naming>(
+    rt: &impl Abort,
+    publisher: &Publisher<J>,
+    seats: &mut Vec<Seat<J>>,
+    asked: &Request,
+) {
+    let mut both = seats.iter_mut();
+    let one = both.next().expect(rt, "a seat");
+    let two = both.next().expect(rt, "another seat");
+    let answers = ask_two(publisher, one, two, asked).expect(rt, "answers");
+    holds(rt, are_first(&answers), &"both of entry 1");
+    drop(answers);
+}
+
+/// One register is served by an opening, and two seats are asked for it.
+fn serve_register<J: Naming, R: Wait + Abort>(rt: &R, alloc: Global, opening: Opening)
+    requires { opening ≡ J.opening }
+{
+    let count = SeatCount::new(2).expect(rt, "seats");
+    let made = open::<J, R>(alloc, rt, opening, count);
+    let (publisher, mut seats) = made.expect(rt, "a publisher");
+    let served = serve_one(rt, alloc, publisher, Still, Open, register(rt));
+    let finished = served.expect(rt, "a server");
+    let asked = register(rt);
+    expect_both(rt, &finished.publisher, &mut seats, &asked);
+    drop(asked);
+    drop(finished.close(rt));
+    drop(seats);
+}
+
+#[test]
+fn a_register_is_served_to_two(rt: HostRuntime) {
+    let opening = Opening::new(Profile::One, two_clients(&rt));
+    serve_register::<Brand, _>(&rt, rt.alloc(), opening);
+}
