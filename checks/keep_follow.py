@@ -15,6 +15,7 @@ import struct
 import subprocess
 import sys
 import tempfile
+import time
 
 import tried
 
@@ -81,16 +82,11 @@ def killed(program, path, data, wanted, rng):
         stdout=subprocess.PIPE,
         stderr=subprocess.DEVNULL,
     ) as process:
-        end = rng.randrange(len(data) + 1)
-        told = b""
-        try:
-            process.stdin.write(data[:end])
-            process.stdin.flush()
-            told = process.stdout.read(rng.randrange(1, 200))
-        except BrokenPipeError:
-            pass
+        process.stdin.write(data[: rng.randrange(len(data) + 1)])
+        process.stdin.flush()
+        time.sleep(rng.random() * 0.05)
         process.kill()
-        told += process.stdout.read()
+        told = process.stdout.read()
     return told, wanted.startswith(told)
 
 

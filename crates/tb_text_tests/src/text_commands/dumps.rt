@@ -87,9 +87,29 @@ const AUDITED_REGISTER: &str = r#"{"profile":1,"clients_max":2}
 {"commit":"1","time":"1","client":"7","session":"0","request":0,"operation":"register","events":[]}
 "#;
 
+/// A lookup of a transfer.
+const FOUND: &str = "at=10 client=7 session=1 request=5 lookup_transfers id=11;\n";
+
+/// A dump of three entries with a mark behind the first, as objects.
+const DUMPED: &str = r#"{"profile":1,"clients_max":2}
+{"commit":"1","time":"1","client":"7","session":"0","request":0,"operation":"register","events":[]}
+{"profile":2}
+{"commit":"2","time":"9","client":"7","session":"1","request":4,"operation":"lookup_accounts","events":[{"id":"2"}]}
+{"commit":"3","time":"10","client":"7","session":"1","request":5,"operation":"lookup_transfers","events":[{"id":"11"}]}
+"#;
+
 /// What became of each event, real amounts, an expiry, and how account 1 stood; whole dumps, and entries that do not follow
 /// from those before them.
-const DUMPS: [DumpRow; 6] = [
+const DUMPS: [DumpRow; 7] = [
+    DumpRow {
+        words: &["dump"],
+        profile: 1,
+        entries: &[(1, 1, REGISTER), (2, 9, LOOKUP), (3, 10, FOUND)],
+        mark: Some(1),
+        status: 0,
+        output: DUMPED,
+        line: "",
+    },
     DumpRow {
         words: &["audit", "--account", "1"],
         profile: 1,
