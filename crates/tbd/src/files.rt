@@ -33,7 +33,7 @@ fn reported(
     reports: bool,
 ) -> Result<Reported<Real, Counting<BufWriter<Stderr>>>, OpeningFault> {
     let out = Counting::new(lines(rt));
-    Reported::new(rt.alloc(), real, path, out, reports).map_err(unread_fault)
+    Reported::new(rt.alloc(), real, path, out, reports).map_err(|fault| unread_fault(fault))
 }
 
 impl<'a> Opener for SystemFiles<'a> {
@@ -57,7 +57,9 @@ impl<'a> Opener for SystemFiles<'a> {
 
     fn open(&mut self, name: &str) -> Result<Snapshot<Real>, OpeningFault> {
         match Real::look(self.rt, name) {
-            Ok(real) => { Snapshot::new(self.rt.alloc(), real).map_err(unread_fault) }
+            Ok(real) => {
+                Snapshot::new(self.rt.alloc(), real).map_err(|fault| unread_fault(fault))
+            }
             Err(fault) => Err(opening_fault(&fault)),
         }
     }
