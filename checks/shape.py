@@ -49,7 +49,7 @@ COLUMNS = (
 CLAUSES_OVER_100 = 0.203  # wanted: 0.10
 # Each figure with a bound: what it has today, and what is wanted.
 BOUNDS = {
-    "lines": (113537, 74500),
+    "lines": (113559, 74500),
     "imports": (11477, 4700),
     ">160": (134, 0),
     "ghost >160": (8, 0),
