@@ -91,10 +91,11 @@ def write(commit: str) -> None:
         unit, wanted = FIGURES[name][2:]
         row |= {"kind": "form", "date": today, "commit": commit, "subject": name}
         kept.insert(at, row | {"value": values[name], "unit": unit, "note": wanted})
-    with open(figures.RUNS, "w", encoding="utf-8", newline="") as file:
+    with open(figures.measured.RUNS, "w", encoding="utf-8", newline="") as file:
         rows = csv.DictWriter(file, figures.COLUMNS, lineterminator="\n")
         rows.writeheader()
         rows.writerows(kept)
+    figures.rows.cache_clear()
 
 
 def main() -> int:
