@@ -40,6 +40,23 @@ fn expect_crash(rt: &impl Abort, alloc: Global, left: &[u8], least: u64, most: u
     expect(rt, answers(rt, alloc, &log).ends_with(&told));
 }
 
+/// Crashes at a moment, with the last write torn in each way.
+fn expect_crashes(
+    rt: &impl Abort,
+    alloc: Global,
+    file: &Memory,
+    moment: usize,
+    least: u64,
+    most: u64,
+) {
+    expect(rt, moment <= file.moments());
+    for torn in TORN {
+        let left = sure(rt, file.after_crash(moment, torn));
+        expect_crash(rt, alloc, &left, least, most);
+        drop(left);
+    }
+}
+
 #[test]
 fn a_crash_at_each_moment(rt: HostRuntime) {
     let alloc = rt.alloc();
@@ -52,10 +69,7 @@ fn a_crash_at_each_moment(rt: HostRuntime) {
     for k in 0..=12usize {
         let whole = (k / 4) as u64;
         let most = if k % 4 == 3 { whole + 1 } else { whole };
-        for torn in TORN {
-            let left = sure(&rt, file.after_crash(begin.saturating_add(k), torn));
-            expect_crash(&rt, alloc, &left, whole, most);
-        }
+        expect_crashes(&rt, alloc, file, begin.saturating_add(k), whole, most);
     }
     drop(keeper);
 }
