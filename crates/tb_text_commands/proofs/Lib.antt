@@ -2,7 +2,6 @@ pub mod Choosing
 pub mod Extents
 pub mod Placing
 pub mod ExplainedRuns
-pub mod ReplayedRuns
 pub mod Taking
 pub mod TypedParts
 pub mod Watching
