@@ -3,7 +3,6 @@ ghost use Rattle.std.specs.Prelude.{◌≡◌, true};
 
 use std::alloc::{Allocator, Global};
 use std::marker::Model;
-use std::mem;
 use tb_journal::{Device, Journal};
 use tb_machine::Machine;
 
@@ -75,20 +74,6 @@ impl<D: Device, A: Allocator + Clone> Keeper<D, A> {
             ..
         } = self;
         drop(machine);
-        journal.into_device()
-    }
-
-    /// The device, given back at the end of a process. What waits is dropped. The machine is left to the process and to its
-    /// records' allocator, which free their memory as a whole: no record is visited.
-    pub fn leave(self) -> D
-        ensures { result ≡ self.journal.device }
-    {
-        let Keeper {
-            journal,
-            machine,
-            ..
-        } = self;
-        mem::forget(machine);
         journal.into_device()
     }
 

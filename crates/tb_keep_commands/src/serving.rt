@@ -77,7 +77,7 @@ fn serve<D: Device + Drop, A: Allocator + Clone, R: Source, W: Sink, E: Sink>(
     tell_ready(told.reports, faults);
     let failures = reader.failures();
     let kept = keep(alloc, &mut keeper, reader, writer);
-    drop(keeper.leave());
+    drop(keeper);
     kept_outcome(kept, failed_pipe(failures, reader.failures()))
 }
 

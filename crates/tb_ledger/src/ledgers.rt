@@ -18,7 +18,6 @@ use crate::tables::rows::Rows;
 use crate::tables::work::Work;
 use std::alloc::{AllocError, Allocator, Global};
 use std::marker::Model;
-use std::mem;
 use tb_records::{Account, EventResult, Profile, Transfer};
 
 /// A ledger of accounts and transfers. Its value is its books: the accounts as they were created, the transfers as they
@@ -100,20 +99,6 @@ impl<A: Allocator + Clone> Ledger<A> {
             alloc,
             work: Work::new(profile),
         }
-    }
-
-    /// Frees what the ledger has of the global allocator. Its rows are left to their own allocator, which is to free its memory as
-    /// a whole: so none of them is visited.
-    pub fn leave_rows(self) {
-        let Ledger { work, .. } = self;
-        let Work {
-            rows,
-            undo_log,
-            results,
-        } = work;
-        mem::forget(rows);
-        mem::forget(undo_log);
-        drop(results);
     }
 
     /// The time of the last entry, in nanoseconds: 0 before the first. In the books of every ledger ids rise: those of accounts,

@@ -280,17 +280,6 @@ impl<A: Allocator + Clone> Machine<A> {
         Ok(())
     }
 
-    /// Frees the sessions. The records are left to their allocator, which frees its memory as a whole.
-    pub(crate) fn leave_records(self) {
-        let Machine {
-            ledger,
-            sessions,
-            ..
-        } = self;
-        ledger.leave_rows();
-        drop(sessions);
-    }
-
     /// Serves a request that comes at a moment, where it is New beside its client's row: by one search of the sessions it is
     /// executed, the row keeps it and the reply, and the reply is written. Any other request gets its class, and so do a
     /// register of a client without a row and a request for which there is no time: nothing is called or changed then.

@@ -255,7 +255,7 @@ pub(crate) fn pass_on_before_waiting<R: Source, W: Sink>(reader: &R, writer: &mu
     }
 }
 
-/// Serves a script, with the records of the machine in memory of `alloc`, a pool: they are freed with it, and no record by itself.
+/// Serves a script, with the records of the machine in memory of `alloc`.
 fn run_in<A: Allocator + Clone, R: Source, W: Sink>(
     global: Global,
     profile: Profile,
@@ -274,17 +274,17 @@ fn run_in<A: Allocator + Clone, R: Source, W: Sink>(
         let more = match serve_next(global, &mut machine, reader, writer) {
             Ok(more) => more,
             Err(fault) => {
-                machine.leave_records();
+                drop(machine);
                 return Err(fault);
             }
         };
         if !more {
-            machine.leave_records();
+            drop(machine);
             writer.pass_on();
             return Ok(k);
         }
     }
-    machine.leave_records();
+    drop(machine);
     Err(RunFault::TooLong)
 }
 

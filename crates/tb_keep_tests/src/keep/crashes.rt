@@ -44,7 +44,7 @@ fn served_again(
     let mut keeper = started(rt, alloc, left);
     let (well, replies) = serve(alloc, &mut keeper, script);
     let entries = keeper.machine().commit();
-    drop(keeper.leave());
+    drop(keeper);
     (well, replies, entries)
 }
 
