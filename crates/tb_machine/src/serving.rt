@@ -187,6 +187,7 @@ fn answer_known<A: Allocator + Clone, W: Sink>(
 }
 
 /// Answers a request of a class: enters a new one, and answers any other.
+#[inline(never)]
 fn answer_as<A: Allocator + Clone, W: Sink>(
     machine: &mut Machine<A>,
     writer: &mut W,

@@ -232,7 +232,8 @@ fn pair_in(alloc: Global, bytes: &[u8]) -> Result<Option<(u64, Request, usize)>,
     }
 }
 
-/// As `read_timed_from`, by a read for each part of the pair.
+/// As `read_timed_from`, by a read for each part of the pair. It stays out of that function, whose frame is small so.
+#[inline(never)]
 #[tactic(auto, using(crate::proofs::StreamAnswers::no_frame, crate::proofs::StreamAnswers::bad_frame))]
 fn timed_by_parts<S: Source>(
     alloc: Global,

@@ -25,6 +25,7 @@ fn release_rows(debit: &mut AccountRow, credit: &mut AccountRow, p: &Transfer)
 }
 
 /// Takes what a pending transfer holds from both of its accounts, where their rows stand.
+#[inline(never)]
 fn release<A: Allocator + Clone>(accounts: &mut Table<AccountRow, A>, p: &Transfer)
     requires apart { p.now.debit_account_id ≢ p.now.credit_account_id }
     requires debit { IsSome (find (λ a. a.created.id == p.now.debit_account_id) accounts.old.items) }
@@ -53,6 +54,7 @@ fn expire_row(row: &mut TransferRow, before: &mut Option<TransferRow>)
 }
 
 /// Marks the transfer that a timeout names as expired, where its row stands, and answers the row from before.
+#[inline(never)]
 fn mark_expired<A: Allocator + Clone>(
     transfers: &mut Table<TransferRow, A>,
     due: Timeout,
@@ -114,6 +116,8 @@ fn look_ahead<A: Allocator + Clone>(rows: &mut Rows<A>, ended: usize)
 
 /// Moves the ledger on to `time`: pending transfers whose timeout has passed hold no more. It takes as many steps as there are
 /// of these.
+///
+/// Most entries find none: so its steps are functions of their own, and it has a small frame.
 pub fn expire<A: Allocator + Clone>(rows: &mut Rows<A>, time: u64)
     requires kept { IsKept rows.old }
     requires later { rows.old.time ≤ time }

@@ -105,6 +105,7 @@ impl<A: Allocator + Clone> Timeouts<A> {
         ensures no_more { self.new.spare ≤ max self.old.spare n }
     {
         match &mut self.keys {
+            Some(keys) if n <= keys.spare() => Ok(()),
             Some(keys) => keys.reserve(n),
             None => {
                 let mut keys = AvlMap::new_in(alloc.clone()?);
