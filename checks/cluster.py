@@ -17,7 +17,7 @@ rules, no log), `wrong` (four wrong replicas, which the part `faults` has to fin
 etcd, PostgreSQL, one of their Python packages or the server is not there, parts are skipped by
 name. --replica runs another replica in the place of the right one: a KIND of
 checks/clusters/wrong_replica.py. --follow gives the replicas another server, which takes entries
-with their positions. --show tells what happens while money moves and machines are
+with their positions. --show prints what happens while money moves and machines are
 killed.
 
 Prints a line for each case; ends in 'N passed, M failed'.
@@ -193,7 +193,7 @@ def late_replica(cluster):
     late.kill()
     os.rename(cluster.copy(2), cluster.copy(2) + ".lost")
     late.start()
-    case("trim: who comes too late is told Trimmed", late.process.wait(60) == 21, last(late))
+    case("trim: who comes too late gets Trimmed", late.process.wait(60) == 21, last(late))
     os.rename(cluster.copy(2), cluster.copy(2) + ".empty")
     status, said = cluster.part("copy-from", cluster.copy(0), "--copy", cluster.copy(2))
     case("trim: a copy of a peer", status == 0, said.strip())
@@ -441,7 +441,7 @@ def words():
         help="seconds between two requests of a client of the first part (0.1)",
     )
     parser.add_argument("--follow", metavar="PROGRAM", help="tb_follow, as the replicas' server")
-    parser.add_argument("--show", action="store_true", help="tell what happens")
+    parser.add_argument("--show", action="store_true", help="print what happens")
     parser.add_argument("--seconds", type=int, default=60, help="how long --show takes (60)")
     return parser.parse_args()
 

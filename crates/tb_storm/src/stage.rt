@@ -1,4 +1,4 @@
-//! What the server's thread tells the clients.
+//! What the server's thread reports to the clients.
 use std::sync::Wait;
 use std::sync::atomic::{AtomicBool, Ordering};
 use std::thread::Parker;

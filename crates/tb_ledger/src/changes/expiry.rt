@@ -24,7 +24,7 @@ fn release_rows(debit: &mut AccountRow, credit: &mut AccountRow, p: &Transfer)
     credit.set_credits(release_side(credit.credits(), p, p.has(TransferFlag::ClosingCredit)));
 }
 
-/// Takes what a pending transfer holds from both of its accounts, where their rows stand.
+/// Takes what a pending transfer holds from both of its accounts, in place.
 #[inline(never)]
 fn release<A: Allocator + Clone>(accounts: &mut Table<AccountRow, A>, p: &Transfer)
     requires apart { p.now.debit_account_id ≢ p.now.credit_account_id }
@@ -53,7 +53,7 @@ fn expire_row(row: &mut TransferRow, before: &mut Option<TransferRow>)
     row.set_state(State::Expired);
 }
 
-/// Marks the transfer that a timeout names as expired, where its row stands, and answers the row from before.
+/// Marks the transfer that a timeout names as expired, in place, and answers the row from before.
 #[inline(never)]
 fn mark_expired<A: Allocator + Clone>(
     transfers: &mut Table<TransferRow, A>,
