@@ -21,6 +21,6 @@ returns-else-is_due-clause-kept g c =
     let none = none_lapses rows.transfers.items rows.timeouts kept.index T (c.is_due.ensures c.if-is_due.false) in
     let ahead = will_be rows.transfers.items rows.time T c.requires.later kept.kept.states in
     ledger_then rows later kept c.requires.later records (record {
-        sums = kept.kept.sums;
-        states = arrived rows.transfers.items T (map (λ t. t.recorded) rows.transfers.items) refl none ahead;
-      }) kept.index
+      sums = kept.kept.sums;
+      states = arrived rows.transfers.items T (map (λ t. t.recorded) rows.transfers.items) refl none ahead;
+    }) kept.index
