@@ -285,7 +285,9 @@ impl Replay {
                     time,
                     request,
                 };
-                self.put_entry(teller, writer, &entry)
+                let done = self.put_entry(teller, writer, &entry);
+                drop(entry);
+                done
             }
         }
     }
@@ -393,7 +395,9 @@ fn audit_by<T: Teller, R: Source, W: Sink>(
 {
     let head = put_head(teller, reader, writer)?;
     let mut replay = Replay::new(alloc, &head, account)?;
-    replay.put_all(alloc, teller, reader, writer)
+    let done = replay.put_all(alloc, teller, reader, writer);
+    drop(replay);
+    done
 }
 
 /// Writes what a dump's entries did, as far as it is wanted, in lines of JSON. Where an account's lines are wanted and the

@@ -99,7 +99,11 @@ impl<T: ItemWriter> Converter for DumpItems<T> {
 
     fn put<W: Sink>(&mut self, writer: &mut W, item: DumpItem) -> Result<(), Fault> {
         match entry_of(item) {
-            Some(entry) => self.item_writer.put_entry(writer, &entry),
+            Some(entry) => {
+                let done = self.item_writer.put_entry(writer, &entry);
+                drop(entry);
+                done
+            }
             None => self.item_writer.put_mark(writer),
         }
     }

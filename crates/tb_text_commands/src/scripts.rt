@@ -109,7 +109,9 @@ impl Converter for Statements {
 
     fn put<W: Sink>(&mut self, writer: &mut W, pair: (u64, Request)) -> Result<(), Fault> {
         let (moment, request) = pair;
-        put_line(writer, statement_of(self.alloc, moment, &request))
+        let text = statement_of(self.alloc, moment, &request);
+        drop(request);
+        put_line(writer, text)
     }
 }
 
@@ -149,6 +151,8 @@ impl Converter for Replies {
     }
 
     fn put<W: Sink>(&mut self, writer: &mut W, reply: Reply) -> Result<(), Fault> {
-        put_line(writer, reply_line(self.intake.alloc, &reply))
+        let line = reply_line(self.intake.alloc, &reply);
+        drop(reply);
+        put_line(writer, line)
     }
 }
