@@ -125,6 +125,7 @@ class Machines:
 
     nodes = ()  # the engine's processes
     follows = None  # tb_follow, where that is the server
+    keeps = None  # a server that keeps its ledger in a file, where that is it
 
     def __init__(self, folder, clients_max, replica, count):
         self.folder, self.count, self.clients_max = folder, count, clients_max
@@ -140,13 +141,21 @@ class Machines:
     def out(self, at):
         return f"{self.folder}/replies{at}"
 
+    def file(self, at):
+        return f"{self.folder}/ledger{at}.tbl"
+
+    def command(self, at):
+        """The server of a replica, and its words."""
+        if self.keeps:
+            return [self.keeps, "follow", self.file(at), str(self.clients_max)]
+        words = ["bash", "-c", KEEPING, "bash", self.follows or PROGRAM, self.out(at)]
+        return [*words, *([] if self.follows else ["run"]), str(self.clients_max)]
+
     def replica_words(self, at, words, more=()):
-        command = ["bash", "-c", KEEPING, "bash", self.follows or PROGRAM, self.out(at)]
         given = ["--log", self.log(at), "--copy", self.copy(at), "--name", f"r{at}", *more]
         given += ["--tcp", f"127.0.0.1:{self.tcp[at]}", "--connections", "200"]
         given += ["--positions", "--"] if self.follows else ["--"]
-        form = [] if self.follows else ["run"]
-        return [PYTHON, "-B", *words, *given, *command, *form, str(self.clients_max)]
+        return [PYTHON, "-B", *words, *given, *self.command(at)]
 
     def start(self):
         self.start_engine()
