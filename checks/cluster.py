@@ -375,19 +375,25 @@ def part_access(given):
 
 def part_kept(given):
     """The servers keep their ledgers in files."""
+    with keeping(given), cluster_of(given) as cluster:
+        traffic = Traffic(cluster.tcp, 12, pause=0.05, spread=True)
+        traffic.open_accounts()
+        traffic.start()
+        faults = Faults(cluster, given.seed, given.kinds)
+        faults.some(given.faults, given.between)
+        waits(faults, traffic)
+        agree_kept("kept", cluster, traffic)
+        kept_restarts(cluster)
+        kept_trims(cluster)
+        refused_files(cluster)
+
+
+@contextlib.contextmanager
+def keeping(given):
+    """Gives the replicas a server that keeps its ledger in a file."""
     Machines.keeps = os.path.abspath(given.kept)
     try:
-        with cluster_of(given) as cluster:
-            traffic = Traffic(cluster.tcp, 12, pause=0.05, spread=True)
-            traffic.open_accounts()
-            traffic.start()
-            faults = Faults(cluster, given.seed, given.kinds)
-            faults.some(given.faults, given.between)
-            waits(faults, traffic)
-            agree_kept("kept", cluster, traffic)
-            kept_restarts(cluster)
-            kept_trims(cluster)
-            refused_files(cluster)
+        yield
     finally:
         Machines.keeps = None
 
@@ -481,10 +487,14 @@ def refused_files(cluster):
 def part_rates(given):
     """Rates next to the listener over tbd, and how long a restart takes. A machine that does
     something else meanwhile has other rates: compare the ratios."""
-    with cluster_of(given) as cluster:
+    with cluster_of(given, is_linked=False) as cluster:
         rates.compared(cluster, 10, 3)
+    if given.kept:
+        print("  with ledgers in files:")
+        with keeping(given), cluster_of(given, is_linked=False) as cluster:
+            rates.compared(cluster, 10, 3)
     for clients, batch, wanted in ((4, 8190, 1_000_000), (24, 1, given.singles)):
-        with cluster_of(given) as cluster:
+        with cluster_of(given, is_linked=False) as cluster:
             done = 0
             while done < wanted:
                 done += int(10 * rates.rate(cluster.tcp[0], clients, batch, 10))

@@ -193,18 +193,20 @@ class Machines:
 
 class Cluster(Machines):
     """Three nodes of etcd and three replicas, with a link between each replica and each node, and
-    one to each node for the others."""
+    one to each node for the others; or without links, where nothing is cut and rates count."""
 
-    def __init__(self, folder, quota=0, clients_max=64, replica=None, count=3):
+    def __init__(self, folder, quota=0, clients_max=64, replica=None, count=3, is_linked=True):
         self.quota = quota
         take = iter(free_ports(3 * count + count * count)).__next__
         self.serves, self.peers = [[take() for _ in range(count)] for _ in range(2)]
         self.peer_links = [take() for _ in range(count)]
         self.ways = [[take() for _ in range(count)] for _ in range(count)]
+        if not is_linked:
+            self.peer_links, self.ways = self.peers, [self.serves] * count
         super().__init__(folder, clients_max, replica, count)
         pairs = list(zip(self.peer_links, self.peers))
         pairs += [(it, self.serves[at]) for way in self.ways for at, it in enumerate(way)]
-        self.links = Links(pairs)
+        self.links = Links(pairs if is_linked else [])
         self.nodes = [Process(f"node{it}", self._node(it), folder) for it in range(count)]
 
     def _node(self, at):

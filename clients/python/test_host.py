@@ -634,7 +634,7 @@ class Kept(OverALog):
         await asyncio.wait_for(it.begun(), 20)
         self.assertEqual(it.follower.state(), (position, digest))
         self.assertEqual(self.commit(await self.asked(it, 77)), 20)
-        self.assertFalse(self.copy.held, "what was answered is let go")
+        self.assertFalse(self.copy.held, "what was answered is dropped")
         await self.closed(it)
         self.assertIn("tbd: has the log up to position", self.told.getvalue())
 

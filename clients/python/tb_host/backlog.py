@@ -184,7 +184,7 @@ class Backlog(Taken):
         return iter([it.item for it in self.held if it.item.end > start])
 
     def settle(self, position: int) -> None:
-        """Lets go what the server has answered: its file has it."""
+        """Drops what the server has answered: its file has it."""
         while self.held and self.held[0].item.position <= position:
             it = self.held.popleft()
             self.bytes -= len(it.item.pairs)

@@ -11,6 +11,8 @@ import os
 import time
 from typing import Any, Deque, Dict, List, Optional, Set, Tuple
 
+from tb_client.frames import asker
+
 from .backlog import Backlog
 from .command import journal_at
 from .connections import Answered
@@ -30,6 +32,7 @@ REPORT = 10.0  # seconds after which a replica reports, where its position has c
 REPORT_BYTES = 1 << 22  # bytes of its copy after which it reports before that
 SYNC = 1.0  # seconds after which the copy is synced
 PAUSE = 0.1  # seconds before an append is tried again
+COME, GATHER = 0.002, 0.006  # seconds in which one of those who are answered comes again, and all
 ANSWERS = 2.0  # seconds for which the reports of others are waited for at the start
 FORMAT = 1
 RULES = 1  # grows where a server answers a script otherwise than before
@@ -87,6 +90,10 @@ class Sent:
     def __init__(self, entry: Entry, pairs: List[Pair]) -> None:
         self.entry, self.data, self.pairs = entry, entry.to_bytes(), pairs
 
+    def wanted(self) -> List[bytes]:
+        """What the reply to each pair repeats of it: each was tested when it came."""
+        return [asker(it.frame) for it in self.pairs]
+
 
 class Replica:
     """One replica. It serves as a listener's command does."""
@@ -98,7 +105,8 @@ class Replica:
         self.moments = Moments()
         self.stopping = self.follower.stopping
         self.queue: Deque[Pair] = collections.deque()
-        self.queued = asyncio.Event()
+        self.queued = asyncio.Event()  # enough requests wait for the next entry
+        self.expected = 1  # requests that are enough
         self.number = 0
         self.sent: Dict[int, Sent] = {}  # own entries that were not read yet, by their number
         self.own: Dict[int, List[Pair]] = {}  # those that were read, by their position
@@ -132,7 +140,8 @@ class Replica:
             answered(b"", "ProgramEnded")
         else:
             self.queue.append(Pair(frame, answered))
-            self.queued.set()
+            if len(self.queue) >= self.expected:
+                self.queued.set()
 
     async def ask(self, frame: bytes) -> bytes:
         """The reply to a request. Raises `Told` where there is none."""
@@ -218,10 +227,23 @@ class Replica:
         while True:
             await self.queued.wait()
             self.queued.clear()
+            self.expected = 1
             while self.queue:
                 data = self._next_entry()
                 if data is not None:
                     await self._append(self.number, data)
+                    await self._gather()
+
+    async def _gather(self) -> None:
+        """Waits as long as those come who are answered now: one entry for all takes less than one
+        for the first of them and one for the others."""
+        count = len(self.queue) + len(self.own.get(self.copy.position, ()))
+        self.expected, before, end = count, -1, time.monotonic() + GATHER
+        while count > 1 and before < len(self.queue) < count and time.monotonic() < end:
+            self.queued.clear()
+            before = len(self.queue)
+            await came(self.queued, COME)
+        self.expected = 1
 
     async def _append(self, number: int, data: bytes) -> None:
         """Appends an entry once: by the same name until it is in the log."""
@@ -274,10 +296,8 @@ class Replica:
     def take(self, written: Written) -> None:
         """Takes an entry of the log: it is tested, passed to the server, and copied."""
         position = self.copy.position + 1
-        try:
-            entry = Entry.from_bytes(written.data)
-        except ValueError as error:
-            raise Fault("BadEntry", f"the entry at {position}: {error}") from None
+        sent = next((it for it in self.sent.values() if it.data is written.data), None)
+        entry = sent.entry if sent else self._entry_of(position, written.data)
         before = self.copy.numbers.get(entry.writer, 0)
         if entry.number <= before:
             say(f"entry {entry.number} of a writer is in the log twice, and is taken once")
@@ -285,11 +305,17 @@ class Replica:
         if entry.number != before + 1:
             said = f"the entry at {position} is number {entry.number} behind {before}"
             raise Fault("BadEntry", said)
-        wanted = test_pairs(position, entry.pairs)
+        wanted = sent.wanted() if sent else test_pairs(position, entry.pairs)
         self._compare(position, entry)
         if entry.writer == self.writer:
             self._take_own(position, self.sent.pop(entry.number))
         self._enter(position, written, entry, wanted)
+
+    def _entry_of(self, position: int, data: bytes) -> Entry:
+        try:
+            return Entry.from_bytes(data)
+        except ValueError as error:
+            raise Fault("BadEntry", f"the entry at {position}: {error}") from None
 
     def _take_own(self, position: int, sent: Sent) -> None:
         """Takes the pairs of an own entry. Raises `Diverged` where the server had an entry at its
