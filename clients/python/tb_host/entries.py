@@ -22,11 +22,14 @@ MAGIC = b"TBENTRY1"
 PAIRS_MAX = 1 << 20  # bytes of pairs in an entry: the longest request fits
 MOMENT = struct.Struct("<Q")
 MOMENT_MAX = 1 << 62  # nanoseconds since 1970: the year 2116; so that time remains for all
+SMALL = 4096  # bytes that are copied rather than hashed by two calls
 NOTHING = bytes(32)  # the hash of an empty log, and of no replies
 
 
 def chained(before: bytes, more: bytes) -> bytes:
     """The hash of a list, from the hash of what came before its last item."""
+    if len(more) < SMALL:
+        return hashlib.sha256(before + more).digest()
     found = hashlib.sha256(before)
     found.update(more)
     return found.digest()

@@ -129,9 +129,10 @@ class EtcdLog:
         is_new = rpc.Compare(
             result=rpc.Compare.EQUAL, target=rpc.Compare.CREATE, key=key, create_revision=0
         )
-        put = rpc.RequestOp(request_put=rpc.PutRequest(key=key, value=value))
         get = rpc.RequestOp(request_range=rpc.RangeRequest(key=key))
-        request = rpc.TxnRequest(compare=[is_new], success=[put], failure=[get])
+        request = rpc.TxnRequest(compare=[is_new], failure=[get])
+        put = request.success.add().request_put  # set in place, since each message copies its parts
+        put.key, put.value = key, value
         return await self._call("keys", "Txn", request, seconds)
 
     async def _get(self, key: bytes) -> Optional[bytes]:

@@ -296,7 +296,7 @@ class Replica:
     def take(self, written: Written) -> None:
         """Takes an entry of the log: it is tested, passed to the server, and copied."""
         position = self.copy.position + 1
-        sent = next((it for it in self.sent.values() if it.data is written.data), None)
+        sent = next((it for it in self.sent.values() if it.data == written.data), None)
         entry = sent.entry if sent else self._entry_of(position, written.data)
         before = self.copy.numbers.get(entry.writer, 0)
         if entry.number <= before:
