@@ -293,7 +293,8 @@ def part_wrong(given):
     """Each wrong replica is found by the part `faults`."""
     for kind in WRONG:
         words = [sys.executable, "-B", __file__, "--only", "faults", "--replica", kind]
-        words += ["--faults", "6", "--seed", str(given.seed), "--kinds", *SHARP]
+        # a short pause, so that a replica that is killed has requests that wait for the log
+        words += ["--faults", "6", "--seed", str(given.seed), "--pause", "0.01", "--kinds", *SHARP]
         ran = subprocess.run(words, capture_output=True, text=True, timeout=1200)
         found = [it for it in ran.stdout.splitlines() if it.startswith("FAILED")]
         case(
