@@ -18,7 +18,7 @@ etcd, PostgreSQL, one of their Python packages or the server is not there, parts
 name. --replica runs another replica in the place of the right one: a KIND of
 checks/clusters/wrong_replica.py. --follow gives the replicas another server, which takes entries
 with their positions. --kept names a server that keeps its ledger in a file, as tbd, for the part
-`kept`: kills, restarts, a late replica, a trimmed log, and files that are refused. --show tells
+`kept`: kills, restarts, a late replica, a trimmed log, and files that are refused. --show prints
 what happens while money moves and machines are killed.
 
 Prints a line for each case; ends in 'N passed, M failed'.
@@ -196,7 +196,7 @@ def late_replica(cluster):
     late.kill()
     os.rename(cluster.copy(2), cluster.copy(2) + ".lost")
     late.start()
-    case("trim: who comes too late is told Trimmed", late.process.wait(60) == 21, last(late))
+    case("trim: who comes too late gets Trimmed", late.process.wait(60) == 21, last(late))
     os.rename(cluster.copy(2), cluster.copy(2) + ".empty")
     status, said = cluster.part("copy-from", cluster.copy(0), "--copy", cluster.copy(2))
     case("trim: a copy of a peer", status == 0, said.strip())
@@ -562,7 +562,7 @@ def words():
     )
     parser.add_argument("--follow", metavar="PROGRAM", help="tb_follow, as the replicas' server")
     parser.add_argument("--kept", metavar="PROGRAM", help="tbd, as a server over a file")
-    parser.add_argument("--show", action="store_true", help="tell what happens")
+    parser.add_argument("--show", action="store_true", help="print what happens")
     parser.add_argument("--seconds", type=int, default=60, help="how long --show takes (60)")
     return parser.parse_args()
 

@@ -75,7 +75,7 @@ def standing(program, path):
 
 
 def killed(program, path, data, wanted, rng):
-    """Gives a program these items and kills it: what it has told by then begins the wanted."""
+    """Gives a program these items and kills it: what it has written by then begins the wanted."""
     with subprocess.Popen(
         [program, "follow", path, CLIENTS],
         stdin=subprocess.PIPE,
@@ -111,7 +111,7 @@ def kills(options, folder, log, rng):
             told, right = killed(
                 options.kept, path, b"".join(items[position:]), whole[begin:], rng
             )
-            tried.case("what was told is right", right, quietly=True)
+            tried.case("what was sent is right", right, quietly=True)
             answer, said = standing(options.kept, path)
             if not tried.case("a start is answered", answer is not None, said, quietly=True):
                 return
@@ -119,7 +119,7 @@ def kills(options, folder, log, rng):
             tried.case("no entry is lost", found >= position, quietly=True)
             tried.case("the hashes are right", answer == answers[found][1], quietly=True)
             tried.case(
-                "what was told is in the file",
+                "what was acknowledged is in the file",
                 begin + len(told) <= answers[found][0],
                 quietly=True,
             )

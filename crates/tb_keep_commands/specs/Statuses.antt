@@ -53,7 +53,7 @@ opening_fault_of kinds.PermissionDenied = opening.Forbidden
 opening_fault_of kinds.OutOfMemory = opening.NoMemory
 opening_fault_of kind = opening.Unopened
 
--- a sync fails for want of memory, or what was written may be lost
+-- a sync fails since memory ran out, or what was written may be lost
 abbrev pub sync_fault : journal.Fault → OpeningFault
 sync_fault disk.Memory = opening.NoMemory
 sync_fault fault = opening.SyncFailed
@@ -170,7 +170,7 @@ damage_text (Torn at bytes) = (decimal bytes ++ codes " bytes behind byte ") ++ 
 abbrev pub sync_text : List ℕ
 sync_text = codes "SyncFailed: restart the machine or copy the file before the next start"
 
--- why a file was not opened; where the words may be wrong they are told
+-- why a file was not opened; where the words may be wrong they are reported
 abbrev pub opening_text : OpeningFault → List ℕ → List ℕ
 opening_text opening.Locked path = codes "Locked: another program has the file open"
 opening_text opening.Missing path = codes "Device: cannot find " ++ path
@@ -237,12 +237,12 @@ fault_line fault path = codes "tbd: " ++ (fault_text fault path ++ codes "\n")
 abbrev pub made_line : List ℕ → List ℕ
 made_line path = codes "tbd: made " ++ (path ++ codes "\n")
 
--- a line is told, or none is
+-- a line is reported, or none is
 abbrev pub TellsWhere : Bool → List ℕ → Output → Output → Type 0
 TellsWhere false line before after = after ≡ before
 TellsWhere true line before after = SaysLine line before after
 
--- of a file of so many bytes: it was made where it had none, and else nothing is told
+-- of a file of so many bytes: it was made where it had none, and else nothing is reported
 abbrev pub TellsMade : ℕ → List ℕ → Output → Output → Type 0
 TellsMade len path before after = TellsWhere (nat_eq len 0) (made_line path) before after
 

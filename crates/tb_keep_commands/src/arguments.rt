@@ -14,7 +14,7 @@ pub enum Form {
     /// Write the history of a file as a dump: all of it, or the entries above a commit number, without a head. The flag has more waited
     /// for.
     Dump(Option<u64>, bool),
-    /// Read a file, and tell what is in it.
+    /// Read a file, and report what is in it.
     Check,
     /// Copy the longest legal history that a file begins with into a new file.
     Salvage,

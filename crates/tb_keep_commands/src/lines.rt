@@ -329,7 +329,7 @@ fn put_line<E: Sink>(
     put_rest(faults, fault, path)
 }
 
-/// Tells a fault over a file of this path, in one line. A failure to write it changes no status.
+/// Prints a fault over a file of this path, in one line. A failure to write it changes no status.
 pub fn tell<E: Sink>(fault: Fault, path: &str, faults: &mut E)
     ensures { SaysLine (fault_line fault path.now) (E.output faults.old) (E.output faults.new) }
 {
@@ -363,10 +363,10 @@ fn put_cut<E: Sink>(
     put_end(faults, second, at)
 }
 
-/// What stands between the two numbers.
+/// What is between the two numbers.
 const BEHIND: &str = " bytes of a batch that was not committed, behind byte ";
 
-/// Tells how many bytes a start cut off behind the records, which end at this place; nothing where there were none.
+/// Prints how many bytes a start cut off behind the records, which end at this place; nothing where there were none.
 pub(crate) fn tell_cut<E: Sink>(bytes: u64, at: u64, faults: &mut E)
     ensures { TellsCut bytes at (E.output faults.old) (E.output faults.new) }
 {
@@ -450,7 +450,7 @@ fn put_page<E: Sink>(faults: &mut E, page: &str) -> Result<(), FrameFault>
     Ok(())
 }
 
-/// Tells that a file of this path was made, where it had no bytes; nothing where it had so many.
+/// Reports that a file of this path was made, where it had no bytes; nothing where it had so many.
 pub(crate) fn tell_made<E: Sink>(len: usize, path: &str, faults: &mut E)
     ensures { TellsMade len path.now (E.output faults.old) (E.output faults.new) }
 {
@@ -516,11 +516,11 @@ pub(crate) fn tell_ready<E: Sink>(reports: bool, faults: &mut E)
     }
 }
 
-/// What is told of requests that would come from a terminal.
+/// What is reported of requests that would come from a terminal.
 const FRAMES: &str =
     "tbd: standard input is a terminal, and run reads request frames there; tb-repl and tbt script take words";
 
-/// Tells where words are read, where requests would come from a terminal.
+/// Says where words are read, where requests would come from a terminal.
 pub(crate) fn tell_frames<E: Sink>(talks: bool, faults: &mut E)
     ensures { TellsFrames talks (E.output faults.old) (E.output faults.new) }
 {
@@ -538,7 +538,7 @@ fn put_usage<E: Sink>(faults: &mut E, words: &[String]) -> Result<(), FrameFault
     put_wrong(faults, "tbd: Usage:", shown, what)
 }
 
-/// Tells what is wrong with words that are none of the program's forms: without words, the page of usage. A failure to write
+/// Prints what is wrong with words that are none of the program's forms: without words, the page of usage. A failure to write
 /// it changes no status.
 pub fn tell_usage<E: Sink>(words: &[String], faults: &mut E)
     ensures { SaysLine (usage_lines (map string_bytes words.now)) (E.output faults.old)

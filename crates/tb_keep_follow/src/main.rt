@@ -44,7 +44,7 @@ enum Failure {
     Dump(DumpLogFault),
 }
 
-/// Follows the log of a reader to a writer, over a device. The position from which the log is wanted is told first.
+/// Follows the log of a reader to a writer, over a device. The position from which the log is wanted is reported first.
 fn keep_over<D: Device + Drop, A: Allocator + Copy, R: Source, W: Sink>(
     rt: &HostRuntime,
     pool: A,
@@ -138,7 +138,7 @@ fn perform(rt: &HostRuntime, path: &str, form: Form) -> Result<(), Failure> {
     }
 }
 
-/// Tells from which position the log is wanted, and what was cut off of the file.
+/// Prints from which position the log is wanted, and what was cut off of the file.
 fn tell_wanted(rt: &HostRuntime, position: u64, cut: u64) -> io::Result<()> {
     if cut > 0 {
         eprintln!(rt; "tb_keep_follow: cut {cut} bytes of an entry that was not committed")?;
@@ -146,7 +146,7 @@ fn tell_wanted(rt: &HostRuntime, position: u64, cut: u64) -> io::Result<()> {
     eprintln!(rt; "tb_keep_follow: has the log up to position {position}")
 }
 
-/// Tells a failure, in one line, and returns its exit status.
+/// Prints a failure, in one line, and returns its exit status.
 fn told(rt: &HostRuntime, path: &str, failure: Failure) -> u8 {
     match failure {
         Failure::File(fault) => {
@@ -181,7 +181,7 @@ fn file_name(fault: &FileFault) -> &'static str {
     }
 }
 
-/// Tells why a file is not opened as a kept log.
+/// Prints why a file is not opened as a kept log.
 fn tell_start(rt: &HostRuntime, path: &str, fault: LogStartFault) -> io::Result<()> {
     match fault {
         LogStartFault::Plain => {
@@ -212,7 +212,7 @@ fn command(rt: &HostRuntime, words: &[String]) -> u8 {
     }
 }
 
-/// Tells how the program is called.
+/// Prints how the program is called.
 fn usage(rt: &HostRuntime) -> io::Result<()> {
     eprintln!(rt;
         "tb_keep_follow: Usage: tb_keep_follow follow|dump FILE CLIENTS_MAX [PROFILE]: 1 to {CLIENTS_MAX} clients, profile 1 or 2"

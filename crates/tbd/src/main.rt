@@ -1,5 +1,5 @@
 //! `tbd`: a ledger server whose history is in a file. It serves requests from standard input to standard output, each reply
-//! sent when the entry that it rests on is on the disk; writes the history of a file as a dump; and reports what is in a file.
+//! sent when the entry that it rests on is durable; writes the history of a file as a dump; and reports what is in a file.
 //! tb_keep_commands has what it does, over any files, reader and writer.
 //!
 //! Module:

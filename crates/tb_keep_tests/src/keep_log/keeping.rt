@@ -114,7 +114,7 @@ fn refused_record(rt: &impl Abort, alloc: Global, record: &[u8]) -> Option<LogSt
 /// The record of the first entry, with one byte that is another.
 fn changed(rt: &impl Abort, alloc: Global, at: usize) -> Vec<u8> {
     let file = whole_file(rt, alloc);
-    // Behind the journal's first bytes and the first block's gate, length and checksum.
+    // Behind the journal's first bytes and the first block's latch, length and checksum.
     let mut record = sure(rt, Vec::from_slice(alloc, part(&file, 16, 16 + 79 + 368)));
     if let Some(byte) = record.get_mut(at) {
         *byte = byte.wrapping_add(1);
