@@ -1,6 +1,6 @@
 //! `tbd`: a ledger server whose history is in a file. It serves requests from standard input to standard output, each reply
-//! sent when the entry that it rests on is on the disk; writes the history of a file as a dump; and reports what is in a file.
-//! tb_keep_commands has what it does, over any files, reader and writer.
+//! sent when the entry that it rests on is on the disk; follows a log in the same way; writes the history of a file as a dump; and
+//! reports what is in a file. tb_keep_commands and tb_keep_follow have what it does, over any files, reader and writer.
 //!
 //! Module:
 //!
@@ -13,7 +13,8 @@ use files::{SystemFiles, lines};
 use std::io::IsTerminal;
 use std::process::ExitCode;
 use tb_commands::words;
-use tb_keep_commands::{Form, Terminals, read_form, refuse, serve, words_fault};
+use tb_keep_commands::{Form, Terminals, read_form, refuse, words_fault};
+use tb_keep_follow::serve;
 use tb_records::Counting;
 
 fn main(rt: HostRuntime) -> ExitCode {
