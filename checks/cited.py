@@ -48,7 +48,7 @@ HEADS = ("-- Cited by", "-- Public contracts reach it", "-- No contract cites it
 # for inputs of another kind and the laws of `explain` of a dump), and of later crates
 # (tb_keep_commands: 212 for live files, salvage and backup).
 LINES_MAX = 5419
-LATER = {"tb_keep_commands": 702, "tb_log": 248, "tb_keep_log": 222}
+LATER = {"tb_keep_commands": 705, "tb_log": 248, "tb_keep_log": 222, "tb_keep_follow": 210}
 TOOLS = (
     "tb_uses",
     "tb_bench",

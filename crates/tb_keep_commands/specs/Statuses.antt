@@ -1,5 +1,5 @@
 -- The exit status of each fault, and the line that names it.
--- Cited by public contracts of: commands, copies, faults, host, lines, openers.
+-- Cited by public contracts of: commands, copies, faults, host, lines, openers, serving.
 use Rattle.std.specs.Prelude.{ℕ, zero, suc, Bool, true, false, ◌≡◌, ◌==◌, ◌/◌, ◌&&◌, nat_le, nat_eq, ◌++◌, List, [], ◌∷◌, Option, Some, None, if◌then◌else◌, flat_map, codes, refl}
 use Rattle.std.specs.Fmt.{decimal, digits}
 use Rattle.std.specs.IoError.{error_kind}

@@ -1,16 +1,13 @@
 //! The way from a program's arguments, input and output to its commands.
-ghost use Rattle.std.specs.Prelude.{◌≡◌, ◌⊎◌, [], None, Some, map, string_bytes};
-ghost use Rattle.tb_keep_commands.specs.Forms.{file_word};
-ghost use Rattle.tb_keep_commands.specs.Hosts.{Serves as ServesKept, WantsMemory};
-ghost use Rattle.tb_keep_follow.specs.declared.arguments.Form.{Form};
-ghost use Rattle.tb_keep_follow.specs.Forms.{form_of};
+ghost use Rattle.std.specs.Prelude.{◌≡◌, ◌⊎◌};
+ghost use Rattle.tb_keep_commands.specs.Hosts.{WantsMemory};
 ghost use Rattle.tb_keep_follow.specs.Hosts.{input_size, Hosted, Serves};
 
-use crate::arguments::{Form, read_form};
+use crate::arguments::Form;
 use crate::commands::command;
 use std::alloc::Global;
 use std::io::{BufReader, BufWriter, Read, Write};
-use tb_keep_commands::{Fault, Opener, Outgoing, Terminals, file_word, refuse};
+use tb_keep_commands::{Fault, Opener, Outgoing, refuse};
 use tb_records::{Buffered, Sink};
 
 /// The bytes of input that `follow` holds at a time.
@@ -47,8 +44,8 @@ fn between<O: Opener, R: Read + Drop, W: Write + Drop, E: Sink>(
     command(alloc, opener, form, path, &mut reader, &mut writer, faults)
 }
 
-/// Serves a form between an input and an output, both buffered.
-fn serve_form<O: Opener, R: Read + Drop, W: Write + Drop, E: Sink>(
+/// Serves a form over the file of a path, between an input and an output, both buffered, and returns the exit status.
+pub fn serve<O: Opener, R: Read + Drop, W: Write + Drop, E: Sink>(
     alloc: Global,
     opener: &mut O,
     form: Form,
@@ -69,36 +66,4 @@ fn serve_form<O: Opener, R: Read + Drop, W: Write + Drop, E: Sink>(
         return refuse(Fault::NoMemory, faults);
     };
     between(alloc, opener, form, path, input, output, faults)
-}
-
-/// Serves what the words ask for, between an input and an output, both buffered, and returns the exit status: a form over a log, and else
-/// what tb_keep_commands does with the words.
-pub fn serve<O: Opener, R: Read + Drop, W: Write + Drop, E: Sink>(
-    alloc: Global,
-    opener: &mut O,
-    words: &[String],
-    terminals: Terminals,
-    input: R,
-    output: W,
-    faults: &mut E,
-) -> u8
-    // The words are a form over a log.
-    ensures follows { (form : Form) → form_of (map string_bytes words.now) ≡ Some form
-        → Serves O.File.Device O.Reading.Device O.Opener opener.old opener.new R.remaining W.contents
-        form (file_word (map string_bytes words.now)) result input output (E.output faults.old) (E.output faults.new)
-        ⊎ WantsMemory opener.old opener.new result (E.output faults.old) (E.output faults.new) }
-    // They are none.
-    ensures other { form_of (map string_bytes words.now) ≡ None
-        → ServesKept O.File.Device O.Reading.Device O.Reading.whole
-        O.Opener terminals opener.old opener.new R.remaining
-        W.contents (map string_bytes words.now) result input output (E.output faults.old) (E.output faults.new)
-        ⊎ WantsMemory opener.old opener.new result (E.output faults.old) (E.output faults.new) }
-{
-    match read_form(words) {
-        Some(form) => {
-            let path = file_word(words);
-            serve_form(alloc, opener, form, path, input, output, faults)
-        }
-        None => tb_keep_commands::serve(alloc, opener, words, terminals, input, output, faults),
-    }
 }

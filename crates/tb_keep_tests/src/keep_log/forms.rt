@@ -11,8 +11,8 @@ use crate::keep_log::logs::{answers, expect, log, part, same, sure};
 use std::alloc::Global;
 use std::process::Abort;
 use tb_journal::Memory;
-use tb_keep_commands::{Opener, OpeningFault};
-use tb_keep_follow::serve;
+use tb_keep_commands::{Opener, OpeningFault, file_word};
+use tb_keep_follow::{read_form, serve};
 use tb_records::Counting;
 
 /// One file, or none: the next process finds what the last one left.
@@ -90,6 +90,36 @@ impl Opener for OneFile {
     }
 }
 
+/// Does what words ask for, over a log or else over a ledger, as `tbd` does.
+fn served(
+    rt: &impl Abort,
+    file: &mut OneFile,
+    words: &[&str],
+    input: &[u8],
+    pipe: &mut Pipe,
+    lines: &mut Counting<Vec<u8>>,
+) -> u8 {
+    let alloc = file.alloc;
+    let words = words_of(rt, alloc, words);
+    let status = match read_form(words.as_slice()) {
+        Some(form) => {
+            let path = file_word(words.as_slice());
+            serve(alloc, file, form, path, input, pipe, lines)
+        }
+        None => tb_keep_commands::serve(
+            alloc,
+            file,
+            words.as_slice(),
+            NO_TERMINALS,
+            input,
+            pipe,
+            lines,
+        ),
+    };
+    file.settle();
+    status
+}
+
 /// What a command must answer: its exit status and its lines.
 type Ends = (u8, &'static str);
 
@@ -103,19 +133,9 @@ fn ran(
     ends: Ends,
 ) -> Vec<u8> {
     let alloc = file.alloc;
-    let words = words_of(rt, alloc, words);
     let mut pipe = Pipe::new(alloc, room, true);
     let mut lines = Counting::new(Vec::new(alloc));
-    let status = serve(
-        alloc,
-        file,
-        words.as_slice(),
-        NO_TERMINALS,
-        input,
-        &mut pipe,
-        &mut lines,
-    );
-    file.settle();
+    let status = served(rt, file, words, input, &mut pipe, &mut lines);
     let (wanted, line) = ends;
     expect(rt, status == wanted);
     expect(rt, same(&lines.into_inner(), line.as_bytes()));
@@ -218,19 +238,9 @@ fn ended(rt: &impl Abort, alloc: Global, item: &[u8], line: &str) {
     let _ = ran(rt, &mut file, FOLLOW, part(&log, 0, 385), ROOM, (0, MADE));
     let mut lines = sure(rt, String::from_str(alloc, AT_ONE));
     sure(rt, lines.push_str(line));
-    let words = words_of(rt, alloc, FOLLOW);
     let mut pipe = Pipe::new(alloc, ROOM, true);
     let mut told = Counting::new(Vec::new(alloc));
-    let status = serve(
-        alloc,
-        &mut file,
-        words.as_slice(),
-        NO_TERMINALS,
-        item,
-        &mut pipe,
-        &mut told,
-    );
-    file.settle();
+    let status = served(rt, &mut file, FOLLOW, item, &mut pipe, &mut told);
     expect(rt, status == 2);
     expect(rt, pipe.bytes().is_empty());
     expect(rt, same(&told.into_inner(), lines.as_bytes()));

@@ -1,10 +1,14 @@
-use Rattle.std.proofs.Common.{◌≡◌, Option, Some}
-use Rattle.tb_keep_follow.specs.declared.arguments.Form.{Form}
+use Rattle.std.proofs.Common.{inl, ◌∙◌}
 use Rattle.tb_keep_follow.proofs.host.serve.Goals as goal
 
-same_form : (a b : Form) (asked : Option Form) → Some a ≡ asked → asked ≡ Some b → b ≡ a
-same_form a b asked here there = cc
-
-pub returns-in-Some-clause-follows : goal.returns-in-Some-clause-follows
-returns-in-Some-clause-follows g c form is =
-    rw (same_form c.in-Some.form form _ c.in-Some.ensures is) (rw c.file_word-path.ensures at c.serve_form.ensures)
+pub returns : goal.returns
+returns g c = inl (record {
+  reader = c.in-Ok.input;
+  of_input = c.in-Ok.ensures.inner;
+  read_ahead = c.in-Ok.ensures.empty;
+  holds_input = c.in-Ok.ensures.capacity ∙ c.capacities-held_in.ensures;
+  writer = c.in-Ok-with_capacity.output;
+  of_output = c.in-Ok-with_capacity.ensures.inner;
+  held_back = c.in-Ok-with_capacity.ensures.empty;
+  hosted = c.between.ensures;
+})
