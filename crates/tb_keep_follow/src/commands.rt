@@ -28,7 +28,7 @@ fn follow_over<O: Opener, R: Source, W: Sink, E: Sink>(
         (E.output faults.old) (E.output faults.new) }
 {
     match opener.make(path) {
-        Ok(device) => follow(alloc, device, rules, path, reader, writer, faults),
+        Ok(device) => follow(alloc, rules, device, path, reader, writer, faults),
         Err(fault) => Err(FollowFault::Kept(Fault::Opening(fault))),
     }
 }

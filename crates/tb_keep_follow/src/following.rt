@@ -58,10 +58,10 @@ fn keep<D: Device + Drop, A: Allocator + Clone, R: Source, W: Sink, E: Sink>(
 fn start<D: Device + Drop, A: Allocator + Copy, R: Source, W: Sink, E: Sink>(
     alloc: Global,
     pool: A,
-    device: D,
-    rules: Rules,
     path: &str,
     len: usize,
+    device: D,
+    rules: Rules,
     reader: &mut R,
     writer: &mut W,
     faults: &mut E,
@@ -83,8 +83,8 @@ fn start<D: Device + Drop, A: Allocator + Copy, R: Source, W: Sink, E: Sink>(
 /// Follows a log over the device of a path, whose length is asked for first. The machine has its records in a pool.
 pub(crate) fn follow<D: Device + Drop, R: Source, W: Sink, E: Sink>(
     alloc: Global,
-    device: D,
     rules: Rules,
+    device: D,
     path: &str,
     reader: &mut R,
     writer: &mut W,
@@ -99,7 +99,7 @@ pub(crate) fn follow<D: Device + Drop, R: Source, W: Sink, E: Sink>(
         Ok(len) => {
             let pool = Bump::new(alloc);
             let followed = start(
-                alloc, &pool, device, rules, path, len, reader, writer, faults,
+                alloc, &pool, path, len, device, rules, reader, writer, faults,
             );
             drop(pool);
             followed
