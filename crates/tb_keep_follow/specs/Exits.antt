@@ -29,7 +29,8 @@ abbrev pub Tells : Outcome → List ℕ → Output → Output → Type 0
 Tells (Ok done) path before after = after ≡ before
 Tells (Err fault) path before after = SaysLine (follow_line fault path) before after
 
-module _ {D : Type 0} (file : devices.Ghosts D) {E : Type 0} (reading : devices.Ghosts E) {O : Type 0} (opener : openers.Ghosts O D E) (before : O) (name : List ℕ) (left : O) where
+module _ {D : Type 0} (file : devices.Ghosts D) {E : Type 0} (reading : devices.Ghosts E) {O : Type 0}
+    (opener : openers.Ghosts O D E) (before : O) (name : List ℕ) (left : O) where
   -- what a form does over what opens devices: `follow` has the device of a name made where there is none, `dump` opens one that is there
   abbrev pub Performs : Form → Outcome → Input → Input → Output → Output → Output → Output → Type 0
   Performs (form.Follow clients_max profile) outcome first last start written quiet told =

@@ -20,9 +20,11 @@ abbrev pub input_size : Form → ℕ
 input_size (form.Follow clients_max profile) = 2 ^ 20
 input_size (form.Dump clients_max profile) = 0
 
-module _ {D : Type 0} (file : devices.Ghosts D) {E : Type 0} (reading : devices.Ghosts E) {O : Type 0} (opener : openers.Ghosts O D E) (before left : O) {R W : Type 0} (remaining : R → Option (List ℕ)) (contents : W → Option (List ℕ)) where
+module _ {D : Type 0} (file : devices.Ghosts D) {E : Type 0} (reading : devices.Ghosts E) {O : Type 0}
+    (opener : openers.Ghosts O D E) (before left : O) {R W : Type 0} (remaining : R → Option (List ℕ)) (contents : W → Option (List ℕ)) where
   -- a form was done, or not to its end; where it was done the buffer of the output is empty at its end
-  pub record Hosted (form : Form) (name : List ℕ) (status : ℕ) (input : BufReader R Global) (output : BufWriter W Global) (quiet told : Output) : Type 0 where
+  pub record Hosted (form : Form) (name : List ℕ) (status : ℕ) (input : BufReader R Global) (output : BufWriter W Global)
+      (quiet told : Output) : Type 0 where
     pub last : Watched (BufReader R Global)
     pub final : Watched (BufWriter W Global)
     pub exits : Exits file reading opener before name left (writer_buffer final.inner ≡ []) form status

@@ -80,7 +80,8 @@ module _ {D : Type 0} (its : devices.Ghosts D) where
 
   -- that its start made a file where there were no bytes was told, and what it cut off behind the records of one of so many bytes, and from
   -- which position the log is wanted; then a log was kept
-  pub record FollowsKept (outcome : Outcome) (keeper : Keeping D) (path : List ℕ) (len : ℕ) (first last : Input) (start written quiet told : Output) : Type 0 where
+  pub record FollowsKept (outcome : Outcome) (keeper : Keeping D) (path : List ℕ) (len : ℕ) (first last : Input)
+      (start written quiet told : Output) : Type 0 where
     pub noted : Output
     pub made : TellsMade len path quiet noted
     pub started : Output
@@ -108,7 +109,8 @@ module _ {D : Type 0} (its : devices.Ghosts D) where
     pub silent : told ≡ quiet
 
   -- a log was started over a file of so many bytes; it was kept, or is refused
-  pub record FollowsLong (outcome : Outcome) (rules : Rules) (path : List ℕ) (len : ℕ) (device : D) (first last : Input) (start written quiet told : Output) : Type 0 where
+  pub record FollowsLong (outcome : Outcome) (rules : Rules) (path : List ℕ) (len : ℕ) (device : D) (first last : Input)
+      (start written quiet told : Output) : Type 0 where
     pub started : Result (Keeping D) (NotStarted D)
     pub starts : its.tells → Starts started rules device
     pub handed : OfFile device (StartsFile started rules.profile rules.clients_max)
@@ -116,7 +118,8 @@ module _ {D : Type 0} (its : devices.Ghosts D) where
         (λ failed. IsUnstarted failed.fault outcome first last start written quiet told)
 
   -- the length of the file of this path was asked for, and then a log of these rules was started over it, and kept
-  pub record FollowsFile (outcome : Outcome) (rules : Rules) (path : List ℕ) (device : D) (first last : Input) (start written quiet told : Output) : Type 0 where
+  pub record FollowsFile (outcome : Outcome) (rules : Rules) (path : List ℕ) (device : D) (first last : Input)
+      (start written quiet told : Output) : Type 0 where
     pub len : Result ℕ journal.Fault
     pub between : D
     pub asked : IsAsked its len device between
@@ -124,7 +127,8 @@ module _ {D : Type 0} (its : devices.Ghosts D) where
         (λ fault. (outcome ≡ Err (Kept (disk_fault fault))) × (last ≡ first) × (written ≡ start) × (told ≡ quiet))
 
 -- an opening may answer so, and leave what opens like this: with a device that was done; at a fault nothing was
-pub record Opens {D O : Type 0} (may : Result D OpeningFault → O → Type 0) (left : O) (outcome : Outcome) (Nothing : Type 0) (Does : D → Type 0) : Type 0 where
+pub record Opens {D O : Type 0} (may : Result D OpeningFault → O → Type 0) (left : O) (outcome : Outcome) (Nothing : Type 0)
+    (Does : D → Type 0) : Type 0 where
   pub answer : Result D OpeningFault
   pub answered : may answer left
   pub done : MatchResult answer Does (λ fault. (outcome ≡ Err (Kept (Opening fault))) × Nothing)
