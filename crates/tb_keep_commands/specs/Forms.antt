@@ -162,7 +162,7 @@ abbrev pub wrong_run : List (List ℕ) → Wrong
 wrong_run words = wrong_file words (wrong_clients words)
 
 -- words that begin with `follow`: tb_keep_follow has its forms
-abbrev pub wrong_follow : List (List ℕ) → Wrong
+unfoldable pub wrong_follow : List (List ℕ) → Wrong
 wrong_follow words = if nat_lt 4 (length words) then so_wrong (take 1 words) (codes "too many words") else wrong_run words
 
 -- what is wrong behind a word and its file

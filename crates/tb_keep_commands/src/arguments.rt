@@ -306,6 +306,7 @@ fn wrong_run(words: &[String]) -> (&[String], &'static str)
 }
 
 /// What is wrong with words that begin with `follow`, and those of them that are shown before it.
+#[tactic(auto, unfolding(crate::specs::Forms::wrong_follow))]
 fn wrong_follow(words: &[String]) -> (&[String], &'static str)
     ensures shown { map string_bytes result.0.now ≡ (wrong_follow (map string_bytes words.now)).shown }
     ensures what { result.1.now ≡ (wrong_follow (map string_bytes words.now)).what }
