@@ -226,7 +226,7 @@ fn logs_that_are_refused(rt: HostRuntime) {
     if let Some(byte) = log.get_mut(last) {
         *byte = byte.wrapping_add(1);
     }
-    let rot = "tbd: Damaged: at byte 742\n";
+    let rot = "tbd: Damaged: at byte 734\n";
     refused(&rt, alloc, &log, FOLLOW, (6, rot));
     refused(&rt, alloc, &log, DUMP, (6, rot));
 }
