@@ -285,9 +285,7 @@ impl Replay {
                     time,
                     request,
                 };
-                let done = self.put_entry(teller, writer, &entry);
-                drop(entry);
-                done
+                self.put_entry(teller, writer, &entry)
             }
         }
     }
@@ -395,9 +393,7 @@ fn audit_by<T: Teller, R: Source, W: Sink>(
 {
     let head = put_head(teller, reader, writer)?;
     let mut replay = Replay::new(alloc, &head, account)?;
-    let done = replay.put_all(alloc, teller, reader, writer);
-    drop(replay);
-    done
+    replay.put_all(alloc, teller, reader, writer)
 }
 
 /// Writes what a dump's entries did, as far as it is wanted, in lines of JSON. Where an account's lines are wanted and the

@@ -99,11 +99,7 @@ impl<T: ItemWriter> Converter for DumpItems<T> {
 
     fn put<W: Sink>(&mut self, writer: &mut W, item: DumpItem) -> Result<(), Fault> {
         match entry_of(item) {
-            Some(entry) => {
-                let done = self.item_writer.put_entry(writer, &entry);
-                drop(entry);
-                done
-            }
+            Some(entry) => self.item_writer.put_entry(writer, &entry),
             None => self.item_writer.put_mark(writer),
         }
     }

@@ -109,9 +109,7 @@ impl Converter for Statements {
 
     fn put<W: Sink>(&mut self, writer: &mut W, pair: (u64, Request)) -> Result<(), Fault> {
         let (moment, request) = pair;
-        let text = statement_of(self.alloc, moment, &request);
-        drop(request);
-        put_line(writer, text)
+        put_line(writer, statement_of(self.alloc, moment, &request))
     }
 }
 
@@ -151,8 +149,6 @@ impl Converter for Replies {
     }
 
     fn put<W: Sink>(&mut self, writer: &mut W, reply: Reply) -> Result<(), Fault> {
-        let line = reply_line(self.intake.alloc, &reply);
-        drop(reply);
-        put_line(writer, line)
+        put_line(writer, reply_line(self.intake.alloc, &reply))
     }
 }

@@ -226,9 +226,7 @@ pub fn dump_end(alloc: Global, bytes: &[u8]) -> Result<DumpEnd, AllocError>
     match read_head_from(&mut reader) {
         Ok(head) => {
             let mut machine = Machine::new_in(alloc, alloc, head.profile, head.clients_max)?;
-            let end = items_end(alloc, &mut machine, bytes, reader.into_inner());
-            drop(machine);
-            end
+            items_end(alloc, &mut machine, bytes, reader.into_inner())
         }
         Err(fault) => Ok(DumpEnd::NoHead(fault)),
     }
