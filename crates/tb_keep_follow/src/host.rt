@@ -17,8 +17,8 @@ const INPUT: usize = 1 << 20;
 const OUTPUT: usize = 1 << 16;
 
 /// The bytes that a form's reader and writer hold. Replies are written at once.
-fn capacities(form: Form) -> (usize, usize)
-    ensures { result.0 ≡ input_size form }
+fn capacities(form: &Form) -> (usize, usize)
+    ensures { result.0 ≡ input_size form.now }
 {
     match form {
         Form::Follow(_, _) => (INPUT, 0),
@@ -58,7 +58,7 @@ pub fn serve<O: Opener, R: Read + Drop, W: Write + Drop, E: Sink>(
         form path.now result input output (E.output faults.old) (E.output faults.new)
         ⊎ WantsMemory opener.old opener.new result (E.output faults.old) (E.output faults.new) }
 {
-    let (held_in, held_out) = capacities(form);
+    let (held_in, held_out) = capacities(&form);
     let Ok(input) = BufReader::with_capacity(alloc, held_in, input) else {
         return refuse(Fault::NoMemory, faults);
     };
