@@ -40,6 +40,7 @@ WRONG = ("executes_early", "replies_early", "skips_at_restart", "takes_twice_at_
 # the faults that show a wrong replica soonest
 SHARP = ("replica killed", "links of a replica cut", "all nodes killed")
 HOW = f"{TOP}/checks/clusters/wrong_replica.py"
+NO_LOG = 20  # the status of a replica that reached no engine at its start
 
 IS_OTHER = os.path.realpath(sys.executable) != os.path.realpath(PYTHON)
 if __name__ == "__main__" and IS_OTHER and os.access(PYTHON, os.X_OK):
@@ -73,12 +74,13 @@ def cluster_of(given, kind=Cluster, **options):
 
 
 def restarted(cluster):
-    """Starts what has ended, as systemd does. Answers the faults that replicas ended with."""
+    """Starts what has ended, as systemd does. Answers the faults that replicas ended with, but for
+    NoLog: who starts while no engine is there is started again."""
     named = []
     for it in cluster.replicas:
         if not it.runs():
             status = it.process.poll()
-            if status is not None and status >= 20:
+            if status is not None and status > NO_LOG:
                 named.append(f"{it.name}: {it.said().strip().splitlines()[-1]}")
             it.start()
     return named

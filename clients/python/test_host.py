@@ -625,6 +625,7 @@ class Kept(OverALog):
         it = await self.began()
         replies = await asyncio.gather(*(self.asked(it, client) for client in range(1, 20)))
         self.assertEqual([reply[0] for reply in replies], list(range(1, 20)))
+        await self.read(it)
         digest, position = it.follower.state()[1], self.copy.position
         await self.closed(it)
         self.log.items[:position] = [None] * position  # it would fail at one of these
@@ -634,6 +635,7 @@ class Kept(OverALog):
         await asyncio.wait_for(it.begun(), 20)
         self.assertEqual(it.follower.state(), (position, digest))
         self.assertEqual(self.commit(await self.asked(it, 77)), 20)
+        await self.read(it)
         self.assertFalse(self.copy.held, "what was answered is dropped")
         await self.closed(it)
         self.assertIn("tbd: has the log up to position", self.told.getvalue())
@@ -645,10 +647,12 @@ class Kept(OverALog):
             it = await self.began()
             for client in (1, 2):
                 await self.asked(it, client)
+            await self.read(it)
             self.copy.sync(*self.copy.mark())
             kept = backlog.checkpoint_of(self.folder) if is_kept else None
             for client in (3, 4):
                 await self.asked(it, client)
+            await self.read(it)
             digest = it.follower.state()[1]
             await self.closed(it)
             os.unlink(f"{self.folder}/checkpoint")
@@ -674,7 +678,7 @@ class Kept(OverALog):
         it = await self.began(command=["env", "LATE=2", *self.command])
         await self.asked(it, 1)
         asked = [asyncio.ensure_future(self.asked(it, client)) for client in (2, 3)]
-        while os.path.getsize(self.path) < 160:
+        while os.path.getsize(self.path) < 120:
             await asyncio.sleep(0.02)
         it.follower.words = self.command
         it.follower.kill()
@@ -687,6 +691,7 @@ class Kept(OverALog):
         it = await self.began()
         for client in (1, 2, 3):
             await self.asked(it, client)
+        await self.read(it)
         await self.closed(it)
         with contextlib.suppress(FileNotFoundError):
             os.unlink(f"{self.folder}/checkpoint")
@@ -709,11 +714,13 @@ class Kept(OverALog):
         it = await self.began()
         for client in (1, 2):
             await self.asked(it, client)
+        await self.read(it)
         await self.closed(it)
         os.unlink(self.path)
         it = await self.began()
         await asyncio.wait_for(it.begun(), 20)
         self.assertEqual(self.commit(await self.asked(it, 3)), 3, "the log is read from its start")
+        await self.read(it)
         await self.closed(it)
         os.unlink(self.path)
         self.log.start = 1
@@ -740,6 +747,7 @@ class Kept(OverALog):
         it = await self.began()
         await self.asked(it, 1)
         await self.asked(it, 2)
+        await self.read(it)
         os.truncate(self.path, 0)
         it.follower.kill()
         self.assertEqual(await self.ended(), "Damaged")
