@@ -1,11 +1,10 @@
 -- What a form over a log does between a std reader and a std writer, each behind a buffer.
 -- Cited by public contracts of: host.
-use Rattle.std.specs.Prelude.{ℕ, ◌≡◌, ◌^◌, List, []}
+use Rattle.std.specs.Prelude.{ℕ, ◌≡◌, ◌^◌, List, [], Option}
 use Rattle.std.specs.Io.Buffered.{reader_buffer, reader_capacity, reader_inner, writer_buffer, writer_inner}
 use Rattle.std.specs.declared.io.buffered.BufReader.{BufReader}
 use Rattle.std.specs.declared.io.buffered.BufWriter.{BufWriter}
 use Rattle.std.specs.declared.alloc.Global.{Global}
-use Rattle.std.specs.Prelude.{Option}
 use Rattle.tb_records.specs.Transport.{Output}
 use Rattle.tb_journal.specs.declared.devices.Device as devices
 use Rattle.tb_keep_commands.specs.declared.openers.Opener as openers

@@ -1,11 +1,11 @@
 -- What each form over a log does, and its outcome.
 -- Public contracts reach it through: Exits.
-use Rattle.std.specs.Prelude.{ℕ, true, ◌≡◌, ◌-◌, List, length, Result, Ok, Err, IfOk, MatchResult}
+use Rattle.std.specs.Prelude.{ℕ, true, ◌≡◌, ◌-◌, List, Result, Ok, Err, MatchResult}
 use Rattle.tb_records.specs.Transport.{Input, Output}
 use Rattle.tb_journal.specs.declared.devices.Device as devices
 use Rattle.tb_journal.specs.declared.faults.Fault as journal
 use Rattle.tb_journal.specs.declared.reading.Extent.{Extent}
-use Rattle.tb_journal.specs.Device.{Looks, LeavesOnly}
+use Rattle.tb_journal.specs.Device.{LeavesOnly}
 use Rattle.tb_log.specs.Following.{Following}
 use Rattle.tb_keep.specs.declared.heads.Rules.{Rules}
 use Rattle.tb_keep.specs.Opening.{IsUntouched}

@@ -1,5 +1,4 @@
 //! The forms over a log, over what opens devices, any reader and any writer, and the exit status of each outcome.
-ghost use Rattle.std.specs.Prelude.{◌≡◌};
 ghost use Rattle.tb_keep_follow.specs.Exits.{Performs, Finishes, Exits};
 ghost use Rattle.tb_keep_follow.specs.Outcomes.{FollowsOver, DumpsOver};
 

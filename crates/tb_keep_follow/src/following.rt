@@ -1,7 +1,6 @@
 //! A log followed over a device.
 ghost use Rattle.std.specs.Prelude.{◌≡◌, true};
 ghost use Rattle.tb_journal.specs.Ready.{IsReady};
-ghost use Rattle.tb_keep_commands.specs.Statuses.{failed_pipe};
 ghost use Rattle.tb_keep_log.specs.Keeping.{IsUsable};
 ghost use Rattle.tb_keep_follow.specs.Outcomes.{FollowsKept, FollowsLong, FollowsFile, kept_outcome};
 

@@ -1,5 +1,5 @@
 //! The lines of standard error.
-ghost use Rattle.std.specs.Prelude.{◌≡◌, codes};
+ghost use Rattle.std.specs.Prelude.{◌≡◌};
 ghost use Rattle.tb_keep_commands.specs.Statuses.{SaysLine};
 ghost use Rattle.tb_keep_follow.specs.Faults.{place_of, item_line, follow_line, wanted_line};
 
@@ -37,7 +37,10 @@ fn tell_item<E: Sink>(fault: LogFault, faults: &mut E)
         LogFault::BadEntry(at, fault) => {
             tell_place("tbd: BadEntry at ", at, fault.name(), faults)
         }
-        fault => tell_text("tbd: ", fault.name(), faults),
+        LogFault::Short => tell_text("tbd: ", "Short", faults),
+        LogFault::TooMany => tell_text("tbd: ", "TooMany", faults),
+        LogFault::Device => tell_text("tbd: ", "Device", faults),
+        LogFault::NoMemory => tell_text("tbd: ", "NoMemory", faults),
     }
 }
 

@@ -29,13 +29,25 @@ fn serve_words(
         rt,
         reports: reports || terminals.faults,
     };
-    let (alloc, input, output) = (rt.alloc(), rt.stdin(), rt.stdout());
     match asked {
-        Some(form) => {
-            let path = file_word(words);
-            tb_keep_follow::serve(alloc, &mut files, form, path, input, output, faults)
-        }
-        None => serve(alloc, &mut files, words, terminals, input, output, faults),
+        Some(form) => tb_keep_follow::serve(
+            rt.alloc(),
+            &mut files,
+            form,
+            file_word(words),
+            rt.stdin(),
+            rt.stdout(),
+            faults,
+        ),
+        None => serve(
+            rt.alloc(),
+            &mut files,
+            words,
+            terminals,
+            rt.stdin(),
+            rt.stdout(),
+            faults,
+        ),
     }
 }
 
