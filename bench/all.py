@@ -2,7 +2,7 @@
 """Takes all figures of docs/work/PERFORMANCE.md on a quiet machine; writes its tables and charts.
 
     all.py --prepare [--work FOLDER]                      builds the peers and makes all scripts
-    all.py --rows [--before PROGRAM] [--work FOLDER] [PART ..]
+    all.py --rows [--before PROGRAM [--now PROGRAM]] [--work FOLDER] [PART ..]
                                                           measures: some twelve minutes
 
 A PART is loads (compare.py), threads (threads.py), keep (keep.py), reading (reading.py),
@@ -12,7 +12,8 @@ them, valgrind and perf. Profiles are of what missed a bound.
 
 --rows puts the figures into docs/work/runs.csv, in the place of those of before where all parts are
 measured, and then writes the page's tables and charts. --before PROGRAM has an earlier tbs take
-part. --tiny is a hundredth of each size: a trial of these files, whose figures mean nothing.
+part, and --now PROGRAM one of today that was built in the same way. --tiny is a hundredth of each
+size: a trial of these files, whose figures mean nothing.
 """
 import pathlib
 import subprocess
@@ -40,8 +41,8 @@ WRITERS = ("figures", "pictures")
 class Plan:
     """The parts, each a method that measures and returns its rows and whether replies agreed."""
 
-    def __init__(self, folder, before, is_tiny):
-        self.folder, self.before = folder, before
+    def __init__(self, folder, earlier, is_tiny):
+        self.folder, self.earlier = folder, earlier
         self.scale, self.turns, self.few = (100, 1, 1) if is_tiny else (1, 5, 3)
         self.most = grow.STEPS[0] if is_tiny else grow.STEPS[-1]
         self.tables = ["takes", "ports"] if is_tiny else [*threads.TABLES]
@@ -49,7 +50,7 @@ class Plan:
 
     def loads(self):
         names = compare.BY_DEFAULT
-        costs, agree = compare.run_loads(names, self.turns, self.folder, self.before, self.scale)
+        costs, agree = compare.run_loads(names, self.turns, self.folder, self.earlier, self.scale)
         return [*compare.rows_of(costs, self.turns, self.scale)], agree
 
     def threads(self):
@@ -122,7 +123,7 @@ def main():
     parser.add_argument("parts", metavar="PART", nargs="*", help=", ".join(PARTS))
     parser.add_argument("--prepare", action="store_true", help="build and make scripts alone")
     parser.add_argument("--tiny", action="store_true", help="a trial")
-    parser.add_argument("--before", metavar="PROGRAM", help="an earlier tbs to compare with")
+    compare.earlier_from(parser)
     parser.add_argument("--rows", action="store_true", help="write rows, tables and charts")
     parser.add_argument("--work", metavar="FOLDER", default=WORK, help=f"({WORK})")
     given = parser.parse_args()
@@ -130,7 +131,7 @@ def main():
         if name not in PARTS:
             parser.error(f"there is no part {name}: {', '.join(PARTS)}")
     with measure.work_folder(given.work) as folder:
-        plan = Plan(folder, given.before, given.tiny)
+        plan = Plan(folder, compare.earlier_in(given), given.tiny)
         parts = given.parts or PARTS
         if not given.prepare:
             tried.built(measure.TBS, *(NEEDS[it] for it in parts if it in NEEDS))

@@ -13,7 +13,8 @@ For each load: nanoseconds of CPU time an event and bytes of memory an event, fr
 transfer on (what the accounts took is subtracted), the best of --turns runs (5; lean.rs runs twice,
 SQLite once, over a tenth of the events), and the ratios of tbs to the others. A ratio over its
 bound, in brackets, is marked with '>'. With --before PROGRAM an earlier tbs takes part in old-1m,
-which has a bound over it, or in the one load that is named. In bulk-1m tbs also runs in huge pages.
+which has a bound over it, or in the one load that is named; with --now PROGRAM its ratio is that of
+a tbs of today that was built as the earlier one was. In bulk-1m tbs also runs in huge pages.
 """
 import dataclasses
 import os
@@ -122,7 +123,8 @@ def run_load(load, programs, turns, folder):
 
 
 def ratio(costs, name):
-    return costs["tbs"].cpu / costs[name].cpu
+    ours = costs.get("now", costs["tbs"]) if name == "before" else costs["tbs"]
+    return ours.cpu / costs[name].cpu
 
 
 def shown(costs, name, bounds):
@@ -166,24 +168,24 @@ def rows_of(costs, turns, scale=1):
         )
 
 
-def taking_part(name, is_only, programs, before):
-    """The servers of a load: the peers; an earlier tbs where there is a bound over it, or no other
-    load; and tbs in huge pages in one load."""
+def taking_part(name, is_only, programs, earlier):
+    """The servers of a load: the peers; an earlier tbs, and one of today that was built as it was,
+    where there is a bound over it, or no other load; and tbs in huge pages in one load."""
     taking = dict(programs)
-    if before and (is_only or "before" in LOADS[name].bounds):
-        taking["before"] = [before, "run", "64"]
+    if is_only or "before" in LOADS[name].bounds:
+        taking.update({it: [program, "run", "64"] for it, program in earlier.items()})
     if name == HUGE:
         taking["huge"] = [*HUGE_PAGES, *programs["tbs"]]
     return taking
 
 
-def run_loads(names, turns, folder, before=None, scale=1):
+def run_loads(names, turns, folder, earlier, scale=1):
     """Prints the table of these loads; what each found, and whether all replies were the same.
     Sizes are a part of the loads' own, one of `scale`."""
     programs = measure.servers(folder, *measure.PEERS)
     all_costs, all_agree = {}, True
     for name in names:
-        taking = taking_part(name, len(names) == 1, programs, before)
+        taking = taking_part(name, len(names) == 1, programs, earlier)
         costs, agree = run_load(LOADS[name].part(scale), taking, turns, folder)
         print_load(LOADS[name], costs, agree)
         all_costs[name], all_agree = costs, all_agree and agree
@@ -222,12 +224,24 @@ def compare_replies(seeds, folder):
     return tried.status()
 
 
+def earlier_from(parser):
+    """The options that name an earlier tbs."""
+    parser.add_argument("--before", metavar="PROGRAM", help="an earlier tbs to compare with")
+    parser.add_argument("--now", metavar="PROGRAM", help="tbs of today, built as --before was")
+
+
+def earlier_in(given):
+    """The programs that these options name."""
+    named = {"before": given.before, "now": given.now}
+    return {name: program for name, program in named.items() if program}
+
+
 def main():
     parser = tried.arguments(__doc__)
     parser.add_argument("loads", metavar="LOAD", nargs="*", help=", ".join(LOADS))
     parser.add_argument("--turns", metavar="N", type=tried.count, default=5, help="runs (5)")
     parser.add_argument("--work", metavar="FOLDER", help="keeps scripts and programs there")
-    parser.add_argument("--before", metavar="PROGRAM", help="an earlier tbs to compare with")
+    earlier_from(parser)
     parser.add_argument("--rows", action="store_true", help="write rows of docs/work/runs.csv")
     parser.add_argument("--replies", metavar="SEED", type=int, nargs="*", help="replies alone (1)")
     given = parser.parse_args()
@@ -237,7 +251,7 @@ def main():
     with measure.work_folder(given.work) as folder:
         if given.replies is not None:
             return compare_replies(given.replies or [1], folder)
-        costs, agree = run_loads(given.loads or BY_DEFAULT, given.turns, folder, given.before)
+        costs, agree = run_loads(given.loads or BY_DEFAULT, given.turns, folder, earlier_in(given))
         if given.rows:
             rows.write(rows_of(costs, given.turns))
     return 0 if agree else 1

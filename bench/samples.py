@@ -25,7 +25,7 @@ import threads
 import tried
 
 PERF = ["perf", "record", "--quiet", "--event", "cpu-clock", "--freq", "2000"]
-LEAST, MANY = 5, 4  # Parts of fewer per cent are not told, and no more parts than so many.
+LEAST, MANY = 5, 4  # Parts of fewer per cent are not printed, and no more parts than so many.
 # What a function belongs to, by its path; the first that fits.
 PARTS = {
     "searches ahead": r"get_many|read_whole|::ahead|touch|::eight",

@@ -220,7 +220,7 @@ def statuses():
 
 
 def told():
-    """The page's table of what a closed connection is told has the faults of docs/use/FORMATS.md,
+    """The page's table of what a closed connection was sent has the faults of docs/use/FORMATS.md,
     and the names that the listener has itself."""
     rows = page().split("### What a closed connection gets")[1].split("\n### ")[0]
     shown = {
@@ -238,7 +238,7 @@ def told():
         re.findall(r'(?:Told\(|given\.(?:idle|slow), |stop\(|return |else )"([A-Z]\w+)"', code)
     )
     case(
-        "a row for each name that a closed connection is told",
+        "a row for each name that a closed connection was sent",
         shown == wanted,
         " ".join(sorted(shown ^ wanted)),
     )
@@ -332,7 +332,7 @@ def described():
 
 
 def done(what, words, folder=TOP):
-    """Runs a command, tells a case by its last line, and answers whether it went well."""
+    """Runs a command, prints a case by its last line, and answers whether it went well."""
     status, output, told = ran(words, folder)
     lines = (output + told).strip().splitlines() or [""]
     said = lines[-1] if status == 0 else "\n".join(lines[-20:])

@@ -17,14 +17,16 @@ rules, no log), `wrong` (four wrong replicas, which the part `faults` has to fin
 etcd, PostgreSQL, one of their Python packages or the server is not there, parts are skipped by
 name. --replica runs another replica in the place of the right one: a KIND of
 checks/clusters/wrong_replica.py. --follow gives the replicas another server, which takes entries
-with their positions. --show tells what happens while money moves and machines are
-killed.
+with their positions. --kept names a server that keeps its ledger in a file, as tbd, for the part
+`kept`: kills, restarts, a late replica, a trimmed log, and files that are refused. --show prints
+what happens while money moves and machines are killed.
 
 Prints a line for each case; ends in 'N passed, M failed'.
 """
 import argparse
 import contextlib
 import os
+import shutil
 import signal
 import statistics
 import subprocess
@@ -46,6 +48,7 @@ if __name__ == "__main__" and IS_OTHER and os.access(PYTHON, os.X_OK):
 sys.path[:0] = [f"{TOP}/checks/clusters", f"{TOP}/checks"]
 
 import agreement  # noqa: E402
+import kept  # noqa: E402
 import rates  # noqa: E402
 import show  # noqa: E402
 import tried  # noqa: E402
@@ -193,7 +196,7 @@ def late_replica(cluster):
     late.kill()
     os.rename(cluster.copy(2), cluster.copy(2) + ".lost")
     late.start()
-    case("trim: who comes too late is told Trimmed", late.process.wait(60) == 21, last(late))
+    case("trim: who comes too late gets Trimmed", late.process.wait(60) == 21, last(late))
     os.rename(cluster.copy(2), cluster.copy(2) + ".empty")
     status, said = cluster.part("copy-from", cluster.copy(0), "--copy", cluster.copy(2))
     case("trim: a copy of a peer", status == 0, said.strip())
@@ -290,7 +293,8 @@ def part_wrong(given):
     """Each wrong replica is found by the part `faults`."""
     for kind in WRONG:
         words = [sys.executable, "-B", __file__, "--only", "faults", "--replica", kind]
-        words += ["--faults", "6", "--seed", str(given.seed), "--kinds", *SHARP]
+        # a short pause, so that a replica that is killed has requests that wait for the log
+        words += ["--faults", "6", "--seed", str(given.seed), "--pause", "0.01", "--kinds", *SHARP]
         ran = subprocess.run(words, capture_output=True, text=True, timeout=1200)
         found = [it for it in ran.stdout.splitlines() if it.startswith("FAILED")]
         case(
@@ -370,13 +374,128 @@ def part_access(given):
         case("access: root trims", status == 0, said.strip())
 
 
+def part_kept(given):
+    """The servers keep their ledgers in files."""
+    with keeping(given), cluster_of(given) as cluster:
+        traffic = Traffic(cluster.tcp, 12, pause=0.05, spread=True)
+        traffic.open_accounts()
+        traffic.start()
+        faults = Faults(cluster, given.seed, given.kinds)
+        faults.some(given.faults, given.between)
+        waits(faults, traffic)
+        agree_kept("kept", cluster, traffic)
+        kept_restarts(cluster)
+        kept_trims(cluster)
+        refused_files(cluster)
+
+
+@contextlib.contextmanager
+def keeping(given):
+    """Gives the replicas a server that keeps its ledger in a file."""
+    Machines.keeps = os.path.abspath(given.kept)
+    try:
+        yield
+    finally:
+        Machines.keeps = None
+
+
+def agree_kept(name, cluster, traffic):
+    """The cases of the end, by the files."""
+    left = traffic.end()
+    case(f"{name}: each client has its last reply", left == 0, f"{left} have none" if left else "")
+    named = restarted(cluster)
+    case(f"{name}: no replica named a fault", not named, "; ".join(named))
+    case(f"{name}: no reply is wrong", not traffic.wrong, "; ".join(traffic.wrong[:3]))
+    posted = traffic.posted()
+    case(
+        f"{name}: nothing is lost or doubled",
+        posted == traffic.made,
+        f"{traffic.made} acknowledged, {posted} posted",
+    )
+    kept.settled(cluster)
+    ended = [it.end() for it in cluster.replicas]
+    case(f"{name}: each replica ends with status 0", not any(ended), str(ended))
+    found = [kept.standing(cluster, at) for at in range(cluster.count)]
+    wanted = kept.expected(cluster)
+    case(
+        f"{name}: each file has the hashes of the agreed script and of a fresh server's replies",
+        all(it == wanted for it in found),
+        f"position {int.from_bytes(wanted[1:9], 'little')}",
+    )
+
+
+def kept_restarts(cluster):
+    """Each replica starts behind its checkpoint, and moves money."""
+    for at, it in enumerate(cluster.replicas):
+        it.start()
+        cluster.until_listens(at)
+    said = [it.said(it.since) for it in cluster.replicas]
+    none = [it for it in said if "has the log up to position 0" in it]
+    case("kept: a start has the log from its file", not none, last(cluster.replicas[0]))
+    traffic = Traffic(cluster.tcp, 6, pause=0.05, spread=True)
+    before = traffic.posted()
+    traffic.start()
+    late = cluster.replicas[2]
+    late.kill()
+    until(lambda: traffic.made > 200, 60, "transfers go on")
+    late.start()
+    cluster.until_listens(2)
+    traffic.end()
+    case("kept: a late replica goes on", traffic.posted() - before == traffic.made)
+
+
+def kept_trims(cluster):
+    """A replica that comes back behind a trimmed log, and one that takes a peer's file."""
+    late = cluster.replicas[2]
+    late.kill()
+    traffic = Traffic(cluster.tcp[:2], 6, pause=0.02)
+    before = traffic.posted()
+    traffic.start()
+    time.sleep(12)  # a replica reports every 10 seconds
+    status, said = cluster.part("trim", "--log", cluster.log(), "--forget", "r2", seconds=120)
+    case("kept: the log is trimmed", status == 0 and "are removed" in said, said.strip())
+    late.start()
+    case("kept: who comes too late is told Trimmed", late.process.wait(60) == 21, last(late))
+    status, said = kept.replace(cluster, 2, 0)
+    case("kept: a checkpoint of a peer", status == 0, said.strip())
+    late.start()
+    cluster.until_listens(2)
+    for it in cluster.replicas[:2]:
+        it.kill()
+        it.start()
+    traffic.end()
+    case("kept: starts behind a trimmed log", traffic.posted() - before == traffic.made)
+    kept.settled(cluster)
+    ended = [it.end() for it in cluster.replicas]
+    case("kept: each replica ends with status 0 again", not any(ended), str(ended))
+    found = {kept.standing(cluster, at) for at in range(cluster.count)}
+    case("kept: the files have the same hashes", len(found) == 1, str(len(found)))
+
+
+def refused_files(cluster):
+    """Files that are not the log's."""
+    it, words = cluster.replicas[1], cluster.replicas[1].words
+    clients = str(cluster.clients_max)
+    for name, clients, status in (("ahead", clients, 22), ("other", "8", 23), ("rot", clients, 24)):
+        shutil.rmtree(cluster.copy(1))
+        if name == "rot":
+            kept.flip(cluster.file(1), 200)
+        it.words = [word.replace("/bank", f"/{name}") for word in words[:-1]] + [clients]
+        it.start()
+        case(f"kept: a file that is refused: {name}", it.process.wait(60) == status, last(it))
+
+
 def part_rates(given):
     """Rates next to the listener over tbd, and how long a restart takes. A machine that does
     something else meanwhile has other rates: compare the ratios."""
-    with cluster_of(given) as cluster:
+    with cluster_of(given, is_linked=False) as cluster:
         rates.compared(cluster, 10, 3)
+    if given.kept:
+        print("  with ledgers in files:")
+        with keeping(given), cluster_of(given, is_linked=False) as cluster:
+            rates.compared(cluster, 10, 3)
     for clients, batch, wanted in ((4, 8190, 1_000_000), (24, 1, given.singles)):
-        with cluster_of(given) as cluster:
+        with cluster_of(given, is_linked=False) as cluster:
             done = 0
             while done < wanted:
                 done += int(10 * rates.rate(cluster.tcp[0], clients, batch, 10))
@@ -412,9 +531,10 @@ PARTS = {
     "wrong": part_wrong,
     "postgresql": part_postgresql,
     "access": part_access,
+    "kept": part_kept,
     "rates": part_rates,
 }
-APART = ("rates",)  # run where they are named
+APART = ("kept", "rates")  # run where they are named
 
 
 def words():
@@ -441,18 +561,22 @@ def words():
         help="seconds between two requests of a client of the first part (0.1)",
     )
     parser.add_argument("--follow", metavar="PROGRAM", help="tb_follow, as the replicas' server")
-    parser.add_argument("--show", action="store_true", help="tell what happens")
+    parser.add_argument("--kept", metavar="PROGRAM", help="tbd, as a server over a file")
+    parser.add_argument("--show", action="store_true", help="print what happens")
     parser.add_argument("--seconds", type=int, default=60, help="how long --show takes (60)")
     return parser.parse_args()
 
 
 def main():
     given = words()
+    if "kept" in (given.only or []) and not given.kept:
+        sys.exit("the part kept needs --kept PROGRAM")
     Machines.follows = given.follow and os.path.abspath(given.follow)
     if given.show:
         return show_it(given)
     skipped = []
-    for name in given.only or [it for it in PARTS if it not in APART]:
+    usual = ["kept"] if given.kept else [it for it in PARTS if it not in APART]
+    for name in given.only or usual:
         lacks = missing("postgresql" if name == "postgresql" else "etcd")
         if lacks:
             print(f"skipped: {name} (not there: {', '.join(lacks)})")

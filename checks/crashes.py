@@ -288,7 +288,7 @@ class Images:
             self.open(image, len(records) - 1)
 
     def open(self, image, entries):
-        """The program tells so many entries, and serves on: each client's last request gets its
+        """The program reports so many entries, and serves on: each client's last request gets its
         first reply again, one in doubt is done."""
         self.opened += 1
         with open(self.path, "wb") as file:
@@ -312,7 +312,7 @@ class Images:
             ]:
                 self.wrong.append(f"client {client}: request {number + 1} in doubt is not done")
         if ended(process):
-            self.wrong.append("a start over a file that a loss of power left ends by a fault")
+            self.wrong.append("a start over a file that a power loss left ends by a fault")
 
     def follow(self):
         """Goes over the calls, and judges what may be left at each."""
@@ -346,14 +346,14 @@ def losses(tbd, folder, shim, rounds, count, rng):
     case(f"{len(run.first)} requests in lives that kills end: each has one reply", run.wrong)
     images = Images(run, folder, count, rng).follow()
     case(
-        f"{images.judged} files that a loss of power may leave, {images.opened} of them opened",
+        f"{images.judged} files that a power loss may leave, {images.opened} of them opened",
         images.wrong,
     )
     dumped(run)
 
 
 def dumped(run):
-    """The dump has each acknowledged request once, at the commit that its reply told, and its
+    """The dump has each acknowledged request once, at the commit that its reply gave, and its
     replay gives each reply."""
     got = subprocess.run([run.tbd, "dump", run.file], capture_output=True)
     with open(run.file, "rb") as file:
@@ -382,7 +382,7 @@ def dumped(run):
         for key, reply in run.first.items()
         if reply not in replies[Reply.from_bytes(reply).commit - 1 :][:1]
     ]
-    case(f"tbs replay gives the {len(run.first)} replies that were told", wrong)
+    case(f"tbs replay gives the {len(run.first)} replies that were sent", wrong)
 
 
 def controls(tbd, folder, shim, rng):

@@ -15,7 +15,7 @@ An edit begins with two lines that `rt` does not read: `# rule:`, what its body 
 `# refused at:`, the function at whose goal it is refused, with the clause where it is known. The
 tables of docs/trust/MUTANTS.md are made of them: --write writes them, --rules prints all.
 
---texts proves nothing, and takes a second: it tells each edit whose old text is not in its file
+--texts proves nothing, and takes a second: it reports each edit whose old text is not in its file
 exactly once, so that `rt must-fail` could not apply it, each that lacks one of the two lines, and
 whether the tables are up to date.
 """
@@ -122,7 +122,7 @@ def misfit(crate, path):
                 old = rest
             elif word == "new":
                 if not file or not old:
-                    return "a 'new:' line stands before any 'file:' or 'old:' line"
+                    return "a 'new:' line comes before any 'file:' or 'old:' line"
                 if file not in texts:
                     if not os.path.isfile(f"{ROOT}/crates/{crate}/{file}"):
                         return f"there is no file {file}"
@@ -130,7 +130,7 @@ def misfit(crate, path):
                         texts[file] = source.read()
                 found = texts[file].count(old)
                 if found != 1:
-                    return f"its old text stands in {file} {found} times: {old}"
+                    return f"its old text is in {file} {found} times: {old}"
                 texts[file], old = texts[file].replace(old, rest), None
     return None if texts else "it has no 'old:' and 'new:' pair"
 
@@ -214,7 +214,7 @@ def main():
                 stdout=subprocess.DEVNULL,
                 stderr=subprocess.STDOUT,
             ).returncode:
-                sys.exit(f"{library} is not proved, so no edit of what stands on it can be judged")
+                sys.exit(f"{library} is not proved, so no edit above it can be judged")
         # The crates with the most edits begin, so that none of them is left for the end.
         dearest = sorted(edits, key=lambda it: -len(edits[it]))
         with ThreadPoolExecutor(given.jobs) as lanes:

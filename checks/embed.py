@@ -8,8 +8,8 @@ and the client with the definitions and with each other. First build the library
     checks/embed.py
 
 checks/embed/names.py and checks/embed/wrappers.py are the parts that need neither. Prints a line
-for each case, and 'N passed, M failed'. Needs cc, c++, rustc and Linux; what is not there is told
-and passed over. KIT is the toolchain's folder (else `rt doc` tells it).
+for each case, and 'N passed, M failed'. Needs cc, c++, rustc and Linux; what is not there is named
+and passed over. KIT is the toolchain's folder (else `rt doc` prints it).
 """
 import os
 import random
@@ -301,7 +301,7 @@ int main(void) {{
 
 
 def leaks(folder):
-    """AddressSanitizer tells a server that was not closed, and nothing where it was closed."""
+    """AddressSanitizer reports a server that was not closed, and nothing where it was closed."""
     for what, close, status in (
         ("a server that is not closed leaks", "", 1),
         ("a closed one does not", "tb_embed_close(server);", 0),

@@ -102,7 +102,7 @@ def dump_head(profile, clients_max):
 
 
 def mark(profile=2):
-    """What stands in a dump where the ledger moves to another profile."""
+    """What a dump has where the ledger moves to another profile."""
     return little(0) + little(profile)
 
 

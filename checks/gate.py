@@ -1,5 +1,5 @@
 #!/usr/bin/env python3
-"""Runs the gate and tells what it took: CPU minutes of each crate by its passes, as a table
+"""Runs the gate and prints what it took: CPU minutes of each crate by its passes, as a table
 in Markdown.
 
     python3 checks/gate.py [--log FILE] [WORD ..]

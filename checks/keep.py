@@ -37,7 +37,7 @@ EINTR, EIO, ENOSPC = 4, 5, 28
 
 
 def case(name, well, said=""):
-    """Counts a case, and tells one that failed."""
+    """Counts a case, and prints one that failed."""
     tried.case(name, well, said, quietly=True)
 
 
@@ -212,7 +212,7 @@ class Ledger:
 
 
 def check(tbd, file, shim=None, fault=""):
-    """What `tbd check` tells, and its status."""
+    """What `tbd check` prints, and its status."""
     env = dict(os.environ)
     if shim:
         env.update(LD_PRELOAD=shim, KEEP_FILE=file, KEEP_FAULT=fault)
@@ -325,7 +325,7 @@ def traced(log):
 
 
 def told_early(calls):
-    """How often a reply was told before the commit that it rests on was on the disk. Each telling has one: a gate that is opened, and synced."""
+    """How often a reply was sent before the commit that it rests on was durable. Each reply has one: a latch that is opened, and synced."""
     waits, opened, committed, early, told = False, 0, 0, 0, 0
     for letter, opens in calls:
         if letter in "WT":
@@ -359,7 +359,7 @@ def orders(tbd, folder, shim):
         case(f"a control that must be caught: {fault}", early > 0, f"{early} of {told}")
 
 
-# Wrong bodies: the program's own, where nothing is to be caught, one that tells before it commits, and one that does not sync.
+# Mutants: the program's own body, where nothing is to be caught, one that replies before it commits, and one that does not sync.
 BUILDS = (
     ("the program as it is", "crates/tb_keep/src/serving.rt", "keeper.journal.commit()?;", "keeper.journal.commit()?;"),
     ("replies before it commits", "crates/tb_keep/src/serving.rt", "keeper.journal.commit()?;", "hand_out(replies, writer)?; keeper.journal.commit()?;"),
@@ -374,7 +374,7 @@ def builds(tbd, folder):
     for name, path, old, new in BUILDS:
         with open(f"{copy}/{path}", encoding="utf-8") as file:
             text = file.read()
-        case(f"{name}: the text stands once", text.count(old) == 1)
+        case(f"{name}: the text is there once", text.count(old) == 1)
         with open(f"{copy}/{path}", "w", encoding="utf-8") as file:
             file.write(text.replace(old, new))
         kept = os.path.join(folder, "built.tbk")
@@ -384,8 +384,8 @@ def builds(tbd, folder):
             ran = subprocess.run(words, cwd=f"{copy}/crates/tbd", stdin=script, capture_output=True, check=False)
         early, told = told_early(traced(log))
         well = ran.returncode == 0 and told > 0 and (early > 0) == (old != new)
-        case(f"a build: {name}", well, f"status {ran.returncode}, {early} of {told} told early")
-        print(f"a build: {name}: {early} of {told} told early", flush=True)
+        case(f"a build: {name}", well, f"status {ran.returncode}, {early} of {told} sent early")
+        print(f"a build: {name}: {early} of {told} sent early", flush=True)
         with open(f"{copy}/{path}", "w", encoding="utf-8") as file:
             file.write(text)
         os.unlink(kept)
@@ -418,7 +418,7 @@ def look_at(tbd, path, data):
     return told
 
 
-# Words that are none of the program's forms, and what is told of them.
+# Words that are none of the program's forms, and what is reported of them.
 WORDS = [
     ("run ledger.tbk 65", "run ledger.tbk 65: CLIENTS_MAX is 1 to 64"),
     ("run ledger.tbk 65 1", "run ledger.tbk 65 1: CLIENTS_MAX is 1 to 64"),
@@ -432,7 +432,7 @@ WORDS = [
 
 
 def told_of(tbd, folder, words, data=b"", output=subprocess.PIPE, **how):
-    """The status of words, what goes to the output, and what is told."""
+    """The status of words, what goes to the output, and what is reported."""
     ran = subprocess.run([tbd, *words], cwd=folder, input=data, stdout=output, stderr=subprocess.PIPE, timeout=SECONDS, check=False, **how)
     return ran.returncode, ran.stdout, ran.stderr.decode()
 
@@ -442,7 +442,7 @@ def pair_of_a_register():
 
 
 def told_of_words(tbd, folder):
-    """What is told of wrong words, of output that is lost, and of a file that this user may not read."""
+    """What is reported of wrong words, of output that is lost, and of a file that this user may not read."""
     for words, line in WORDS:
         told = told_of(tbd, folder, words.split())
         case(f"wrong words: {words}", told == (2, b"", f"tbd: Usage: {line}\n"), told)
@@ -473,15 +473,15 @@ def lost_replies(tbd, folder):
 
 
 def told_of_ends(tbd, folder):
-    """What is told of torn bytes that are cut off, and that nothing is written of a file that is damaged."""
+    """What is reported of torn bytes that are cut off, and that nothing is written of a file that is damaged."""
     with open(os.path.join(folder, "words.tbk"), "rb") as file:
         data = file.read()
     with open(os.path.join(folder, "torn.tbk"), "wb") as file:
         file.write(data + b"\0\2\0")
     told = check(tbd, os.path.join(folder, "torn.tbk"))
-    case("what is told of torn bytes", told["bytes behind"] == 3, told)
+    case("what is reported of torn bytes", told["bytes behind"] == 3, told)
     told = told_of(tbd, folder, ["run", "torn.tbk", "3"])
-    case("torn bytes are told", told == (0, b"", f"tbd: cut 3 bytes of a batch that was not committed, behind byte {len(data) - 1}\n"), told)
+    case("torn bytes are reported", told == (0, b"", f"tbd: cut 3 bytes of a batch that was not committed, behind byte {len(data) - 1}\n"), told)
     with open(os.path.join(folder, "turned.tbk"), "wb") as file:
         file.write(data[:-2] + bytes([data[-2] ^ 1]) + data[-1:])
     told = told_of(tbd, folder, ["dump", "turned.tbk"])
@@ -505,7 +505,7 @@ def failing_dumps(tbd, folder, shim):
 
 
 def told_by_check(tbd, folder):
-    """What is told of a file that is not there, and of one of each profile, with a register."""
+    """What is reported of a file that is not there, and of one of each profile, with a register."""
     absent = os.path.join(folder, "absent.tbk")
     told = check(tbd, absent)
     case("a file that is not there", told["status"] == 1 and absent in told["said"] and not os.path.exists(absent), told)
@@ -514,7 +514,7 @@ def told_by_check(tbd, folder):
         told_of(tbd, folder, ["run", path, "3", str(profile)], pair_of_a_register())
         told = check(tbd, path)
         wanted = {"status": 0, "said": "", "records": 2, "entries": 1, "profile": profile, "clients_max": 3, "last time": 5, "bytes behind": 0}
-        case(f"what is told of profile {profile}", told == wanted, told)
+        case(f"what is reported of profile {profile}", told == wanted, told)
 
 
 # Files that are read while they are served, and files that may only be read
@@ -627,7 +627,7 @@ def names(tbd, folder):
     case("a dump is no ledger", told == (5, b"", "tbd: NotAJournal: dump.tbs is a dump; tbs replay and tbt read it\n"), told)
     told = told_of(tbd, folder, ["run", "words.tbk", "4", "2"])
     line = "tbd: OtherRules: words.tbk was made with CLIENTS_MAX 3 and PROFILE 1, not with CLIENTS_MAX 4 and PROFILE 2\n"
-    case("other rules are told", told == (7, b"", line), told)
+    case("other rules are reported", told == (7, b"", line), told)
 
 
 def reported(tbd, folder):
@@ -639,7 +639,7 @@ def reported(tbd, folder):
 
 
 def long_starts(tbd, folder):
-    """A start over more than 64 MB: how far it is is told where that is asked for, and else nothing."""
+    """A start over more than 64 MB: its progress is reported where that is asked for, and else nothing."""
     wrong = Transfer(1, CASH, SALES, 1, ledger=700, code=10).to_bytes() * 8190
     frames = [request_frame(7, 1, number, Operation.create_transfers, wrong) for number in range(1, 64)]
     script = pair_of_a_register() + b"".join(struct.pack("<Q", 5) + it for it in frames)
@@ -668,7 +668,7 @@ def terminal():
 
 
 def on_terminals(tbd, folder):
-    """What is told where requests would be typed, and where lines are seen on a terminal."""
+    """What is reported where requests would be typed, and where lines are seen on a terminal."""
     master, slave = terminal()
     os.write(master, b"\x04")  # Ctrl-D
     ran = subprocess.run([tbd, "run", "typed.tbk", "3"], cwd=folder, stdin=slave, capture_output=True, timeout=SECONDS, check=False)
@@ -789,7 +789,7 @@ def copied(tbd, form, path, new, **how):
 
 
 def salvages(tbd, folder, data, gates, count, rng):
-    """A file with a bit flipped at many places: what is before the damage is taken over, and what is lost is told."""
+    """A file with a bit flipped at many places: what is before the damage is taken over, and what is lost is reported."""
     whole, path = os.path.join(folder, "sound.tbk"), os.path.join(folder, "hurt.tbk")
     with open(whole, "wb") as file:
         file.write(data)
@@ -869,7 +869,7 @@ def copies_of_no_ledger(tbd, folder):
 
 
 def copies_on_a_full_disk(tbd, folder, shim, data):
-    """A disk that is full amid a copy, and a sync of it that fails, are told by their status; the file is as before."""
+    """A disk that is full amid a copy, and a sync of it that fails, are reported by their status; the file is as before."""
     path = os.path.join(folder, "sound.tbk")
     for number, (fault, status) in enumerate((("full 2000", 8), ("full 5000", 8), (f"sync 1 {EIO}", 9), (f"write 2 {EIO}", 1))):
         for form in ("salvage", "backup"):
@@ -915,7 +915,7 @@ def cuts(tbd, folder, data, gates, entries, count):
 
 
 def flips(tbd, folder, data, gates, entries, count, rng):
-    """Bits that are turned, each told as damage but for those of gates, which any bytes but 0 leave open."""
+    """Bits that are turned, each reported as damage but for those of latches, which any bytes but 0 leave open."""
     path, wrong, damaged = os.path.join(folder, "flip.tbk"), [], 0
     for _ in range(count):
         at, bit = rng.randrange(len(data)), rng.randrange(8)

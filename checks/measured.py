@@ -30,7 +30,8 @@ PEERS = {
     "lean.rs": "lean.rs",
     "sqlite.c": "SQLite",
 }
-BEFORE, HUGE = "before", "tbs in huge pages"
+# An earlier tbs, and one of today that was built as it was.
+BEFORE, NOW, HUGE = "before", "now", "tbs in huge pages"
 # The kinds that are measured together: of one commit and one machine.
 TOGETHER = ("bench", "growth", "reads", "instructions", "profile")
 FIGURES = ("bench", "growth", "instructions")
@@ -89,7 +90,9 @@ def found_for(bound: dict[str, str]) -> Optional[float]:
     subject, peer = bound["subject"], bound["peer"]
     if compares_loads(bound):
         of = ratio(each(subject), each(peer))
-    elif peer in (*PEERS, BEFORE):
+    elif peer == BEFORE:
+        of = ratio(each(subject, NOW), each(subject, BEFORE))
+    elif peer in PEERS:
         of = ratio(each(subject), each(subject, peer))
     else:
         columns = {name: bound[name] for name in ("subject", "peer", "size", "unit")}
@@ -175,7 +178,8 @@ def where() -> str:
 
 ALONE = """
 A bulk transfer at 1,000,000 accounts costs {} of one at 10,000, and takes {} bytes. Old posts and
-voids take {} of the time before searches overlapped. A single request runs {} instructions.
+voids take {} of the time before searches overlapped (unproved builds of both). A single request
+runs {} instructions.
 """
 
 
@@ -360,7 +364,8 @@ def rows_with(bound: dict[str, str], figure: float) -> list[dict[str, str]]:
         ours = row(bound, "bench", figure * 1000, peer="tbs", unit=EACH)
         return [ours, row(bound, "bench", 1000, **other)]
     if bound["peer"] in (*PEERS, BEFORE):
-        ours = row(bound, "bench", figure * 1000, peer="tbs", unit=EACH)
+        server = NOW if bound["peer"] == BEFORE else "tbs"
+        ours = row(bound, "bench", figure * 1000, peer=server, unit=EACH)
         return [ours, row(bound, "bench", 1000, unit=EACH)]
     return [row(bound, "bench", figure)]
 

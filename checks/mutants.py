@@ -9,13 +9,13 @@ and lines `old:` followed by lines `new:` (lines of one text one behind the othe
 follow). Each old text is in its file once. `MUTANT` in a new text is true where that bug is on.
 
 All bugs are planted into one copy of the repository, behind one switch: the environment variable
-TB_MUTANT. The tests of all crates that stand on a changed one are put into one crate, and it and
-each program that a script runs are built once, by `rt try`, which proves nothing. Then the tests
-run with each bug on, and where they pass the scripts of checks/ that run a changed program.
+TB_MUTANT. The tests of all crates above a changed one are put into one crate, and it and each
+program that a script runs are built once, by `rt try`, which proves nothing. Then the tests run
+with each bug on, and where they pass the scripts of checks/ that run a changed program.
 
 Ends in 'N passed, M failed': passed are the bugs that something catches. --write puts a row for
 each into docs/trust/mutants.csv, with the commit of the tests, and their counts into
-docs/trust/MUTANTS.md. --texts tells, in a second, which bugs can't be planted, alone or behind the
+docs/trust/MUTANTS.md. --texts prints, in a second, which bugs can't be planted, alone or behind the
 others, have no row there or are caught by nothing. --uncaught tries those without such a row.
 
 With --room the copy and what was built stay, and what has not changed is not built again.
@@ -157,7 +157,7 @@ def all_mutants():
     numbers = [it.number for it in found]
     twice = sorted({it.name for it in found if numbers.count(it.number) > 1})
     if twice:
-        sys.exit(f"names that stand twice: {', '.join(twice)}")
+        sys.exit(f"names that are there twice: {', '.join(twice)}")
     return found
 
 
@@ -359,7 +359,7 @@ def status_of(words, number, seconds):
 
 
 def case_of(lines):
-    """The first case that lines of a script tell as failed, but for those that fail anyway. None
+    """The first case that lines of a script report as failed, but for those that fail anyway. None
     where they end with the count of cases, and no others failed; else 'stops'."""
     anyway, line = 0, ""
     for line in lines:
@@ -371,8 +371,8 @@ def case_of(lines):
 
 
 def failed_case(words, number, seconds):
-    """The first case that a script tells as failed, with a bug on: it is ended then. None where it
-    passes."""
+    """The first case that a script reports as failed, with a bug on: it is ended then. None where
+    it passes."""
     with tempfile.TemporaryDirectory(prefix="mutants-run-") as folder:
         began = begin(words, number, folder, subprocess.PIPE)
         timer = threading.Timer(seconds, end, [began])
@@ -572,7 +572,7 @@ def prepared(room, mutants, tests_only):
 
 
 def try_mutants(mutants, words, room):
-    """Tries the chosen bugs, and tells what catches each; the exit status."""
+    """Tries the chosen bugs, and prints what catches each; the exit status."""
     tried = commit()
     catchers = prepared(room, mutants, words.tests_only)
     without = catchers.wrong_without(mutants)

@@ -310,7 +310,7 @@ def many_items():
     # after 10
     found = b"".join(account(id, timestamp=10 + id) for id in numbers)
     wanted = FIRST_REPLY + reply(7, 1, 1, 129, 0, 2) + reply(7, 1, 2, 131, 0, 3, found)
-    case("8190 accounts and their look-up", ended(FIRST + create + lookup), (0, wanted, b""))
+    case("8190 accounts and their lookup", ended(FIRST + create + lookup), (0, wanted, b""))
     return FIRST + create + lookup
 
 

@@ -22,7 +22,7 @@ STEPS = 5000
 
 
 def counts_of(told):
-    """What standard error tells: a number behind each name."""
+    """What standard error gives: a number behind each name."""
     return {
         name: int(number)
         for name, number in re.findall(r"([A-Za-z][A-Za-z ]*) ([0-9]+)", told.decode())

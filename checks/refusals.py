@@ -214,14 +214,14 @@ def each_growth(refuser, name, form, clients, script, judge, least, wanted):
         if ran.blocks:
             why = why or f"{ran.blocks} blocks were not given back"
         if why:
-            whys.append(f"growth {at}: {why}")
+            whys.append(f"allocation {at}: {why}")
         if ran.refused:
             counts[refusal_of(ran)] += 1
     calls = sum(count for it, count in counts.items() if it not in OWN)
     missing = [it for it in wanted if not counts[it]]
     if calls < least or missing:
         whys.append(f"only {calls} refusals of calls, none of {missing}")
-    case(name, "; ".join(whys[:3]), f"{runs - 1} growths refused: {told(counts)}")
+    case(name, "; ".join(whys[:3]), f"{runs - 1} allocations refused: {told(counts)}")
 
 
 def refusal_of(ran):
@@ -429,14 +429,16 @@ def storms(refuser):
         how = rights.get((ran.status, ran.output, tuple(ran.lines)))
         if not how or ran.blocks:
             whys.append(
-                f"growth {at}: status {ran.status}, {ran.output}, {ran.lines}, {ran.blocks} "
+                f"allocation {at}: status {ran.status}, {ran.output}, {ran.lines}, {ran.blocks} "
                 "blocks left"
             )
         counts[how or "wrong"] += ran.refused
     if sum(counts.values()) < 400:
-        whys.append("too few growths were refused")
+        whys.append("too few allocations were refused")
     case(
-        "storm 2 3", "; ".join(whys[:3]), f"{sum(counts.values())} growths refused: {told(counts)}"
+        "storm 2 3",
+        "; ".join(whys[:3]),
+        f"{sum(counts.values())} allocations refused: {told(counts)}",
     )
 
 
@@ -581,13 +583,13 @@ def each_growth_of_tbd(refuser, words, script, judge, new, least):
     counts, whys = collections.Counter(), []
     for at, ran in refuser.in_turn(KEEPER, words, script):
         why = judge(ran)
-        whys += [f"growth {at}: {why}"] if why else []
+        whys += [f"allocation {at}: {why}"] if why else []
         counts["NoMemory" if ran.status else "made up for"] += ran.refused
         with contextlib.suppress(FileNotFoundError):
             os.unlink(new)
     if counts["NoMemory"] < least:
-        whys.append(f"only {counts['NoMemory']} refusals were told")
-    case(f"tbd {words[0]}", "; ".join(whys[:3]), f"growths refused: {told(counts)}")
+        whys.append(f"only {counts['NoMemory']} refusals were reported")
+    case(f"tbd {words[0]}", "; ".join(whys[:3]), f"allocations refused: {told(counts)}")
 
 
 def ledgers(refuser, folder):

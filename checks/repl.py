@@ -157,7 +157,7 @@ def piped(words, tbs, lines, folder):
         timeout=SECONDS,
     )
     tried.case("a wrong statement of a pipe ends it", it.returncode == 2, str(it.returncode))
-    tried.case("what is wrong is told", "unknown operation" in it.stderr, it.stderr)
+    tried.case("what is wrong is reported", "unknown operation" in it.stderr, it.stderr)
     tried.case("what was right is answered", it.stdout.count('"status":"reply"') >= 1, it.stdout)
 
 

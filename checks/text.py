@@ -69,7 +69,7 @@ check("what is printed is first.script", run(TBT, ["script"], printed), (0, SCRI
 check("what is printed is printed again", run(TBT, ["requests"], run(TBT, ["script"], printed)[1])[1], printed)
 check("served", run(TBS, ["run", "2"], run(TBT, ["script"], TEXT)[1])[1], REPLIES)
 status, lines, line = run(TBT, ["replies"], REPLIES)
-check("replies are told", (status, line), (0, b""))
+check("replies are printed", (status, line), (0, b""))
 objects = [json.loads(it) for it in lines.splitlines()]
 check("three replies", [it["operation"] for it in objects], ["register", "create_accounts", "lookup_accounts"])
 check("statuses", [it["status"] for it in objects], ["reply"] * 3)
@@ -77,7 +77,7 @@ check("commits are strings", [it["commit"] for it in objects], ["1", "2", "3"])
 check("accounts", [(it["id"], it["ledger"], it["code"], it["timestamp"]) for it in objects[2]["results"]], [("2", 700, 10, "12"), ("1", 700, 10, "11")])
 dumped = run(TBS, ["dump", "2"], SCRIPT)[1]
 status, lines, line = run(TBT, ["dump"], dumped)
-check("a dump is told", (status, line), (0, b""))
+check("a dump is printed", (status, line), (0, b""))
 objects = [json.loads(it) for it in lines.splitlines()]
 check("its head", objects[0], {"profile": 1, "clients_max": 2})
 check("its entries", [it["commit"] for it in objects[1:]], ["1", "2", "3"])
@@ -130,7 +130,7 @@ check("cut behind each byte", [at for at, it in enumerate(cuts) if it == 0], end
 
 
 def place_told(text):
-    """The number of bytes before the place that is told wrong, None where the text is right."""
+    """The number of bytes before the place that is reported wrong, None where the text is right."""
     status, out, line = run(TBT, ["script"], text)
     if status == 0:
         return None
@@ -159,10 +159,10 @@ while len(wrong) < 60:
     place = place_told(text)
     if place is not None and not leaves_out(text, place):
         wrong.append((text, place))
-check("what stands before a wrong place goes on", [it for it in wrong if place_told(it[0][: it[1]]) not in (None, it[1])], [])
+check("what comes before a wrong place goes on", [it for it in wrong if place_told(it[0][: it[1]]) not in (None, it[1])], [])
 check("with the byte there nothing goes on", [it for it in wrong if it[1] < len(it[0]) and place_told(it[0][: it[1] + 1]) != it[1]], [])
 
-# names, by tables that are written here and nowhere in the programs: numbers as they stand in frames
+# names, by tables that are written here and nowhere in the programs: numbers as they are in frames
 
 OPERATIONS = {2: "register", 129: "create_accounts", 130: "create_transfers", 131: "lookup_accounts", 132: "lookup_transfers"}
 STATUSES = ["reply", "no_session", "session_too_low", "newer_session", "older", "collision", "newer_request", "not_yet"]
@@ -273,7 +273,7 @@ def reply_frame(operation, status, body):
 
 
 def shown_reply(operation, status, body=b""):
-    """The object that is told of a reply."""
+    """The object that is printed of a reply."""
     status, lines, line = run(TBT, ["replies"], reply_frame(operation, status, body))
     return json.loads(lines) if (status, line) == (0, b"") else (status, line)
 
@@ -445,7 +445,7 @@ PROMPTS = (b"> ", b". ")
 
 
 def shown_until_prompt(master):
-    """What comes on a terminal until a prompt stands at its end, or the program ends; 10 seconds at most."""
+    """What comes on a terminal until a prompt is at its end, or the program ends; 10 seconds at most."""
     shown, end = b"", time.monotonic() + 10
     while select.select([master], [], [], 0.1 if shown.endswith(PROMPTS) else max(0, end - time.monotonic()))[0]:
         try:
@@ -456,7 +456,7 @@ def shown_until_prompt(master):
 
 
 def conversation(words, lines, echo=True, out=None):
-    """What stands on a terminal when these lines were typed, each behind a prompt, and the program's status. What the terminal
+    """What is on a terminal when these lines were typed, each behind a prompt, and the program's status. What the terminal
     echoes is left out without `echo`. Standard output goes to `out` where there is one."""
     master, slave = pty.openpty()
     settings = termios.tcgetattr(slave)

@@ -1,4 +1,4 @@
-"""What the scripts of checks/ share: cases that are counted and told, programs that have to be
+"""What the scripts of checks/ share: cases that are counted and printed, programs that have to be
 there and their runs, the arguments of a script, and its end."""
 import argparse
 import os
@@ -9,7 +9,7 @@ passed = failed = 0
 
 
 def case(name, holds, said="", quietly=False):
-    """Counts a case and tells it, with what is said of it; quietly only where it fails. Answers
+    """Counts a case and prints it, with what is said of it; quietly only where it fails. Answers
     whether it holds."""
     global passed, failed
     passed, failed = passed + bool(holds), failed + (not holds)
@@ -54,9 +54,9 @@ def progress(what, done, total):
 
 
 def main(run):
-    """Ends the script with the status that `run` answers. What its user can mend is told in a line
-    and no traceback: a file or program that is not there, a command that failed or did not end,
-    an interrupt. Where nobody reads the output the script ends without a word."""
+    """Ends the script with the status that `run` answers. What its user can mend is printed in a
+    line and no traceback: a file or program that is not there, a command that failed or did not
+    end, an interrupt. Where nobody reads the output the script ends without a word."""
     try:
         sys.exit(run())
     except KeyboardInterrupt:

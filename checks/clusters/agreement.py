@@ -21,7 +21,7 @@ def script_of(cluster):
 
 
 def is_gone(cluster, place):
-    """Whether who reads from this place on is told that the log does not have it any more."""
+    """Whether who reads from this place on learns that the log does not have it any more."""
     try:
         _read(cluster, place, 1)
     except LogGone:

@@ -125,6 +125,7 @@ class Machines:
 
     nodes = ()  # the engine's processes
     follows = None  # tb_follow, where that is the server
+    keeps = None  # a server that keeps its ledger in a file, where that is it
 
     def __init__(self, folder, clients_max, replica, count):
         self.folder, self.count, self.clients_max = folder, count, clients_max
@@ -140,13 +141,21 @@ class Machines:
     def out(self, at):
         return f"{self.folder}/replies{at}"
 
+    def file(self, at):
+        return f"{self.folder}/ledger{at}.tbl"
+
+    def command(self, at):
+        """The server of a replica, and its words."""
+        if self.keeps:
+            return [self.keeps, "follow", self.file(at), str(self.clients_max)]
+        words = ["bash", "-c", KEEPING, "bash", self.follows or PROGRAM, self.out(at)]
+        return [*words, *([] if self.follows else ["run"]), str(self.clients_max)]
+
     def replica_words(self, at, words, more=()):
-        command = ["bash", "-c", KEEPING, "bash", self.follows or PROGRAM, self.out(at)]
         given = ["--log", self.log(at), "--copy", self.copy(at), "--name", f"r{at}", *more]
         given += ["--tcp", f"127.0.0.1:{self.tcp[at]}", "--connections", "200"]
         given += ["--positions", "--"] if self.follows else ["--"]
-        form = [] if self.follows else ["run"]
-        return [PYTHON, "-B", *words, *given, *command, *form, str(self.clients_max)]
+        return [PYTHON, "-B", *words, *given, *self.command(at)]
 
     def start(self):
         self.start_engine()
@@ -184,18 +193,20 @@ class Machines:
 
 class Cluster(Machines):
     """Three nodes of etcd and three replicas, with a link between each replica and each node, and
-    one to each node for the others."""
+    one to each node for the others; or without links, where nothing is cut and rates count."""
 
-    def __init__(self, folder, quota=0, clients_max=64, replica=None, count=3):
+    def __init__(self, folder, quota=0, clients_max=64, replica=None, count=3, is_linked=True):
         self.quota = quota
         take = iter(free_ports(3 * count + count * count)).__next__
         self.serves, self.peers = [[take() for _ in range(count)] for _ in range(2)]
         self.peer_links = [take() for _ in range(count)]
         self.ways = [[take() for _ in range(count)] for _ in range(count)]
+        if not is_linked:
+            self.peer_links, self.ways = self.peers, [self.serves] * count
         super().__init__(folder, clients_max, replica, count)
         pairs = list(zip(self.peer_links, self.peers))
         pairs += [(it, self.serves[at]) for way in self.ways for at, it in enumerate(way)]
-        self.links = Links(pairs)
+        self.links = Links(pairs if is_linked else [])
         self.nodes = [Process(f"node{it}", self._node(it), folder) for it in range(count)]
 
     def _node(self, at):

@@ -129,7 +129,7 @@ class Traffic:
 
 
 def posted_at(*ports, seconds=60, tls=None):
-    """What the ledger has posted, as the first of these ports that answers tells."""
+    """What the ledger has posted, as the first of these ports that answers says."""
     transport = Socket([("127.0.0.1", it) for it in ports], seconds, tls)
     with Session.register(transport) as session:
         return session.lookup_accounts([PAYEE])[0].credits_posted

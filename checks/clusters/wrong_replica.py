@@ -8,6 +8,7 @@ before the log has it. skips_at_restart: the first entry that is read after a re
 takes_twice_at_restart: it is taken twice. clock_ahead: its clock is an hour ahead (it is a right
 replica: it has to end itself).
 """
+import asyncio
 import os
 import struct
 import sys
@@ -20,13 +21,13 @@ from tb_host import machines, replica  # noqa: E402
 from tb_host.entries import Entry  # noqa: E402
 from tb_host.log import Written  # noqa: E402
 
-take, append, ask = replica.Replica.take, replica.Replica._append, replica.Replica.ask
+take, append, ask = replica.Replica.take, replica.Replica._append, replica.Replica.ask_soon
 
 
 def executes_early():
     async def early(self, number, data):
         take(self, Written(self.copy.place, data))
-        self.sent[number] = []
+        self.sent[number] = replica.Sent(Entry.from_bytes(data), [])
         await append(self, number, data)
 
     replica.Replica._append = early
@@ -34,16 +35,16 @@ def executes_early():
 
 
 def replies_early():
-    async def early(self, frame):
+    def early(self, frame, answered):
         if frame[28] != Operation.create_transfers:
-            return await ask(self, frame)
-        pair = replica.Pair(frame)
-        self.queue.append(pair)
-        self.queued.set()
+            ask(self, frame, answered)
+            return
+        ask(self, frame, lambda *_: None)
         session = struct.unpack_from("<Q", frame, 16)[0]
-        return frame[:29] + struct.pack("<BHIQI", 0, 0, 0, session + 1 + self.copy.position, 0)
+        place = struct.pack("<BHIQI", 0, 0, 0, session + 1 + self.copy.position, 0)
+        asyncio.get_running_loop().call_soon(answered, frame[:29] + place, "")
 
-    replica.Replica.ask = early
+    replica.Replica.ask_soon = early
 
 
 def tests_nothing():

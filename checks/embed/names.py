@@ -265,7 +265,7 @@ def comparisons():
 
 def statuses_of_outcomes():
     """The statuses by the names of outcomes. Of outcomes with one status a caller sees the
-    first: want of memory has one, wherever it was met."""
+    first: out of memory has one, wherever it was met."""
     first = {}
     for name, number in numbers(spec("Outcomes", "tb_embed"), "status_of").items():
         first.setdefault(number, name)

@@ -204,7 +204,7 @@ def orders(table, sources):
 
 # Which definitions have the tests of a group, in their order; each by the first of its names that
 # is there. A bare result is a test
-# that stands between two of them.
+# that is between two of them.
 GROUPS = {
     "account": {
         "own": [("account_own_tests",)],

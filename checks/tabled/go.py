@@ -223,7 +223,7 @@ def sizes_of(table):
 
 
 def places(table):
-    """Where each field stands."""
+    """Where each field is."""
     found = []
     for row in table["layouts"]:
         prefix = f"at{t.camel(row['name'])}"
@@ -232,5 +232,5 @@ def places(table):
             for field in row["fields"]
             if field["name"]
         ]
-        found.append(block(f"// Where the fields of {row['name'].replace('_', ' ')}s stand.", rows))
+        found.append(block(f"// Where the fields of {row['name'].replace('_', ' ')}s are.", rows))
     return "\n".join(found)

@@ -321,7 +321,7 @@ def layout(table):
         HEAD,
         f"package {PACKAGE};",
         "",
-        "/** Sizes, limits, and where each field stands. */",
+        "/** Sizes, limits, and where each field is. */",
         "final class Layout {",
     ]
     lines += [f"    static final {kind} {name} = {value};" for name, kind, value in rows]

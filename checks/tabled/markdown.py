@@ -1,4 +1,4 @@
-"""The tables of pages. A page has a mark where a table stands:
+"""The tables of pages. A page has a mark where a table is:
 
     <!-- generated: operations, by checks/tables.py -->
     <!-- end of operations -->
@@ -103,7 +103,7 @@ def record(table, name):
 
 
 def frames(table):
-    """Both headers: what stands at each place where one of them has a field."""
+    """Both headers: what is at each place where one of them has a field."""
     sides = [
         {it["at"]: it for it in t.layout(table, name)["fields"]}
         for name in ("request_header", "reply_header")

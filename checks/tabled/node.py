@@ -65,7 +65,7 @@ def module(table):
         lines += ["});"]
     lines += [
         "",
-        "/** Where each field stands, and how many bytes it has. */",
+        "/** Where each field is, and how many bytes it has. */",
         "const LAYOUTS = Object.freeze({",
     ]
     for row in table["layouts"]:

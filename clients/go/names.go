@@ -522,7 +522,7 @@ var replyItemSize = map[Operation]int{
 	OperationLookupTransfers: 128,
 }
 
-// Where the fields of accounts stand.
+// Where the fields of accounts are.
 const (
 	atAccountID             = 0   // u128
 	atAccountDebitsPending  = 16  // u128
@@ -539,7 +539,7 @@ const (
 	atAccountTimestamp      = 120 // u64
 )
 
-// Where the fields of transfers stand.
+// Where the fields of transfers are.
 const (
 	atTransferID              = 0   // u128
 	atTransferDebitAccountID  = 16  // u128
@@ -556,13 +556,13 @@ const (
 	atTransferTimestamp       = 120 // u64
 )
 
-// Where the fields of results stand.
+// Where the fields of results are.
 const (
 	atResultIndex  = 0 // u32
 	atResultResult = 4 // u32
 )
 
-// Where the fields of request headers stand.
+// Where the fields of request headers are.
 const (
 	atRequestHeaderClient    = 0  // u128
 	atRequestHeaderSession   = 16 // u64
@@ -571,7 +571,7 @@ const (
 	atRequestHeaderLength    = 32 // u32
 )
 
-// Where the fields of reply headers stand.
+// Where the fields of reply headers are.
 const (
 	atReplyHeaderClient    = 0  // u128
 	atReplyHeaderSession   = 16 // u64

@@ -171,7 +171,7 @@ const REPLY_ITEM_SIZES = Object.freeze({
   132: 128,
 });
 
-/** Where each field stands, and how many bytes it has. */
+/** Where each field is, and how many bytes it has. */
 const LAYOUTS = Object.freeze({
   account: Object.freeze([
     Object.freeze({ name: "id", at: 0, bytes: 16 }),

@@ -15,8 +15,9 @@ import unittest
 
 from tb_client.frames import request_frame
 from tb_client.names import Operation
-from tb_host import checksums, faults, log, machines
-from tb_host.entries import MOMENT_MAX, NOTHING, Claim, Entry, chained, test_pairs
+from tb_host import backlog, checksums, faults, log, machines
+from tb_host.backlog import Backlog, Checkpoint
+from tb_host.entries import MOMENT_MAX, NOTHING, Claim, Entry, askers, chained, test_pairs
 from tb_host.faults import Fault
 from tb_host.lines import Ended, Told
 from tb_host.local_copy import Copy, copied, kept
@@ -70,6 +71,60 @@ while kind := stdin.read(1):
 """
 FOLLOWS = [sys.executable, "-SEc", FOLLOWER, "64"]
 
+# The same over a file of entries, as `tbd follow` keeps it. It may be killed before it tells the
+# replies that its file has: LATE is the position of the entry at which it waits for that.
+KEEPER = """
+import hashlib, os, struct, sys, time
+stdin, stdout = sys.stdin.buffer, sys.stdout.buffer
+path, clients, late = sys.argv[2], int(sys.argv[3]), int(os.environ.get("LATE", "0"))
+commit, at, hashes = 0, 0, [bytes(32), bytes(32)]
+def add(which, more):
+    hashes[which] = hashlib.sha256(hashes[which] + more).digest()
+def enter(pairs):
+    global commit, at
+    at, place, index, out = at + 1, 0, 0, b""
+    add(0, pairs)
+    while place < len(pairs):
+        header = pairs[place + 8 : place + 56]
+        place += 56 + struct.unpack_from("<I", header, 32)[0]
+        commit += 1
+        session = commit if header[28] == 2 else 1
+        reply = header[:16] + struct.pack("<Q", session) + header[24:29] + bytes(7)
+        reply += struct.pack("<QI", commit, 0)
+        add(1, reply)
+        out += b"\1" + struct.pack("<QI", at, index) + reply
+        index += 1
+    return out
+file = open(path, "a+b")
+file.seek(0)
+kept, place = file.read(), 0
+if kept[:1] == b"!":
+    print("tbd: Damaged: the block at 0", file=sys.stderr)
+    sys.exit(6)
+while place < len(kept):
+    length = struct.unpack_from("<I", kept, place)[0]
+    enter(kept[place + 4 : place + 4 + length])
+    place += 4 + length
+print(f"tbd: has the log up to position {at}", file=sys.stderr, flush=True)
+while kind := stdin.read(1):
+    if kind == b"\2":
+        stdout.write(kind + struct.pack("<Q", at) + b"".join(hashes))
+        stdout.flush()
+        continue
+    position, length, checksum = struct.unpack("<QII", stdin.read(16))
+    if position != at + 1:
+        print(f"tbd: Gap at {position}", file=sys.stderr)
+        sys.exit(2)
+    pairs = stdin.read(length)
+    out = enter(pairs)
+    file.write(struct.pack("<I", length) + pairs)
+    file.flush()
+    if at == late:
+        time.sleep(60)
+    stdout.write(out)
+    stdout.flush()
+"""
+
 
 def register(client):
     return request_frame(client, 0, 0, Operation.register)
@@ -95,6 +150,7 @@ class MemoryLog:
         self.grown = asyncio.Event()
         self.kept = {}
         self.start = self.more = 0  # up to where it was trimmed, and places before its items
+        self.at, self.is_read_back = 0, False  # what was read; whether an own entry is read back
 
     async def head(self, wanted):
         self._test()
@@ -116,16 +172,23 @@ class MemoryLog:
         self.items.append(Written(len(self.items) + 1, data))
         self.grown.set()
 
+    def is_next(self, place):
+        if self.is_read_back or place != self.at + 1:
+            return False
+        self.at = place
+        return True
+
     async def read(self, place):
         if place < self.start:
             raise LogGone("it is gone")
-        at = place
+        self.at = place
         while True:
-            while at >= len(self.items):
+            while self.at >= len(self.items):
                 self.grown.clear()
                 await self.grown.wait()
-            at += 1
+            at = self.at + 1
             yield self.items[at - 1]
+            self.at = max(self.at, at)
 
     def look_elsewhere(self):
         pass
@@ -156,7 +219,8 @@ class Entries(unittest.TestCase):
 
     def test_pairs_that_would_end_a_server(self):
         right = pair(5, register(9))
-        self.assertEqual(test_pairs(1, right + pair(MOMENT_MAX, register(8))), MOMENT_MAX)
+        both = right + pair(MOMENT_MAX, register(8))
+        self.assertEqual(test_pairs(1, both), askers(both))
         for wrong, said in (
             (pair(MOMENT_MAX + 1, register(9)), f"its moment is {MOMENT_MAX + 1}"),
             (pair(5, bytes(48)), "ClientZero"),
@@ -253,8 +317,10 @@ class Copies(unittest.TestCase):
             copied(self.folder, other)
 
 
-class Replicas(unittest.IsolatedAsyncioTestCase):
+class OverALog(unittest.IsolatedAsyncioTestCase):
     """A replica over a log in memory, before a server that answers each pair."""
+
+    kind = Copy
 
     async def asyncSetUp(self):
         holder = tempfile.TemporaryDirectory()
@@ -269,7 +335,7 @@ class Replicas(unittest.IsolatedAsyncioTestCase):
     def made(self, name="r0", **more):
         given = dict(command=COMMAND, slow=5.0, patience=0.5, ahead=60.0, distrust=[], shown="x")
         given["positions"] = False
-        self.copy = Copy(self.folder)
+        self.copy = self.kind(self.folder)
         self.addCleanup(self.copy.close)
         self.copy.scan()
         return Replica(argparse.Namespace(**{**given, **more}), self.log, self.copy, name)
@@ -294,6 +360,15 @@ class Replicas(unittest.IsolatedAsyncioTestCase):
 
     async def asked(self, it, client):
         return await asyncio.wait_for(it.ask(register(client)), 20)
+
+    async def begins(self, it):
+        with self.assertRaises(Fault) as found:
+            await it.begin()
+        return found.exception.name
+
+
+class Replicas(OverALog):
+    """Before a server that keeps its ledger in memory."""
 
     async def test_requests_and_their_replies(self):
         it = await self.began()
@@ -446,11 +521,6 @@ class Replicas(unittest.IsolatedAsyncioTestCase):
         self.assertEqual(reply[0], 8)
         await self.closed(it)
 
-    async def begins(self, it):
-        with self.assertRaises(Fault) as found:
-            await it.begin()
-        return found.exception.name
-
     async def test_what_must_not_start(self):
         it = self.made()
         self.log.failing = NoLog("away")
@@ -528,6 +598,174 @@ class Replicas(unittest.IsolatedAsyncioTestCase):
         await self.closed(it)
 
 
+class Kept(OverALog):
+    """Before a server that keeps its ledger in a file."""
+
+    kind = Backlog
+
+    async def asyncSetUp(self):
+        await super().asyncSetUp()
+        self.path = f"{self.folder}.tbl"
+        self.command = [sys.executable, "-SEc", KEEPER, "follow", self.path, "64"]
+
+    def made(self, name="r0", **more):
+        return super().made(name, **{"command": self.command, **more})
+
+    async def read(self, it):
+        for _ in range(500):
+            if it.follower.answered == self.copy.position == len(self.log.made):
+                return
+            await asyncio.sleep(0.02)
+        self.fail("the log is not read")
+
+    def commit(self, reply):
+        return struct.unpack_from("<Q", reply, 36)[0]
+
+    async def test_a_start_reads_the_log_from_the_checkpoint_on(self):
+        it = await self.began()
+        replies = await asyncio.gather(*(self.asked(it, client) for client in range(1, 20)))
+        self.assertEqual([reply[0] for reply in replies], list(range(1, 20)))
+        digest, position = it.follower.state()[1], self.copy.position
+        await self.closed(it)
+        self.log.items[:position] = [None] * position  # it would fail at one of these
+        self.log.start = position
+        it = await self.began()
+        self.assertEqual(self.copy.position, position)
+        await asyncio.wait_for(it.begun(), 20)
+        self.assertEqual(it.follower.state(), (position, digest))
+        self.assertEqual(self.commit(await self.asked(it, 77)), 20)
+        self.assertFalse(self.copy.held, "what was answered is dropped")
+        await self.closed(it)
+        self.assertIn("tbd: has the log up to position", self.told.getvalue())
+
+    async def test_the_file_is_ahead_of_the_checkpoint(self):
+        for is_kept in (True, False):
+            self.folder, self.log = f"{self.folder}x", MemoryLog()
+            self.command[-2] = f"{self.folder}.tbl"
+            it = await self.began()
+            for client in (1, 2):
+                await self.asked(it, client)
+            self.copy.sync(*self.copy.mark())
+            kept = backlog.checkpoint_of(self.folder) if is_kept else None
+            for client in (3, 4):
+                await self.asked(it, client)
+            digest = it.follower.state()[1]
+            await self.closed(it)
+            os.unlink(f"{self.folder}/checkpoint")
+            if kept:
+                backlog.put_checkpoint(self.folder, kept)
+            it = await self.began()
+            self.assertEqual(self.copy.position, 2 if is_kept else 0)
+            await asyncio.wait_for(it.begun(), 20)
+            self.assertEqual(it.follower.state(), (4, digest))
+            self.assertEqual(self.commit(await self.asked(it, 5)), 5)
+            self.assertEqual(self.copy.numbers, it.copy.numbers)
+            await self.closed(it)
+
+    async def test_a_server_that_is_killed_goes_on(self):
+        it = await self.began()
+        await self.asked(it, 1)
+        it.follower.kill()
+        replies = await asyncio.gather(*(self.asked(it, client) for client in (2, 3)))
+        self.assertEqual([self.commit(reply) for reply in replies], [2, 3])
+        await self.closed(it)
+
+    async def test_replies_that_were_kept_and_not_told(self):
+        it = await self.began(command=["env", "LATE=2", *self.command])
+        await self.asked(it, 1)
+        asked = [asyncio.ensure_future(self.asked(it, client)) for client in (2, 3)]
+        while os.path.getsize(self.path) < 160:
+            await asyncio.sleep(0.02)
+        it.follower.words = self.command
+        it.follower.kill()
+        replies = await asyncio.gather(*asked)
+        self.assertEqual([reply[0] for reply in replies], [2, 3])
+        self.assertGreater(len(self.log.made), 2, "they were asked again")
+        await self.closed(it)
+
+    async def test_the_log_lost_its_end(self):
+        it = await self.began()
+        for client in (1, 2, 3):
+            await self.asked(it, client)
+        await self.closed(it)
+        with contextlib.suppress(FileNotFoundError):
+            os.unlink(f"{self.folder}/checkpoint")
+        del self.log.items[1:]
+        it = await self.began()
+        self.assertEqual(await self.ended(), "Diverged")
+
+    async def test_a_file_of_another_log(self):
+        it = await self.began()
+        for client in (1, 2):
+            await self.asked(it, client)
+        await self.closed(it)
+        self.folder, self.log = f"{self.folder}2", MemoryLog()
+        for number in (1, 2, 3):
+            self.log.put(entry(A, number, pair(1, register(number + 5))).to_bytes())
+        await self.began()
+        self.assertEqual(await self.ended(), "Diverged")
+
+    async def test_a_file_behind_the_checkpoint(self):
+        it = await self.began()
+        for client in (1, 2):
+            await self.asked(it, client)
+        await self.closed(it)
+        os.unlink(self.path)
+        it = await self.began()
+        await asyncio.wait_for(it.begun(), 20)
+        self.assertEqual(self.commit(await self.asked(it, 3)), 3, "the log is read from its start")
+        await self.closed(it)
+        os.unlink(self.path)
+        self.log.start = 1
+        await self.began()
+        self.assertEqual(await self.ended(), "Trimmed")
+
+    async def test_a_log_that_was_trimmed(self):
+        self.log.start = self.log.more = 3
+        self.assertEqual(await self.begins(self.made()), "Trimmed")
+
+    async def test_damaged_files(self):
+        with open(self.path, "wb") as file:
+            file.write(b"!")
+        await self.began()
+        self.assertEqual(await self.ended(), "Damaged")
+        self.copy.close()
+        self.copy.file = os.open(os.devnull, os.O_RDONLY)
+        backlog.put_checkpoint(self.folder, b"00000000 {}")
+        with self.assertRaises(Fault) as found:
+            self.made()
+        self.assertEqual(found.exception.name, "Damaged")
+
+    async def test_a_file_that_lost_what_it_had(self):
+        it = await self.began()
+        await self.asked(it, 1)
+        await self.asked(it, 2)
+        os.truncate(self.path, 0)
+        it.follower.kill()
+        self.assertEqual(await self.ended(), "Damaged")
+
+    async def test_it_waits_for_room(self):
+        self.addCleanup(setattr, backlog, "ENTRIES", backlog.ENTRIES)
+        backlog.ENTRIES = 3
+        for number in range(1, 40):
+            self.log.put(entry(A, number, pair(1, register(number))).to_bytes())
+        it = await self.began(patience=20.0)
+        self.assertEqual(self.commit(await self.asked(it, 77)), 40)
+        await self.closed(it)
+
+    def test_a_checkpoint_of_a_peer(self):
+        other = self.folder + "2"
+        self.assertIsNone(backlog.copied_checkpoint(self.folder, other))
+        it = Checkpoint(7, 70, "00" * 32, 5, {A.hex(): 3})
+        kept(self.made().copy.folder, "head", b"the log")
+        backlog.put_checkpoint(self.folder, it.to_bytes())
+        self.assertEqual(backlog.copied_checkpoint(self.folder, other), (7, 70))
+        self.assertEqual(Checkpoint.from_bytes(backlog.checkpoint_of(other)), it)
+        self.assertEqual(kept(other, "head", b"another"), b"the log")
+        with self.assertRaises(Ended):
+            backlog.copied_checkpoint(self.folder, other)
+
+
 class Words(unittest.TestCase):
     def ended(self, *given):
         ran = subprocess.run(
@@ -576,6 +814,8 @@ class Words(unittest.TestCase):
         self.assertEqual(head_of(["tb_script", "run", "64"]), head)
         self.assertEqual(head_of(["tb_follow", "64"], True), head)
         self.assertEqual(head_of(["tb_follow", "64", "1"], True), head)
+        self.assertEqual(head_of(["tbd", "follow", "a.tbl", "64", "1"]), head)
+        self.assertEqual(head_of(["tbd", "follow", "a.tbl", "64"], True), head)
         for wrong in (["64"], ["tb_follow", "run"], ["a", "x", "1", "2", "x"]):
             with self.assertRaises(ValueError):
                 head_of(wrong, True)

@@ -21,11 +21,11 @@ TIME_MAX = 9223372036854775807  # nanoseconds
 AMOUNT_MAX = 340282366920938463463374607431768211455
 SECOND = 1000000000  # nanoseconds
 
-# what stands behind the client's 16 bytes
+# what follows the client's 16 bytes
 REQUEST = struct.Struct("<QIB3xI12x")
 REPLY = struct.Struct("<QIBB2xIQ4x")
 RESULT_FORMAT = struct.Struct("<II")
-# what stands behind the six numbers of 16 bytes that each record begins with
+# what follows the six numbers of 16 bytes that each record begins with
 NARROW = struct.Struct("<QIIIHHQ")
 
 ITEM_SIZES: Dict[int, int] = {

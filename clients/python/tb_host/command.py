@@ -28,15 +28,15 @@ NEWS = re.compile(r"[\w./-]+: (?:made |reading |cut |(ready)$)")
 PATIENCE = 1.0  # seconds for which a request waits for a server that is started again
 
 
-def journal_at(words: Sequence[str]) -> Optional[int]:
+def journal_at(words: Sequence[str], form: str = "run") -> Optional[int]:
     """Which word of a command is the file that it keeps its ledger in: FILE of `run FILE
-    CLIENTS_MAX [PROFILE] [--progress]` at its end. None where there is no such word, as in `tbs run
-    CLIENTS_MAX [PROFILE]`."""
+    CLIENTS_MAX [PROFILE] [--progress]` at its end, or of another form. None where there is no such
+    word, as in `tbs run CLIENTS_MAX [PROFILE]`."""
     words = words[:-1] if words[-1:] == [PROGRESS] else words
     for at in (len(words) - 2, len(words) - 3):
         if (
             at > 1
-            and words[at - 1] == "run"
+            and words[at - 1] == form
             and not is_number(words[at])
             and all(map(is_number, words[at + 1 :]))
         ):

@@ -22,12 +22,17 @@ MAGIC = b"TBENTRY1"
 PAIRS_MAX = 1 << 20  # bytes of pairs in an entry: the longest request fits
 MOMENT = struct.Struct("<Q")
 MOMENT_MAX = 1 << 62  # nanoseconds since 1970: the year 2116; so that time remains for all
+SMALL = 4096  # bytes that are copied rather than hashed by two calls
 NOTHING = bytes(32)  # the hash of an empty log, and of no replies
 
 
 def chained(before: bytes, more: bytes) -> bytes:
     """The hash of a list, from the hash of what came before its last item."""
-    return hashlib.sha256(before + more).digest()
+    if len(more) < SMALL:
+        return hashlib.sha256(before + more).digest()
+    found = hashlib.sha256(before)
+    found.update(more)
+    return found.digest()
 
 
 @dataclasses.dataclass(frozen=True)
@@ -80,10 +85,11 @@ def askers(pairs: bytes) -> List[bytes]:
     return [asker(header) for _, header in cut(pairs)]
 
 
-def test_pairs(position: int, pairs: bytes) -> int:
-    """Tests the pairs of the entry at a position, and answers the greatest moment. Raises
-    `BadEntry` at a pair at which a server would end: no entry that a replica wrote has one."""
-    greatest = 0
+def test_pairs(position: int, pairs: bytes) -> List[bytes]:
+    """Tests the pairs of the entry at a position, and answers what the reply of each repeats of its
+    request. Raises `BadEntry` at a pair at which a server would end: no entry that a replica wrote
+    has one."""
+    found = []
     if len(pairs) > PAIRS_MAX:
         raise Fault("BadEntry", f"the entry at {position} has {len(pairs)} bytes of pairs")
     try:
@@ -93,7 +99,7 @@ def test_pairs(position: int, pairs: bytes) -> int:
                 fault = f"its moment is {moment}"
             if fault:
                 raise ValueError(f"a pair of it is refused: {fault}")
-            greatest = max(greatest, moment)
+            found.append(asker(header))
     except ValueError as error:
         raise Fault("BadEntry", f"the entry at {position}: {error}") from None
-    return greatest
+    return found

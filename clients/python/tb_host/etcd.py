@@ -98,7 +98,8 @@ class EtcdLog:
         self.prefix = name.rstrip("/").encode() + b"/"
         self.writing = self.reading = 0  # which address
         self.watch: Any = None
-        self.cursor = 0  # the revision up to which all was read
+        # the revision up to which all was read, and the place of the last entry up to there
+        self.cursor = self.place = 0
         self.is_moving = False
 
     # calls
@@ -128,9 +129,10 @@ class EtcdLog:
         is_new = rpc.Compare(
             result=rpc.Compare.EQUAL, target=rpc.Compare.CREATE, key=key, create_revision=0
         )
-        put = rpc.RequestOp(request_put=rpc.PutRequest(key=key, value=value))
         get = rpc.RequestOp(request_range=rpc.RangeRequest(key=key))
-        request = rpc.TxnRequest(compare=[is_new], success=[put], failure=[get])
+        request = rpc.TxnRequest(compare=[is_new], failure=[get])
+        put = request.success.add().request_put  # set in place, since each message copies its parts
+        put.key, put.value = key, value
         return await self._call("keys", "Txn", request, seconds)
 
     async def _get(self, key: bytes) -> Optional[bytes]:
@@ -157,16 +159,23 @@ class EtcdLog:
             return int(made.header.revision)
         return int(made.responses[0].response_range.kvs[0].create_revision)
 
+    def is_next(self, place: int) -> bool:
+        """Each change is a revision more than the one before it. So nothing lies between an own
+        entry and what was read where its revision is the next one."""
+        if place != self.cursor + 1:
+            return False
+        self.cursor = self.place = place
+        return True
+
     async def read(self, place: int) -> AsyncIterator[Union[Written, Report]]:
-        self.cursor = place
+        self.cursor = self.place = place
         while True:
             try:
                 async for it in self._watched():
-                    place = it.place if isinstance(it, Written) else place
                     yield it
             except LogGone:  # from what can be watched; what is kept is listed
-                async for entry in self._listed(place):
-                    place = entry.place
+                async for entry in self._listed(self.place):
+                    self.place = entry.place
                     yield entry
             except grpc.aio.AioRpcError as error:
                 _test(self.addresses[self.reading], error)
@@ -196,12 +205,18 @@ class EtcdLog:
                     it.token = None  # it may have run out
                     return
                 for event in said.events:
-                    found = self._item(event.kv)
-                    if found is not None:
-                        yield found
-                    self.cursor = event.kv.mod_revision
+                    if event.kv.mod_revision > self.cursor:
+                        found = self._item(event.kv)
+                        if found is not None:
+                            yield found
+                        self._count(event.kv.mod_revision, found)
         finally:
             self.watch.cancel()
+
+    def _count(self, revision: int, found: Union[Written, Report, None]) -> None:
+        self.cursor = max(self.cursor, revision)
+        if isinstance(found, Written):
+            self.place = max(self.place, found.place)
 
     async def _listed(self, place: int) -> AsyncIterator[Written]:
         """The entries behind a place, in order. They are there though their history is not, unless
@@ -221,7 +236,7 @@ class EtcdLog:
                 raise LogGone(f"the log begins behind position {position}")
             for it in found.kvs:
                 yield await self._kept(it.key)
-            self.cursor = found.header.revision
+            self.cursor = max(self.cursor, found.header.revision)
 
     async def _kept(self, key: bytes) -> Written:
         """An entry that was listed."""

@@ -1,27 +1,33 @@
-"""A replica's server process, which is fed the copy of the log from its beginning."""
+"""A replica's server process, which is given what was taken of the log, in order."""
 from __future__ import annotations
 
 import asyncio
 import collections
 import contextlib
+import re
 import struct
-from typing import Callable, Deque, Dict, List, Sequence, Tuple
+import time
+from typing import Callable, Deque, Dict, List, Optional, Sequence, Tuple
 
 from tb_client.frames import asker, reply_fault
 from tb_client.layout import HEADER
 
 from .checksums import crc32c
-from .entries import NOTHING, Entry, askers, chained
+from .entries import NOTHING, chained
 from .faults import Fault
-from .lines import Ended
-from .local_copy import KEPT, Copy
+from .lines import Ended, say
 from .pipes import READ, Outgoing, Process
 from .process import ServerProcess, kill
+from .taken import KEPT, Item, Taken
 
 # what is written to `tb_follow`, and what it writes
 ENTRY, QUESTION = b"\1", b"\2"
 NUMBERS, REPLIED = struct.Struct("<QI"), struct.Struct("<QI")
 HASHES = struct.Struct("<Q32s32s")
+# what a server that keeps its ledger in a file tells at its start, besides faults
+STARTS = re.compile(r"[\w./-]+: (?:made |reading |cut |ready$|has the log up to position )")
+NAMED = {6: "Damaged", 7: "OtherRules"}  # its statuses that are faults of a replica too
+LOCKED = 4  # its status where another process has the file: that of a replica that was killed ends
 
 
 def _failed(task: asyncio.Future[None]) -> bool:
@@ -31,9 +37,11 @@ def _failed(task: asyncio.Future[None]) -> bool:
 class Fed:
     """An entry that the process was given: what each reply has to repeat, and the replies."""
 
+    __slots__ = ("position", "wanted", "count")
+
     def __init__(self, position: int, wanted: List[bytes]) -> None:
         self.position, self.wanted = position, wanted
-        self.replies: List[bytes] = []
+        self.count = 0  # replies that came
 
 
 class Follower(ServerProcess):
@@ -44,12 +52,14 @@ class Follower(ServerProcess):
         self,
         words: Sequence[str],
         patience: float,
-        copy: Copy,
+        copy: Taken,
         tell: Callable[[int, int, bytes], None],
     ) -> None:
         super().__init__(words, patience, True)
         self.copy, self.tell = copy, tell
         self.fed: Deque[Fed] = collections.deque()
+        self.stdin: Optional[Outgoing] = None  # of a process that is given entries
+        self.given = self.offset = 0  # the last entry that it was given, and where that ends
         self.answered = 0  # the position up to which this process has answered
         self.hashes: Dict[int, bytes] = {0: NOTHING}  # of the replies up to a position
         self.last = NOTHING  # of all replies of this process
@@ -59,34 +69,63 @@ class Follower(ServerProcess):
 
     # pairs
 
-    async def _feed(self, stdin: Outgoing) -> None:
-        """Gives a process the copy, from its beginning on."""
-        with contextlib.suppress(OSError):  # its end is seen where replies are read
-            async for record in self.copy.follow():
-                pairs = Entry.from_bytes(record.entry).pairs
-                self.fed.append(Fed(record.position, askers(pairs)))
-                stdin.write(self.item(record.position, pairs))
-                self.pass_empty()
-                await stdin.drain()
+    async def begin_to_feed(self, stdin: Outgoing) -> None:
+        """Settles from where on a new process is given entries."""
+        self.given, self.offset = 0, self.copy.behind(0)
 
-    def item(self, position: int, pairs: bytes) -> bytes:
+    async def _feed(self, stdin: Outgoing) -> None:
+        """Gives a process what was taken of the log, without an end."""
+        with contextlib.suppress(OSError):  # its end is seen where replies are read
+            await self.begin_to_feed(stdin)
+            self.stdin = stdin
+            while True:
+                await self.copy.reach(self.given + 1)
+                for item in self.copy.items(self.offset):
+                    self._write(stdin, item)
+                    await stdin.drain()
+                    if self.given != item.position:  # another one was given meanwhile
+                        break
+
+    def _write(self, stdin: Outgoing, item: Item) -> None:
+        self.fed.append(Fed(item.position, item.wanted))
+        for part in self.parts(item.position, item.pairs):
+            stdin.write(part)
+        self.given, self.offset = item.position, item.end
+        self.pass_empty()
+
+    def give(self, item: Item) -> bool:
+        """Gives the process the next entry at once, where it has all before it and has room. Says
+        whether it was given."""
+        stdin = self.stdin
+        if stdin is None or self.given != item.position - 1 or not stdin.has_room.is_set():
+            return False
+        self._write(stdin, item)
+        stdin.leave()
+        return True
+
+    def parts(self, position: int, pairs: bytes) -> Sequence[bytes]:
         """What the process is written of an entry."""
-        return pairs
+        return (pairs,)
 
     # replies
+
+    def forget(self) -> None:
+        """Begins with a new process."""
+        self.fed.clear()
+        self.stdin = None
+        self.answered, self.last, self.digest = 0, NOTHING, NOTHING
 
     async def read_replies(
         self, process: Process, stdout: asyncio.StreamReader
     ) -> None:
-        self.fed.clear()
-        self.answered, self.last, self.digest = 0, NOTHING, NOTHING
+        self.forget()
         feeding = asyncio.ensure_future(self._feed(process.stdin))
         feeding.add_done_callback(lambda it: kill(process) if _failed(it) else None)
-        data = bytearray()
+        data = b""
         try:
             while more := await stdout.read(READ):
-                data += more
-                del data[: self._take(process, bytes(data))]
+                data = data + more if data else more
+                data = data[self._take(process, data) :]
         except asyncio.CancelledError:
             pass
         finally:
@@ -123,22 +162,22 @@ class Follower(ServerProcess):
         return end
 
     def _is_next(self, header: bytes) -> bool:
-        if not self.fed or len(self.fed[0].replies) == len(self.fed[0].wanted):
+        if not self.fed or self.fed[0].count == len(self.fed[0].wanted):
             return False
         it = self.fed[0]
-        is_asked = it.wanted[len(it.replies)] == asker(header)
+        is_asked = it.wanted[it.count] == asker(header)
         return is_asked and (it.position <= self.known or not reply_fault(header))
 
     def _answer(self, reply: bytes) -> None:
         it = self.fed[0]
-        it.replies.append(reply)
-        self.tell(it.position, len(it.replies) - 1, reply)
+        it.count += 1
+        self.tell(it.position, it.count - 1, reply)
         self.last = chained(self.last, reply)
         self.pass_empty()
 
     def pass_empty(self) -> None:
         """Finishes what has all its replies; an entry without pairs when those before it have."""
-        while self.fed and len(self.fed[0].replies) == len(self.fed[0].wanted):
+        while self.fed and self.fed[0].count == len(self.fed[0].wanted):
             self.finish(self.fed.popleft())
 
     def finish(self, it: Fed) -> None:
@@ -146,10 +185,15 @@ class Follower(ServerProcess):
         if before is not None and before != self.last:
             said = f"{self.words[0]} answers the entry at {it.position} otherwise than before"
             raise Fault("Diverged", said)
-        self.hashes[it.position] = self.digest = self.last
-        self.hashes.pop(it.position - KEPT, None)
-        self.answered = it.position
-        self.known = max(self.known, it.position)
+        self.has_answered(it.position)
+
+    def has_answered(self, position: int) -> None:
+        """The process has answered all up to a position."""
+        self.hashes[position] = self.digest = self.last
+        self.hashes.pop(position - KEPT, None)
+        self.answered = position
+        self.known = max(self.known, position)
+        self.copy.settle(position)
         self.moved.set()
 
     def state(self) -> Tuple[int, bytes]:
@@ -158,6 +202,7 @@ class Follower(ServerProcess):
 
     def lost(self) -> None:
         """What was asked is asked again, of the next process."""
+        self.stdin = None
 
 
 class PositionFollower(Follower):
@@ -165,10 +210,10 @@ class PositionFollower(Follower):
     gap, a repeat and a damaged entry, writes each reply with its place in the log, and answers with
     the hashes of the log and of the replies behind each entry."""
 
-    def item(self, position: int, pairs: bytes) -> bytes:
+    def parts(self, position: int, pairs: bytes) -> Sequence[bytes]:
         numbers = NUMBERS.pack(position, len(pairs))
         checksum = crc32c(numbers + pairs).to_bytes(4, "little")
-        return b"".join((ENTRY, numbers, checksum, pairs, QUESTION))
+        return ENTRY + numbers + checksum, pairs, QUESTION
 
     def pass_empty(self) -> None:
         """An entry is finished with the answer to the question behind it."""
@@ -179,7 +224,7 @@ class PositionFollower(Follower):
         if len(data) - at < 1 + REPLIED.size:
             return at
         position, index = REPLIED.unpack_from(data, at + 1)
-        place = (self.fed[0].position, len(self.fed[0].replies)) if self.fed else None
+        place = (self.fed[0].position, self.fed[0].count) if self.fed else None
         if data[at : at + 1] != ENTRY or place != (position, index):
             raise Ended(f"{self.words[0]} wrote what has no place in the log", 1)
         return self.take_reply(data, at + 1 + REPLIED.size) or at
@@ -187,11 +232,87 @@ class PositionFollower(Follower):
     def _take_hashes(self, data: bytes, at: int) -> int:
         if len(data) - at < 1 + HASHES.size:
             return at
-        position, log, replies = HASHES.unpack_from(data, at + 1)
+        self.take_hashes(*HASHES.unpack_from(data, at + 1))
+        return at + 1 + HASHES.size
+
+    def take_hashes(self, position: int, log: bytes, replies: bytes) -> None:
+        """Takes the hashes behind an entry."""
         it = self.fed.popleft() if self.fed else Fed(0, [])
-        if (it.position, len(it.replies)) != (position, len(it.wanted)):
+        if (it.position, it.count) != (position, len(it.wanted)):
             raise Ended(f"{self.words[0]} wrote hashes that were not asked for", 1)
         if replies != self.last or log != self.copy.hashes.get(position, log):
             raise Fault("Diverged", f"{self.words[0]} has another hash at position {position}")
         self.finish(it)
-        return at + 1 + HASHES.size
+
+
+class KeptFollower(PositionFollower):
+    """A server process that keeps its ledger in a file, with the position and the hashes behind
+    each entry, as `tbd follow` does. A new process is asked for its position first, and is given
+    what is behind it. Replies that a process wrote into its file and did not tell are `missed`."""
+
+    def __init__(
+        self,
+        words: Sequence[str],
+        patience: float,
+        copy: Taken,
+        tell: Callable[[int, int, bytes], None],
+        missed: Callable[[int], None],
+    ) -> None:
+        super().__init__(words, patience, copy, tell)
+        self.missed = missed
+        self.standing: Optional[asyncio.Future[Tuple[int, bytes, bytes]]] = None
+        self.since = time.monotonic()
+        # a process has told what its file has; it is settled from where on the log is read
+        self.opened, self.is_settled = asyncio.Event(), asyncio.Event()
+        self.has = 0  # up to which position the first process had the log
+
+    def forget(self) -> None:
+        """What the file has and was told stays told."""
+        self.fed.clear()
+        self.stdin = None
+        self.standing = asyncio.get_running_loop().create_future()
+
+    async def begin_to_feed(self, stdin: Outgoing) -> None:
+        """Asks for the position, and compares the hash of the log there."""
+        assert self.standing is not None
+        stdin.write(QUESTION)
+        position, log, replies = await self.standing
+        if position < self.answered:
+            said = f"the ledger's file has the log up to position {position}, and had it up to "
+            raise Fault("Damaged", f"{said}{self.answered}")
+        if not self.opened.is_set():
+            self.has = position
+            self.opened.set()
+        await self.is_settled.wait()
+        await self.copy.reach(position)
+        self._compare(position, log, replies)
+        self.given, self.offset = position, self.copy.behind(position)
+        self.last = replies
+        self.has_answered(position)
+        self.missed(position)
+
+    def _compare(self, position: int, log: bytes, replies: bytes) -> None:
+        if self.copy.hashes.get(position) != log:
+            raise Fault("Diverged", f"the ledger's file has another log up to position {position}")
+        if self.hashes.get(position, replies) != replies:
+            said = "the ledger's file has other replies up to position "
+            raise Fault("Diverged", f"{said}{position}")
+
+    def take_hashes(self, position: int, log: bytes, replies: bytes) -> None:
+        if self.standing is not None and not self.standing.done():
+            self.standing.set_result((position, log, replies))
+        else:
+            super().take_hashes(position, log, replies)
+
+    def is_news(self, line: str) -> bool:
+        is_start = STARTS.match(line) is not None
+        if is_start:
+            say(line)
+        return is_start
+
+    def end_by_signal(self, status: int, line: str) -> str:
+        if line and status in NAMED:
+            raise Fault(NAMED[status], line)
+        if status == LOCKED and time.monotonic() < self.since + self.patience:
+            return line
+        return super().end_by_signal(status, line)

@@ -7,7 +7,6 @@ still has it. A bad record before it is `Damaged`.
 """
 from __future__ import annotations
 
-import asyncio
 import contextlib
 import dataclasses
 import errno
@@ -15,11 +14,12 @@ import fcntl
 import os
 import struct
 import zlib
-from typing import AsyncIterator, Dict, Iterator, Optional, Tuple
+from typing import Iterator, List, Optional, Tuple
 
-from .entries import MOMENT, NOTHING, Entry, chained
+from .entries import Entry, askers
 from .faults import Fault
 from .lines import Ended
+from .taken import Item, Taken
 
 MAGIC = b"TBCOPY1\n"
 RECORD = struct.Struct("<QQI")
@@ -27,7 +27,6 @@ SUM = struct.Struct("<I")
 HEAD = RECORD.size + SUM.size
 SYNCED = struct.Struct("<Q")
 CHUNK = 1 << 22  # bytes that are read at a time
-KEPT = 100_000  # positions of which the hashes are kept, to be compared with a writer's
 
 
 @dataclasses.dataclass(frozen=True)
@@ -38,11 +37,6 @@ class Record:
     place: int
     entry: bytes
     end: int
-
-
-def record_of(position: int, place: int, entry: bytes) -> bytes:
-    head = RECORD.pack(position, place, len(entry))
-    return head + SUM.pack(zlib.crc32(entry, zlib.crc32(head))) + entry
 
 
 def _whole(data: bytes, at: int, start: int) -> Optional[Record]:
@@ -62,31 +56,27 @@ def _is_right(data: bytes, at: int, record: Record) -> bool:
     return bool(zlib.crc32(record.entry, zlib.crc32(head)) == wanted)
 
 
-class Copy:
+def opened_alone(folder: str, name: str) -> int:
+    """A file of a folder, which is made where it is not there, and is one replica's alone."""
+    path = os.path.join(folder, name)
+    try:
+        os.makedirs(folder, mode=0o700, exist_ok=True)
+        file = os.open(path, os.O_RDWR | os.O_CREAT | os.O_CLOEXEC, 0o600)
+        fcntl.flock(file, fcntl.LOCK_EX | fcntl.LOCK_NB)
+    except OSError as error:
+        said = "is in use" if error.errno == errno.EWOULDBLOCK else error.strerror
+        raise Ended(f"{path}: {said}", 1) from None
+    return file
+
+
+class Copy(Taken):
     """A copy in a folder. It is one replica's alone."""
 
     def __init__(self, folder: str) -> None:
-        self.folder = folder
+        super().__init__(folder)
         self.path = os.path.join(folder, "log")
-        self.position = self.place = 0
         self.end = self.synced_end = len(MAGIC)
-        self.synced = (0, 0)  # the position and the place up to which the records are synced
-        self.hashes: Dict[int, bytes] = {0: NOTHING}
-        self.numbers: Dict[bytes, int] = {}  # the last number of each writer
-        self.last_moment = 0
-        self.grown = asyncio.Event()
-        self.cut_off = 0  # bytes that a crash left torn
-        self.file = self._opened()
-
-    def _opened(self) -> int:
-        try:
-            os.makedirs(self.folder, mode=0o700, exist_ok=True)
-            file = os.open(self.path, os.O_RDWR | os.O_CREAT | os.O_CLOEXEC, 0o600)
-            fcntl.flock(file, fcntl.LOCK_EX | fcntl.LOCK_NB)
-        except OSError as error:
-            said = "is in use" if error.errno == errno.EWOULDBLOCK else error.strerror
-            raise Ended(f"{self.path}: {said}", 1) from None
-        return file
+        self.file = opened_alone(folder, "log")
 
     # what is there
 
@@ -142,58 +132,59 @@ class Copy:
             entry = Entry.from_bytes(record.entry)
         except ValueError as error:
             raise Fault("Damaged", f"the entry at {record.position}: {error}") from None
-        self._count(record.position, record.place, record.end, entry)
-
-    def _count(self, position: int, place: int, end: int, entry: Entry) -> None:
-        self.hashes[position] = chained(self.hashes[position - 1], entry.pairs)
-        self.hashes.pop(position - KEPT, None)
-        self.numbers[entry.writer] = entry.number
-        if entry.pairs:  # a writer's moments never fall, and those of an entry are near each other
-            self.last_moment = max(self.last_moment, MOMENT.unpack_from(entry.pairs)[0])
-        self.position, self.place, self.end = position, place, end
+        self.count(record.place, entry)
+        self.end = record.end
 
     # what comes
 
-    @property
-    def digest(self) -> bytes:
-        """The hash of the log up to the last position."""
-        return self.hashes[self.position]
-
-    def append(self, place: int, entry: Entry, data: bytes) -> None:
+    def append(
+        self,
+        place: int,
+        entry: Entry,
+        data: bytes,
+        wanted: Optional[List[bytes]] = None,
+        is_given: bool = False,
+    ) -> None:
         """Appends an entry. It is synced later."""
-        record = record_of(self.position + 1, place, data)
-        at = self.end
-        while record:
-            done = os.pwrite(self.file, record, at)
-            at, record = at + done, record[done:]
-        self._count(self.position + 1, place, at, entry)
-        self.grown.set()
+        head = RECORD.pack(self.position + 1, place, len(data))
+        head += SUM.pack(zlib.crc32(data, zlib.crc32(head)))
+        done = os.pwritev(self.file, [head, data], self.end)
+        end = self.end_of(data)
+        while self.end + done < end:
+            rest = memoryview(head + data)[done:]
+            done += os.pwrite(self.file, rest, self.end + done)
+        self.count(place, entry)
+        self.end = end
+        if not is_given:
+            self.grown.set()
 
     def mark(self) -> Tuple[int, Tuple[int, int]]:
         """What is to be synced: the end of the records, and the last position with its place."""
         return self.end, (self.position, self.place)
 
-    def sync(self, end: int, synced: Tuple[int, int]) -> None:
+    def sync(self, end: int, mark: Tuple[int, int]) -> None:
         """Syncs the records up to a mark. It may run in another thread."""
         os.fsync(self.file)
         path = os.path.join(self.folder, "synced")
         with open(path, "r+b" if os.path.exists(path) else "wb") as file:
             file.write(SYNCED.pack(end))
-        self.synced_end, self.synced = end, synced
+        self.synced_end, self.synced = end, mark
 
-    async def follow(self) -> AsyncIterator[Record]:
-        """All records from the first on, without an end."""
-        at = len(MAGIC)
-        while True:
-            while at == self.end:
-                self.grown.clear()
-                await self.grown.wait()
-            before = at
-            for record in self.records(at, self.end):
-                at = record.end
-                yield record
-            if at == before:
-                raise Fault("Damaged", f"the record at byte {at} of {self.path}")
+    def end_of(self, data: bytes) -> int:
+        return self.end + HEAD + len(data)
+
+    def behind(self, position: int) -> int:
+        assert not position  # a server without a file is given all of it
+        return len(MAGIC)
+
+    def items(self, start: int) -> Iterator[Item]:
+        is_read = False
+        for record in self.records(start, self.end):
+            pairs = Entry.from_bytes(record.entry).pairs
+            yield Item(record.position, pairs, askers(pairs), record.end)
+            is_read = True
+        if not is_read and start < self.end:
+            raise Fault("Damaged", f"the record at byte {start} of {self.path}")
 
     def close(self) -> None:
         os.close(self.file)

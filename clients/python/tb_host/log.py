@@ -71,6 +71,10 @@ class Log(Protocol):
         """Appends an entry once, however often it is called with this writer and number. Answers
         its place. Raises `LogFull`, or `NoLog` where the outcome is not known."""
 
+    def is_next(self, place: int) -> bool:
+        """Whether the entry that an append had at this place is the next one behind all that was
+        read. It is then read, and comes no more."""
+
     def read(self, place: int) -> AsyncIterator[Union[Written, Report]]:
         """What is written behind a place, in order, without an end. Raises `LogGone`."""
 

@@ -8,9 +8,10 @@
     tb-replica hashes --copy FOLDER [--at POSITION] -- COMMAND [WORD ..]
 
 LOG is etcd://HOST[:PORT],../NAME or postgresql://HOST[:PORT],../DATABASE/NAME. COMMAND is a server
-that keeps its ledger in memory, as `tb_script run 64`, with the same number of clients and profile
-on each machine. FOLDER is this replica's copy of the log. docs/use/CLUSTER.md says how to set three
-machines up.
+that keeps its ledger in memory, as `tb_script run 64`, or in a file, as `tbd follow FILE 64`, with
+the same number of clients and profile on each machine. FOLDER is this replica's copy of the log, or
+a checkpoint where the ledger is in a file. docs/use/CLUSTER.md says how to set three machines up.
+It runs by uvloop where that is installed, unless TB_LOOP=asyncio is in its environment.
 
 Status 0: ended by SIGTERM or SIGINT, with all that was taken answered. Status 1: it cannot listen,
 or the command failed. Status 2: wrong arguments. A fault has its name and a status of its own:
@@ -28,14 +29,17 @@ from typing import Any, List, Sequence
 
 from .access import add_access
 from .arguments import add_command, add_places, add_times, ahead, path, seconds, settle_places
+from .backlog import Backlog, copied_checkpoint
 from .lines import Ended, say, speak_as
 from .local_copy import Copy, copied, kept
 from .log import Access, Log, opened, parts
-from .replica import Replica, head_of
+from .loops import fill_standard_files, run as run_loop
+from .replica import Replica, head_of, kept_at
 from .reports import add_reports
 from .serving import listen_on, stop_signals, until
 from .sockets import bound, make_room
 from .status import hashes, script, status, trim
+from .taken import Taken
 from .tls import add_tls, test_tls
 
 PARTS = ("run", "status", "trim", "copy-from", "script", "hashes")
@@ -44,7 +48,8 @@ PARTS = ("run", "status", "trim", "copy-from", "script", "hashes")
 async def serve(given: argparse.Namespace, log: Log) -> None:
     """Serves until a signal comes, or until the replica ends."""
     stopping = stop_signals()
-    copy = Copy(given.copy)
+    kind = Copy if kept_at(given.command) is None else Backlog
+    copy: Taken = kind(given.copy)
     try:
         copy.scan()
         if copy.cut_off:
@@ -196,7 +201,9 @@ def _hashes_words(given: Sequence[str]) -> argparse.Namespace:
 
 
 def _copy_from(given: argparse.Namespace) -> int:
-    position, place = copied(given.source, given.copy)
+    position, place = copied_checkpoint(given.source, given.copy) or copied(
+        given.source, given.copy
+    )
     print(f"position {position} place {place}")
     return 0
 
@@ -214,11 +221,12 @@ def run(part: str, rest: List[str]) -> int:
         return int(asyncio.run(_with_log(_trim_words(rest), trim)))
     given = _run_words(rest)
     make_room(given.connections)
-    asyncio.run(_with_log(given, serve))
+    run_loop(_with_log(given, serve))
     return 0
 
 
 def main() -> int:
+    fill_standard_files()
     speak_as("tb_replica")
     words = sys.argv[1:]
     part = words[0] if words and words[0] in PARTS else ""

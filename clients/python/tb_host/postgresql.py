@@ -183,6 +183,9 @@ class PostgresLog:
         self.wanted.set()
         return place
 
+    def is_next(self, place: int) -> bool:
+        return False  # standbys may not have it yet
+
     async def read(self, place: int) -> AsyncIterator[Union[Written, Report]]:
         said: Dict[str, bytes] = {}
         loop = asyncio.get_running_loop()

@@ -132,7 +132,7 @@ class ServerProcess:
                     status, line = await self._run_once()
                     if self.is_closed and (status == 0 or self.is_given_up):
                         return
-                    ended = self._end_by_signal(status, line)
+                    ended = self.end_by_signal(status, line)
                     lives += 1
                 except Wanting as want:
                     if not lives:
@@ -145,7 +145,7 @@ class ServerProcess:
             self.is_over = True
             self.ready.set()
 
-    def _end_by_signal(self, status: int, line: str) -> str:
+    def end_by_signal(self, status: int, line: str) -> str:
         """How the command ended, where it may be started again. Raises `Ended` where it may not."""
         number = signal_of(status)
         if line and not number:

@@ -11,15 +11,20 @@ import os
 import time
 from typing import Any, Deque, Dict, List, Optional, Set, Tuple
 
+from tb_client.frames import asker
+
+from .backlog import Backlog
+from .command import journal_at
 from .connections import Answered
 from .entries import MOMENT, PAIRS_MAX, Claim, Entry, test_pairs
 from .faults import Fault
-from .follower import Follower, PositionFollower
+from .follower import Follower, KeptFollower, PositionFollower
 from .lines import Ended, Told, say
-from .local_copy import KEPT, Copy, kept
+from .local_copy import kept
 from .log import Log, LogFull, LogGone, NoLog, Report, Written
 from .moments import SECOND, Moments
 from .process import came, cancelled, first
+from .taken import KEPT, Item, Taken
 
 LOOK = 0.25  # seconds after which it is looked for requests that wait too long
 ELSEWHERE = 2.0  # seconds for which what was written may be read late
@@ -27,20 +32,28 @@ REPORT = 10.0  # seconds after which a replica reports, where its position has c
 REPORT_BYTES = 1 << 22  # bytes of its copy after which it reports before that
 SYNC = 1.0  # seconds after which the copy is synced
 PAUSE = 0.1  # seconds before an append is tried again
+COME, GATHER = 0.002, 0.006  # seconds in which one of those who are answered comes again, and all
 ANSWERS = 2.0  # seconds for which the reports of others are waited for at the start
 FORMAT = 1
 RULES = 1  # grows where a server answers a script otherwise than before
 
 
+def kept_at(words: List[str]) -> Optional[int]:
+    """Which word of a server's command is the file that it keeps its ledger in: FILE of `follow
+    FILE CLIENTS_MAX [PROFILE]` at its end. None where there is no such word."""
+    return journal_at(words, "follow")
+
+
 def head_of(words: List[str], has_positions: bool = False) -> Dict[str, int]:
     """What replicas of one log have in common, of a server's command, which ends in `run
-    CLIENTS_MAX [PROFILE]`; where it takes entries with their positions, in the two numbers alone.
-    Raises `ValueError`."""
-    lead = [] if has_positions else ["run"]
+    CLIENTS_MAX [PROFILE]` or `follow FILE CLIENTS_MAX [PROFILE]`; where it takes entries with their
+    positions, in the two numbers alone. Raises `ValueError`."""
+    lead, at = ([] if has_positions else ["run"]), kept_at(words)
     for count in (2, 1):
         numbers = words[-count:]
         start = len(words) - count - len(lead)
         is_form = start > 0 and words[start : len(words) - count] == lead
+        is_form = is_form if at is None else at == len(words) - count - 1
         if is_form and all(it.isascii() and it.isdigit() for it in numbers):
             clients_max, profile = map(int, [*numbers, "1"][:2])
             head = {"format": FORMAT, "rules": RULES, "clients_max": clients_max}
@@ -51,33 +64,51 @@ def head_of(words: List[str], has_positions: bool = False) -> Dict[str, int]:
 class Pair:
     """A request that waits: for its place in the log, then for its reply."""
 
-    __slots__ = ("frame", "since", "reply")
+    __slots__ = ("frame", "since", "answered", "is_done")
 
-    def __init__(self, frame: bytes) -> None:
-        self.frame, self.since = frame, time.monotonic()
-        self.reply: asyncio.Future[bytes] = asyncio.get_running_loop().create_future()
+    def __init__(self, frame: bytes, answered: Answered) -> None:
+        self.frame, self.since, self.answered = frame, time.monotonic(), answered
+        self.is_done = False
 
-    def fail(self, name: str) -> None:
-        if not self.reply.done():
-            self.reply.set_exception(Told(name))
-            self.reply.exception()  # whoever waited may be gone
+    def tell(self, reply: bytes, why: str = "") -> None:
+        """Brings the reply to who asked, or why there is none. A fault there is no fault here."""
+        if self.is_done:
+            return
+        self.is_done = True
+        try:
+            self.answered(reply, why)
+        except Exception as error:
+            said = {"message": "a connection failed", "exception": error}
+            asyncio.get_running_loop().call_exception_handler(said)
+
+
+class Sent:
+    """An own entry that was not read yet, with the pairs that wait for it."""
+
+    __slots__ = ("entry", "data", "pairs")
+
+    def __init__(self, entry: Entry, pairs: List[Pair]) -> None:
+        self.entry, self.data, self.pairs = entry, entry.to_bytes(), pairs
+
+    def wanted(self) -> List[bytes]:
+        """What the reply to each pair repeats of it: each was tested when it came."""
+        return [asker(it.frame) for it in self.pairs]
 
 
 class Replica:
     """One replica. It serves as a listener's command does."""
 
-    def __init__(self, given: argparse.Namespace, log: Log, copy: Copy, name: str) -> None:
+    def __init__(self, given: argparse.Namespace, log: Log, copy: Taken, name: str) -> None:
         self.given, self.log, self.copy, self.name = given, log, copy, name
         self.writer = os.urandom(16)  # another one at each start
-        kind = PositionFollower if given.positions else Follower
-        self.follower = kind(given.command, given.slow, copy, self.tell)
+        self.follower = self._follower()
         self.moments = Moments()
         self.stopping = self.follower.stopping
         self.queue: Deque[Pair] = collections.deque()
-        self.queued = asyncio.Event()
-        self.asking: Set[asyncio.Task[bytes]] = set()
+        self.queued = asyncio.Event()  # enough requests wait for the next entry
+        self.expected = 1  # requests that are enough
         self.number = 0
-        self.sent: Dict[int, List[Pair]] = {}  # own entries that were not read yet, by their number
+        self.sent: Dict[int, Sent] = {}  # own entries that were not read yet, by their number
         self.own: Dict[int, List[Pair]] = {}  # those that were read, by their position
         self.claims: Dict[int, Set[Tuple[bytes, bytes]]] = {}  # of replies that are not there yet
         self.is_full = False
@@ -92,34 +123,45 @@ class Replica:
         self.reported_end = copy.end
         self.start = copy.position  # what the copy had
         self.served, self.closed = asyncio.Event(), asyncio.Event()
+        self.serving: Optional[asyncio.Future[None]] = None  # the server's run
+
+    def _follower(self) -> Follower:
+        given = (self.given.command, self.given.slow, self.copy, self.tell)
+        if isinstance(self.copy, Backlog):
+            return KeptFollower(*given, self.ask_again)
+        return PositionFollower(*given) if self.given.positions else Follower(*given)
 
     # requests
 
-    async def ask(self, frame: bytes) -> bytes:
-        """The reply to a request. Raises `Told` where there is no log for it, or where the replica
-        ended before it came."""
-        if self.follower.is_over:
-            raise Told("ProgramEnded")
-        pair = Pair(frame)
-        self.queue.append(pair)
-        self.queued.set()
-        return await pair.reply
-
     def ask_soon(self, frame: bytes, answered: Answered) -> None:
-        """Asks for the reply to a request. `answered` gets it, or why there is none."""
-        asking = asyncio.ensure_future(self.ask(frame))
-        self.asking.add(asking)
-        asking.add_done_callback(lambda it: self._answer(it, answered))
-
-    def _answer(self, asked: asyncio.Task[bytes], answered: Answered) -> None:
-        self.asking.discard(asked)
-        if asked.cancelled():
+        """Asks for the reply to a request. `answered` gets it, or why there is none: there is no
+        log for it, or the replica ended before it came."""
+        if self.follower.is_over:
             answered(b"", "ProgramEnded")
-            return
-        fault = asked.exception()
-        if fault is not None and not isinstance(fault, Told):
-            raise fault
-        answered(b"" if fault else asked.result(), str(fault or ""))
+        else:
+            self.queue.append(Pair(frame, answered))
+            if len(self.queue) >= self.expected:
+                self.queued.set()
+
+    async def ask(self, frame: bytes) -> bytes:
+        """The reply to a request. Raises `Told` where there is none."""
+        reply: asyncio.Future[bytes] = asyncio.get_running_loop().create_future()
+
+        def answered(it: bytes, why: str) -> None:
+            if not reply.done():
+                reply.set_exception(Told(why)) if why else reply.set_result(it)
+
+        self.ask_soon(frame, answered)
+        return await reply
+
+    def ask_again(self, position: int) -> None:
+        """Asks again for own requests up to a position, of which the server's file has the replies
+        and the server does not tell them any more: who asks again gets the first reply."""
+        missed = [it for at in sorted(self.own) if at <= position for it in self.own.pop(at)]
+        for pair in reversed([it for it in missed if not it.is_done]):
+            pair.since = time.monotonic()
+            self.queue.appendleft(pair)
+        self.queued.set()
 
     async def begun(self) -> None:
         """Comes when the server has answered what the copy had at the start. Until then a client is
@@ -139,12 +181,10 @@ class Replica:
         """Brings the reply to the pair of this position and index to who asked, if it is one of
         ours."""
         pairs = self.own.get(position)
-        if pairs is None:
-            return
-        if not pairs[index].reply.done():
-            pairs[index].reply.set_result(reply)
-        if index + 1 == len(pairs):
-            del self.own[position]
+        if pairs is not None:
+            pairs[index].tell(reply)
+            if index + 1 == len(pairs):
+                del self.own[position]
 
     async def _watch_the_wait(self) -> None:
         """Tells those who wait too long for the log that it is not there. The request may be
@@ -153,9 +193,9 @@ class Replica:
             await asyncio.sleep(LOOK)
             name = "LogFull" if self.is_full else "NoLog"
             late = time.monotonic() - self.given.patience
-            for pair in [*self.queue, *(it for entry in self.sent.values() for it in entry)]:
+            for pair in [*self.queue, *(it for sent in self.sent.values() for it in sent.pairs)]:
                 if pair.since < late or self.is_full:
-                    pair.fail(name)
+                    pair.tell(b"", name)
 
     # the log
 
@@ -165,27 +205,45 @@ class Replica:
         pairs, length = [], 0
         while self.queue and length + len(self.queue[0].frame) + MOMENT.size <= PAIRS_MAX:
             pair = self.queue.popleft()
-            if not pair.reply.done():
+            if not pair.is_done:
                 taken.append(pair)
                 pairs += [MOMENT.pack(self.moments.next()), pair.frame]
                 length += len(pair.frame) + MOMENT.size
-        if not taken:
-            return None
+        return self._sent(taken, b"".join(pairs)) if taken else None
+
+    def _sent(self, taken: List[Pair], pairs: bytes) -> bytes:
+        """The next own entry."""
         self.number += 1
-        self.sent[self.number] = taken
         log = Claim(self.copy.position, self.copy.digest)
         replies = Claim(*self.follower.state())
-        return Entry(self.writer, self.number, log, replies, b"".join(pairs)).to_bytes()
+        sent = Sent(Entry(self.writer, self.number, log, replies, pairs), taken)
+        self.sent[self.number] = sent
+        return sent.data
 
     async def _write(self) -> None:
         """Appends what waits, one entry after another."""
+        if self.copy.position < self.start:
+            await self._append(self.number + 1, self._sent([], b""))
         while True:
             await self.queued.wait()
             self.queued.clear()
+            self.expected = 1
             while self.queue:
                 data = self._next_entry()
                 if data is not None:
                     await self._append(self.number, data)
+                    await self._gather()
+
+    async def _gather(self) -> None:
+        """Waits as long as those come who are answered now: one entry for all takes less than one
+        for the first of them and one for the others."""
+        count = len(self.queue) + len(self.own.get(self.copy.position, ()))
+        self.expected, before, end = count, -1, time.monotonic() + GATHER
+        while count > 1 and before < len(self.queue) < count and time.monotonic() < end:
+            self.queued.clear()
+            before = len(self.queue)
+            await came(self.queued, COME)
+        self.expected = 1
 
     async def _append(self, number: int, data: bytes) -> None:
         """Appends an entry once: by the same name until it is in the log."""
@@ -195,6 +253,8 @@ class Replica:
                 self.is_full = self.is_away = False
                 if number in self.sent and place <= self.copy.place:
                     self._test_place(place)
+                if number in self.sent and self.log.is_next(place):
+                    self.take(Written(place, data))
                 break
             except LogFull as full:
                 if not self.is_full:
@@ -227,18 +287,17 @@ class Replica:
             async for it in self.log.read(self.copy.place):
                 if isinstance(it, Written):
                     self.take(it)
+                    await self.copy.has_room.wait()
                 else:
                     self._hear(it)
         except LogGone as gone:
-            raise Fault("Trimmed", f"{gone}; take a copy of a peer, by copy-from") from None
+            raise Fault("Trimmed", f"{gone}; take a peer's, by copy-from") from None
 
     def take(self, written: Written) -> None:
-        """Takes an entry of the log: it is tested, copied, and passed to the server."""
+        """Takes an entry of the log: it is tested, passed to the server, and copied."""
         position = self.copy.position + 1
-        try:
-            entry = Entry.from_bytes(written.data)
-        except ValueError as error:
-            raise Fault("BadEntry", f"the entry at {position}: {error}") from None
+        sent = next((it for it in self.sent.values() if it.data == written.data), None)
+        entry = sent.entry if sent else self._entry_of(position, written.data)
         before = self.copy.numbers.get(entry.writer, 0)
         if entry.number <= before:
             say(f"entry {entry.number} of a writer is in the log twice, and is taken once")
@@ -246,11 +305,31 @@ class Replica:
         if entry.number != before + 1:
             said = f"the entry at {position} is number {entry.number} behind {before}"
             raise Fault("BadEntry", said)
-        test_pairs(position, entry.pairs)
+        wanted = sent.wanted() if sent else test_pairs(position, entry.pairs)
         self._compare(position, entry)
         if entry.writer == self.writer:
-            self.own[position] = self.sent.pop(entry.number)
-        self.copy.append(written.place, entry, written.data)
+            self._take_own(position, self.sent.pop(entry.number))
+        self._enter(position, written, entry, wanted)
+
+    def _entry_of(self, position: int, data: bytes) -> Entry:
+        try:
+            return Entry.from_bytes(data)
+        except ValueError as error:
+            raise Fault("BadEntry", f"the entry at {position}: {error}") from None
+
+    def _take_own(self, position: int, sent: Sent) -> None:
+        """Takes the pairs of an own entry. Raises `Diverged` where the server had an entry at its
+        position before it was written."""
+        if position <= self.start:
+            said = f"the log ends before position {position}, and the server has it up to "
+            raise Fault("Diverged", f"{said}{self.start}; keep all files")
+        self.own[position] = sent.pairs
+
+    def _enter(self, position: int, written: Written, entry: Entry, wanted: List[bytes]) -> None:
+        """Passes an entry to the server, and copies it while the server works."""
+        end = self.copy.end_of(written.data)
+        is_given = self.follower.give(Item(position, entry.pairs, wanted, end))
+        self.copy.append(written.place, entry, written.data, wanted, is_given)
 
     # hashes
 
@@ -262,7 +341,8 @@ class Replica:
         mine = self.copy.hashes.get(log.position)
         if log.position >= position or replies.position >= position:
             self._diverged(position, entry.writer, "has more of the log than there is")
-        if log.position > position - KEPT and mine != log.digest:
+        is_known = log.position > position - KEPT and log.position >= self.copy.first
+        if is_known and mine != log.digest:
             self._diverged(log.position, entry.writer, "has another log")
         self._compare_replies(replies, entry.writer)
 
@@ -420,25 +500,66 @@ class Replica:
 
     async def run(self) -> None:
         """Runs until it is closed, or raises why it ends."""
-        tasks: List[asyncio.Future[Any]] = [asyncio.ensure_future(self._read())]
+        tasks: List[asyncio.Future[Any]] = [asyncio.ensure_future(self.closed.wait())]
         try:
-            meeting = asyncio.ensure_future(self._meet())
-            await first(meeting, tasks[0])
-            if tasks[0].done():
-                meeting.cancel()
-            else:
-                meeting.result()
-            parts = (self._write, self._watch_the_wait, self._compare_later, self._report)
-            tasks += [asyncio.ensure_future(it()) for it in (*parts, self._sync, self.follower.run)]
-            tasks.append(asyncio.ensure_future(self.closed.wait()))
+            await self._begin(tasks)
             await first(*tasks)
             await self._end(tasks)
         finally:
             self.follower.is_over = True
             self.follower.kill()
             await cancelled(tasks)
-            for pair in [*self.queue, *sum(self.sent.values(), []), *sum(self.own.values(), [])]:
-                pair.fail("ProgramEnded")
+            entries = [*(it.pairs for it in self.sent.values()), *self.own.values()]
+            for pair in [*self.queue, *(it for pairs in entries for it in pairs)]:
+                pair.tell(b"", "ProgramEnded")
+
+    async def _begin(self, tasks: List[asyncio.Future[Any]]) -> None:
+        """Begins what it does, one after another, as long as nothing has ended."""
+        if isinstance(self.follower, KeptFollower):
+            opening = asyncio.ensure_future(self._open(self.follower))
+            if not await self._comes_before(opening, self._serve(tasks)):
+                return
+        tasks.append(asyncio.ensure_future(self._read()))
+        if not await self._comes_before(asyncio.ensure_future(self._meet()), tasks):
+            return
+        parts = (self._write, self._watch_the_wait, self._compare_later, self._report, self._sync)
+        tasks += [asyncio.ensure_future(it()) for it in parts]
+        self._serve(tasks)
+
+    def _serve(self, tasks: List[asyncio.Future[Any]]) -> List[asyncio.Future[Any]]:
+        """Begins the server's run, where it has not begun."""
+        if self.serving is None:
+            self.serving = asyncio.ensure_future(self.follower.run())
+            tasks.append(self.serving)
+        return tasks
+
+    async def _comes_before(
+        self, awaited: asyncio.Future[None], tasks: List[asyncio.Future[Any]]
+    ) -> bool:
+        """Whether what is awaited comes before one of the tasks ends."""
+        try:
+            await first(awaited, *tasks)
+            if awaited.done():
+                awaited.result()
+            return awaited.done()
+        finally:
+            awaited.cancel()
+
+    async def _open(self, follower: KeptFollower) -> None:
+        """Settles from where on the log is read, by what the server's file has."""
+        assert isinstance(self.copy, Backlog)
+        await follower.opened.wait()
+        self.start = self.copy.has = follower.has
+        if self.start < self.copy.position:
+            try:
+                position, _ = await self.log.trimmed()
+            except NoLog as none:
+                raise Fault("NoLog", str(none)) from None
+            if position:
+                said = f"the log begins behind position {position}, and the ledger's file has "
+                raise Fault("Trimmed", f"{said}{self.start}: take a peer's")
+            self.copy.begin_again()
+        follower.is_settled.set()
 
     async def _end(self, tasks: List[asyncio.Future[Any]]) -> None:
         """Ends with what the first task that ended tells."""
@@ -451,7 +572,8 @@ class Replica:
         self.copy.sync(*self.copy.mark())
         await self.report()
         self.follower.close()
-        await asyncio.wait([tasks[-2]], timeout=self.given.slow)
+        if self.serving is not None:
+            await asyncio.wait([self.serving], timeout=self.given.slow)
 
     def close(self) -> None:
         self.closed.set()

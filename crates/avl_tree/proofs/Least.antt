@@ -1,4 +1,4 @@
--- The least key of a tree that has a left side stands there.
+-- The least key of a tree that has a left side is there.
 use Rattle.std.proofs.Common.{◌≡◌, ◌≢◌, List, [], ◌∷◌, ◌++◌, refl}
 use Rattle.std.specs.declared.cmp.Ordering.{Ordering}
 use Rattle.avl_tree.specs.Map.{first_to}

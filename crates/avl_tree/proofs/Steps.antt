@@ -54,7 +54,7 @@ module _ {K V A : Type 0} {cmp : K → K → Ordering} {k : K} {t side : Tree K 
   pub found : lookup (is_at (cmp k)) (entries t) ≡ lookup (is_at (cmp k)) (entries side)
   found = ap (λ es. lookup (is_at (cmp k)) es) entries_whole ∙ w.passes.found (entries side)
 
-  -- a change of the side's entries that passes what is beside them is a change of the tree's
+  -- a change of the side's entries that passes what is next to them is a change of the tree's
   pub carried : (change : List (K × V) → List (K × V)) → ((m : List (K × V)) → change (beside m) ≡ beside (change m)) → (u : Tree K V A) → entries u ≡ change (entries side) → entries (put u) ≡ change (entries t)
   carried change passes u q = w.shows u ∙ ap beside q ∙ sym (passes (entries side)) ∙ ap change (sym entries_whole)
 
@@ -67,7 +67,7 @@ module _ {K V A : Type 0} {cmp : K → K → Ordering} {k : K} {t side : Tree K 
   pub inserted : (v : V) (u : Tree K V A) → entries u ≡ insert_entry cmp (entries side) k v → entries (put u) ≡ insert_entry cmp (entries t) k v
   inserted v = carried (λ es. insert_entry cmp es k v) (w.passes.inserted v)
 
--- the key stands at the root n, where `put` puts another value
+-- the key is at the root n, where `put` puts another value
 pub record StandsHere {K V A : Type 0} (cmp : K → K → Ordering) (k : K) (t : Tree K V A) (n : Node K V A) (put : V → Tree K V A) : Type 0 where
   pub keeps : (v : V) → KeepsLinks t (put v)
   pub found : lookup (is_at (cmp k)) (entries t) ≡ Some n.value

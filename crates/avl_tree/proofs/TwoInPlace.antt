@@ -31,7 +31,7 @@ module _ {F K V A R : Type 0} (c : Taking F V R) (b : Bool) {cmp : K → K → O
         (record { value = y.value; left = y.left; found = found w ∙ y.found; called = y.called; written = written w y.left u y.written }, w.keeps u x.1)
     beside_side d d' None u x = (found w ∙ x.0, x.1, x.2, ap put x.3 ∙ w.whole)
 
-    -- the trees are handed on in the other order
+    -- the trees are passed on in the other order
     pub apart_side : (k2 : K) (u : Tree K V A) (o : Option R) (s' u' : Tree K V A) → ChangesApart c (not b) (is_at (cmp k2)) (is_at (cmp k)) u side f o f' u' s' → ChangesApart c b (is_at (cmp k)) (is_at (cmp k2)) t u f o f' (put s') u'
     apart_side k2 u (Some v) s' u' x =
         let y = x.0 in (
@@ -88,7 +88,7 @@ module _ {K : Type 0} {cmp : K → K → Ordering} (o : IsTotalOrder cmp) (low h
   higher_here x q n = sym (o.antisymm high x ∙ ap ordering_reverse (sym (o.congr low x high (sym n)) ∙ q))
 
 module _ {F K V A R : Type 0} (c : Taking F V R) (in_order : Bool) {cmp : K → K → Ordering} (o : IsTotalOrder cmp) (low high : K) {t : Tree K V A} (f f' : F) where
-  -- both keys are sought in one side
+  -- both keys are looked up in one side
   pub both_side : {side : Tree K V A} {put : Tree K V A → Tree K V A} {beside : List (K × V) → List (K × V)} → GoesTo cmp low t side put beside → GoesTo cmp high t side put beside → (v : Option R) (u : Tree K V A) → ChangesBoth c in_order (is_at (cmp low)) (is_at (cmp high)) side f v f' u → ChangesBoth c in_order (is_at (cmp low)) (is_at (cmp high)) t f v f' (put u)
   both_side w x (Some v) u d =
       let y = d.0 in (

@@ -30,7 +30,7 @@ first_to cmp bound (e ∷ es) = cond (is_le (cmp e.0 bound)) (Some e) None
 abbrev pub IsShallow : {K V : Type 0} → Map K V → ℕ → Type 0
 IsShallow m n = (h : ℕ) × (n ≤ h) × (least h ≤ length (entries m))
 
--- how a proof tells two maps apart: by the tree and the count
+-- how a proof distinguishes two maps: by the tree and the count
 abbrev pub map_code : {K V : Type 0} → Coded K → Coded V → Coded (Map K V)
 map_code {K} {V} k v =
     code_by (Search (K × V) × ℕ) (coded× (coded_search (coded× k v)) coded_ℕ) (λ m. (m.tree, m.spare)) (λ p. record { tree = p.0; spare = p.1 }) (λ _. refl)

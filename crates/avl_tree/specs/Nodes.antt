@@ -100,15 +100,15 @@ IsGrown h h' = (h ≤ h') × (h' ≤ h + 1)
 abbrev pub IsShrunk : ℕ → ℕ → Type 0
 IsShrunk h h' = (h' ≤ h) × (h ≤ h' + 1)
 
--- a change of the height is told, and nothing else
+-- a change of the height is reported, and nothing else
 abbrev pub IsTold : Bool → ℕ → ℕ → Type 0
 IsTold told h h' = (told ≡ false → h' ≡ h) × (told ≡ true → h' ≡ h → ⊥)
 
--- after an insert the height is the same or one more, as told
+-- after an insert the height is the same or one more, as reported
 abbrev pub IsGrownAsTold : Bool → ℕ → ℕ → Type 0
 IsGrownAsTold told h h' = IsGrown h h' × IsTold told h h'
 
--- after a removal the height is the same or one less, as told
+-- after a removal the height is the same or one less, as reported
 abbrev pub IsShrunkAsTold : Bool → ℕ → ℕ → Type 0
 IsShrunkAsTold told h h' = IsShrunk h h' × IsTold told h h'
 

@@ -16,7 +16,7 @@ abbrev pub entries_of : {E : Type 0} → Search E → List E
 entries_of leaf = []
 entries_of (fork l e r) = entries_of l ++ e ∷ entries_of r
 
--- the number of nodes met on the way from the root to the key that compares equal, or to where it would stand
+-- the number of nodes met on the way from the root to the key that compares equal, or to where it would be
 abbrev pub path_length : {K V : Type 0} → (K → Ordering) → Search (K × V) → ℕ
 path_length compare leaf = 0
 path_length compare (fork l e r) =
@@ -28,7 +28,7 @@ least zero = 0
 least (suc zero) = 1
 least (suc (suc h)) = 1 + least (suc h) + least h
 
--- how a proof tells two trees apart, by the code c of their entries
+-- how a proof distinguishes two trees, by the code c of their entries
 module _ {E : Type 0} (c : Coded E) where
   abbrev pub search_code : Search E → Gv
   search_code leaf = gnil

@@ -12,8 +12,8 @@ use std::cmp::Ordering;
 
 /// The side of the root that a search for the key goes on in, or the tree itself where the search ends.
 ///
-/// An address taken from a list in place of a jump to one of three: which side comes next can't be foretold, and a jump that was
-/// foretold wrongly would hold up all eight searches. A choice between the addresses becomes a jump where a link has 24 bytes.
+/// An address taken from a list in place of a jump to one of three: which side comes next cannot be predicted, and a jump that was
+/// mispredicted would hold up all eight searches. A choice between the addresses becomes a jump where a link has 24 bytes.
 fn step<'a, K: Ord, V, A: Allocator>(tree: &'a Tree<K, V, A>, key: &K) -> &'a Tree<K, V, A>
     requires searched { IsSearchTree K.cmp tree.now }
     ensures { LeadsTo K.cmp key.now tree.now result.now }

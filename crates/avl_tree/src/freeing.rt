@@ -1,11 +1,11 @@
-// Trees that are let go.
+// Trees that are freed.
 ghost use Rattle.std.specs.Prelude.{◌≡◌, ◌+◌, ◌≤◌};
 ghost use Rattle.avl_tree.specs.Freeing.{node_count};
 
 use crate::tree::{Node, Tree};
 use std::alloc::Allocator;
 
-/// Frees a node, and hands out its sides.
+/// Frees a node, and returns its sides.
 fn free_node<K: Drop, V: Drop, A: Allocator>(
     node: Box<Node<K, V, A>, A>,
 ) -> (Tree<K, V, A>, Tree<K, V, A>)
@@ -21,7 +21,7 @@ fn free_node<K: Drop, V: Drop, A: Allocator>(
     (left, right)
 }
 
-/// Frees the root, where there is one, and hands out its sides.
+/// Frees the root, where there is one, and returns its sides.
 fn free_root<K: Drop, V: Drop, A: Allocator>(tree: Tree<K, V, A>) -> (Tree<K, V, A>, Tree<K, V, A>)
     ensures { node_count result.0 + node_count result.1 ≤ node_count tree }
 {

@@ -6,10 +6,10 @@
 //! - `walks`: searches from the root: a key, the first entry, the nodes that a search visits.
 //! - `eight`: eight searches, interleaved, so that their waits for memory overlap.
 //! - `range`: the entries from one key to another.
-//! - `updates`: a value changed where it stands.
+//! - `updates`: a value changed in place.
 //! - `pairs`: the values of two keys changed by one walk.
 //! - `edits`: a value exchanged, an entry inserted or removed, and the way back up balanced.
-//! - `freeing`: trees that are let go, two at a time, so that their waits for memory overlap.
+//! - `freeing`: trees that are freed, two at a time, so that their waits for memory overlap.
 //! - `spare`: nodes that have memory and no entry yet.
 //! - `map`: `AvlMap`, all that callers use.
 //! - `worked_rows`: the fewest nodes of a tree by its height, for the first heights (public).

@@ -166,7 +166,7 @@ impl<K: Ord + Copy, V, A: Allocator + Clone> AvlMap<K, V, A> {
     }
 
     /// The value of the key, as `get` gives it, and the number of nodes met on the way from the root to the key or
-    /// to where it would stand.
+    /// to where it would be.
     pub fn probe(&self, key: &K) -> (Option<&V>, u32)
         ensures value { option_copied result.0 ≡ get K.cmp self.now key.now }
         ensures visits { result.1 ≡ path_length (K.cmp key.now) self.now.tree }
@@ -201,7 +201,7 @@ impl<K: Ord + Copy, V, A: Allocator + Clone> AvlMap<K, V, A> {
     }
 
     /// Gives the key another value, and answers the old one. Where the key is absent it answers the value that was
-    /// handed in, and changes nothing.
+    /// passed in, and changes nothing.
     pub fn set(&mut self, key: K, value: V) -> Result<V, V>
         ensures spare { self.new.spare ≡ self.old.spare }
         ensures old { IfOk result (λ v. get K.cmp self.old key ≡ Some v) }
@@ -231,7 +231,7 @@ impl<K: Ord + Copy, V, A: Allocator + Clone> AvlMap<K, V, A> {
         edits::exchange(&mut self.root, key, value)
     }
 
-    /// Calls the closure at the value of the key, which it may change where it stands, and answers what the closure
+    /// Calls the closure at the value of the key, which it may change in place, and answers what the closure
     /// answered. It is called once at most, and at that value alone. Where the key is absent there is no call, and nothing
     /// changes.
     pub fn update<R, F: FnMut(&mut V) -> R>(&mut self, key: &K, f: &mut F) -> Option<R>
@@ -248,7 +248,7 @@ impl<K: Ord + Copy, V, A: Allocator + Clone> AvlMap<K, V, A> {
         updates::update(&mut self.root, key, f)
     }
 
-    /// Calls the closure at the values of two keys, which it may change where they stand, and answers what the closure
+    /// Calls the closure at the values of two keys, which it may change in place, and answers what the closure
     /// answered. Where one of the keys is absent there is no call, and nothing changes.
     pub fn update_two<R, F: FnMut(&mut V, &mut V) -> R>(
         &mut self,

@@ -1,4 +1,4 @@
-// Changes of two values at once, where they stand.
+// Changes of two values at once, in place.
 ghost use Rattle.std.specs.Prelude.{◌≡◌, None, Some, IsSome, IfSome};
 ghost use Rattle.std.specs.BTreeMap.{is_at};
 ghost use Rattle.std.specs.declared.cmp.Ordering.TheVariants.{Less};
@@ -62,7 +62,7 @@ fn answer_both<V, R, F: FnMut(&mut V, &mut V) -> R>(
 
 /// Looks for the other key, while the value of the first one is held.
 ///
-/// It stands apart, so that a level of both searches saves no registers.
+/// It is a function of its own, so that a level of both searches saves no registers.
 #[inline(never)]
 fn beside<K: Ord, V, A: Allocator, R, F: FnMut(&mut V, &mut V) -> R>(
     tree: &mut Tree<K, V, A>,
@@ -133,7 +133,7 @@ fn beside_right<K: Ord, V, A: Allocator, R, F: FnMut(&mut V, &mut V) -> R>(
 ///
 /// The end is tested first, so that which side comes next is a choice between two addresses. It is none by a jump, since a level calls
 /// the next one through [`apart_below`]: in a function that calls itself, which is compiled to a loop, the choice would be a jump that
-/// can't be foretold.
+/// cannot be predicted.
 #[cycle(apart)]
 #[inline(never)]
 fn apart<K: Ord, V, A: Allocator, R, F: FnMut(&mut V, &mut V) -> R>(

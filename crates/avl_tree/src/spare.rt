@@ -49,7 +49,7 @@ fn free<K: Drop, V: Drop, A: Allocator>(mut chain: Tree<K, V, A>) {
     }
 }
 
-/// Makes a node. What stands in it is written over before it is read.
+/// Makes a node. What is in it is written over before it is read.
 fn make<K: Default + Drop, V: Default + Drop, A: Allocator>(
     alloc: A,
 ) -> Result<Box<Node<K, V, A>, A>, AllocError>

@@ -11,7 +11,7 @@ use std::mem;
 
 /// A link to a balanced tree: nothing, or the height of the tree and its root.
 ///
-/// The height stands beside the pointer, where the link has bytes to spare, so that balancing a node reads no side.
+/// The height is next to the pointer, where the link has bytes to spare, so that balancing a node reads no side.
 #[cycle(avl)]
 #[derive(Drop)]
 pub enum Tree<K, V, A: Allocator> {
@@ -21,7 +21,7 @@ pub enum Tree<K, V, A: Allocator> {
 
 /// A node.
 ///
-/// A search reads the key and one of the sides, so they stand first, and the key before both: where a link holds a handle of its
+/// A search reads the key and one of the sides, so they come first, and the key before both: where a link holds a handle of its
 /// allocator, both sides and the key take more than the rest of a cache line. What a spare node holds is never read.
 #[cycle(avl)]
 #[derive(Drop)]
@@ -207,7 +207,7 @@ fn set_height<K, V, A: Allocator>(tree: &mut Tree<K, V, A>, height: u8)
 
 /// Rotates the root, where one of its sides has become two levels higher than the other.
 ///
-/// It stands apart, so that a level of an insert or a removal saves few registers where no rotation is due.
+/// It is a function of its own, so that a level of an insert or a removal saves few registers where no rotation is due.
 #[inline(never)]
 fn rotate<K, V, A: Allocator>(tree: &mut Tree<K, V, A>)
     requires { IsNearlyAvl tree.old }

@@ -1,4 +1,4 @@
-// Changes of values where they stand.
+// Changes of values in place.
 ghost use Rattle.std.specs.Prelude.{◌≡◌, None, IsSome, IfSome};
 ghost use Rattle.std.specs.BTreeMap.{is_at};
 ghost use Rattle.std.specs.Fn.{CalledAtMut};

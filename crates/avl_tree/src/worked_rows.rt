@@ -1,4 +1,4 @@
-//! A worked row, computed. Its function does nothing: it states the row, and is proved by computing it.
+//! A worked example, computed. Its function does nothing: it states the row, and is proved by computing it.
 ghost use Rattle.std.specs.Prelude.{◌≡◌, ◌∷◌, [], map};
 ghost use Rattle.avl_tree.specs.Search.{least};
 

@@ -1,18 +1,18 @@
-//! `tb_bench`: what takes and reads of published copies cost beside the one-thread machine, and what ports cost. Counts go to
+//! `tb_bench`: what takes and reads of published copies cost compared with the one-thread machine, and what ports cost. Counts go to
 //! standard output, times in nanoseconds to standard error.
 //!
 //! `take SIZE` takes SIZE batches of 8190 transfers, `single N` N thousands of single transfers with a show each, `eights N`
 //! the same with one show for eight, `memory SIZE` applies the batches to a machine alone, `reads THREADS N` reads N times in
-//! each of 1, 2 or 4 threads beside a busy writer, `calm THREADS N` the same beside none, and `ports PORTS N EACH ACCOUNTS` hands N
+//! each of 1, 2 or 4 threads next to a busy writer, `calm THREADS N` the same without one, and `ports PORTS N EACH ACCOUNTS` sends N
 //! orders of 1 to 8 transfers between so many accounts to a server from each of 1 to 32 ports.
 //!
 //! Modules, each over those before it:
 //!
 //! - `telling`: what is printed.
 //! - `requests`: the requests that are measured.
-//! - `taking`: takes beside the one-thread machine.
-//! - `reading`: reads of seats beside a busy writer.
-//! - `offering`: ports that hand orders to a server.
+//! - `taking`: takes compared with the one-thread machine.
+//! - `reading`: reads of seats next to a busy writer.
+//! - `offering`: ports that send orders to a server.
 #![tactic(auto)]
 
 ghost use Rattle.std.specs.Prelude.{◌≡◌};
@@ -61,7 +61,7 @@ fn take_task(kind: Kind, count: u32) -> Task {
     Task::Take(Rounds { kind, count })
 }
 
-/// The task that words tell.
+/// The task that words name.
 fn task_of(words: &[String]) -> Result<Task, Error> {
     let kind = wanted(words.get(0), "a word is missing")?.as_str();
     let first = number(words.get(1))?;
@@ -91,7 +91,7 @@ fn task_of(words: &[String]) -> Result<Task, Error> {
     }
 }
 
-/// The task that the program's words tell.
+/// The task that the program's words name.
 fn read_task(rt: &HostRuntime) -> Result<Task, Error> {
     let words = env::args(rt)?.skip(1).collect::<Vec<String>>(rt.alloc())?;
     task_of(words.as_slice())

@@ -1,4 +1,4 @@
-//! Ports that hand orders to a server, each from a thread of its own.
+//! Ports that send orders to a server, each from a thread of its own.
 ghost use Rattle.std.specs.Prelude.{◌≡◌};
 
 use crate::requests::{before_ports, transfer_of};
@@ -16,7 +16,7 @@ use tb_published::{Naming, Opening, Publisher, SeatCount, open};
 use tb_records::Request;
 use tb_service::{Finished, Moments, Open, Port, PortCount, service};
 
-/// How many ports there are, how many orders each of them hands over, how many requests an order has, 1 to 8, and between how
+/// How many ports there are, how many orders each of them sends, how many requests an order has, 1 to 8, and between how
 /// many accounts their transfers go.
 #[derive(Clone, Copy)]
 pub struct Scale {
@@ -38,7 +38,7 @@ impl Moments for Still {
     }
 }
 
-/// A port, and the orders that it is to hand over.
+/// A port, and the orders that it is to send.
 #[derive(Drop)]
 struct Client {
     port: Port,
@@ -55,7 +55,7 @@ impl Client {
         Ok(Client { port, orders })
     }
 
-    /// Hands the orders over, in turn, until one comes back.
+    /// Sends the orders, in turn, until one comes back.
     fn offer_all<R: Wait>(&mut self, rt: &R, alloc: Global) {
         let orders = mem::replace(&mut self.orders, Vec::new(alloc));
         for order in orders {
@@ -134,7 +134,7 @@ fn nanos_since<R: Clock>(rt: &R, start: Option<Instant>) -> Option<u128> {
     Some(spent.as_nanos())
 }
 
-/// Serves what ports offer, and tells the time from the first order to the end in nanoseconds, where the clock can be read.
+/// Serves what ports offer, and reports the time from the first order to the end in nanoseconds, where the clock can be read.
 fn serve<J: Naming + Send + Sync, R: Threads + Wait + Clock + Sync>(
     rt: &R,
     alloc: Global,
@@ -173,7 +173,7 @@ fn prepare<J: Naming, R: Wait>(
     )
 }
 
-/// Measures what the ports of a publisher hand over.
+/// Measures what the ports of a publisher send.
 fn measure_ports<J: Naming + Send + Sync, R: Threads + Wait + Clock + Print + Eprint + Sync>(
     rt: &R,
     alloc: Global,
@@ -193,7 +193,7 @@ fn measure_ports<J: Naming + Send + Sync, R: Threads + Wait + Clock + Print + Ep
     tell_time(rt, "orders", wanted(spent, "the clock")?)
 }
 
-/// Opens a publisher with a seat for each port, and measures what the ports hand over.
+/// Opens a publisher with a seat for each port, and measures what the ports send.
 pub fn measure<J: Naming + Send + Sync, R: Threads + Wait + Clock + Print + Eprint + Sync>(
     rt: &R,
     alloc: Global,

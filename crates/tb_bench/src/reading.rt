@@ -1,4 +1,4 @@
-//! Reads of seats, in threads of their own, beside a writer that is busy throughout.
+//! Reads of seats, in threads of their own, next to a writer that is busy throughout.
 ghost use Rattle.std.specs.Prelude.{◌≡◌};
 
 use crate::requests::{first_requests, round};
@@ -106,7 +106,7 @@ fn write_one<J: Naming, R: Wait>(
     true
 }
 
-/// Takes single transfers until it is stopped, and tells how many.
+/// Takes single transfers until it is stopped, and reports how many.
 fn write<J: Naming, R: Wait>(
     rt: &R,
     alloc: Global,
@@ -131,7 +131,7 @@ fn prepare<J: Naming, R: Wait>(
     take_all(rt, publisher, round(alloc, 2, 1, 1)?)
 }
 
-/// Reads beside a writer, or, where it is calm, beside none: how many transfers were taken, and the time of the reads.
+/// Reads next to a writer, or, where it is calm, without one: how many transfers were taken, and the time of the reads.
 fn read_beside<J: Naming + Send + Sync, R: Threads + Wait + Clock + Sync>(
     rt: &R,
     alloc: Global,
@@ -154,7 +154,7 @@ fn read_beside<J: Naming + Send + Sync, R: Threads + Wait + Clock + Sync>(
     )
 }
 
-/// Measures reads beside a writer, or, where it is calm, beside none: of the second of the first requests.
+/// Measures reads next to a writer, or, where it is calm, without one: of the second of the first requests.
 fn measure_reads<J: Naming + Send + Sync, R: Threads + Wait + Clock + Print + Eprint + Sync>(
     rt: &R,
     alloc: Global,
@@ -175,7 +175,7 @@ fn measure_reads<J: Naming + Send + Sync, R: Threads + Wait + Clock + Print + Ep
     tell_time(rt, "takes", u128::from(taken))
 }
 
-/// Opens a publisher with so many seats, and measures their reads, beside a busy writer unless it is calm.
+/// Opens a publisher with so many seats, and measures their reads, next to a busy writer unless it is calm.
 pub fn measure<J: Naming + Send + Sync, R: Threads + Wait + Clock + Print + Eprint + Sync>(
     rt: &R,
     alloc: Global,

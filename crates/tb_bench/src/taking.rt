@@ -1,4 +1,4 @@
-//! Takes beside the one-thread machine, round by round.
+//! Takes compared with the one-thread machine, round by round.
 ghost use Rattle.std.specs.Prelude.{◌≡◌};
 
 use crate::requests::{first_requests, round};
@@ -131,7 +131,7 @@ fn prepare(alloc: Global, machine: &mut Machine<Global>) -> Result<(), Error> {
     Ok(())
 }
 
-/// Applies a round to the machine: the requests from a number on. Tells the time.
+/// Applies a round to the machine: the requests from a number on. Reports the time.
 fn apply_next<R: Clock>(
     rt: &R,
     alloc: Global,
@@ -147,7 +147,7 @@ fn apply_next<R: Clock>(
     Ok(start.elapsed(rt)?)
 }
 
-/// Takes a round: the requests from a number on. Tells the time.
+/// Takes a round: the requests from a number on. Reports the time.
 fn take_next<J: Naming, R: Wait + Clock>(
     rt: &R,
     alloc: Global,
@@ -181,7 +181,7 @@ fn sum_rounds<J: Naming, R: Wait + Clock>(
     Ok((taken, applied))
 }
 
-/// Measures so many rounds, and tells the sums.
+/// Measures so many rounds, and reports the sums.
 fn measure_rounds<J: Naming, R: Wait + Clock + Print + Eprint>(
     rt: &R,
     alloc: Global,

@@ -1,5 +1,5 @@
 -- The exit status of each outcome: 0 done, 1 a device or memory failed, 2 the input or the arguments are wrong. And the line
--- that a fault is told by.
+-- that a fault is reported by.
 -- Cited by public contracts of: commands, host, lines.
 use Rattle.std.specs.Prelude.{ℕ, ◌≡◌, ◌⊎◌, ◌++◌, List, Result, Ok, Err, codes}
 use Rattle.tb_records.specs.declared.faults.FrameFault.{FrameFault}
@@ -62,7 +62,7 @@ fault_line fault = line_named (fault_name fault)
 abbrev pub TellsLine : List ℕ → Output → Output → Type 0
 TellsLine line before after = Sent line before after ⊎ CutOff line before after
 
--- nothing is told of a form that was done, and of a fault its line
+-- nothing is reported of a form that was done, and of a fault its line
 abbrev pub Tells : Result ℕ Fault → Output → Output → Type 0
 Tells (Ok count) before after = after ≡ before
 Tells (Err fault) before after = TellsLine (fault_line fault) before after

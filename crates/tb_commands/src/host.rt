@@ -25,7 +25,7 @@ pub fn words<R: Env + AllocGlobal>(rt: &R) -> io::Result<Vec<String>> {
 }
 
 /// Serves the command that the words are, between an input and an output, both buffered, and answers the exit status.
-/// Replies are held back only while more requests are at hand.
+/// Replies are held back only while more requests are buffered.
 pub fn serve<R: Read + Drop, W: Write + Drop, E: Sink>(
     alloc: Global,
     words: &[String],
@@ -58,7 +58,7 @@ pub fn fault_of(error: &io::Error) -> Fault {
     }
 }
 
-/// Tells the fault, and answers its status.
+/// Prints the fault, and answers its status.
 pub fn refuse<E: Sink>(fault: Fault, faults: &mut E) -> u8
     ensures value { result ≡ fault_status fault }
     ensures told { TellsLine (fault_line fault) (E.output faults.old) (E.output faults.new) }

@@ -4,7 +4,7 @@
 //! Modules, each over those before it:
 //!
 //! - `arguments`: `read_form`, what the words of the command line ask for.
-//! - `lines`: the line that a fault is told by.
+//! - `lines`: the line that a fault is reported by.
 //! - `commands`: `command`, each form over any reader and writer, and the exit status of each outcome.
 //! - `host`: `serve`, the way from arguments, input and output to `command`.
 #![tactic(auto)]

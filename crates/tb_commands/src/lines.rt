@@ -1,4 +1,4 @@
-//! The line that a fault is told by.
+//! The line that a fault is reported by.
 ghost use Rattle.std.specs.Prelude.{◌≡◌, ◌≤◌, ◌++◌, codes, length};
 ghost use Rattle.tb_commands.specs.Statuses.{line_named, TellsLine};
 

@@ -41,7 +41,7 @@ pub some_of : {X : Type 0} (o : Option X) → is_some o ≡ true → (x : X) × 
 some_of None is = absurd cc
 some_of (Some x) is = (x, refl)
 
--- a null pointer beside the allocator
+-- a null pointer next to the allocator
 
 abbrev pub null : Val
 null = vint w64 0

@@ -72,7 +72,7 @@ module _ (S : State) (p : Pair) (lawful : IsLawful p.1) (timely : IsTimely S p) 
   by_class New e = new_length (ap is_new (sym e))
   by_class c e = subst (Right (after_pair S p)) (sym e) (old_length (ap is_new (sym e)))
 
-  -- the reply to a request that was served is as long as its class and its client's row tell
+  -- the reply to a request that was served is as long as its class and its client's row say
   pub answered_length : (T : State) (c : Class) (client : ℕ) → c ≡ class_of S.rows p.1 → client ≡ p.1.client → T ≡ after_pair S p → length_by c (row_of T.rows client) ≡ length (answer_bytes S p)
   answered_length T c client e own is =
       ap (λ (k : ℕ). length_by c (row_of T.rows k)) own
@@ -125,7 +125,7 @@ module _ (S : State) (p : Pair) (lawful : IsLawful p.1) (timely : IsTimely S p) 
   fits_by_class New is fits = new_fits (ap is_new (sym is)) fits
   fits_by_class c is fits = old_fits c is refl fits
 
-  -- the numbers of the reply to a request that was served fit, as its class and its client's row tell
+  -- the numbers of the reply to a request that was served fit, as its class and its client's row say
   pub answered_fits : (T : State) (c : Class) (client : ℕ) → c ≡ class_of S.rows p.1 → client ≡ p.1.client → T ≡ after_pair S p → FitsBy c (row_of T.rows client) → IsReply (answer_to (after_pair S p) p.1)
   answered_fits T c client is own there fits = fits_by_class c is (subst (λ (k : ℕ). FitsBy c (row_of (after_pair S p).rows k)) own (subst (λ (U : State). FitsBy c (row_of U.rows client)) there fits))
 

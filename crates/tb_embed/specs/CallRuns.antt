@@ -34,7 +34,7 @@ is_answered outcome = false
 abbrev pub answered : List Call → List Call
 answered cs = filter (λ c. is_answered c.outcome) cs
 
--- what was told of the reply: its bytes in the room, or how many they are; they are read as that reply and no other
+-- what was returned of the reply: its bytes in the room, or how many they are; they are read as that reply and no other
 abbrev pub TellsReply : Outcome → List ℕ → Answer → Type 0
 TellsReply (Done n) room a = SpellsReply (take n room) a
 TellsReply (TooSmall n) room a = (n ≡ length (reply_bytes a)) × IsReply a
@@ -51,7 +51,7 @@ AreAsked [] [] [] = Unit {0}
 AreAsked (c ∷ cs) (p ∷ ps) (a ∷ replies) = Asked c p a × AreAsked cs ps replies
 AreAsked cs ps replies = ⊥
 
--- the server stands after the legal history that is accepted of the requests that were answered, and told their replies
+-- the server is in the state after the legal history that is accepted of the requests that were answered, and gave their replies
 pub record MakesHistory (profile : Profile) (clients_max : ℕ) (cs : List Call) (T : State) : Type 0 where
   pub pairs : List Pair
   pub lawful : AreLawful pairs
@@ -62,7 +62,7 @@ pub record MakesHistory (profile : Profile) (clients_max : ℕ) (cs : List Call)
 abbrev pub CallsMakeHistory : Type 0
 CallsMakeHistory = (profile : Profile) (clients_max : ℕ) (cs : List Call) (T : State) → Follow (start profile clients_max) cs T → MakesHistory profile clients_max cs T
 
--- but for want of memory, one status is right: a closed handle before bytes that are no request, these before a new request
+-- unless memory runs out, one status is right: a closed handle before bytes that are no request, these before a new request
 -- without a time, and that before a room that is too small
 abbrev pub OneStatus : Type 0
 OneStatus = (S T U : State) (moment : ℕ) (bytes room other : List ℕ) (a b : Outcome)

@@ -16,7 +16,7 @@ use Rattle.tb_embed.specs.declared.held.Server.{Server}
 use Rattle.tb_embed.specs.declared.outcomes.Outcome.{Outcome}
 use Rattle.tb_embed.specs.declared.outcomes.Outcome.TheVariants.{Done, Closed, Usage, NoMemory, Unread, Malformed, TimeExhausted, Absent, TooSmall}
 
--- where the server of a handle stands; a closed handle has none
+-- where the server of a handle is; a closed handle has none
 abbrev pub standing : Option Server → Option State
 standing state = option_map (λ (server : Server). server.machine) state
 
@@ -43,7 +43,7 @@ abbrev pub IsMalformed : List ℕ → Type 0
 IsMalformed bytes = ((fault : FrameFault) × (request_fault bytes ≡ Some fault)) ⊎ ((n : ℕ) × (r : Message) × (n < length bytes) × Spells (take n bytes) r)
 
 -- what a request that comes at a moment makes of the machine, and of the room for its reply: it is answered, or its reply
--- needs more room than there is and can be had by sending the request again; or the machine stands as it stood, since no
+-- needs more room than there is and can be had by sending the request again; or the machine is as it was, since no
 -- time is left for a new request, or no memory to enter it. The numbers of each reply fit, so that its bytes are read as
 -- that reply and no other
 abbrev pub AnswersCall : Outcome → State → State → Pair → List ℕ → Type 0
@@ -53,7 +53,7 @@ AnswersCall TimeExhausted S T p room = (is_new_in S p ≡ true) × (has_time S p
 AnswersCall NoMemory S T p room = (is_new_in S p ≡ true) × (has_time S p ≡ true) × (T ≡ S)
 AnswersCall outcome S T p room = ⊥
 
--- the same of bytes: malformed ones change nothing, and neither does want of memory for reading those that have no fault; but
+-- the same of bytes: malformed ones change nothing, and neither does running out of memory while those are read that have no fault; but
 -- for that, memory is wanting only where the bytes are the frame of a request that is new and has a time
 abbrev pub AnswersFrame : Outcome → State → State → ℕ → List ℕ → List ℕ → Type 0
 AnswersFrame Malformed S T moment bytes room = IsMalformed bytes × (T ≡ S)

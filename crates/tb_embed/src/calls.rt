@@ -55,7 +55,7 @@ pub extern "C" fn tb_embed_serve(
     outcome.status()
 }
 
-/// Writes the 128 bytes of an account as it stands, its id in two halves. Statuses: 0 written, 1 a closed handle, 6 no such
+/// Writes the 128 bytes of an account as it is now, its id in two halves. Statuses: 0 written, 1 a closed handle, 6 no such
 /// account, 7 the room is shorter than 128 bytes.
 #[unsafe(no_mangle)]
 pub extern "C" fn tb_embed_account(

@@ -22,13 +22,13 @@ pub fn answered_again()
 {}
 
 /// Calls one after another leave the server of an opened handle after a legal history: what is accepted of the requests that
-/// were answered, in their order; and each was told the reply that this history gives. So each law of legal histories
+/// were answered, in their order; and each got the reply that this history gives. So each law of legal histories
 /// holds of a server inside another program.
 pub fn calls_make_history()
     ensures { CallsMakeHistory }
 {}
 
-/// But for status 3, want of memory, `tb_embed_serve` has one right status for the same server, moment, bytes and length of
+/// But for status 3, out of memory, `tb_embed_serve` has one right status for the same server, moment, bytes and length of
 /// the room. They come in this order: 1 closed, 4 no frame of a request, 5 no time is left, 7 the room is too small, 0.
 pub fn one_status()
     ensures { OneStatus }

@@ -1,4 +1,4 @@
-//! How a call fared, and the status that tells it to a caller in C.
+//! How a call fared, and the status that reports it to a caller in C.
 ghost use Rattle.std.specs.Prelude.{◌≡◌};
 ghost use Rattle.tb_embed.specs.Outcomes.{status_of, length_of};
 

@@ -33,7 +33,7 @@ fn show(found: Option<[u8; 128]>, room: &mut [u8]) -> Outcome
     Outcome::Done(128)
 }
 
-/// Shows an account as it stands.
+/// Shows an account as it is now.
 pub(crate) fn show_account(
     alloc: Global,
     server: &mut TbServer,

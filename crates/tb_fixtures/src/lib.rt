@@ -1,12 +1,12 @@
 //! What several tests and tools make or do: accounts, transfers and bodies of requests, each named by the fields in which it differs
-//! (ledger 700 and code 10 otherwise), waiting for a thread, and letting go of what a call did not take.
+//! (ledger 700 and code 10 otherwise), waiting for a thread, and freeing what a call did not take.
 //!
 //! Modules:
 //!
 //! - `records`: accounts and transfers, as they are asked for and as they are found.
 //! - `bodies`: what requests carry.
 //! - `waiting`: whether another thread has begun, or a number is as great.
-//! - `outcomes`: values that are let go where a call fails.
+//! - `outcomes`: values that are freed where a call fails.
 #![tactic(auto)]
 
 mod bodies;

@@ -18,7 +18,7 @@ fn comes<F: Fn() -> bool>(looks: u32, is_so: F) -> bool
     false
 }
 
-/// Waits for a thread, such as a server's beside its clients, and says whether it has begun. Where no thread can be made `join` runs the
+/// Waits for a thread, such as a server's next to its clients, and says whether it has begun. Where no thread can be made `join` runs the
 /// server behind the clients: an offer would then wait for ever, once the queue is full.
 pub fn has_begun(begun: &AtomicBool) -> bool {
     comes(LOOKS, || begun.load(Ordering::SeqCst))

@@ -63,12 +63,12 @@ fn command(rt: &HostRuntime, words: &[String]) -> u8 {
     }
 }
 
-/// Tells a fault, in one line.
+/// Prints a fault, in one line.
 fn tell(rt: &HostRuntime, fault: LogFault) -> io::Result<()> {
     eprintln!(rt; "tb_follow: {fault}")
 }
 
-/// Tells how the program is called.
+/// Prints how the program is called.
 fn usage(rt: &HostRuntime) -> io::Result<()> {
     eprintln!(rt;
         "tb_follow: Usage: tb_follow CLIENTS_MAX [PROFILE]: 1 to {CLIENTS_MAX} clients, profile 1 or 2"

@@ -75,7 +75,7 @@ front-block bytes others fits =
 pub length-block : (bytes : List ℕ) → length (block bytes) ≡ 8 + length bytes
 length-block bytes = let e : length (block bytes) ≡ suc (suc (suc (suc (suc (suc (suc (suc (length bytes)))))))) = refl in omega (arith, e)
 
--- blocks of records, and then whatever stands behind them
+-- blocks of records, and then whatever follows them
 pub walk-blocks : (records : List (List ℕ)) (at : ℕ) (others : List ℕ) → AllByRecursion Fits records → walk 0 at (flat_map block records ++ others) ≡ with_records records (walk 0 (at + blocks_length records) others)
 walk-blocks [] at others fits = let e : at ≡ at + 0 = omega arith in ap (λ (a : ℕ). walk 0 a others) e
 walk-blocks (r ∷ records) at others fits =

@@ -24,7 +24,7 @@ pub next_writable : {D : Type 0} (disk : D → Disk) (old : Kept D) (new : D) (b
     → IsWritable disk (record { device = new; end = old.end + (bytes - 1); count = old.count + many; waiting = waiting; usable = usable })
 next_writable disk old new bytes many waiting usable writable whole reads long counts = search (rules, length-append, next_end)
 
--- a journal that may be written to is ready where all that is read is on the disk, and no sync has failed
+-- a journal that may be written to is ready where all that is read is durable, and no sync has failed
 pub settled_of : {D : Type 0} (disk : D → Disk) (journal : Kept D) → IsReady disk journal → IsSettled (disk journal.device)
 settled_of disk journal ready = record { kept = ready.at_rest.kept; sound = ready.at_rest.sound }
 

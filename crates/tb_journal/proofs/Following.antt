@@ -16,7 +16,7 @@ use Rattle.tb_journal.proofs.Committing.{blocks_length-append}
 use Rattle.tb_journal.proofs.Nexts.{next_damaged, one_more, ahead_behind}
 use Rattle.tb_journal.proofs.Growths.{final_later, damaged_final, damage_final, leads_within, leads_later}
 
--- a whole block is as long as its length tells
+-- a whole block is as long as its length says
 
 behind_size : (closed : Bool) (n : ℕ) (f : Front) (r : List ℕ) → (f ≡ Whole r → n ≡ length r) → (if closed then Ends else f) ≡ Whole r → (if closed then 8 else 8 + n) ≡ 8 + length r
 behind_size closed n f r count is = grind (arith, common_steps)

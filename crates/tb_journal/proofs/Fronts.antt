@@ -1,4 +1,4 @@
--- What stands at the head of bytes is told by a prefix of them.
+-- What is at the head of bytes is known from a prefix of them.
 use Rattle.std.proofs.Common.{rules, ◌≡◌, ⊎_elim, ℕ, suc, ◌+◌, ◌-◌, ◌<◌, ◌≤◌, ◌==◌, min, Bool, true, false, List, [], ◌∷◌, ◌++◌, length, take, drop, ◌∙◌, ap, arith, nat_le, length-take, if◌then◌else◌}
 use Rattle.std.proofs.lemmas.Grind.{common_steps}
 use Rattle.std.proofs.lemmas.List.{take_all, take-take}
@@ -51,7 +51,7 @@ front_told m (g ∷ a ∷ b ∷ c ∷ s ∷ t ∷ u ∷ v ∷ rest) le =
     ap (λ (j : ℕ). front (take j (g ∷ a ∷ b ∷ c ∷ s ∷ t ∷ u ∷ v ∷ rest))) far
     ∙ gate_same (g == 0) (a ∷ b ∷ c ∷ []) (from_le_bytes w32 (s ∷ t ∷ u ∷ v ∷ [])) k rest (behind_open (g == 0) n m le)
 
--- and four bytes tell how many
+-- and four bytes give how many
 pub asked_told : (m : ℕ) (l : List ℕ) → 4 ≤ m → asked (take m l) ≡ asked l
 asked_told m [] le = ap asked (take_all m [] (omega arith))
 asked_told m (g ∷ []) le = ap asked (take_all m (g ∷ []) (omega (arith, le)))

@@ -10,7 +10,7 @@ use Rattle.tb_journal.proofs.Walks.{unjoined, whole_begins, begins_shorter}
 use Rattle.tb_journal.proofs.Committing.{blocks_length-append}
 use Rattle.tb_journal.proofs.Nexts.{all, end_within, next_damaged}
 
--- a file that stands for records
+-- a file that represents records
 
 pub extends_later : (records : List (List ℕ)) (file later : List ℕ) → contents file ≡ Records records → Later file later → Extends records file later
 extends_later records file later is after = subst (λ (c : Contents). LaterThan c file later) is after
@@ -74,7 +74,7 @@ grown_then grows P a b first second = record { later = second.later; after = lat
 pub same_grown : {grows : List ℕ → Type 0} {file : List ℕ} {P : List ℕ → Type 0} → grows file → P file → Grown grows file P
 same_grown {grows} {file} {P} now has = record { later = file; after = later_same file; now = now; has = has }
 
--- records that a file begins with begin what it stands for
+-- records that a file begins with begin what it represents
 
 parted : (records all : List (List ℕ)) (others : Contents) → with_records records others ≡ Records all → (more : List (List ℕ)) × (all ≡ records ++ more)
 parted [] all others is = (all, refl)

@@ -1,4 +1,4 @@
--- The next step of a scan, by what stands behind the records that it has read.
+-- The next step of a scan, by what follows the records that it has read.
 use Rattle.std.proofs.Common.{◌≡◌, inr, ℕ, ◌+◌, ◌-◌, ◌≤◌, ◌^◌, Bool, List, [], ◌∷◌, ◌++◌, length, take, drop, refl, sym, ◌∙◌, ap, subst, arith, length-append, length-drop, length-take, take-append-drop, Err}
 use Rattle.std.proofs.lemmas.Grind.{common_steps}
 use Rattle.std.proofs.lemmas.List.{append-nil, take_all, drop_all, drop-take}
@@ -15,7 +15,7 @@ use Rattle.tb_journal.proofs.Walks.{take_parts, drop_parts, walk-whole, walk-spo
 use Rattle.tb_journal.proofs.Causes.{none_at_once}
 use Rattle.tb_journal.proofs.Committing.{blocks_length-append}
 
--- by what stands at the head
+-- by what is at the head
 
 front_ends : (f : Front) → heads.End ≡ head_is f → f ≡ Ends
 front_ends f is = grind (arith, common_steps)

@@ -15,7 +15,7 @@ use Rattle.tb_journal.proofs.Moments.{then, weaker}
 use Rattle.tb_journal.proofs.Causes.{none_at_once}
 use Rattle.tb_journal.proofs.Steps.{within}
 
--- what an extent tells of its file
+-- what an extent says of its file
 pub record IsTold (found : Contents) (extent : Extent) : Type 0 where
   pub reads : found ≡ Records (records_of found)
   pub end : extent.end ≡ records_end (records_of found)

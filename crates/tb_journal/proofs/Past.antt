@@ -20,7 +20,7 @@ pub same_elapses : (first : List ℕ) (calls : List Call) (old new : List ℕ) (
     → Elapses (disk_after first calls old f s) (disk_after first calls new g t)
 same_elapses first calls old new f g s t = record { later = omega arith; nothing_else = λ t c le since. inl since; keeps = λ t c le since. since }
 
--- the newest call stands first
+-- the newest call comes first
 pub newest : (calls : List Call) (call : Call) → reverse (calls ++ call ∷ []) ≡ call ∷ reverse calls
 newest calls call = reverse-append calls (call ∷ [])
 

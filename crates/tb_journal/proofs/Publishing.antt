@@ -1,4 +1,4 @@
--- A batch is written behind the closed gate, which is then opened.
+-- A batch is written behind the closed latch, which is then opened.
 use Rattle.std.proofs.lemmas.Grind.{common_steps}
 use Rattle.std.proofs.Common.{◌≡◌, inl, ℕ, ◌+◌, ◌≤◌, List, [], ◌∷◌, ◌++◌, length, take, drop, sym, ◌∙◌, ap, subst, arith, Result, Ok, Err, OnOk}
 use Rattle.std.specs.List.{AllByRecursion}
@@ -10,7 +10,7 @@ use Rattle.tb_journal.proofs.Moments.{then, weaker}
 use Rattle.tb_journal.proofs.Causes.{has_cause_since}
 use Rattle.tb_journal.proofs.Steps.{length_file, behind_torn, written_behind, reads_new, gate_torn, opened, closed_new}
 
--- a file that reads as these records, with its closed gate, is whole
+-- a file that reads as these records, with its closed latch, is whole
 pub wholly : (disk : Disk) (records : List (List ℕ)) → contents disk.seen ≡ Records records
     → disk.seen ≡ take (records_end records) disk.seen ++ 0 ∷ []
     → IsWhole disk × (recorded disk.seen ≡ records)
@@ -23,7 +23,7 @@ wholly disk records reads closed =
       same,
     )
 
--- there is room for each write
+-- there is space for each write
 
 pub room : (before : Disk) → IsWhole before → (end : ℕ) → end ≡ records_end (recorded before.seen)
     → end + 1 ≤ length before.seen

@@ -130,7 +130,7 @@ remainder_at (suc j) p least small =
     row_above (suc j) p ∙ ap (λ (row : List ℕ). byte_on (get_or row p 0)) (get_or-take 15 REMAINDERS j [] (omega (arith, least)))
     ∙ ap byte_on (remainder_at j p (omega (arith, least)) small) ∙ zeros_then (suc j) p
 
--- the entry of a byte behind which stand z - 1 bytes of zeros
+-- the entry of a byte that z - 1 bytes of zeros follow
 pub row_is : (p z : ℕ) → p < 256 → 1 ≤ z → z ≤ 16 → get_or (get_or REMAINDERS (z - 1) []) p 0 ≡ zeros_on z p
 row_is p zero small least most = absurd (omega (arith, least))
 row_is p (suc j) small least most = let place : suc j - 1 ≡ j = omega arith in rw place (remainder_at j p (omega (arith, most)) small)
@@ -187,7 +187,7 @@ AreBytes xs = (i : ℕ) → get_or xs i 0 < 256
 abbrev number_of : ℕ → ℕ → ℕ → ℕ → ℕ
 number_of a b c d = a + b * 256 + c * 65536 + d * 16777216
 
--- and of those that stand from a place on
+-- and of those that are from a place on
 abbrev pub word_at : ℕ → List ℕ → ℕ
 word_at i xs = number_of (get_or xs i 0) (get_or xs (i + 1) 0) (get_or xs (i + 2) 0) (get_or xs (i + 3) 0)
 

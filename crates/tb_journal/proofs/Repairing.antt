@@ -1,4 +1,4 @@
--- A file is read, what stands behind its records cut off, and its gate closed.
+-- A file is read, what follows its records cut off, and its latch closed.
 use Rattle.std.proofs.Common.{◌≡◌, ℕ, ◌≤◌, List, [], ◌∷◌, ◌++◌, length, take, sym, ◌∙◌, ap, subst, arith, Result, Ok, Err, OnOk}
 use Rattle.std.proofs.lemmas.List.{length-take-le}
 use Rattle.tb_journal.specs.declared.faults.Fault.{Fault}

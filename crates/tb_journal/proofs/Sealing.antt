@@ -1,4 +1,4 @@
--- A record that was written before the numbers that stand before it.
+-- A record that was written before the numbers that come before it.
 use Rattle.std.proofs.Common.{◌≡◌, ℕ, ◌+◌, List, ◌++◌, length, take, drop, refl, ◌∙◌, ap, subst}
 use Rattle.std.proofs.lemmas.List.{take_at, drop_at}
 use Rattle.tb_journal.specs.Contents.{Fits, block}

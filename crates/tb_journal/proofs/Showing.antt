@@ -17,7 +17,7 @@ use Rattle.tb_journal.proofs.Nexts.{goes_on, next_none, next_damaged}
 use Rattle.tb_journal.proofs.Fronts.{at_least, asked_told, front_told}
 use Rattle.tb_journal.proofs.Growths.{extends_later, later_extends, final_later, damage_final, later_same, later_then, begins_part, leads_within, leads_kept, leads_later}
 
--- what stands at the head of bytes is told by as many as are asked for
+-- what is at the head of bytes is known from as many as are asked for
 
 asked_least : (l : List ℕ) → 8 ≤ asked l
 asked_least [] = omega arith

@@ -10,18 +10,18 @@ use Rattle.tb_journal.proofs.Blocks.{walk-at_rest, length-blocks}
 
 -- gates
 
--- a closed gate ends the records, whatever stands behind it
+-- a closed latch ends the records, whatever follows it
 pub closed_gate : (gate : ℕ) (behind : List ℕ) → (gate == 0) ≡ true → front (gate ∷ behind) ≡ Ends
 closed_gate gate behind h = grind (arith, common_steps)
 
--- any other gate is as good as the one that is written
+-- any other latch is as good as the one that is written
 any_gate : (gate : ℕ) (behind : List ℕ) → (gate == 0) ≡ false → front (gate ∷ behind) ≡ front (255 ∷ behind)
 any_gate gate behind h = grind (arith, common_steps)
 
 walk-any_gate : (gate at : ℕ) (behind : List ℕ) → (gate == 0) ≡ false → walk 0 at (gate ∷ behind) ≡ walk 0 at (255 ∷ behind)
 walk-any_gate g at behind h = ap (λ (f : Front). joined f at (walk (skipped f) (at + 1) behind)) (any_gate g behind h)
 
--- what ends the records ends them where it is cut short
+-- what ends the records ends them where it is truncated
 
 behind_never : (b : Bool) (size : List ℕ) (sum : ℕ) (rest : List ℕ) → (if b then Ends else behind_gate size sum rest) ≡ Ends → b ≡ true
 behind_never b size sum rest is = grind (arith, common_steps)
@@ -50,7 +50,7 @@ module _ (file : List ℕ) (records : List (List ℕ)) (reads : contents file �
   pub length_front : length (take end file) ≡ end
   length_front = length-take-le end file within
 
-  -- whatever ends the records may stand behind them
+  -- whatever ends the records may follow them
   pub with_end : (others : List ℕ) → front others ≡ Ends → contents (take end file ++ others) ≡ Records records
   with_end others is = parts.goes_on others ∙ ended records end others is
 
@@ -63,7 +63,7 @@ module _ (file : List ℕ) (records : List (List ℕ)) (reads : contents file �
       let whole : c ≡ take end file ++ take k (drop end file) = sym cut.front ∙ ap (λ (n : ℕ). take n file) far ∙ take_parts end k file in
       ap contents whole ∙ with_end (take k (drop end file)) (front_cut k (drop end file) parts.ends)
 
-  -- the closing gate behind it
+  -- the closing latch behind it
   pub close_torn : (c : List ℕ) → Torn end 1 (take end file) c → contents c ≡ Records records
   close_torn c torn =
       let long = length_front in
@@ -80,7 +80,7 @@ module _ (file : List ℕ) (records : List (List ℕ)) (reads : contents file �
   pub front_closed : (others : List ℕ) → take end (take end file ++ others) ≡ take end file
   front_closed others = take_at (take end file) others end length_front
 
--- a file at rest: its blocks, and a closed gate
+-- a file at rest: its blocks, and a closed latch
 
 module _ (file : List ℕ) (records : List (List ℕ)) (reads : contents file ≡ Records records) (closed : file ≡ take (records_end records) file ++ 0 ∷ []) where
   abbrev gate_at : ℕ
@@ -89,7 +89,7 @@ module _ (file : List ℕ) (records : List (List ℕ)) (reads : contents file �
   pub length_file : length file ≡ gate_at + 1
   length_file = ap length closed ∙ length-append (take gate_at file) (0 ∷ []) ∙ ap (λ (n : ℕ). n + 1) (length_front file records reads)
 
-  -- the closed gate stands in each outcome of a write behind it
+  -- the closed latch is in each outcome of a write behind it
   pub behind_torn : (n : ℕ) (c : List ℕ) → Torn (gate_at + 1) n file c → contents c ≡ Records records
   behind_torn n c torn =
       let long = length_file in
@@ -116,7 +116,7 @@ module _ (file : List ℕ) (records : List (List ℕ)) (reads : contents file �
     reads_new =
         grind (arith, common_steps, is_file file records reads, walk-at_rest new gate_at fits, with_records-Records records new)
 
-    -- the blocks stand whole in each outcome of the write of the gate
+    -- the blocks are whole in each outcome of the write of the latch
     pub gate_torn : (c : List ℕ) → Torn gate_at 1 (take gate_at file ++ (0 ∷ tail)) c → (contents c ≡ Records records) ⊎ (contents c ≡ Records (records ++ new))
     gate_torn c torn =
         let long = long_staged in

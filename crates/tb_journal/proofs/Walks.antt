@@ -1,4 +1,4 @@
--- How what a file stands for follows from its blocks.
+-- How what a file represents follows from its blocks.
 use Rattle.std.proofs.Common.{rules, ◌≡◌, ℕ, zero, suc, ◌+◌, ◌≤◌, ◌==◌, ◌&&◌, Bool, true, false, List, [], ◌∷◌, ◌++◌, length, take, drop, refl, sym, ◌∙◌, ap, subst, arith, nat_le, nat_eq, length-append, if◌then◌else◌}
 use Rattle.std.proofs.lemmas.Grind.{common_steps}
 use Rattle.std.proofs.lemmas.List.{append-nil, append_assoc, take_at, drop_at, length-take-le, take-append-drop, take-take}

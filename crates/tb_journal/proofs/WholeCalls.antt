@@ -35,7 +35,7 @@ pub room_for : (count k : ℕ) (into part post : List ℕ) → count ≤ length 
 room_for count k into part post fits within =
     omega (arith, within, length-append (take count into) (part ++ post), length-append part post, length-take-le count into fits)
 
--- bytes behind those that stand already
+-- bytes behind those that are already
 pub more_same : (at count k : ℕ) (into part post file : List ℕ) → count ≤ length into → k ≤ length part
     → take count into ≡ take count (drop at file) → take k part ≡ take k (drop (at + count) file)
     → take (count + k) (take count into ++ (part ++ post)) ≡ take (count + k) (drop at file)
@@ -63,13 +63,13 @@ module _ (at count : ℕ) (into : List ℕ) (a b c : Disk) (now : CountsNow a) (
     cause = cause_then (Err why) a b c so_far.none reads.looks.cause;
   }
 
-  -- none are given where there is room: this is the end
+  -- none are given where there is space: this is the end
   pub read_ends : (part : List ℕ) → 1 ≤ length part → ReadsSome (at + count) part (Ok 0) b c → length a.seen ≤ at + count
   read_ends part room reads =
       let end : (length part ≡ 0) ⊎ (length b.seen ≤ at + count) = reads.end refl in
       omega (arith, room, end, ap length so_far.looks.seen)
 
--- what was read is all, as there is no more room or nothing is left
+-- what was read is all, as there is no more space or nothing is left
 pub read_all : (at count : ℕ) (into file : List ℕ) → count ≤ length into → take count into ≡ take count (drop at file)
     → (length into ≤ count) ⊎ (length file ≤ at + count) → ReadsAt count at file into
 read_all at count into file fits same why = record {
@@ -127,7 +127,7 @@ module _ (at count : ℕ) (bytes : List ℕ) (a b : Disk) (within : at ≤ lengt
   long : length (take count bytes) ≡ count
   long = length-take-le count bytes some
 
-  -- the next bytes do not stand past the end
+  -- the next bytes do not reach past the end
   pub goes_on_within : at + count ≤ length b.seen
   goes_on_within =
       let front = take at a.seen in

@@ -1,4 +1,4 @@
--- What the bytes of a journal's file stand for.
+-- What the bytes of a journal's file represent.
 -- Cited by public contracts of: journals, opening.
 use Rattle.std.specs.Prelude.{◌≡◌, ℕ, ◌+◌, ◌<◌, ◌^◌, ◌==◌, ◌&&◌, nat_le, nat_eq, zero, suc, List, [], ◌∷◌, ◌++◌, length, take, drop, flat_map, codes, if◌then◌else◌, refl}
 use Rattle.std.specs.Int.{w32, to_le_bytes, from_le_bytes}
@@ -18,11 +18,11 @@ pub record Fits (record_bytes : List ℕ) : Type 0 where
 abbrev pub size_bytes : List ℕ → List ℕ
 size_bytes record_bytes = take 3 (to_le_bytes w32 (length record_bytes))
 
--- an open gate, the length, the checksum of length and record, and the record
+-- an open latch, the length, the checksum of length and record, and the record
 abbrev pub block : List ℕ → List ℕ
 block bytes = 255 ∷ (size_bytes bytes ++ (to_le_bytes w32 (checksum (size_bytes bytes ++ bytes)) ++ bytes))
 
--- blocks, and a closed gate behind them
+-- blocks, and a closed latch behind them
 abbrev pub at_rest : List (List ℕ) → List ℕ
 at_rest records = flat_map block records ++ 0 ∷ []
 
@@ -30,19 +30,19 @@ at_rest records = flat_map block records ++ 0 ∷ []
 abbrev pub journal_of : List (List ℕ) → List ℕ
 journal_of records = magic ++ at_rest records
 
--- what stands at the head of some bytes: the end of the records, a block that is not whole, or a whole one
+-- what is at the head of some bytes: the end of the records, a block that is not whole, or a whole one
 pub data Front : Type 0 where
   Ends : Front
   Spoiled : Front
   Whole : List ℕ → Front
 
--- behind an open gate: the length, the checksum, and what follows
+-- behind an open latch: the length, the checksum, and what follows
 abbrev pub behind_gate : List ℕ → ℕ → List ℕ → Front
 behind_gate size sum rest =
     let count = from_le_bytes w32 (size ++ 0 ∷ []) in
     if nat_le count (length rest) && (sum == checksum (size ++ take count rest)) then Whole (take count rest) else Spoiled
 
--- a gate of 0 is closed, and one with nothing behind it ends the records too
+-- a latch of 0 is closed, and one with nothing behind it ends the records too
 abbrev pub front : List ℕ → Front
 front [] = Ends
 front (gate ∷ []) = Ends
@@ -66,13 +66,13 @@ abbrev pub with_records : List (List ℕ) → Contents → Contents
 with_records [] others = others
 with_records (bytes ∷ records) others = with_record bytes (with_records records others)
 
--- what stands at this place, and what follows it
+-- what is at this place, and what follows it
 abbrev pub joined : Front → ℕ → Contents → Contents
 joined Ends at others = Records []
 joined Spoiled at others = Damaged at
 joined (Whole bytes) at others = with_record bytes others
 
--- the bytes of a block behind its gate
+-- the bytes of a block behind its latch
 abbrev pub skipped : Front → ℕ
 skipped (Whole bytes) = 7 + length bytes
 skipped other = 0
@@ -108,11 +108,11 @@ records_end records = 8 + blocks_length records
 pub nothing_is_no_journal : contents [] ≡ NotAJournal
 nothing_is_no_journal = refl
 
--- a closed gate ends the records, whatever follows
+-- a closed latch ends the records, whatever follows
 pub ends_at_a_closed_gate : contents (codes "TBJRNL01" ++ 0 ∷ 7 ∷ 7 ∷ []) ≡ Records []
 ends_at_a_closed_gate = refl
 
--- an open gate with nothing behind it ends them too
+-- an open latch with nothing behind it ends them too
 pub ends_at_the_end : contents (codes "TBJRNL01" ++ 255 ∷ []) ≡ Records []
 ends_at_the_end = refl
 
@@ -120,6 +120,6 @@ pub two_records : contents (journal_of (codes "ab" ∷ [] ∷ [])) ≡ Records (
 unfolding byte_on bit_on
 two_records = refl
 
--- a block that is cut short is damage, at its gate
+-- a block that is torn is damage, at its latch
 pub cut_short : contents (codes "TBJRNL01" ++ 255 ∷ 1 ∷ 0 ∷ []) ≡ Damaged 8
 cut_short = refl

@@ -12,13 +12,13 @@ use Rattle.tb_journal.specs.Steps.{IsWhole}
 use Rattle.tb_journal.specs.Ready.{Kept, IsReady}
 use Rattle.tb_journal.specs.Opening.{IsAsBefore}
 
--- no more bytes than these, each of them 0 or the one that stands there
+-- no more bytes than these, each of them 0 or the one that is there
 abbrev pub is_torn_from : List ℕ → List ℕ → Bool
 is_torn_from [] first = true
 is_torn_from (byte ∷ bytes) [] = false
 is_torn_from (byte ∷ bytes) (own ∷ first) = (byte == 0 || byte == own) && is_torn_from bytes first
 
--- an empty file, or one such as a creation leaves that is cut short: a journal may be created there
+-- an empty file, or one such as a creation leaves that is torn: a journal may be created there
 abbrev pub is_blank : List ℕ → Bool
 is_blank file = is_torn_from file (journal_of [])
 
@@ -31,7 +31,7 @@ pub record IsUnborn (file : List ℕ) : Type 0 where
 abbrev pub MayBeCreated : Disk → List ℕ → Type 0
 MayBeCreated before file = IsAsBefore before file ⊎ ((is_blank before.seen ≡ true) × IsUnborn file)
 
--- why no journal is created, where the device did not fail: something else stands there, or it is blank and there is no memory
+-- why no journal is created, where the device did not fail: something else is there, or it is blank and there is no memory
 abbrev pub IsOwnCreateCause : List ℕ → Fault → Type 0
 IsOwnCreateCause file fault = ((fault ≡ NotEmpty) × (is_blank file ≡ false)) ⊎ ((fault ≡ Memory) × (is_blank file ≡ true))
 
@@ -45,7 +45,7 @@ abbrev pub IsLeft : Disk → Disk → OpenFault → Type 0
 IsLeft before after (open_faults.Device NotEmpty) = (after.seen ≡ before.seen) × LeavesOnly before after (IsAsBefore before) × (after.sound ≡ before.sound)
 IsLeft before after other = Unit {0}
 
--- by the file that the reads are of: it is blank, or something else stands in it, and the reads of the device that is given back
+-- by the file that the reads are of: it is blank, or something else is in it, and the reads of the device that is given back
 -- are of it still
 abbrev pub CreatesIn : {D : Type 0} → (D → List ℕ → Type 0) → Result (Kept D) (NotOpened D) → List ℕ → Type 0
 CreatesIn holds (Ok journal) file = is_blank file ≡ true
@@ -62,7 +62,7 @@ pub record IsNew {D : Type 0} (disk : D → Disk) (journal : Kept D) : Type 0 wh
   pub no_records : recorded (disk journal.device).seen ≡ []
   pub none_waits : journal.waiting ≡ []
 
--- whether a file is blank: what a blank one has is then on the disk
+-- whether a file is blank: what a blank one has is then durable
 pub record FindsBlank (result : Result Bool Fault) (before after : Disk) : Type 0 where
   pub ok : IfOk result (λ found. found ≡ is_blank before.seen)
   pub settled : before.sound ≡ true → IfOk result (λ found. found ≡ true → IsSettled after)

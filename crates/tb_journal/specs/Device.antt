@@ -18,7 +18,7 @@ pub record Disk : Type 1 where
 abbrev pub Only : List ℕ → (List ℕ → Type 0) → Type 0
 Only file outcomes = (c : List ℕ) → outcomes c → c ≡ file
 
--- all that a read returns is on the disk
+-- all that a read returns is durable
 abbrev pub IsOnDisk : Disk → Type 0
 IsOnDisk disk = Only disk.seen disk.may_leave
 
@@ -100,7 +100,7 @@ pub record HasOwnCause {T : Type 0} (result : Result T Fault) (before after : Di
   pub ok : OnOk result (FailsNone before after)
   pub cause : IfErr result (IsCause before after)
 
--- bytes that were read from an offset on: as many as there is room for or as are left, and they stand first
+-- bytes that were read from an offset on: as many as fit or as are left, and they come first
 pub record ReadsAt (count at : ℕ) (file into : List ℕ) : Type 0 where
   pub counts : count ≡ min (length into) (length (drop at file))
   pub bytes : take count into ≡ take count (drop at file)
@@ -146,7 +146,7 @@ pub record Syncs (result : Result (Unit {0}) Fault) (before after : Disk) : Type
 
 -- rows
 
--- where a device was full nothing else is told
+-- where a device was full nothing else is reported
 pub full_is_not_memory : (before after : Disk) → before.failures Full ≡ 0 → after.failures Full ≡ 1 → IsCause before after Memory → ⊥
 full_is_not_memory before after none one cause = ⊎_elim (λ failed. by_others (failed.others Full)) (λ own. at_one (own.1 Full)) cause
   where

@@ -10,7 +10,7 @@ pub record Extends (records : List (List ℕ)) (file later : List ℕ) : Type 0 
   pub reads : contents later ≡ Records (records ++ more)
   pub same : take (records_end records) later ≡ take (records_end records) file
 
--- by what the earlier file stands for: nobody appends to a file that is damaged or no journal
+-- by what the earlier file represents: nobody appends to a file that is damaged or no journal
 abbrev pub LaterThan : Contents → List ℕ → List ℕ → Type 0
 LaterThan (Records records) file later = Extends records file later
 LaterThan (Damaged at) file later = later ≡ file

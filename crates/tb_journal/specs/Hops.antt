@@ -12,7 +12,7 @@ use Rattle.tb_journal.specs.Reading.{HasAhead, asked}
 use Rattle.tb_journal.specs.Growing.{Later, Grown}
 use Rattle.tb_journal.specs.Snapshots.{LeadsTo, IsFinal, ShowsBlocks, ShowsOf}
 
--- what stands at an offset of a file, where another moment of it has so many bytes
+-- what is at an offset of a file, where another moment of it has so many bytes
 abbrev pub HopsTo : Hop → ℕ → List ℕ → ℕ → Type 0
 HopsTo (hops.Closed end) at file len = (end ≡ at) × (front (drop at file) ≡ Ends)
 HopsTo (hops.Further next) at file len = (front (drop at file) ≢ Ends) × (next ≡ at + asked (drop at file)) × (next ≤ len)
@@ -79,12 +79,12 @@ Finds before after from result = (bytes : List ℕ) → before bytes → LeadsTo
 abbrev pub FindsMore : (List ℕ → Type 0) → (List ℕ → Type 0) → ℕ → Result Found Fault → Type 0
 FindsMore before after end result = (bytes shown met : List ℕ) → before bytes → Later met bytes → ShowsBlocks end met shown → IfOk result (GoesOn after bytes shown)
 
--- whether nothing stands behind a latch, or one does
+-- whether nothing follows a latch, or one does
 abbrev pub TellsLatch : Bool → Front → Type 0
 TellsLatch true here = here ≡ Ends
 TellsLatch false here = here ≢ Ends
 
--- whether nothing stands at an offset
+-- whether nothing is at an offset
 abbrev pub TellsEnd : (List ℕ → Type 0) → (List ℕ → Type 0) → ℕ → Result Bool Fault → Type 0
 TellsEnd before after end result = (bytes : List ℕ) → before bytes → Grown after bytes (λ later. IfOk result (λ closed. TellsLatch closed (front (drop end later))))
 

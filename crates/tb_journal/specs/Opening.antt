@@ -14,7 +14,7 @@ use Rattle.tb_journal.specs.Contents.{Contents, NotAJournal, Damaged, Records, c
 use Rattle.tb_journal.specs.Steps.{IsWhole}
 use Rattle.tb_journal.specs.Ready.{Kept, IsReady}
 
--- what a file stands for that is refused
+-- what a file represents that is refused
 abbrev pub refused_as : Refusal → Contents
 refused_as refusals.NotAJournal = NotAJournal
 refused_as (refusals.Damaged at) = Damaged at
@@ -23,11 +23,11 @@ refused_as (refusals.Damaged at) = Damaged at
 abbrev pub IsAsBefore : Disk → List ℕ → Type 0
 IsAsBefore before file = before.may_leave file ⊎ (file ≡ before.seen)
 
--- a file that a crash might have left before, or one that stands for what was read
+-- a file that a crash might have left before, or one that represents what was read
 abbrev pub StandsForTheSame : Disk → List ℕ → Type 0
 StandsForTheSame before file = before.may_leave file ⊎ (contents file ≡ contents before.seen)
 
--- why a journal is not opened: the file is refused, the fault has a cause, or the file has no room for one more byte
+-- why a journal is not opened: the file is refused, the fault has a cause, or the file has no space for one more byte
 abbrev pub IsOpenCause : Disk → Disk → OpenFault → Type 0
 IsOpenCause before after (open_faults.Refused why) = (contents before.seen ≡ refused_as why) × FailsNone before after
 IsOpenCause before after (open_faults.Device fault) =
@@ -80,7 +80,7 @@ Recovers (Ok journal) file =
     (contents file ≡ Records (recorded file)) × IsOfExtent (record { end = records_end (recorded file); count = length (recorded file) }) journal
 Recovers (Err failed) file = RefusesFile failed.fault file
 
--- what stands behind the records is cut off, and a closed gate written
+-- what follows the records is cut off, and a closed latch written
 pub record Repairs (result : Result (Unit {0}) Fault) (before after : Disk) : Type 0 where
   pub ok : OnOk result (IsWhole after × (recorded after.seen ≡ recorded before.seen))
   pub settled : IsSettled before → OnOk result (IsSettled after)

@@ -15,7 +15,7 @@ use Rattle.tb_journal.specs.declared.opening.OpenFault.TheVariants as open_fault
 use Rattle.tb_journal.specs.Opening.{IsAsBefore, refused_as}
 use Rattle.tb_journal.specs.Scans.{Place, IsAhead, HasRead}
 
--- what stands at the head of bytes, without the record itself
+-- what is at the head of bytes, without the record itself
 abbrev pub head_is : Front → Head
 head_is Ends = heads.End
 head_is Spoiled = heads.Spoiled
@@ -33,8 +33,8 @@ TellsExtent (Ok extent) file = extent_of (contents file) ≡ Ok extent
 TellsExtent (Err (open_faults.Refused why)) file = contents file ≡ refused_as why
 TellsExtent (Err (open_faults.Device fault)) file = Unit {0}
 
--- so many bytes of a file from a place on tell what stands there: the parts of a block that have a fixed length, and
--- the record where the gate is open
+-- so many bytes of a file from a place on say what is there: the parts of a block that have a fixed length, and
+-- the record where the latch is open
 abbrev pub asked : List ℕ → ℕ
 asked (gate ∷ a ∷ b ∷ c ∷ rest) = if gate == 0 then 8 else 8 + from_le_bytes w32 (a ∷ b ∷ c ∷ 0 ∷ [])
 asked other = 8
@@ -49,12 +49,12 @@ pub record HasAhead (n at : ℕ) (file ahead : List ℕ) : Type 0 where
   pub same : IsAhead at file ahead
   pub enough : (n ≤ length ahead) ⊎ (ahead ≡ drop at file)
 
--- what stands at an offset stands at the head of the bytes that were read ahead
+-- what is at an offset is at the head of the bytes that were read ahead
 pub record FindsHead (at : ℕ) (file ahead : List ℕ) : Type 0 where
   pub same : IsAhead at file ahead
   pub finds : front ahead ≡ front (drop at file)
 
--- a sync, and a look at what is then on the disk
+-- a sync, and a look at what is then durable
 pub record LooksKept {T : Type 0} (result : Result T Fault) (before after : Disk) : Type 0 where
   pub settled : before.sound ≡ true → OnOk result (IsSettled after)
   pub seen : after.seen ≡ before.seen
@@ -67,7 +67,7 @@ StartsScan None file = contents file ≡ NotAJournal
 
 -- rows
 
--- of a closed gate the fixed part is asked for, and of an open one the record too
+-- of a closed latch the fixed part is asked for, and of an open one the record too
 pub asked_at_a_closed_gate : asked (0 ∷ 7 ∷ 7 ∷ 7 ∷ []) ≡ 8
 asked_at_a_closed_gate = refl
 

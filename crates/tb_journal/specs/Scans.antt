@@ -15,7 +15,7 @@ pub record Place : Type 0 where
   pub last : List ℕ
   pub ahead : List ℕ
 
--- the file begins with these records: cut off behind them, it stands for them and no others
+-- the file begins with these records: cut off behind them, it represents them and no others
 abbrev pub BeginsWith : List (List ℕ) → List ℕ → Type 0
 BeginsWith records file = contents (take (records_end records) file) ≡ Records records
 
@@ -53,7 +53,7 @@ IsAt end (open_faults.Refused (refusals.Damaged at)) = at ≡ end
 IsAt end (open_faults.Refused refusals.NotAJournal) = ⊥
 IsAt end (open_faults.Device fault) = Unit {0}
 
--- before the first record no damage is told
+-- before the first record no damage is reported
 abbrev pub IsOfStart : OpenFault → Type 0
 IsOfStart (open_faults.Refused (refusals.Damaged at)) = ⊥
 IsOfStart fault = Unit {0}

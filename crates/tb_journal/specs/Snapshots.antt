@@ -64,7 +64,7 @@ pub record IsHeld {G : Type 0} (grows : G → List ℕ → Type 0) (snapshot : S
   pub now : grows snapshot.file file
   pub shows : Shows snapshot file shown
 
--- a snapshot of a file stands for what the file stood for at some moment of the call
+-- a snapshot of a file represents what the file represented at some moment of the call
 pub record Takes {G : Type 0} (grows : G → List ℕ → Type 0) (file : List ℕ) (snapshot : Snapped G) : Type 0 where
   pub later : List ℕ
   pub after : Later file later

@@ -5,12 +5,12 @@ use Rattle.tb_journal.specs.declared.faults.Fault.{Fault}
 use Rattle.tb_journal.specs.Device.{Disk, IsOnDisk, IsSettled, Torn, Cut, overwritten, LeavesOnly, HasCause}
 use Rattle.tb_journal.specs.Contents.{Records, contents, recorded, records_end}
 
--- the file is whole blocks with a closed gate behind them and nothing more
+-- the file is whole blocks with a closed latch behind them and nothing more
 pub record IsWhole (disk : Disk) : Type 0 where
   pub reads : contents disk.seen ≡ Records (recorded disk.seen)
   pub closed : disk.seen ≡ take (records_end (recorded disk.seen)) disk.seen ++ 0 ∷ []
 
--- the same, with all of it on the disk, and no sync has failed
+-- the same, with all of it durable, and no sync has failed
 pub record IsAtRest (disk : Disk) : Type 0 where
   pub reads : contents disk.seen ≡ Records (recorded disk.seen)
   pub closed : disk.seen ≡ take (records_end (recorded disk.seen)) disk.seen ++ 0 ∷ []

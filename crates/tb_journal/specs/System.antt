@@ -16,7 +16,7 @@ fault_of kinds.QuotaExceeded = faults.Full
 fault_of kinds.FileTooLarge = faults.Full
 fault_of _ = faults.Failed
 
--- the fault of a sync that answered so: behind any but want of memory nothing is known of the file
+-- the fault of a sync that answered so: behind any but out of memory nothing is known of the file
 unfoldable pub sync_fault_of : ErrorKind → Fault
 sync_fault_of kinds.OutOfMemory = faults.Memory
 sync_fault_of _ = faults.SyncFailed
@@ -27,7 +27,7 @@ pub record Counts {T : Type 0} (fault : ErrorKind → Fault) (result : Result T 
   pub interrupted : IsErrOf result kinds.Interrupted → FailsNone before after
   pub failed : IfErr result (λ kind. kind ≢ kinds.Interrupted → HasFailed before after (fault kind))
 
--- a read of some bytes from an offset on, maybe fewer than there is room for; none only at the end, or where there is no room
+-- a read of some bytes from an offset on, maybe fewer than fit; none only at the end, or into no space
 pub record Preads (offset : ℕ) (into : List ℕ) (result : Result ℕ ErrorKind) (before after : Disk) : Type 0 where
   pub bytes : IfOk result (λ count. take count into ≡ take count (drop offset before.seen))
   pub end : result ≡ Ok 0 → (length into ≡ 0) ⊎ (length before.seen ≤ offset)

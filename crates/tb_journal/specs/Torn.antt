@@ -5,7 +5,7 @@ use Rattle.tb_journal.specs.Device.{Torn, Cut, overwritten}
 use Rattle.tb_journal.specs.declared.memory.Call.{Call}
 use Rattle.tb_journal.specs.declared.memory.Call.TheVariants as variants
 
--- a write and a cut may be cut short, and after a sync the file stands as it was then
+-- a write and a cut may be torn, and after a sync the file is as it was then
 abbrev pub Adds : List ℕ → Call → List ℕ → Type 0
 Adds old (variants.Write at bytes shown) left = Torn at (length bytes.items) old left
 Adds old (variants.Cut len shown) left = Cut len old left

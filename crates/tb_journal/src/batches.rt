@@ -12,15 +12,15 @@ use crate::written::Written;
 use std::alloc::{AllocError, Global};
 use std::marker::Model;
 
-// An open gate, and a closed one.
+// An open latch, and a closed one.
 pub const OPEN: u8 = 255;
 
 pub const CLOSED: u8 = 0;
 
-// What stands between the gate of a block and its record: length and checksum.
+// What is between the latch of a block and its record: length and checksum.
 const NUMBERS: usize = 7;
 
-// Blocks of records, and a closed gate.
+// Blocks of records, and a closed latch.
 #[derive(Drop)]
 pub struct Batch {
     bytes: Vec<u8>,
@@ -58,7 +58,7 @@ impl Batch {
         }
     }
 
-    /// Adds a record whose bytes are written where they wait. Its block has so much room.
+    /// Adds a record whose bytes are written where they wait. Its block has so much space.
     pub fn add_written<W: Written>(&mut self, content: &W, room: usize) -> Result<(), Fault>
         ensures ok { OnOk result (self.new ≡ self.old ++ W.bytes content.now ∷ []) }
         ensures known { OnOk result (W.known content.now) }
@@ -99,7 +99,7 @@ impl Batch {
     }
 }
 
-// Opens the last gate for one more block, and closes the one behind it. At an Err the bytes are as they were.
+// Opens the last latch for one more block, and closes the one behind it. At an Err the bytes are as they were.
 fn add_block(bytes: &mut Vec<u8>, content: &[u8]) -> Result<(), AllocError>
     requires { length content.now < 2 ^ 24 }
     ensures ok { OnOk result ((front : List ℕ) → bytes.old.items ≡ front ++ 0 ∷ []
@@ -121,7 +121,7 @@ fn add_block(bytes: &mut Vec<u8>, content: &[u8]) -> Result<(), AllocError>
     }
 }
 
-// Adds all of a block but its gate, and the gate behind it.
+// Adds all of a block but its latch, and the latch behind it.
 fn add_parts(bytes: &mut Vec<u8>, content: &[u8]) -> Result<(), AllocError>
     requires { length content.now < 2 ^ 24 }
     ensures ok { OnOk result (bytes.new.items ≡ bytes.old.items ++ (drop 1 (block content.now) ++ 0 ∷ [])) }
@@ -132,7 +132,7 @@ fn add_parts(bytes: &mut Vec<u8>, content: &[u8]) -> Result<(), AllocError>
     bytes.extend_from_slice(&[CLOSED])
 }
 
-// The length and the checksum that stand before a record.
+// The length and the checksum that come before a record.
 fn numbers_of(content: &[u8]) -> [u8; 7]
     requires { length content.now < 2 ^ 24 }
     ensures numbers { result ++ content.now ≡ drop 1 (block content.now) }
@@ -143,7 +143,7 @@ fn numbers_of(content: &[u8]) -> [u8; 7]
     [a, b, c, s, t, u, v]
 }
 
-// Opens the last gate for one more block, whose record is written there, and closes the one behind it. At an Err the bytes are
+// Opens the last latch for one more block, whose record is written there, and closes the one behind it. At an Err the bytes are
 // as they were.
 fn write_block<W: Written>(bytes: &mut Vec<u8>, content: &W, room: usize) -> Result<(), Fault>
     ensures ok { OnOk result ((front : List ℕ) → bytes.old.items ≡ front ++ 0 ∷ []
@@ -169,7 +169,7 @@ fn write_block<W: Written>(bytes: &mut Vec<u8>, content: &W, room: usize) -> Res
     }
 }
 
-// Adds all of a block but its gate, and the gate behind it.
+// Adds all of a block but its latch, and the latch behind it.
 fn write_parts<W: Written>(bytes: &mut Vec<u8>, content: &W, room: usize) -> Result<(), Fault>
     ensures ok { OnOk result (bytes.new.items ≡ bytes.old.items ++ (drop 1 (block (W.bytes content.now)) ++ 0 ∷ [])) }
     ensures fits { OnOk result (Fits (W.bytes content.now)) }
@@ -183,7 +183,7 @@ fn write_parts<W: Written>(bytes: &mut Vec<u8>, content: &W, room: usize) -> Res
     Ok(())
 }
 
-// Adds all of a block but its gate. The record comes first, and then the numbers that stand before it.
+// Adds all of a block but its latch. The record comes first, and then the numbers that come before it.
 fn write_sealed<W: Written>(bytes: &mut Vec<u8>, content: &W, room: usize) -> Result<(), Fault>
     ensures ok { OnOk result (bytes.new.items ≡ bytes.old.items ++ drop 1 (block (W.bytes content.now))) }
     ensures fits { OnOk result (Fits (W.bytes content.now)) }
@@ -211,7 +211,7 @@ fn write_record<W: Written>(bytes: &mut Vec<u8>, content: &W) -> Result<(), Allo
     content.write(bytes)
 }
 
-// Tests that a record of so many bytes is short enough, and that its block has room.
+// Tests that a record of so many bytes is short enough, and that its block has the space.
 fn fit(count: usize, room: usize) -> Result<(), Fault>
     ensures short { OnOk result (count < 2 ^ 24) }
     ensures room { OnOk result (8 + count ≤ room) }

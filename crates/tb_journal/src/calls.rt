@@ -1,4 +1,4 @@
-//! Calls on a device that are on the disk before the next.
+//! Calls on a device whose effect is durable before the next.
 ghost use Rattle.std.specs.Prelude.{◌≡◌, ◌≤◌, ◌<◌, ◌+◌, ◌^◌, List, ℕ, [], length, IfErr};
 ghost use Rattle.std.specs.List.{AllByRecursion};
 ghost use Rattle.tb_journal.specs.Contents.{Fits, at_rest, recorded, records_end};
@@ -20,7 +20,7 @@ pub fn write_kept<D: Device>(device: &mut D, at: usize, bytes: &[u8]) -> Result<
     }
 }
 
-// Writes blocks behind the closed gate at this offset, and then opens it.
+// Writes blocks behind the closed latch at this offset, and then opens it.
 pub fn publish<D: Device>(device: &mut D, end: usize, batch: &[u8]) -> Result<(), Fault>
     requires some { 1 ≤ length batch.now }
     requires short { end < 2 ^ 63 }

@@ -19,7 +19,7 @@ use std::alloc::Global;
 const FIRST: [u8; 9] = [84, 66, 74, 82, 78, 76, 48, 49, 0];
 
 /// Creates a journal without records in an empty file. Any other file stays as it was, but one such
-/// as a creation leaves that a crash has cut short: nothing was acknowledged there, and the call
+/// as a crash leaves of a creation: nothing was acknowledged there, and the call
 /// may be made again.
 pub fn create<D: Device>(alloc: Global, device: D) -> Result<Journal<D>, NotOpened<D>>
     // Where no sync has failed before.
@@ -69,7 +69,7 @@ fn finds_blank<D: Device>(device: &mut D) -> Result<bool, Fault>
     }
 }
 
-// The first bytes of a file. What is read is on the disk before it is read.
+// The first bytes of a file. What is read is durable before it is read.
 fn read_kept<D: Device>(device: &mut D, into: &mut [u8]) -> Result<usize, Fault>
     ensures within { IfOk result (λ count. count ≤ length into.new) }
     ensures bytes { (file : List ℕ) → D.holds device.old file

@@ -4,10 +4,10 @@ ghost use Rattle.tb_journal.specs.Device.{Disk, Looks, ReadsAt, Writes, Cuts, Sy
 
 use crate::faults::Fault;
 
-/// A file on a disk. What the calls do to it is told of a device that knows: a real disk promises nothing, and a file in
+/// A file on a disk. What the calls do to it is stated of a device that knows: a real disk promises nothing, and a file in
 /// memory all of it.
 pub trait Device {
-    /// Holds of a device that tells what its calls do.
+    /// Holds of a device that reports what its calls do.
     ghost tells: { Type 0 };
 
     /// The disk and its clock.
@@ -16,7 +16,7 @@ pub trait Device {
     /// The reads of a device are those of this file. Of none, where a device does not say which.
     ghost holds: { Self → List ℕ → Type 0 } = { λ device file. ⊥ };
 
-    /// Some of the bytes from an offset on: as many as there is room for, or all that are left.
+    /// Some of the bytes from an offset on: as many as fit, or all that are left.
     fn read_at(&mut self, at: usize, into: &mut [u8]) -> Result<usize, Fault>
         // Of any device, so that no reader trusts a count that is too large.
         ensures within { IfOk result (λ count. count ≤ length into.new) }
@@ -51,10 +51,10 @@ pub trait Device {
         ensures names { IfErr result IsOfSync }
         ensures syncs { tells → Syncs result (disk self.old) (disk self.new) };
 
-    /// A device that tells what its calls do holds what a read returns.
+    /// A device that reports what its calls do holds what a read returns.
     ghost holds_seen: { (file : Self) → tells → holds file (disk file).seen };
 
-    /// What a read returns is one of the files that a crash may leave: so the end of the process alone is a crash too.
+    /// What a read returns is one of the files that a crash may leave: so a kill of the process is a crash too.
     ghost stays: { (file : Self) → tells → (disk file).may_leave (disk file).seen };
 
     /// This moment is one of those since an earlier one.

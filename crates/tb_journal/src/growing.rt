@@ -11,7 +11,7 @@ pub trait Growing {
     /// These are the bytes of the file at this moment. None are, of a file that does not say which.
     ghost grows: { Self → List ℕ → Type 0 } = { λ file bytes. ⊥ };
 
-    /// Some of the bytes from an offset on, all of one moment: as many as there is room for, or all that are left.
+    /// Some of the bytes from an offset on, all of one moment: as many as fit, or all that are left.
     fn read_at(&mut self, at: usize, into: &mut [u8]) -> Result<usize, Fault>
         // Of any file, so that no reader trusts a count that is too large.
         ensures within { IfOk result (λ count. count ≤ length into.new) }

@@ -7,7 +7,7 @@ ghost use Rattle.tb_journal.specs.Hops.{HopsTo, FollowsPiece, TellsLatch, IsNear
 
 use crate::reading::asked;
 
-// Gate, length and checksum of a block.
+// Latch, length and checksum of a block.
 const FIXED: usize = 8;
 
 // Where the blocks of a piece lead.

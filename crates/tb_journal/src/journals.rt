@@ -1,4 +1,4 @@
-//! A journal: records in a file, each on the disk before it counts.
+//! A journal: records in a file, each durable before it counts.
 ghost use Rattle.std.specs.Prelude.{◌≡◌, ◌↔◌, ◌≤◌, ◌<◌, ◌+◌, ◌^◌, ◌++◌, true, false, List, [], ◌∷◌, length, Ok, IfErr, OnOk, OnErr, IsErrOf};
 ghost use Rattle.tb_journal.specs.Device.{LeavesOnly, HasCause};
 ghost use Rattle.tb_journal.specs.Contents.{at_rest, recorded};
@@ -89,7 +89,7 @@ impl<D: Device> Journal<D> {
         requires writable { D.tells → IsWritable D.disk self.old }
 
         ensures writable { D.tells → OnOk result (IsWritable D.disk self.new) }
-        // From a journal that is ready: all that is read is on the disk, and no sync has failed.
+        // From a journal that is ready: all that is read is durable, and no sync has failed.
         ensures ready { D.tells → IsReady D.disk self.old → OnOk result (IsReady D.disk self.new) }
         ensures acknowledged { D.tells
             → OnOk result
@@ -149,7 +149,7 @@ impl<D: Device> Journal<D> {
         self.count
     }
 
-    /// The number of bytes that the records take that wait, with the closed gate behind them: a commit writes so many.
+    /// The number of bytes that the records take that wait, with the closed latch behind them: a commit writes so many.
     pub fn waiting_bytes(&self) -> usize
         ensures { result ≡ length (at_rest self.now.waiting) }
     {

@@ -1,30 +1,30 @@
-//! A journal: records in a file, each on the disk before it counts, and read again after a crash at any moment.
+//! A journal: records in a file, each durable before it counts, and read again after a crash at any moment.
 //!
 //! Modules:
 //!
 //! - `faults`: why a call on a device or a journal failed.
 //! - `devices`: `Device`, what a read returns, and what a crash may leave.
-//! - `memory`: a file in memory that tears and fails, and tells what a crash may leave of it.
+//! - `memory`: a file in memory that tears and fails, and reports what a crash may leave of it.
 //! - `systems`: `System`, POSIX's calls on an open file.
 //! - `posix`: `Posix`, a device over them.
-//! - `real`: `Real`, the same over a file of the system, locked, of which nothing is told.
+//! - `real`: `Real`, the same over a file of the system, locked, of which nothing is known.
 //! - `tables`: the remainders that CRC-32C looks up.
 //! - `checksums`: CRC-32C, sixteen bytes at a time.
 //! - `written`: `Written`, what writes a record where it waits.
 //! - `batches`: records that wait, as the bytes that a commit writes.
-//! - `calls`: a write and a sync; blocks written behind the closed gate, and then the gate opened.
+//! - `calls`: a write and a sync; blocks written behind the closed latch, and then the latch opened.
 //! - `journals`: `Journal`, with `append` and `commit`.
-//! - `reading`: what stands at the head of some bytes: the end, a whole block, or damage.
+//! - `reading`: what is at the head of some bytes: the end, a whole block, or damage.
 //! - `windows`: the part of a file that was read ahead, a piece of 64 KiB or one whole block.
 //! - `growing`: `Growing`, a file that another process appends to while it is read.
 //! - `hops`: the blocks in a piece of it, followed by their lengths.
 //! - `snapshots`: `Snapshot`, such a file as it was at one moment, as a device.
 //! - `laws`: what holds of every file that grows.
 //! - `scans`: `Scan`, a file read record by record; `read_journal`, to its end.
-//! - `opening`: `Journal::open` and `recover`, which cut off what stands behind the records.
+//! - `opening`: `Journal::open` and `recover`, which cut off what follows the records.
 //! - `creating`: `create`, a journal in an empty file.
 //!
-//! specs/Contents is what a file's bytes stand for, specs/Device what each call of a device does, specs/Scans what was read of
+//! specs/Contents is what a file's bytes represent, specs/Device what each call of a device does, specs/Scans what was read of
 //! a file, specs/Steps, Opening and Creating what the journal's calls leave.
 #![tactic(auto)]
 

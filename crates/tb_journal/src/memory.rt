@@ -1,4 +1,4 @@
-//! A file in memory that tells what a crash may leave of it, and can fail.
+//! A file in memory that reports what a crash may leave of it, and can fail.
 ghost use Rattle.std.specs.Prelude.{◌≡◌, ◌≤◌, ◌⊎◌, ◌++◌, ◌∷◌, true, [], Vec, ℕ, ◌-◌, ◌==◌, length, reverse, IfOk, OnOk, OnErr};
 ghost use Rattle.tb_journal.specs.declared.memory.Call.TheVariants as variants;
 ghost use Rattle.tb_journal.specs.Device.{Torn, ReadsAt, Rises, IsOfCall, IsOfSync, overwritten};
@@ -91,7 +91,7 @@ pub struct Memory {
 impl Memory {
     ghost use Rattle.tb_journal.specs.Memory.{memory_bytes, moments_of, memory_disk, CrashLeaves};
 
-    /// A file with these bytes, all of them on the disk.
+    /// A file with these bytes, all of them durable.
     pub fn new(alloc: Global, bytes: Vec<u8>) -> Result<Self, AllocError>
         ensures bytes { IfOk result (λ file. memory_bytes file ≡ bytes.items) }
         ensures moments { IfOk result (λ file. moments_of file ≡ 0) }
@@ -144,7 +144,7 @@ impl Memory {
         self.why = fault;
     }
 
-    /// What a crash at a moment may leave. Of each write that no sync has followed, these bytes stand in its range, as
+    /// What a crash at a moment may leave. Of each write that no sync has followed, these bytes are in its range, as
     /// many of them as fit there, and behind them what was there; of each cut as many bytes as these are left.
     pub fn after_crash(&self, moment: usize, torn: &[u8]) -> Result<Vec<u8>, AllocError>
         requires { moment ≤ moments_of self.now }
@@ -339,7 +339,7 @@ fn push_sync(alloc: Global, calls: &mut Vec<Call>, file: &[u8]) -> Result<(), Al
     push_call(calls, Call::Sync { file })
 }
 
-// Copies the bytes from an offset on, as many as there is room for.
+// Copies the bytes from an offset on, as many as fit.
 fn copy_from(bytes: &[u8], at: usize, into: &mut [u8]) -> usize
     ensures { ReadsAt result at bytes.now into.new }
 {

@@ -55,8 +55,8 @@ fn cut_kept<D: Device>(device: &mut D, len: usize) -> Result<(), Fault>
     }
 }
 
-// Cuts off what stands behind the records, and writes a closed gate there. The cut is on the disk
-// first: behind a gate that is torn open, what was there would count.
+// Cuts off what follows the records, and writes a closed latch there. The cut is durable
+// first: behind a latch that is torn open, what was there would count.
 fn repair<D: Device>(device: &mut D, end: usize) -> Result<(), Fault>
     requires reads { D.tells → contents (D.disk device.old).seen ≡ Records (recorded (D.disk device.old).seen) }
     requires ends { D.tells → end ≡ records_end (recorded (D.disk device.old).seen) }
@@ -69,7 +69,7 @@ fn repair<D: Device>(device: &mut D, end: usize) -> Result<(), Fault>
 }
 
 impl<D: Device> Journal<D> {
-    /// Opens the file that was read, of which a scan told the extent: what stands behind its records
+    /// Opens the file that was read, of which a scan reported the extent: what follows its records
     /// is cut off. A crash at any moment of the call leaves a file of the same records.
     pub fn open(alloc: Global, device: D, extent: Extent) -> Result<Journal<D>, NotOpened<D>>
         requires few { extent.count ≤ extent.end }
@@ -111,7 +111,7 @@ impl<D: Device> Journal<D> {
 }
 
 /// Opens a journal from a file that a crash may have left. Its records are those that the file
-/// stands for, and it is ready. A crash at any moment of the call leaves a file of the same
+/// represents, and it is ready. A crash at any moment of the call leaves a file of the same
 /// records, so that the call may be made again.
 pub fn recover<D: Device>(alloc: Global, device: D) -> Result<Journal<D>, NotOpened<D>>
     // Where no sync has failed before.

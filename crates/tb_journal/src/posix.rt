@@ -24,7 +24,7 @@ impl<S: System + Drop> Posix<S> {
         Posix { system }
     }
 
-    /// The device of an open file, which is synced, so that what is read is on the disk.
+    /// The device of an open file, which is synced, so that what is read is durable.
     pub fn synced(system: S) -> Result<Posix<S>, Fault>
         ensures names { IfErr result IsOfSync }
         ensures syncs { S.tells → IfOk result (λ file. Syncs (Ok tt) (S.disk system) (S.disk file.system)) }
@@ -111,7 +111,7 @@ impl<S: System> Growing for Posix<S> {
     }
 }
 
-// The offset of the byte that stands so many behind this one.
+// The offset of the byte that is so many behind this one.
 fn offset_of(at: usize, count: usize) -> u64
     ensures { at + count < 2 ^ 64 → result ≡ at + count }
 {

@@ -8,7 +8,7 @@ use crate::checksums::checksum_of;
 /// The first bytes of a journal's file.
 pub const MAGIC: [u8; 8] = [84, 66, 74, 82, 78, 76, 48, 49];
 
-// What stands at the head of some bytes.
+// What is at the head of some bytes.
 #[derive(Clone, Copy, PartialEq, Eq)]
 pub enum Head {
     End,
@@ -29,11 +29,11 @@ pub struct Extent {
 pub enum Refusal {
     /// It does not begin with the journal's first bytes.
     NotAJournal,
-    /// A block is not whole, or its checksum does not match; its gate is at this offset.
+    /// A block is not whole, or its checksum does not match; its latch is at this offset.
     Damaged { at: usize },
 }
 
-// So many bytes from a place on tell what stands there.
+// So many bytes from a place on say what is there.
 pub fn asked(bytes: &[u8]) -> usize
     ensures { result ≡ asked bytes.now }
 {
@@ -43,7 +43,7 @@ pub fn asked(bytes: &[u8]) -> usize
     }
 }
 
-// What stands at the head of these bytes.
+// What is at the head of these bytes.
 pub fn head_of(bytes: &[u8]) -> Head
     ensures { result ≡ head_is (front bytes.now) }
 {

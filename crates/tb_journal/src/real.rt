@@ -98,7 +98,7 @@ impl Posix<HostFile> {
         locked(File::options().read(true).write(true).open(rt, path)?)
     }
 
-    /// Opens a file, and makes it where it is not there, for its owner alone; then its name is on the disk. A symbolic link
+    /// Opens a file, and makes it where it is not there, for its owner alone; then its name is durable. A symbolic link
     /// to nothing is refused.
     pub fn make<R: Files<File = File> + Alloc>(rt: &R, path: &str) -> Result<Real, FileFault> {
         match opened_or_made(rt, path) {
@@ -111,7 +111,7 @@ impl Posix<HostFile> {
         }
     }
 
-    /// Makes a file that is not there, for its owner alone; then its name is on the disk.
+    /// Makes a file that is not there, for its owner alone; then its name is durable.
     pub fn make_new<R: Files<File = File> + Alloc>(rt: &R, path: &str) -> Result<Real, FileFault> {
         match made(rt, path) {
             Ok(file) => {
@@ -124,7 +124,7 @@ impl Posix<HostFile> {
     }
 
     /// Opens a file that is there for reading alone: it needs no write permission and takes no lock, so another process may
-    /// append to it meanwhile. A write or a cut of it fails. A symbolic link to nothing is told as such.
+    /// append to it meanwhile. A write or a cut of it fails. A symbolic link to nothing is reported as such.
     pub fn look<R: Files<File = File>>(rt: &R, path: &str) -> Result<Real, FileFault> {
         let found = match fs::metadata(rt, path) {
             Ok(found) => found,
@@ -183,8 +183,8 @@ fn locked(file: File) -> Result<Real, FileFault> {
     }
 }
 
-/// Syncs the folder that a file lies in, so that the file's name is on the disk: of a symbolic link the folder of what it
-/// stands for.
+/// Syncs the folder that a file lies in, so that the file's name is durable: of a symbolic link the folder of what it
+/// represents.
 pub fn sync_folder<R: Files + Alloc>(rt: &R, path: &str) -> Result<(), FileFault> {
     if fs::symlink_metadata(rt, path)?.is_symlink() {
         let target = fs::canonicalize(rt, path)?;

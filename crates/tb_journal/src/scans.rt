@@ -16,11 +16,11 @@ use crate::windows::Window;
 use std::alloc::Global;
 use std::marker::Model;
 
-// The parts of a block that have a fixed length: gate, length and checksum.
+// The parts of a block that have a fixed length: latch, length and checksum.
 const FIXED: usize = 8;
 
 /// A journal's file as it is read, record by record, from its first bytes on. The checksum of a record is looked at
-/// before the record is handed out.
+/// before the record is returned.
 #[derive(Drop)]
 pub struct Scan {
     window: Window,
@@ -37,7 +37,7 @@ impl Model for Scan {
 }
 
 impl Scan {
-    /// Reads the first bytes. What a scan reads is on the disk.
+    /// Reads the first bytes. What a scan reads is durable.
     pub fn start<D: Device>(alloc: Global, device: &mut D) -> Result<Scan, OpenFault>
         // Of any device, by the file that its reads are of.
         ensures begun { (file : List ℕ) → D.holds device.old file → Starts result file }
@@ -60,7 +60,7 @@ impl Scan {
         }
     }
 
-    /// Reads the next record, and says whether there is one. Damaged, with the offset of the gate, where a block is not
+    /// Reads the next record, and says whether there is one. Damaged, with the offset of the latch, where a block is not
     /// whole or its checksum does not match.
     pub fn next<D: Device>(&mut self, device: &mut D) -> Result<bool, OpenFault>
         // Of any device, by the file that its reads are of.
@@ -73,7 +73,7 @@ impl Scan {
             → HasOpenCause result (D.disk device.old) (D.disk device.new) }
         // Of any device: so a loop over the records comes to an end.
         ensures further { IfOk result (λ more. more ≡ true → GoesFurther self.old self.new) }
-        // Of any device: damage is told where the records that were read end.
+        // Of any device: damage is reported where the records that were read end.
         ensures place { IfErr result (IsAt self.old.end) }
     {
         if self.end >= FILE_BYTES_MAX {
@@ -123,7 +123,7 @@ impl Scan {
     }
 }
 
-// The first bytes of a file. What is read is on the disk before it is read.
+// The first bytes of a file. What is read is durable before it is read.
 fn read_first<D: Device>(alloc: Global, device: &mut D) -> Result<Window, Fault>
     ensures looks { D.tells
         → LooksKept result (D.disk device.old) (D.disk device.new) }
@@ -156,7 +156,7 @@ fn begin(window: Window) -> Option<Scan>
     })
 }
 
-// What stands at this offset, with its checksum. All of a block is read ahead.
+// What is at this offset, with its checksum. All of a block is read ahead.
 fn head_at<D: Device>(window: &mut Window, device: &mut D, at: usize) -> Result<Head, Fault>
     requires { at < 2 ^ 62 }
     ensures head { IfOk result (λ head. head ≡ head_is (front window.new.ahead)) }
@@ -176,7 +176,7 @@ fn head_at<D: Device>(window: &mut Window, device: &mut D, at: usize) -> Result<
     Ok(head_of(window.ahead()))
 }
 
-/// Reads a journal's file from end to end, and writes nothing. What it read is on the disk.
+/// Reads a journal's file from end to end, and writes nothing. What it read is durable.
 pub fn read_journal<D: Device>(alloc: Global, device: &mut D) -> Result<Extent, OpenFault>
     // Of any device, by the file that its reads are of.
     ensures found { (file : List ℕ) → D.holds device.old file → TellsExtent result file }

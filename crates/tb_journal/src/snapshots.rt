@@ -155,7 +155,7 @@ fn read_closed<G: Growing>(
     close(into, count, end - at)
 }
 
-// Puts a closed latch behind so many bytes of those that were read, where there is room for it. Says how many they are then:
+// Puts a closed latch behind so many bytes of those that were read, where it fits. Says how many they are then:
 // fails where the file has fewer.
 fn close(into: &mut [u8], count: usize, left: usize) -> Result<usize, Fault>
     requires { count ≤ length into.old }

@@ -8,7 +8,7 @@ use std::io::ErrorKind;
 /// An open file of a system, by POSIX's calls. A read and a write may take fewer bytes than they are asked for, a signal
 /// may interrupt a call, and a call may fail. An offset has 64 bits.
 pub trait System {
-    /// Holds of a system that tells what its calls do.
+    /// Holds of a system that reports what its calls do.
     ghost tells: { Type 0 };
 
     /// The file on its disk.

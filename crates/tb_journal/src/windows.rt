@@ -79,7 +79,7 @@ impl Window {
     }
 
     // Reads on where fewer bytes are ahead than these: then so many are there, or all that the file has left. The bytes
-    // that were taken are let go.
+    // that were taken are freed.
     pub fn fill<D: Device>(&mut self, device: &mut D, at: usize, n: usize) -> Result<(), Fault>
         requires { at < 2 ^ 62 }
         ensures ahead { (file : List ℕ) → D.holds device.old file → IsAhead at file self.old.ahead
@@ -112,7 +112,7 @@ fn move_down(bytes: &mut Vec<u8>, from: usize, end: usize)
     bytes.copy_within(from..end, 0);
 }
 
-// Makes room for so many bytes. What is there stays.
+// Makes capacity for so many bytes. What is there stays.
 fn grow(bytes: &mut Vec<u8>, n: usize) -> Result<(), AllocError>
     ensures front { take (vec_len bytes.old) bytes.new.items ≡ bytes.old.items }
     ensures capacity { OnOk result (n ≤ vec_len bytes.new) }
@@ -123,7 +123,7 @@ fn grow(bytes: &mut Vec<u8>, n: usize) -> Result<(), AllocError>
     bytes.resize(n, 0)
 }
 
-// Reads on behind the bytes of a file that stand in front, until there is no more room or no more to read.
+// Reads on behind the bytes of a file that are in front, until there is no more space or no more to read.
 fn read_behind<D: Device>(
     device: &mut D,
     at: usize,

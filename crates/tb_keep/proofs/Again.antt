@@ -1,4 +1,4 @@
--- A file stands for one history, and its machine is the one that served.
+-- A file represents one history, and its machine is the one that served.
 use Rattle.std.proofs.Common.{arith, ℕ, ◌≡◌, Bool, cond, fold, List, [], ◌∷◌, ◌++◌, map, refl, sym, ap, ◌∙◌, subst}
 use Rattle.std.proofs.lemmas.Grind.{common_steps}
 use Rattle.tb_records.specs.declared.limits.Profile.{Profile}

@@ -104,7 +104,7 @@ module _ (before mid after : Disk) (first : FailsNone before mid) where
     has_create_of_device {T} (Ok value) has = record { ok = none_since before mid after first has.ok; cause = tt }
     has_create_of_device {T} (Err fault) has = record { ok = tt; cause = create_of_device fault has.cause }
 
--- a start: where something stands in the file no call failed
+-- a start: where something is in the file no call failed
 
 pub not_empty_none : (before after : Disk) → IsCreateStartCause before after (start.Journal (open_faults.Device faults.NotEmpty)) → FailsNone before after
 not_empty_none before after (inl failed) = absurd (other failed.named)

@@ -40,7 +40,7 @@ module _ (tells : Type 0) {D : Type 0} (disk : D → Disk) where
   rounds_snoc [] ps a b c all one = (c, subst (λ (s : Standing D). Round tells disk ps s c) all one, refl)
   rounds_snoc (qs ∷ rounds) ps a b c all one = (all.0, all.1, rounds_snoc rounds ps all.0 b c all.2 one)
 
-  -- the loop's invariant: k pairs were read, of which those of the rounds were told, and the records and replies of the others wait
+  -- the loop's invariant: k pairs were read, of which those of the rounds were acknowledged, and the records and replies of the others wait
   pub record Going (k : ℕ) (before keeper : Keeping D) (first input : Input) (start written : Output) (held : List ℕ) : Type 0 where
     pub rounds : List (List Pair)
     pub more : List Pair
@@ -160,7 +160,7 @@ module _ {tells : Type 0} {D : Type 0} {disk : D → Disk} {k : ℕ} {before kee
       subst (λ (d : D). Commits (records_from g.standing.state g.more) (disk d) (disk after.journal.device)) g.device
       (subst (λ records. Commits records (disk keeper.journal.device) (disk after.journal.device)) (g.waits t) (c.commits t))
 
-  -- the pairs that wait are a round, once they are told
+  -- the pairs that wait are a round, once their replies are sent
   round_told : {after : Keeping D} {next : Output} {left : List ℕ} → Tells tells disk (Ok tt) keeper after held left written next
       → Round tells disk g.more g.standing (standing_of after input next)
   round_told {after} {next} {left} t = record {
@@ -205,7 +205,7 @@ module _ {tells : Type 0} {D : Type 0} {disk : D → Disk} {k : ℕ} {before kee
   unfolding going_told
   told_room t = omega arith
 
-  -- the replies are told, or need not be yet
+  -- the replies are sent, or need not be yet
   pub going_may : {after : Keeping D} {next : Output} {left : List ℕ} → MayTell tells disk input.at_hand (Ok tt) keeper after held left written next
       → Asking tells disk k before after first input start next left
   going_may (inl (whole, few, room, is, stays, none, silent)) =
@@ -225,7 +225,7 @@ module _ {tells : Type 0} {D : Type 0} {disk : D → Disk} {k : ℕ} {before kee
     silent = silent ∙ g.output;
   }
 
-  -- a fault in telling, with nothing more read, or the end
+  -- a fault in sending, with nothing more read, or the end
   served_silent : (f : KeepFault) (left : List ℕ) {after : Keeping D} {last : Input} {next : Output}
       → ((last ≡ input) ⊎ IsPrompt (is_held g.standing.output.held g.more) input) → Pauses (state_from g.standing.state g.more) input last
       → Tells tells disk (Err f) keeper after held left written next
@@ -258,7 +258,7 @@ module _ {tells : Type 0} {D : Type 0} {disk : D → Disk} {k : ℕ} {before kee
   pub going_on : {after : Keeping D} {last : Input} {grown : List ℕ} → Next (Ok tt) keeper after input last held grown → Going tells disk (k + 1) before after first last start written grown
   going_on n = more_going a.going a.prompt a.room n
 
-  -- a fault in serving a pair, behind which nothing is told
+  -- a fault in serving a pair, after which nothing is sent
   served_into : (f : KeepFault) {after : Keeping D} {last : Input} {left : List ℕ} → IsSudden f → Next (Err f) keeper after input last held left → Served tells disk (Err f) before after first last start written
   served_into (keep.Serving run.NoMemory) is n = serves a.going (inr a.prompt) ((n.pair, n.read), record { same = n.turn ∙ a.going.device; silent = a.going.output })
   served_into (keep.Journal fault) {after} is n = serves a.going (inr a.prompt) (inl (
@@ -291,7 +291,7 @@ module _ {tells : Type 0} {D : Type 0} {disk : D → Disk} {k : ℕ} {before kee
       (subst (λ (x : Keeping D). Tells tells disk (Err f) x after held left written next) c.same
       (subst (λ bytes. Tells tells disk (Err f) again after bytes left written next) c.holds t))
 
-  -- the replies held were told before what ends serving
+  -- the replies held were sent before what ends serving
   served_stopped : (stop : KeepFault) {after : Keeping D} {last : Input} {next : Output} (left : List ℕ)
       → IsStop stop keeper.state input last → Tells tells disk (Ok tt) keeper after held left written next → Served tells disk (Err stop) before after first last start next
   served_stopped (keep.Serving (run.Frame fault)) {after} {last} {next} left is t =

@@ -1,4 +1,4 @@
--- The entries of pairs that are served make a longer history that a file can stand for.
+-- The entries of pairs that are served make a longer history that a file can represent.
 use Rattle.std.proofs.Common.{arith, ◌≡◌, Bool, true, false, cond, List, [], ◌∷◌, ◌++◌, map, refl, sym, ap, ◌∙◌, subst, IsTrue}
 use Rattle.std.proofs.lemmas.Grind.{common_steps}
 use Rattle.std.proofs.lemmas.List.{map-append}

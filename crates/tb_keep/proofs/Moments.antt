@@ -1,4 +1,4 @@
--- At each moment, whatever was told stands in the file: by induction over rounds.
+-- At each moment, whatever was acknowledged is in the file: by induction over rounds.
 use Rattle.std.proofs.Common.{arith, ◌≡◌, List, [], ◌∷◌, ◌++◌, inl, inr, refl, sym, ap, ◌∙◌, subst, append_assoc, append-nil}
 use Rattle.std.proofs.lemmas.Grind.{common_steps}
 use Rattle.tb_records.specs.Transport.{Sent}
@@ -22,7 +22,7 @@ module _ (tells : Type 0) {D : Type 0} (disk : D → Disk) where
   state_behind (ps ∷ done) first before kept =
       grind (arith, common_steps, state_behind done kept.0 before kept.2, state_join first.state ps (pairs_of done))
 
-  -- the file has the entries of all pairs that were told
+  -- the file has the entries of all acknowledged pairs
   records_behind : tells → (done : List (List Pair)) (first before : Standing D) → Rounds tells disk done first before
       → recorded (disk before.device).seen ≡ recorded (disk first.device).seen ++ records_from first.state (pairs_of done)
   records_behind t [] first before kept = ap (λ (s : Standing D). recorded (disk s.device).seen) kept ∙ sym (append-nil (recorded (disk first.device).seen))

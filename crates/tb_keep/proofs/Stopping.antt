@@ -1,4 +1,4 @@
--- The faults of a pair: behind which nothing is told, and before which all is.
+-- The faults of a pair: after which nothing is sent, and before which all is.
 use Rattle.std.proofs.Common.{arith, ◌≡◌, true, false, List, [], ◌∷◌, ℕ, Err, inl, refl}
 use Rattle.std.proofs.lemmas.Grind.{common_steps}
 use Rattle.tb_records.specs.Transport.{Input, Output}

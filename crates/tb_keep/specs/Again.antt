@@ -8,7 +8,7 @@ use Rattle.tb_keep.specs.declared.faults.KeepFault.{KeepFault}
 use Rattle.tb_keep.specs.Keeping.{History, state_of, longer, Keeping, Keeps, IsLedger}
 use Rattle.tb_keep.specs.Rounds.{state_from, entries_from, told_from, pairs_of, Served}
 
--- a file stands for one history at most
+-- a file represents one history at most
 abbrev pub OneHistory : Type 0
 OneHistory = (file : List ℕ) (h k : History) → IsLedger h file → IsLedger k file → h ≡ k
 
@@ -21,12 +21,12 @@ abbrev pub GoesOnAfter : Type 0
 GoesOnAfter = (h : History) (ps qs : List Pair)
     → told_from (state_of h) (ps ++ qs) ≡ told_from (state_of h) ps ++ told_from (state_of (longer h (entries_from (state_of h) ps))) qs
 
--- the pairs that were read, and of which none is told without its entry
+-- the pairs that were read, and of which none is acknowledged without its entry
 abbrev pub all_pairs : {tells : Type 0} {D : Type 0} {disk : D → Disk} {result : Result ℕ KeepFault} {before after : Keeping D} {first last : Input} {start written : Output}
     → Served tells disk result before after first last start written → List Pair
 all_pairs served = pairs_of served.rounds ++ served.more
 
--- the file stands for the history with the entries of some first pairs
+-- the file represents the history with the entries of some first pairs
 pub record HasFirst (h : History) (all : List Pair) (file : List ℕ) : Type 0 where
   pub pairs : List Pair
   pub others : List Pair
@@ -45,7 +45,7 @@ module _ (tells : Type 0) {D : Type 0} (disk : D → Disk) where
   abbrev pub IsAmid : Disk → Disk → Disk → Type 0
   IsAmid before after amid = (c : List ℕ) → amid.may_leave c → after.left_since before.moment c
 
-  -- the end of the process alone, at any moment of serving or behind it: what the next one reads is such a file too
+  -- a kill of the process, at any moment of serving or behind it: what the next one reads is such a file too
   abbrev pub AfterKill : Type 0
   AfterKill = (h : History) (result : Result ℕ KeepFault) (before after : Keeping D) (first last : Input) (start written : Output) (amid : D)
       → tells → Keeps disk h before → (served : Served tells disk result before after first last start written)

@@ -16,7 +16,7 @@ use Rattle.tb_keep.specs.Restoration.{RecordsLead, StopsAt, RestoresRecord, Rest
 use Rattle.tb_keep.specs.Opening.{IsUntouched}
 use Rattle.tb_keep.specs.Reading.{HasRules, RulesAnswer}
 
--- the file is as it was at each moment, and on the disk if it was, and no sync has failed that had not
+-- the file is as it was at each moment, and durable if it was, and no sync has failed that had not
 pub record StaysKept (before after : Disk) : Type 0 where
   pub untouched : IsUntouched before after
   pub kept : IsOnDisk before → IsOnDisk after

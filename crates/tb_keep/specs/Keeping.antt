@@ -1,4 +1,4 @@
--- What a kept file stands for, and what a keeper is that keeps it.
+-- What a kept file represents, and what a keeper is that keeps it.
 -- Cited by public contracts of: heads, keepers, opening, serving, worked_rows.
 use Rattle.std.specs.Prelude.{ℕ, ◌≡◌, ◌<◌, ◌≤◌, Bool, true, List, [], ◌∷◌, ◌++◌, map, codes, refl}
 use Rattle.tb_records.specs.declared.limits.Profile.{Profile}
@@ -39,19 +39,19 @@ records_of h = head_record h.profile h.clients_max ∷ map dumped h.entries
 abbrev pub AreRecorded : List Entry → Type 0
 AreRecorded entries = Each (λ (e : Entry). IsRecord (dumped e) e) entries
 
--- a history that a file can stand for
+-- a history that a file can represent
 pub record IsKeepable (h : History) : Type 0 where
   pub some_client : 0 < h.clients_max
   pub clients : h.clients_max ≤ CLIENTS_MAX
   pub legal : IsLegal h.profile h.clients_max h.entries
   pub recorded_are : AreRecorded h.entries
 
--- the file stands for the history
+-- the file represents the history
 pub record IsLedger (h : History) (file : List ℕ) : Type 0 where
   pub reads : contents file ≡ Records (records_of h)
   pub keepable : IsKeepable h
 
--- a journal on a device, the state of the machine beside it, how many torn bytes a start cut off, and whether no call of `keep` has
+-- a journal on a device, the state of the machine next to it, how many torn bytes a start cut off, and whether no call of `keep` has
 -- failed
 pub record Keeping (D : Type 0) : Type 0 where
   pub journal : Kept D
@@ -69,7 +69,7 @@ pub record IsFresh {D : Type 0} (disk : D → Disk) (keeper : Keeping D) : Type 
   pub ready : IsReady disk keeper.journal
   pub none_waits : keeper.journal.waiting ≡ []
 
--- the file of a keeper stands for the history after which its machine stands
+-- the file of a keeper represents the history that its machine has applied
 pub record Keeps {D : Type 0} (disk : D → Disk) (h : History) (keeper : Keeping D) : Type 0 where
   pub fresh : IsFresh disk keeper
   pub file : recorded (disk keeper.journal.device).seen ≡ records_of h

@@ -1,4 +1,4 @@
--- At each moment, whatever was told stands in the file.
+-- At each moment, whatever was acknowledged is in the file.
 -- Cited by public contracts of: laws.
 use Rattle.std.specs.Prelude.{ℕ, ◌≡◌, ◌++◌, List}
 use Rattle.tb_journal.specs.Device.{Disk, LeavesOnly}
@@ -18,7 +18,7 @@ module _ (tells : Type 0) {D : Type 0} (disk : D → Disk) where
     pub untold : List ℕ
     pub told : told_from first.state pairs ≡ bytes ++ untold
 
-  -- rounds behind a file at rest, and further pairs: of these nothing is told before their entries are committed
+  -- rounds behind a file at rest, and further pairs: of these nothing is sent before their entries are committed
   pub record Behind (done : List (List Pair)) (first before : Standing D) : Type 0 where
     pub known : tells
     pub at_rest : IsAtRest (disk first.device)
@@ -32,7 +32,7 @@ module _ (tells : Type 0) {D : Type 0} (disk : D → Disk) where
       → (disk after).left_since (disk before.device).moment file
       → Backs first (pairs_of done ++ ps) file (told_from first.state (pairs_of done))
 
-  -- a file that a crash leaves once these are committed, when a prefix of the replies is told
+  -- a file that a crash leaves once these are committed, when a prefix of the replies is sent
   abbrev pub WhileTelling : Type 0
   WhileTelling = (done : List (List Pair)) (ps : List Pair) (first before : Standing D) (after : D) (file some rest : List ℕ)
       → Behind done first before
@@ -41,7 +41,7 @@ module _ (tells : Type 0) {D : Type 0} (disk : D → Disk) where
       → told_from before.state ps ≡ some ++ rest
       → Backs first (pairs_of done ++ ps) file (told_from first.state (pairs_of done) ++ some)
 
-  -- such a file stands for a history that may be kept: that of the file at first, and the entries of those pairs
+  -- such a file represents a history that may be kept: that of the file at first, and the entries of those pairs
   abbrev pub Lasts : Type 0
   Lasts = (h : History) (first : Standing D) (all : List Pair) (file bytes : List ℕ)
       → IsKeepable h → recorded (disk first.device).seen ≡ records_of h → first.state ≡ state_of h

@@ -47,22 +47,22 @@ module _ {D : Type 0} (disk : D → Disk) (profile : Profile) (clients_max : ℕ
   abbrev pub IsStarted : List ℕ → Keeping D → Type 0
   IsStarted file keeper = IsOpened file keeper ⊎ ((is_blank file ≡ true) × Keeps disk (history_of profile clients_max []) keeper × (keeper.cut ≡ 0))
 
--- by the file that the reads are of: the machine stands after the entries of its records, and its torn bytes, which are few, were cut
--- off; or it is told why not
+-- by the file that the reads are of: the machine is in the state after the entries of its records, and its torn bytes, which are few, were cut
+-- off; or it is reported why not
 abbrev pub OpensFile : {D : Type 0} → Result (Keeping D) (NotKept D) → Profile → ℕ → List ℕ → Type 0
 OpensFile (Ok keeper) profile clients_max file =
     (contents file ≡ Records (recorded file)) × IsRestored profile clients_max (recorded file) keeper.state
     × (keeper.cut ≡ torn_bytes file) × (torn_bytes file ≤ 2 ^ 22)
 OpensFile (Err failed) profile clients_max file = StopsOpening failed.fault profile clients_max file
 
--- by the same: a ledger is created in a blank file. Where something else stands in it, the reads of the device that is given back are of
+-- by the same: a ledger is created in a blank file. Where something else is in it, the reads of the device that is given back are of
 -- it still
 abbrev pub CreatesIn : {T D : Type 0} → (D → List ℕ → Type 0) → Result T (NotKept D) → List ℕ → Type 0
 CreatesIn holds (Ok value) file = is_blank file ≡ true
 CreatesIn holds (Err failed) file =
     failed.fault ≡ start.Journal (open_faults.Device NotEmpty) → (is_blank file ≡ false) × holds failed.device file
 
--- by the same: a blank file has a ledger without entries, and any other is opened; or it is told why not
+-- by the same: a blank file has a ledger without entries, and any other is opened; or it is reported why not
 abbrev pub StartsFile : {D : Type 0} → Result (Keeping D) (NotKept D) → Profile → ℕ → List ℕ → Type 0
 StartsFile (Ok keeper) profile clients_max file =
     OpensFile (Ok keeper) profile clients_max file
@@ -74,7 +74,7 @@ pub record IsUntouched (before after : Disk) : Type 0 where
   pub seen : after.seen ≡ before.seen
   pub any_moment : LeavesOnly before after (IsAsBefore before)
 
--- where something stands in a file none is created, the file is as it was, and no sync has failed that had not
+-- where something is in a file none is created, the file is as it was, and no sync has failed that had not
 abbrev pub IsCreateRefused : StartFault → Disk → Disk → Type 0
 IsCreateRefused (start.Journal (open_faults.Device NotEmpty)) before after = IsUntouched before after × (after.sound ≡ before.sound)
 IsCreateRefused (start.Journal (open_faults.Device fault)) before after = Unit {0}

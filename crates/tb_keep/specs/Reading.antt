@@ -53,7 +53,7 @@ WholeRules = (rules : Rules) (file : List ℕ) (all : List (List ℕ)) → conte
 abbrev pub WholeNoHead : Type 0
 WholeNoHead = (file head : List ℕ) (rest : List (List ℕ)) → contents file ≡ Records (head ∷ rest) → HasNoHead file → IsNoHead head
 
--- the file stands for a history of these rules, after which the machine stands
+-- the file represents a history of these rules, which the machine has applied
 pub record IsHistory (rules : Rules) (S : State) (file : List ℕ) : Type 0 where
   pub history : History
   pub stands : IsLedger history file
@@ -61,7 +61,7 @@ pub record IsHistory (rules : Rules) (S : State) (file : List ℕ) : Type 0 wher
   pub clients : history.clients_max ≡ rules.clients_max
   pub state : S ≡ state_of history
 
--- the file stands for no history: it is not read, it has no head, or a record behind it is none of the next entry
+-- the file represents no history: it is not read, it has no head, or a record behind it is none of the next entry
 abbrev pub IsNoHistory : StartFault → List ℕ → Type 0
 IsNoHistory (start.Journal fault) file = RefusesFile fault file
 IsNoHistory start.Head file = HasNoHead file
@@ -90,7 +90,7 @@ dump_with rules records = head_bytes rules.profile rules.clients_max ++ joined (
 abbrev pub dump_of : Rules → List ℕ → List ℕ
 dump_of rules file = dump_with rules (recorded file)
 
--- such a dump spells the history that the file stands for
+-- such a dump spells the history that the file represents
 abbrev pub DumpIsOfHistory : Type 0
 DumpIsOfHistory = (rules : Rules) (h : History) (file : List ℕ) → h.profile ≡ rules.profile → h.clients_max ≡ rules.clients_max → IsLedger h file
     → DumpSpells (dump_of rules file) h.profile h.clients_max h.entries None

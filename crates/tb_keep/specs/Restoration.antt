@@ -31,12 +31,12 @@ pub record RecordsLead (S : State) (records : List (List ℕ)) (T : State) : Typ
   pub recorded_are : AreRecorded entries
   pub spelled : records ≡ map dumped entries
 
--- what is wrong with a record that is that of no entry: no want of memory
+-- what is wrong with a record that is that of no entry: not out of memory
 abbrev pub IsNoRecord : FrameFault → List ℕ → Type 0
 IsNoRecord frame.NoMemory bytes = ⊥
 IsNoRecord fault bytes = RecordAnswers (Err fault) bytes × ((e : Entry) → IsRecord bytes e → ⊥)
 
--- the first test that an entry fails: no want of memory
+-- the first test that an entry fails: not out of memory
 abbrev pub Fails : Unfit → State → Entry → Type 0
 Fails unfit.NoMemory S e = ⊥
 Fails cause S e = cause_of S e ≡ Some cause
@@ -73,7 +73,7 @@ HeadAnswers (Err start.OtherRules) bytes profile clients_max =
     (p : Profile) × (n : ℕ) × (bytes ≡ head_record p n) × ((p ≡ profile) × (n ≡ clients_max) → ⊥)
 HeadAnswers (Err fault) bytes profile clients_max = ⊥
 
--- the records, if there are any, are those of a history of these rules, after which the machine stands
+-- the records, if there are any, are those of a history of these rules, which the machine has applied
 pub record IsRestored (profile : Profile) (clients_max : ℕ) (records : List (List ℕ)) (S : State) : Type 0 where
   pub entries : List Entry
   pub keepable : IsKeepable (record { profile = profile; clients_max = clients_max; entries = entries })
@@ -87,7 +87,7 @@ StopsFile fault profile clients_max records =
     (head : List ℕ) × (rest : List (List ℕ)) × (records ≡ head ∷ rest)
     × (HeadAnswers (Err fault) head profile clients_max ⊎ ((T : State) × RestoresAll (Err fault) (start_state profile clients_max) rest T))
 
--- the file was read to its end, and the machine stands after its entries
+-- the file was read to its end, and the machine is in the state after its entries
 pub record IsRestoredFrom (profile : Profile) (clients_max : ℕ) (file : List ℕ) (S : State) (extent : Extent) : Type 0 where
   pub extent_is : extent_of (contents file) ≡ Ok extent
   pub restored : IsRestored profile clients_max (recorded file) S
@@ -103,7 +103,7 @@ abbrev pub StopsReading : StartFault → Profile → ℕ → List ℕ → Type 0
 StopsReading (start.Journal fault) profile clients_max file = RefusesFile fault file
 StopsReading fault profile clients_max file = StopsBeginning fault profile clients_max file
 
--- the bytes of a file that stand behind its records and the latch there: what a batch that was not committed has left
+-- the bytes of a file that are behind its records and the latch there: what a batch that was not committed has left
 abbrev pub torn_bytes : List ℕ → ℕ
 torn_bytes file = length file - records_end (recorded file) - 1
 
@@ -120,7 +120,7 @@ StopsOpening (start.TornTooLong at bytes) profile clients_max file = IsTornTooLo
 StopsOpening fault profile clients_max file = StopsReading fault profile clients_max file
 
 -- the cause of a fault, by what the device has counted since: of one of the journal, that which it has when it is opened; behind any
--- other, which is the file's own or want of memory, no call on the device has failed
+-- other, which is the file's own or out of memory, no call on the device has failed
 abbrev pub IsStartCause : Disk → Disk → StartFault → Type 0
 IsStartCause before after (start.Journal fault) = IsOpenCause before after fault
 IsStartCause before after fault = FailsNone before after
@@ -140,11 +140,11 @@ abbrev pub WholeStops : Type 0
 WholeStops = (fault : StartFault) (profile : Profile) (clients_max : ℕ) (file : List ℕ) (records all : List (List ℕ))
     → contents file ≡ Records all → BeginsWith records file → StopsFile fault profile clients_max records → StopsFile fault profile clients_max all
 
--- the records of a history that may be kept are refused for want of memory alone
+-- the records of a history that may be kept are refused only when out of memory
 abbrev pub OnlyMemory : Type 0
 OnlyMemory = (fault : StartFault) (h : History) → IsKeepable h → StopsFile fault h.profile h.clients_max (records_of h) → fault ≡ start.NoMemory
 
--- a fault that names nothing of the file: want of memory, or a fault of the device
+-- a fault that names nothing of the file: out of memory, or a fault of the device
 abbrev pub IsNotOfFile : StartFault → Type 0
 IsNotOfFile start.NoMemory = Unit {0}
 IsNotOfFile (start.Journal (open_faults.Device fault)) = Unit {0}
@@ -155,7 +155,7 @@ IsNotOfFile fault = ⊥
 abbrev pub IsFromOutside : Disk → Disk → StartFault → Type 0
 IsFromOutside before after fault = IsNotOfFile fault × IsStartCause before after fault
 
--- so a file that stands for such a history, with no more torn bytes behind it than a batch has, is not refused for what stands in it
+-- so a file that represents such a history, with no more torn bytes behind it than a batch has, is not refused for what is in it
 abbrev pub FileOnlyMemory : {D : Type 0} → (D → Disk) → Type 0
 FileOnlyMemory {D} disk = (fault : StartFault) (h : History) (before after : D) → IsLedger h (disk before).seen → torn_bytes (disk before).seen ≤ 2 ^ 22
     → StopsOpening fault h.profile h.clients_max (disk before).seen → IsStartCause (disk before) (disk after) fault

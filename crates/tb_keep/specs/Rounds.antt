@@ -1,4 +1,4 @@
--- How pairs are served in rounds: their entries are committed, and then their replies are told.
+-- How pairs are served in rounds: their entries are committed, and then their replies are sent.
 -- Cited by public contracts of: laws, serving.
 use Rattle.std.specs.Prelude.{ℕ, Bool, true, false, ◌≡◌, ◌⊎◌, ◌+◌, ◌-◌, ◌^◌, ◌<◌, ◌≤◌, List, [], ◌∷◌, ◌++◌, length, map, flat_map, fold, Option, None, Result, Ok, Err, if◌then◌else◌, IsTrue}
 use Rattle.tb_records.specs.declared.faults.FrameFault.{FrameFault}
@@ -78,7 +78,7 @@ pub record Standing (D : Type 0) : Type 0 where
   pub input : Input
   pub output : Output
 
--- what stands where a keeper does
+-- what is where a keeper does
 abbrev pub standing_of : {D : Type 0} → Keeping D → Input → Output → Standing D
 standing_of keeper input output = record { state = keeper.state; device = keeper.journal.device; input = input; output = output }
 
@@ -87,7 +87,7 @@ abbrev pub pairs_of : List (List Pair) → List Pair
 pairs_of [] = []
 pairs_of (ps ∷ rounds) = ps ++ pairs_of rounds
 
--- while something is held back a reader is asked for a pair only where that is at hand whole
+-- while something is held back a reader is asked for a pair only where that is buffered whole
 abbrev pub IsPrompt : Bool → Input → Type 0
 IsPrompt held input = held ≡ true → holds_pair input.at_hand ≡ true
 
@@ -131,8 +131,8 @@ pub record IsUnrecorded {D : Type 0} (fault : Fault) (S : State) (journal : Kept
   pub refused : RefusesRecord fault journal (dumped (entry_of S pair))
 
 module _ (tells : Type 0) {D : Type 0} (disk : D → Disk) where
-  -- one round: its pairs are read, and none is waited for while a reply is held back; while the file grows nothing is told, and
-  -- while the replies are told, and held back no more, the file stays; a batch is short
+  -- one round: its pairs are read, and none is waited for while a reply is held back; while the file grows nothing is sent, and
+  -- while the replies are sent, and held back no more, the file stays; a batch is short
   pub record Round (ps : List Pair) (before after : Standing D) : Type 0 where
     pub prompt : ReadsPromptly before.output.held ps before.input after.input
     pub served : AreServed before.state ps
@@ -151,7 +151,7 @@ module _ (tells : Type 0) {D : Type 0} (disk : D → Disk) where
     pub same : device ≡ middle.device
     pub silent : output ≡ middle.output
 
-  -- a commit failed of entries that are some, for a cause: a crash leaves all of the batch or nothing of it, and nothing was told
+  -- a commit failed of entries that are some, for a cause: a crash leaves all of the batch or nothing of it, and nothing was sent
   pub record Fails (fault : Fault) (ps : List Pair) (middle : Standing D) (device : D) (output : Output) : Type 0 where
     pub some : tells → records_from middle.state ps ≡ [] → ⊥
     pub cause : tells → HasFailed (disk middle.device) (disk device) fault
@@ -159,7 +159,7 @@ module _ (tells : Type 0) {D : Type 0} (disk : D → Disk) where
     pub short : length (at_rest (records_from middle.state ps)) ≤ 2 ^ 22
     pub silent : output ≡ middle.output
 
-  -- the batch was committed, and a prefix of the replies told, where the writer failed
+  -- the batch was committed, and a prefix of the replies sent, where the writer failed
   pub record BreaksOff (ps : List Pair) (middle : Standing D) (device : D) (output : Output) : Type 0 where
     pub commits : tells → Commits (records_from middle.state ps) (disk middle.device) (disk device)
     pub short : length (at_rest (records_from middle.state ps)) ≤ 2 ^ 22
@@ -168,14 +168,14 @@ module _ (tells : Type 0) {D : Type 0} (disk : D → Disk) where
   -- how serving ends behind rounds, with the pairs ps that were read since: what was read behind these (from input to last), what
   -- became of them, and the cause
   abbrev pub Ends : Result ℕ KeepFault → ℕ → List Pair → Standing D → Keeping D → Input → Input → Output → Type 0
-  -- the end was read, and all is told
+  -- the end was read, and all is sent
   Ends (Ok k) count ps middle keeper input last output =
       (k ≡ count) × IsRead (Ok None) input last × Round ps middle (standing_of keeper input output)
-  -- no frame was read, and all before it is told; or the writer failed, and a prefix of the last replies is told
+  -- no frame was read, and all before it is sent; or the writer failed, and a prefix of the last replies is sent
   Ends (Err (keep.Serving (run.Frame fault))) count ps middle keeper input last output =
       (IsRead (Err fault) input last × Round ps middle (standing_of keeper input output))
       ⊎ ((fault ≡ Device) × Pauses (state_from middle.state ps) input last × BreaksOff ps middle keeper.journal.device output)
-  -- a pair was read for which there is no time, and all before it is told
+  -- a pair was read for which there is no time, and all before it is sent
   Ends (Err (keep.Serving run.TimeExhausted)) count ps middle keeper input last output =
       IsStop (keep.Serving run.TimeExhausted) (state_from middle.state ps) input last × Round ps middle (standing_of keeper input output)
   -- one more pair was read, for which there is no memory: these pairs are lost
@@ -199,6 +199,6 @@ module _ (tells : Type 0) {D : Type 0} (disk : D → Disk) where
     pub served : AreServed standing.state more
     pub read : Reads (pairs_of rounds ++ more) first input
     pub prompt : ReadsPromptly standing.output.held more standing.input input
-    -- nothing was asked for behind these pairs, or nothing is held back, or a pair was at hand whole
+    -- nothing was asked for behind these pairs, or nothing is held back, or a pair was buffered whole
     pub asked : (last ≡ input) ⊎ IsPrompt (is_held standing.output.held more) input
     pub ended : Ends result (length (pairs_of rounds ++ more)) more standing after input last written

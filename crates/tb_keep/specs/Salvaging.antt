@@ -79,7 +79,7 @@ pub record IsSalvaged (tells : Type 0) {N : Type 0} (disk : N → Disk) (holds :
   pub keeper : IsNewKeeper tells disk history salvaged.keeper
   pub taken : (file : List ℕ) → holds file → IsTaken history salvaged.end salvaged.stop file
 
--- the new file has the history that the one that is read stands for, with few torn bytes behind it
+-- the new file has the history that the one that is read represents, with few torn bytes behind it
 pub record IsBackedUp (tells : Type 0) {N : Type 0} (disk : N → Disk) (holds : List ℕ → Type 0) (keeper : Keeping N) : Type 0 where
   pub history : History
   pub kept : IsNewKeeper tells disk history keeper
@@ -96,7 +96,7 @@ IsUnsalvaged (Old start.NoMemory) file = Unit {0}
 IsUnsalvaged (Old fault) file = ⊥
 IsUnsalvaged (New fault) file = Unit {0}
 
--- why a file is not backed up: it stands for no history, or too many torn bytes are behind it
+-- why a file is not backed up: it represents no history, or too many torn bytes are behind it
 abbrev pub IsNotBackedUp : SalvageFault → List ℕ → Type 0
 IsNotBackedUp (Old (start.TornTooLong at bytes)) file = IsTornTooLong at bytes file
 IsNotBackedUp (Old start.NoMemory) file = Unit {0}
@@ -114,7 +114,7 @@ IsNewCause before after (start.Journal (open_faults.Device fault)) =
 IsNewCause before after start.NoMemory = FailsNone before after
 IsNewCause before after fault = ⊥
 
--- where something stands in the place of the new file, that is as it was
+-- where something is in the place of the new file, that is as it was
 abbrev pub IsLeftAlone : Disk → Disk → StartFault → Type 0
 IsLeftAlone before after (start.Journal (open_faults.Device NotEmpty)) = IsUntouched before after
 IsLeftAlone before after fault = Unit {0}

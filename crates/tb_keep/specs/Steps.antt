@@ -29,7 +29,7 @@ IsRefusal (keep.Journal fault) journal bytes = RefusesRecord fault journal bytes
 IsRefusal (keep.Serving run.NoMemory) journal bytes = Unit {0}
 IsRefusal fault journal bytes = ⊥
 
--- a fault of a pair, before which nothing is told
+-- a fault of a pair, before which nothing is sent
 abbrev pub IsSudden : KeepFault → Type 0
 IsSudden (keep.Journal fault) = Unit {0}
 IsSudden (keep.Serving run.NoMemory) = Unit {0}
@@ -106,7 +106,7 @@ abbrev pub GoesOn : {D : Type 0} → Bool → Keeping D → Keeping D → Input 
 GoesOn true before after first last held grown = Next (Ok tt) before after first last held grown
 GoesOn false before after first last held grown = Ceases (Ok None) before after first last held grown
 
--- the bytes were told and nothing is held any more, or the device failed and left a prefix of them
+-- the bytes were sent and nothing is held any more, or the device failed and left a prefix of them
 abbrev pub HandsOut : Result (Unit {0}) KeepFault → List ℕ → List ℕ → Output → Output → Type 0
 HandsOut (Ok done) held left start written = Sent held start written × (written.held ≡ false) × (left ≡ [])
 HandsOut (Err (keep.Serving (run.Frame fault))) held left start written = (fault ≡ Device) × CutOff held start written
@@ -128,23 +128,23 @@ module _ (tells : Type 0) {D : Type 0} (disk : D → Disk) where
     pub cause : tells → HasFailed (disk before.journal.device) (disk after.journal.device) fault
     pub any_moment : tells → LeavesOnly (disk before.journal.device) (disk after.journal.device) (IsBeforeOrAfter (recorded (disk before.journal.device).seen) before.journal.waiting)
 
-  -- what waits was committed, and then what is held was told; a fault came before the one or within the other
+  -- what waits was committed, and then what is held was sent; a fault came before the one or within the other
   abbrev pub Tells : Result (Unit {0}) KeepFault → Keeping D → Keeping D → List ℕ → List ℕ → Output → Output → Type 0
   Tells (Err (keep.Journal fault)) before after held left start written = IsUncommitted fault before after × (written ≡ start)
   Tells result before after held left start written = IsCommitted before after × HandsOut result held left start written
 
-  -- or nothing was done, where a pair is at hand whole, few bytes of replies are held, and the batch has room for its entry
+  -- or nothing was done, where a pair is buffered whole, few bytes of replies are held, and the batch has space for its entry
   abbrev pub MayTell : List ℕ → Result (Unit {0}) KeepFault → Keeping D → Keeping D → List ℕ → List ℕ → Output → Output → Type 0
   MayTell at_hand result before after held left start written =
       ((holds_pair at_hand ≡ true) × (length held < 2 ^ 20) × (length (at_rest before.journal.waiting) + block_bytes_max ≤ 2 ^ 22) × (result ≡ Ok tt) × (after ≡ before) × (left ≡ held) × (written ≡ start))
       ⊎ Tells result before after held left start written
 
-  -- what is held is told before a fault ends serving; which may fail, and then that fault ends it
+  -- what is held is sent before a fault ends serving; which may fail, and then that fault ends it
   abbrev pub EndsTold : KeepFault → KeepFault → Keeping D → Keeping D → List ℕ → List ℕ → Output → Output → Type 0
   EndsTold stop f before after held left start written =
       ((f ≡ stop) × Tells (Ok tt) before after held left start written) ⊎ Tells (Err f) before after held left start written
 
-  -- a fault in serving a pair, behind which nothing is told; or a stop, before which what is held is told
+  -- a fault in serving a pair, after which nothing is sent; or a stop, before which what is held is sent
   abbrev pub EndsNext : KeepFault → Keeping D → Keeping D → Input → Input → List ℕ → List ℕ → Output → Output → Type 0
   EndsNext f before after first last held left start written =
       (IsSudden f × Next (Err f) before after first last held left × (written ≡ start))

@@ -81,7 +81,7 @@ module _ {N : Type 0} (disk : N → Disk) where
   abbrev pub line : Kept N → List (List ℕ)
   line journal = recorded (disk journal.device).seen ++ journal.waiting
 
-  -- more records stand behind a journal's, of which some may have been committed
+  -- more records are behind a journal's, of which some may have been committed
   pub record Queues (records : List (List ℕ)) (before after : Kept N) : Type 0 where
     pub ready : IsReady disk after
     pub line_is : line after ≡ line before ++ records
@@ -120,7 +120,7 @@ module _ {N : Type 0} (disk : N → Disk) where
     IsUntaken (New fault) before after = (f : Fault) × (fault ≡ start.Journal (open_faults.Device f)) × (tells → Breaks f [] before.journal after.journal)
 
     module _ (holds : List ℕ → Type 0) where
-      -- these records were taken over, and a scan stands behind them that stood at a place before
+      -- these records were taken over, and a scan is behind them that was at a place before
       pub record Taken (records : List (List ℕ)) (first here : Place) (before after : Keeping N) : Type 0 where
         pub leads : RecordsLead before.state records after.state
         pub usable : after.journal.usable ≡ true

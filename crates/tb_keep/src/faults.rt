@@ -9,7 +9,7 @@ use tb_records::FrameFault;
 use thiserror::Error;
 
 /// Why serving ends before the pairs do. Nothing more is answered, and the keeper is not to be used again: its machine may
-/// be ahead of the file. The file is opened anew.
+/// be ahead of the file. The file is opened again.
 #[derive(Clone, Copy, Debug, PartialEq, Eq, Error)]
 pub enum KeepFault {
     /// A fault that serving without a file has too.
@@ -86,7 +86,7 @@ pub enum StartFault {
     Entry(RestoreFault),
     /// There is no memory.
     NoMemory,
-    /// Behind the last whole record, which ends at this offset, stand more bytes than a batch can have that was not committed:
+    /// Behind the last whole record, which ends at this offset, are more bytes than a batch can have that was not committed:
     /// so many, behind the latch there. They are not cut off.
     TornTooLong { at: u64, bytes: u64 },
 }

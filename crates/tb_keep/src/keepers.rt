@@ -1,4 +1,4 @@
-//! A keeper: a machine, and the journal that its entries stand in.
+//! A keeper: a machine, and the journal that its entries are in.
 ghost use Rattle.std.specs.Prelude.{◌≡◌, true};
 
 use std::alloc::{Allocator, Global};
@@ -6,7 +6,7 @@ use std::marker::Model;
 use tb_journal::{Device, Journal};
 use tb_machine::Machine;
 
-/// A machine, and the journal that its entries stand in. After a fault it cannot serve any more: the file is opened again. The
+/// A machine, and the journal that its entries are in. After a fault it cannot serve any more: the file is opened again. The
 /// machine's records take their memory of `A`, all else of the global allocator.
 #[derive(Drop)]
 pub struct Keeper<D: Device, A: Allocator + Clone = Global> {
@@ -28,7 +28,7 @@ impl<D: Device, A: Allocator + Clone> Model for Keeper<D, A> {
 }
 
 impl<D: Device, A: Allocator + Clone> Keeper<D, A> {
-    /// A keeper of a machine that stands after the journal's entries. So many torn bytes were cut off.
+    /// A keeper of a machine that is in the state after the journal's entries. So many torn bytes were cut off.
     pub(crate) fn new(
         global: Global,
         journal: Journal<D>,
@@ -77,7 +77,7 @@ impl<D: Device, A: Allocator + Clone> Keeper<D, A> {
         journal.into_device()
     }
 
-    /// The machine, as it stands after all entries.
+    /// The machine, as it is now after all entries.
     pub fn machine(&self) -> &Machine<A>
         ensures { result.now ≡ self.now.state }
     {

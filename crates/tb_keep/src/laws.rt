@@ -12,8 +12,8 @@ ghost use Rattle.tb_keep.specs.Rounds.{Standing, Rounds, pairs_of, told_from};
 
 use tb_journal::Device;
 
-/// Whatever was told stands in the file, at each moment of the rounds that `keep` serves: while entries are committed only
-/// the replies to earlier ones were told, and while replies are told each file that a crash leaves has their entries.
+/// Whatever was acknowledged is in the file, at each moment of the rounds that `keep` serves: while entries are committed only
+/// the replies to earlier ones were sent, and while replies are sent each file that a crash leaves has their entries.
 pub fn told_stands<D: Device>()
     ensures committing { WhileCommitting D.tells D.disk }
     ensures telling { WhileTelling D.tells D.disk }
@@ -21,25 +21,25 @@ pub fn told_stands<D: Device>()
         → Sent (told_from first.state (pairs_of done)) first.output before.output }
 {}
 
-/// Such a file stands for a history that may be kept: `open` reads it, and the entries of the pairs that were told are in it.
+/// Such a file represents a history that may be kept: `open` reads it, and the entries of the acknowledged pairs are in it.
 pub fn told_lasts<D: Device>()
     ensures lasts { Lasts D.tells D.disk }
     ensures served { RoundsAreServed D.tells D.disk }
 {}
 
-/// A crash at any moment of `keep` leaves a file that stands for the history from before it, with the entries of some first
+/// A crash at any moment of `keep` leaves a file that represents the history from before it, with the entries of some first
 /// pairs of those that were read, and nothing else: `open` reads just that.
 pub fn any_crash<D: Device>()
     ensures { AnyCrash D.tells D.disk }
 {}
 
-/// Where the process alone ends, at any moment of `keep`, no power is lost, and the next one reads what stood in the file: that is a
+/// Where the process alone is killed, at any moment of `keep`, no power is lost, and the next one reads what was in the file: that is a
 /// file such as a crash leaves.
 pub fn after_kill<D: Device>()
     ensures { AfterKill D.tells D.disk }
 {}
 
-/// What is opened again after a crash: a file stands for one history, and the machine behind the entries of pairs is the one
+/// What is opened again after a crash: a file represents one history, and the machine behind the entries of pairs is the one
 /// that served these pairs. So a request that is sent again gets what it would have got with no crash between.
 pub fn opened_again()
     ensures one_history { OneHistory }
@@ -47,15 +47,15 @@ pub fn opened_again()
     ensures goes_on { GoesOnAfter }
 {}
 
-/// A file that stands for a history, and has no more torn bytes behind its records than one batch, is refused for want of memory
-/// alone, where no call on the device has failed: where a head or a record is refused, the records are those of no history of these
+/// A file that represents a history, and has no more torn bytes behind its records than one batch, is refused only when memory
+/// runs out, where no call on the device has failed: where a head or a record is refused, the records are those of no history of these
 /// rules.
 pub fn only_memory<D: Device>()
     ensures records { OnlyMemory }
     ensures file { FileOnlyMemory D.disk }
 {}
 
-/// A start tells what it finds in records that a file begins with, since it reads no further. Where the file is read to its
+/// A start reports what it finds in records that a file begins with, since it reads no further. Where the file is read to its
 /// end the same holds of all its records: what stops the first of them stops all, their head is that of all, and what went
 /// out of their dump is a prefix of that of all.
 pub fn whole_files()
@@ -65,7 +65,7 @@ pub fn whole_files()
     ensures dumps { WholeDumps }
 {}
 
-/// What `write_entries` writes of a file that stands for a history are its entries above the commit number, as a dump has them; and
+/// What `write_entries` writes of a file that represents a history are its entries above the commit number, as a dump has them; and
 /// what it writes of a file, and then of what came behind, is what it would have written of all at once.
 pub fn entries_above()
     ensures above { EntriesAreAbove }
@@ -77,7 +77,7 @@ pub fn salvages_most()
     ensures { IsLongest }
 {}
 
-/// What `write_dump` writes of a file spells the history that the file stands for.
+/// What `write_dump` writes of a file encodes the history that the file represents.
 pub fn dump_spells()
     ensures { DumpIsOfHistory }
 {}

@@ -1,20 +1,20 @@
-//! A ledger server whose history outlives its process: entries stand in a journal before their replies go out.
+//! A ledger server whose history outlives its process: entries are in a journal before their replies go out.
 //!
 //! Modules, each over those before it:
 //!
 //! - `faults`: why a kept ledger does not go on.
 //! - `heads`: record 0 of the journal: the rules of the ledger.
-//! - `keepers`: `Keeper`, a machine, and the journal that its entries stand in.
+//! - `keepers`: `Keeper`, a machine, and the journal that its entries are in.
 //! - `restoring`: a machine from the records of a file, each entered before the next is read.
 //! - `opening`: `create`, `Keeper::open` and `Keeper::start`.
-//! - `replies`: replies held in memory until the entries that they rest on are on the disk.
-//! - `serving`: `keep`, pairs served, entries committed, and then replies told.
+//! - `replies`: replies held in memory until the entries that they rest on are durable.
+//! - `serving`: `keep`, pairs served, entries committed, and then replies sent.
 //! - `dumps`: the rules, the history, the dump and the later entries of a file, read without a write.
 //! - `salvaging`: the entries of a file taken over into a new one.
 //! - `laws`: what holds of every kept ledger: functions that do nothing.
 //! - `worked_rows`: small files, and what the definitions make of them.
 //!
-//! specs/Keeping is what a file stands for, specs/Rounds what serving does, specs/Opening, Restoration and Reading what
+//! specs/Keeping is what a file represents, specs/Rounds what serving does, specs/Opening, Restoration and Reading what
 //! the others do, specs/Sources of which bytes they speak, specs/Moments and Again what holds at each moment and after a
 //! crash.
 #![tactic(auto)]

@@ -111,7 +111,7 @@ fn create_headed<D: Device>(
     }
 }
 
-/// Creates a kept ledger without entries in an empty file. Where something stands in the file the fault is NotEmpty, and the
+/// Creates a kept ledger without entries in an empty file. Where something is in the file the fault is NotEmpty, and the
 /// file is as it was. The machine's records take their memory of `alloc`, here and in `open` and `start`.
 pub fn create<D: Device, A: Allocator + Clone>(
     global: Global,
@@ -231,7 +231,7 @@ pub(crate) fn torn_behind<D: Device>(device: &mut D, extent: Extent) -> Result<u
     }
 }
 
-/// The keeper of a file that was read to this extent, from which a machine was restored. Where more torn bytes stand behind its
+/// The keeper of a file that was read to this extent, from which a machine was restored. Where more torn bytes are behind its
 /// records than one batch can have, it is refused.
 fn open_short<D: Device, A: Allocator + Clone>(
     global: Global,
@@ -280,7 +280,7 @@ fn open_short<D: Device, A: Allocator + Clone>(
 }
 
 impl<D: Device, A: Allocator + Copy> Keeper<D, A> {
-    /// Opens a kept ledger: its machine stands after the entries that the file has. It is read in pieces, and each record is
+    /// Opens a kept ledger: its machine is in the state after the entries that the file has. It is read in pieces, and each record is
     /// entered before the next is read. A file without records gets a head. What a crash left behind the records is cut off, if
     /// it is no more than one batch can have: more is damage, and the file stays as it was (TornTooLong).
     pub fn open(

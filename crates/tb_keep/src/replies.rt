@@ -1,11 +1,11 @@
-//! Replies that are held in memory until the entries that they rest on are on the disk.
+//! Replies that are held in memory until the entries that they rest on are durable.
 ghost use Rattle.std.specs.Prelude.{◌≡◌, [], Some, length};
 
 use std::alloc::{AllocError, Global};
 use std::io;
 use tb_records::Sink;
 
-/// A writer into memory. It takes all bytes, or fails for want of memory.
+/// A writer into memory. It takes all bytes, or memory runs out.
 #[derive(Drop)]
 pub(crate) struct Replies {
     pub(crate) bytes: Vec<u8>,
@@ -42,7 +42,7 @@ impl Replies {
         &self.bytes
     }
 
-    /// Forgets what was handed out.
+    /// Forgets what was returned.
     pub(crate) fn clear(&mut self)
         ensures { self.new.bytes.items ≡ [] }
     {

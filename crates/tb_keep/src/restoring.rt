@@ -19,7 +19,7 @@ use tb_journal::{Device, Extent, OpenFault, Scan};
 use tb_machine::{Entry, Machine, Unfit, read_entry, restore};
 use tb_records::FrameFault;
 
-/// Reads the record that stands behind the entries of a machine.
+/// Reads the record that is behind the entries of a machine.
 fn read_next<A: Allocator + Clone>(
     global: Global,
     machine: &Machine<A>,
@@ -124,7 +124,7 @@ fn enter_next<D: Device, A: Allocator + Clone>(
     }
 }
 
-/// Enters the entries of the records that are left into a machine, each before the next is read. On a fault it stands after
+/// Enters the entries of the records that are left into a machine, each before the next is read. On a fault it is in the state after
 /// those before.
 fn enter_all<D: Device, A: Allocator + Clone>(
     global: Global,
@@ -220,7 +220,7 @@ fn restored_by<D: Device, A: Allocator + Clone>(
 
 /// Reads a file of these rules record by record, and enters each before the next is read: the machine after its entries, and
 /// where its records end. The machine is that of the empty history where the file has no record. What was read is on the
-/// disk; nothing is written. The first record of the file that is damaged, or none of the next entry, is told. The machine's records
+/// disk; nothing is written. The first record of the file that is damaged, or none of the next entry, is reported. The machine's records
 /// take their memory of `alloc`.
 pub fn restored<D: Device, A: Allocator + Clone>(
     global: Global,

@@ -25,7 +25,7 @@ use tb_journal::{Device, Extent, Fault, Journal, OpenFault, Scan};
 /// A new file with the entries that were taken over.
 #[derive(Drop)]
 pub struct Salvaged<N: Device> {
-    /// The keeper of the new file: its machine stands after these entries, of which the last has the machine's commit number.
+    /// The keeper of the new file: its machine is in the state after these entries, of which the last has the machine's commit number.
     pub keeper: Keeper<N>,
     /// Where they end in the old file, in bytes: what is behind was not taken.
     pub end: u64,
@@ -47,7 +47,7 @@ fn new_fault(fault: Fault) -> SalvageFault
     SalvageFault::New(StartFault::Journal(OpenFault::Device(fault)))
 }
 
-/// Commits what waits where it may have no room for one more record.
+/// Commits what waits where it may have no space for one more record.
 #[tactic(auto, using(crate::proofs::Taking::puts_commit))]
 fn make_room<N: Device>(journal: &mut Journal<N>) -> Result<(), Fault>
     requires usable { journal.old.usable ≡ true }
@@ -84,7 +84,7 @@ fn append_short<N: Device>(journal: &mut Journal<N>, bytes: &[u8]) -> Result<(),
     }
 }
 
-/// Enters the entry of a record that stands behind those of a keeper, and lets it wait for the next commit. Where it is none of the
+/// Enters the entry of a record that is behind those of a keeper, and lets it wait for the next commit. Where it is none of the
 /// next entry, nothing has changed.
 #[tactic(auto, using(crate::proofs::Taking::takes_not))]
 fn take_record<N: Device>(
@@ -342,7 +342,7 @@ fn salvage_by<D: Device, N: Device>(
     }
 }
 
-/// Takes the entries of a file over into a new one: all that stand before the first damage, and before the first record that is none of
+/// Takes the entries of a file over into a new one: all that come before the first damage, and before the first record that is none of
 /// the next entry. The old file is read once, and not written to. The new one is a kept ledger of the same rules; what was taken is
 /// durable. Nothing is made where the old file has no head, or is no journal.
 ///

@@ -1,4 +1,4 @@
-//! The serving of a kept ledger: the entries of pairs are committed, and then the replies that rest on them are told.
+//! The serving of a kept ledger: the entries of pairs are committed, and then the replies that rest on them are sent.
 ghost use Rattle.std.specs.Prelude.{◌≡◌, ◌++◌, true, false, [], ◌∷◌, IfErr, OnOk, OnErr};
 ghost use Rattle.tb_journal.specs.Ready.{IsReady};
 ghost use Rattle.tb_machine.specs.Dumps.{dumped};
@@ -19,7 +19,7 @@ use tb_records::streams::read_timed_from;
 use tb_records::{Request, Sink, Source, holds_pair, put_all};
 use tb_sessions::Class;
 
-/// Where so many bytes of replies are held they are told, even if more pairs are at hand.
+/// Where so many bytes of replies are held they are sent, even if more pairs are buffered.
 pub const HELD_BYTES_MAX: usize = 1 << 20;
 
 /// What is committed at once has at most so many bytes.
@@ -124,7 +124,7 @@ fn hand_out<W: Sink>(replies: &mut Replies, writer: &mut W) -> Result<(), KeepFa
     Ok(())
 }
 
-/// Commits the entries that wait, and then tells the replies that rest on them.
+/// Commits the entries that wait, and then sends the replies that rest on them.
 fn tell<D: Device, A: Allocator + Clone, W: Sink>(
     keeper: &mut Keeper<D, A>,
     replies: &mut Replies,
@@ -139,7 +139,7 @@ fn tell<D: Device, A: Allocator + Clone, W: Sink>(
     hand_out(replies, writer)
 }
 
-/// Tells the replies where the next pair may have to be waited for, where they are many, or where the batch may have no room
+/// Sends the replies where the next pair may have to be waited for, where they are many, or where the batch may have no space
 /// for one more entry.
 fn tell_before_waiting<D: Device, A: Allocator + Clone, R: Source, W: Sink>(
     keeper: &mut Keeper<D, A>,
@@ -168,7 +168,7 @@ fn is_end_of_time(fault: KeepFault) -> bool
     matches!(fault, KeepFault::Serving(RunFault::TimeExhausted))
 }
 
-/// Tells what is held before a fault ends serving, and answers the fault that ends it.
+/// Sends what is held before a fault ends serving, and answers the fault that ends it.
 fn tell_and_stop<D: Device, A: Allocator + Clone, W: Sink>(
     keeper: &mut Keeper<D, A>,
     replies: &mut Replies,
@@ -187,7 +187,7 @@ fn tell_and_stop<D: Device, A: Allocator + Clone, W: Sink>(
 }
 
 /// Reads and serves the next pair: false where there is none. Where a frame is none, or there is no time for a pair, what is
-/// held is told before the fault is answered.
+/// held is sent before the fault is answered.
 fn keep_next<D: Device, A: Allocator + Clone, R: Source, W: Sink>(
     alloc: Global,
     keeper: &mut Keeper<D, A>,
@@ -218,7 +218,7 @@ fn keep_next<D: Device, A: Allocator + Clone, R: Source, W: Sink>(
     }
 }
 
-/// Serves pairs until they end, and answers the number of replies told.
+/// Serves pairs until they end, and answers the number of replies sent.
 fn keep_all<D: Device, A: Allocator + Clone, R: Source, W: Sink>(
     alloc: Global,
     keeper: &mut Keeper<D, A>,
@@ -243,9 +243,9 @@ fn keep_all<D: Device, A: Allocator + Clone, R: Source, W: Sink>(
     Err(KeepFault::Serving(RunFault::TooLong))
 }
 
-/// Serves pairs, a moment and the frame of a request each, until they end, and answers the number of replies told. Each
-/// was told when the entries that it rests on were in the file. Where a frame is none, or the end of time leaves no time for
-/// a request, all before it is answered. After any other fault nothing more is told: what was read since the last commit is
+/// Serves pairs, a moment and the frame of a request each, until they end, and answers the number of replies sent. Each
+/// was sent when the entries that it rests on were in the file. Where a frame is none, or the end of time leaves no time for
+/// a request, all before it is answered. After any other fault nothing more is sent: what was read since the last commit is
 /// not answered. After any fault the keeper cannot serve any more.
 pub fn keep<D: Device, A: Allocator + Clone, R: Source, W: Sink>(
     alloc: Global,

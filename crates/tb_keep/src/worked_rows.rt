@@ -1,4 +1,4 @@
-//! Worked rows: what small files stand for, by the definitions. A call does nothing; its promise is the row.
+//! Worked examples: what small files represent, by the definitions. A call does nothing; its promise is the row.
 ghost use Rattle.std.specs.Prelude.{◌≡◌, ◌∷◌, ◌++◌, [], Err, Ok, codes};
 ghost use Rattle.tb_journal.specs.Contents.{block, journal_of, magic};
 ghost use Rattle.tb_journal.specs.declared.opening.OpenFault.TheVariants as open_faults;
@@ -12,7 +12,7 @@ ghost use Rattle.tb_machine.specs.Histories.{start as start_state};
 ghost use Rattle.tb_records.specs.declared.faults.FrameFault.TheVariants as frame;
 ghost use Rattle.tb_records.specs.declared.limits.Profile.TheVariants.{One, Two};
 
-/// A file of a head alone stands for a ledger of its rules without entries.
+/// A file of a head alone represents a ledger of its rules without entries.
 pub fn head_alone()
     ensures rules { RulesAnswer (Ok (rules_of Two 8)) (journal_of (head_record Two 8 ∷ [])) }
     ensures restored { IsRestored Two 8 (head_record Two 8 ∷ []) (start_state Two 8) }
@@ -25,7 +25,7 @@ pub fn dump_of_a_head()
         ≡ codes "TBSDUMP1" ++ 2 ∷ 0 ∷ 0 ∷ 0 ∷ 8 ∷ 0 ∷ 0 ∷ 0 ∷ [] }
 {}
 
-/// A file without records, as one that was cut short at its creation, stands for a ledger of any rules without entries, and is
+/// A file without records, as one that was torn at its creation, represents a ledger of any rules without entries, and is
 /// read as having no head.
 pub fn no_record()
     ensures stands { StandFor (history_of Two 8 []) [] }
@@ -46,12 +46,12 @@ pub fn no_head()
     ensures clients { StopsFile start.Head Two 8 (head_record Two 0 ∷ []) }
 {}
 
-/// Two bytes behind the head are no record of an entry: the first one is told.
+/// Two bytes behind the head are no record of an entry: the first one is reported.
 pub fn short_record()
     ensures { StopsAt (start.Record 1 frame.Short) (start_state Two 8) (1 ∷ 2 ∷ []) }
 {}
 
-/// Of a record that is none of an entry and a block that is cut short, the one is told that stands first.
+/// Of a record that is none of an entry and a block that is torn, the one is reported that comes first.
 pub fn first_in_the_file()
     ensures record { StopsReading (start.Record 1 frame.Short) Two 8
         (magic ++ (block (head_record Two 8) ++ (block (1 ∷ 2 ∷ []) ++ 255 ∷ 1 ∷ []))) }

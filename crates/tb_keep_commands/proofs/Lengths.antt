@@ -42,7 +42,7 @@ module _ {X : Type 0} (bytes : X → List ℕ) where
       let all : take (length (x ∷ xs) - 1) xs ≡ xs = take_all _ xs (omega arith) in
       rw (same, all) refl
 
-  -- words that are some are told with what is wrong with them
+  -- words that are some are reported with what is wrong with them
   pub usage_is : (words : List X) → 1 ≤ length words → usage_lines (map bytes words) ≡ wrong_line (wrong (map bytes words))
   usage_is [] some = absurd (omega (arith, some))
   usage_is (x ∷ xs) some = refl

@@ -48,7 +48,7 @@ looked_still whole holds before mid after file (Ok done) looked same = record {
 }
 looked_still whole holds before mid after file (Err fault) looked same = tt
 
--- a file that stays as it is goes on with what it stands for
+-- a file that stays as it is goes on with what it represents
 pub whole_same : (file : List ℕ) → WholeOf (contents file) file file
 whole_same file = by (contents file) refl
   where

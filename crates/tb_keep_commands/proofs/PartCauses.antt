@@ -1,4 +1,4 @@
--- Why the writing of a part of a file's history ends, over a device that tells what its calls do.
+-- Why the writing of a part of a file's history ends, over a device that reports what its calls do.
 use Rattle.std.proofs.Common.{◌≡◌, ℕ, List, ◌++◌, Result, Ok, Err, refl, sym, subst, ap, ◌∙◌, inl}
 use Rattle.tb_journal.specs.declared.faults.Fault as journal
 use Rattle.tb_journal.specs.declared.opening.OpenFault.{OpenFault}

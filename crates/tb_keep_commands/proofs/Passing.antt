@@ -1,4 +1,4 @@
--- Bytes that are sent and passed on, and lines that are told.
+-- Bytes that are sent and passed on, and lines that are reported.
 use Rattle.std.proofs.Common.{◌≡◌, ◌-◌, ◌<◌, ℕ, zero, suc, List, [], ◌++◌, Result, Ok, Err, codes, sym, subst, refl, append-nil, inl, inr, arith}
 use Rattle.tb_records.specs.declared.faults.FrameFault.{FrameFault}
 use Rattle.tb_records.specs.Transport.{Output, Sent, CutOff, IsSent}
@@ -9,7 +9,7 @@ use Rattle.tb_keep_commands.specs.Statuses.{said_text, wrong_line, cut_line, Say
 pub sent_passed : (xs : List ℕ) (old mid new : Output) → Sent xs old mid → Sent [] mid new → Sent xs old new
 sent_passed xs old mid new one two = sent_rest xs [] old mid new xs (append-nil xs) one (Ok tt) two
 
--- bytes that are sent are told as a line
+-- bytes that are sent are reported as a line
 pub told_as : (xs line : List ℕ) (r : Result (Unit {0}) FrameFault) (old new : Output) → line ≡ xs → IsSent r xs old new → SaysLine line old new
 told_as xs line (Ok done) old new same sent = inl (subst (λ (l : List ℕ). Sent l old new) (sym same) sent)
 told_as xs line (Err fault) old new same sent = inr (subst (λ (l : List ℕ). CutOff l old new) (sym same) sent.1)
@@ -24,6 +24,6 @@ pub wrong_sent : (said : Wrong) (shown : List (List ℕ)) (what : List ℕ) (r :
     → IsSent r (codes "tbd: Usage:" ++ said_text shown what) old new → IsSent r (wrong_line said) old new
 wrong_sent said shown what r old new same_shown same_what sent = rw (← same_shown, ← same_what) sent
 
--- what was cut off is told, with the place where the records end
+-- what was cut off is reported, with the place where the records end
 pub told_cut : (cut len bytes at : ℕ) (before after : Output) → bytes ≡ cut → at ≡ len - bytes - 1 → TellsCut bytes at before after → TellsCut cut (len - cut - 1) before after
 told_cut cut len bytes at before after same place told = rw (← same, ← place) told

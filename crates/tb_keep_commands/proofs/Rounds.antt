@@ -102,7 +102,7 @@ module _ {D : Type 0} (holds : D → List ℕ → Type 0) (after : ℕ) (file : 
       → EndsRounds (holds device) (Ok tt) true after file start mid
   reached device scan mid g = record { later = g.later; since = g.since; held = g.held; records = g.records; whole = g.whole; sent = g.sent }
 
--- the entries, behind what stands before them
+-- the entries, behind what comes before them
 module _ (holds : List ℕ → Type 0) (follows : Bool) (after : Option ℕ) (rules : Rules) (file : List ℕ) (old mid new : Output) where
   pub part_sent : (result : Result (Unit {0}) Fault) → Sent (start_of after rules) old mid → EndsRounds holds result follows (floor_of after) file mid new
       → WritesPart holds result follows after rules file old new
@@ -127,7 +127,7 @@ pub grows_same : (follows : Bool) (file : List ℕ) → GrowsTo follows file fil
 grows_same false file = refl
 grows_same true file = later_same file
 
--- what stands before the entries was cut off
+-- what comes before the entries was cut off
 pub start_cut : (follows : Bool) (after : Option ℕ) (rules : Rules) (file : List ℕ) (old new : Output) (fault : Fault)
     → fault ≡ Device failed.Output → CutOff (start_of after rules) old new → BeginsWith [] file
     → StopsReading fault file (new ≡ old) ⊎ WritesSome fault follows after rules file old new

@@ -78,7 +78,7 @@ abbrev pub refused_by : Bool → Option StartFault → Option StartFault
 refused_by true stop = stop
 refused_by false stop = None
 
--- what was copied was printed; or it is told what is damaged, and nothing was printed
+-- what was copied was printed; or it is reported what is damaged, and nothing was printed
 abbrev pub EndsCopy : Option StartFault → Copied → Outcome → Output → Output → Type 0
 EndsCopy None c outcome start written = PrintsText (copied_text c) outcome start written
 EndsCopy (Some fault) c outcome start written = (outcome ≡ Err (started_fault fault)) × (written ≡ start)

@@ -7,7 +7,7 @@ use Rattle.tb_keep.specs.declared.heads.Rules.{Rules}
 use Rattle.tb_keep.specs.Reading.{dump_with}
 use Rattle.tb_keep_commands.specs.Following.{part_of}
 
--- a later file stands for records of which the same part begins with these bytes
+-- a later file represents records of which the same part begins with these bytes
 pub record GoesOn (after : Option ℕ) (rules : Rules) (written later : List ℕ) : Type 0 where
   pub records : List (List ℕ)
   pub reads : contents later ≡ Records records

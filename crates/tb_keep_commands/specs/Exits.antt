@@ -25,14 +25,14 @@ abbrev pub outcome_status : Outcome → ℕ
 outcome_status (Ok done) = 0
 outcome_status (Err fault) = fault_status fault
 
--- nothing is told of a form that was done, and of a fault its line
+-- nothing is reported of a form that was done, and of a fault its line
 abbrev pub Tells : Outcome → List ℕ → List ℕ → Output → Output → Type 0
 Tells (Ok done) file new before after = after ≡ before
 Tells (Err fault) file new before after = SaysLine (fault_line fault (fault_path fault file new)) before after
 
 module _ {D : Type 0} (file : devices.Ghosts D) {E : Type 0} (reading : devices.Ghosts E) (whole : E → List ℕ → Type 0) {O : Type 0} (opener : openers.Ghosts O D E) (ends : Terminals) (before : O) (name new : List ℕ) (left : O) where
   -- what a form does over what opens devices: `run` has the device of a name made where there is none, `dump` and `check` open one that is
-  -- there, `salvage` and `backup` open one and make another, and the other forms open none. What it tells while it goes on stands before
+  -- there, `salvage` and `backup` open one and make another, and the other forms open none. What it reports while it goes on comes before
   -- the line of its outcome
   abbrev pub Performs : Form → Outcome → Input → Input → Output → Output → Output → Output → Type 0
   Performs (form.Run clients_max profile reports) outcome first last start written quiet told =

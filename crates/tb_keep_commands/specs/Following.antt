@@ -77,7 +77,7 @@ abbrev pub dump_outcome : Result (Unit {0}) DumpFault → Result (Unit {0}) Faul
 dump_outcome (Ok done) = Ok tt
 dump_outcome (Err fault) = Err (dumped_fault fault)
 
--- the cause of an outcome, over a device that tells what its calls do: that of a dump
+-- the cause of an outcome, over a device that reports what its calls do: that of a dump
 pub record HasPartCause (outcome : Result (Unit {0}) Fault) (before after : Disk) : Type 0 where
   pub result : Result (Unit {0}) DumpFault
   pub outcome_is : outcome ≡ dump_outcome result
@@ -172,7 +172,7 @@ abbrev pub SendsOn : {D : Type 0} → (D → List ℕ → Type 0) → Result (Un
 SendsOn holds outcome after device scan before last written =
     (file : List ℕ) (start : Output) → Grown holds after file device scan start before → EndsRounds (holds last) outcome true after file start written
 
--- why, over a device that tells what its calls do
+-- why, over a device that reports what its calls do
 
 abbrev pub HasRoundCause : Type 0 → Result (Unit {0}) Fault → Disk → Place → Disk → Place → Type 0
 HasRoundCause tells outcome before scan after to =

@@ -28,7 +28,7 @@ input_of remaining r = record { left = reader_remaining remaining r.inner; faile
 abbrev pub output_of : {W : Type 0} → (W → Option (List ℕ)) → Watched (BufWriter W Global) → Output
 output_of contents w = record { written = writer_contents contents w.inner; failed = w.failures; stalled = w.stalls; halted = w.halted; held = w.held }
 
--- there is no memory for the buffers: nothing is opened, and that is told
+-- there is no memory for the buffers: nothing is opened, and that is reported
 abbrev pub WantsMemory : {O : Type 0} → O → O → ℕ → Output → Output → Type 0
 WantsMemory before left status quiet told = (status ≡ 1) × (left ≡ before) × SaysLine (fault_line NoMemory []) quiet told
 
@@ -40,7 +40,7 @@ module _ {D : Type 0} (file : devices.Ghosts D) {E : Type 0} (reading : devices.
     pub exits : Exits file reading whole opener ends before name new left (writer_buffer final.inner ≡ []) form status
         (input_of remaining (outgoing input)) (input_of remaining last) (output_of contents (outgoing output)) (output_of contents final) quiet told
 
-  -- the form that words ask for was done, or not to its end; or they ask for none, and that is told
+  -- the form that words ask for was done, or not to its end; or they ask for none, and that is reported
   abbrev pub Commands : Option Form → List (List ℕ) → ℕ → BufReader R Global → BufWriter W Global → Output → Output → Type 0
   Commands None words status input output quiet told = (status ≡ 2) × (left ≡ before) × SaysLine (usage_lines words) quiet told
   Commands (Some form) words status input output quiet told = Hosted form (file_word words) (new_word words) status input output quiet told

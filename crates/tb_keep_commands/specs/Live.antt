@@ -5,7 +5,7 @@ use Rattle.tb_journal.specs.declared.faults.Fault.{Fault}
 use Rattle.tb_journal.specs.Contents.{Contents, NotAJournal, Damaged, Records, contents}
 use Rattle.tb_journal.specs.Growing.{Extends, Later}
 
--- a device looked at its file again. What it holds is later than this file, and stands for all that the whole file stood for at some
+-- a device looked at its file again. What it holds is later than this file, and represents all that the whole file represented at some
 -- moment of the call
 pub record LooksAgain {D : Type 0} (whole holds : D → List ℕ → Type 0) (before after : D) (file : List ℕ) : Type 0 where
   pub later : List ℕ
@@ -22,7 +22,7 @@ abbrev pub Refreshes : {D : Type 0} → (D → List ℕ → Type 0) → (D → L
 Refreshes whole holds before after file (Ok done) = LooksAgain whole holds before after file
 Refreshes whole holds before after file (Err fault) = holds after file
 
--- a whole file, by what the part of it stands for that a device holds: it extends these records, or is refused as the part is
+-- a whole file, by what the part of it represents that a device holds: it extends these records, or is refused as the part is
 abbrev pub WholeOf : Contents → List ℕ → List ℕ → Type 0
 WholeOf (Records records) file whole = Extends records file whole
 WholeOf (Damaged at) file whole = contents whole ≡ Damaged at

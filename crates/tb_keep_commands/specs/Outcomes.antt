@@ -52,7 +52,7 @@ module _ {D : Type 0} (its : devices.Ghosts D) where
   abbrev pub OfFile : D → (List ℕ → Type 0) → Type 0
   OfFile device Is = (file : List ℕ) → its.holds device file → Is file
 
-  -- a device was read to the end of its file, as one history, or it is told why not; the file stays
+  -- a device was read to the end of its file, as one history, or it is reported why not; the file stays
   pub record IsReadWhole (found : Result Found StartFault) (device after : D) : Type 0 where
     pub found_is : OfFile device (ReadsWhole found)
     pub same : OfFile device (its.holds after)
@@ -120,7 +120,7 @@ module _ {D : Type 0} (its : devices.Ghosts D) where
   pub record IsMeasured (whole : D → List ℕ → Type 0) (len : Result ℕ journal.Fault) (device after : D) : Type 0 where
     pub long : (file : List ℕ) → whole device file → Grown (whole after) file (λ later. IfOk len (λ n. n ≡ length later))
     pub extends : OfFile device (λ file. IfOk len (IsWholeLength file))
-    -- nobody else appends to the file of a device that tells what its calls do
+    -- nobody else appends to the file of a device that reports what its calls do
     pub told : its.tells → IfOk len (λ n. n ≡ length (its.disk device).seen)
     pub same : OfFile device (its.holds after)
     pub looks : its.tells → Looks len (its.disk device) (its.disk after)
@@ -133,7 +133,7 @@ module _ {D : Type 0} (its : devices.Ghosts D) where
     pub checks : MatchResult len (λ n. ChecksLong n outcome between after start written)
         (λ fault. (outcome ≡ Err (disk_fault fault)) × (written ≡ start))
 
-  -- that its start made a file where there were no bytes was told, and what it cut off behind the records of one of so many bytes, and that
+  -- that its start made a file where there were no bytes was reported, and what it cut off behind the records of one of so many bytes, and that
   -- it is done, where that is reported; then a ledger was kept
   pub record ServesKept (outcome : Outcome) (keeper : Keeping D) (path : List ℕ) (reports : Bool) (len : ℕ) (first last : Input) (start written quiet told : Output) : Type 0 where
     pub noted : Output
@@ -146,7 +146,7 @@ module _ {D : Type 0} (its : devices.Ghosts D) where
     pub served : Served its.tells its.disk result keeper after first last start written
     pub outcome_is : outcome ≡ kept_outcome (failed_pipe first.failed last.failed) result
 
-  -- what a start over a device answers, of one that tells what its calls do; of one that is kept, where no sync has failed before
+  -- what a start over a device answers, of one that reports what its calls do; of one that is kept, where no sync has failed before
   pub record Starts (result : Result (Keeping D) (NotKept D)) (rules : Rules) (device : D) : Type 0 where
     pub answers : MatchResult result (λ keeper. (its.disk device).sound ≡ true → IsStarted its.disk rules.profile rules.clients_max (its.disk device).seen keeper)
         (λ failed. IsStartRefused rules.profile rules.clients_max failed.fault (its.disk device) (its.disk failed.device))
@@ -154,7 +154,7 @@ module _ {D : Type 0} (its : devices.Ghosts D) where
     -- a crash at any moment of it, where none has
     pub any_moment : (its.disk device).sound ≡ true → LeavesOnly (its.disk device) (its.disk (device_left result)) (MayBeStarted rules.profile rules.clients_max (its.disk device))
 
-  -- a start was refused, with what there is to say of the file; nothing was read, written or told but why
+  -- a start was refused, with what there is to say of the file; nothing was read, written or reported but why
   pub record IsUnstarted (failed : NotKept D) (rules : Rules) (outcome : Outcome) (first last : Input) (start written quiet told : Output) : Type 0 where
     pub named : Fault
     pub outcome_is : outcome ≡ Err named
@@ -164,7 +164,7 @@ module _ {D : Type 0} (its : devices.Ghosts D) where
     pub unwritten : written ≡ start
     pub silent : told ≡ quiet
 
-  -- that the file is read was told, where that is reported, and a ledger was started; it was kept, or is refused
+  -- that the file is read was reported, where that is reported, and a ledger was started; it was kept, or is refused
   pub record ServesLong (outcome : Outcome) (rules : Rules) (path : List ℕ) (reports : Bool) (len : ℕ) (device : D) (first last : Input) (start written quiet told : Output) : Type 0 where
     pub noted : Output
     pub reading : TellsReading reports path len quiet noted
@@ -189,7 +189,7 @@ pub record Opens {D O : Type 0} (named : OpeningFault → Fault) (may : Result D
   pub done : MatchResult answer Does (λ fault. (outcome ≡ Err (named fault)) × Nothing)
 
 module _ {D : Type 0} (its : devices.Ghosts D) {O : Type 0} (may : Result D OpeningFault → O → Type 0) (left : O) where
-  -- where requests would come from a terminal it is told first where words are read
+  -- where requests would come from a terminal it is reported first where words are read
   pub record RunsOver (outcome : Outcome) (rules : Rules) (path : List ℕ) (reports talks : Bool) (first last : Input) (start written quiet told : Output) : Type 0 where
     pub noted : Output
     pub frames : TellsFrames talks quiet noted

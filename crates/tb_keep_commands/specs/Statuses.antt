@@ -1,5 +1,5 @@
 -- The exit status of each fault, and the line that names it.
--- Cited by public contracts of: commands, copies, faults, host, lines, openers.
+-- Cited by public contracts of: commands, copies, faults, host, lines, openers, serving.
 use Rattle.std.specs.Prelude.{ℕ, zero, suc, Bool, true, false, ◌≡◌, ◌==◌, ◌/◌, ◌&&◌, nat_le, nat_eq, ◌++◌, List, [], ◌∷◌, Option, Some, None, if◌then◌else◌, flat_map, codes, refl}
 use Rattle.std.specs.Fmt.{decimal, digits}
 use Rattle.std.specs.IoError.{error_kind}
@@ -53,7 +53,7 @@ opening_fault_of kinds.PermissionDenied = opening.Forbidden
 opening_fault_of kinds.OutOfMemory = opening.NoMemory
 opening_fault_of kind = opening.Unopened
 
--- a sync fails for want of memory, or what was written may be lost
+-- a sync fails since memory ran out, or what was written may be lost
 abbrev pub sync_fault : journal.Fault → OpeningFault
 sync_fault disk.Memory = opening.NoMemory
 sync_fault fault = opening.SyncFailed
@@ -170,7 +170,7 @@ damage_text (Torn at bytes) = (decimal bytes ++ codes " bytes behind byte ") ++ 
 abbrev pub sync_text : List ℕ
 sync_text = codes "SyncFailed: restart the machine or copy the file before the next start"
 
--- why a file was not opened; where the words may be wrong they are told
+-- why a file was not opened; where the words may be wrong they are reported
 abbrev pub opening_text : OpeningFault → List ℕ → List ℕ
 opening_text opening.Locked path = codes "Locked: another program has the file open"
 opening_text opening.Missing path = codes "Device: cannot find " ++ path
@@ -220,7 +220,7 @@ fault_text (Making fault) path = opening_text fault path
 fault_text NoMemory path = codes "NoMemory"
 fault_text (Request fault) path = run_fault_name fault
 fault_text (NotAJournal kind) path = kind_text kind path
-fault_text NoHead path = codes "NotAJournal: the first record is no ledger's head"
+fault_text NoHead path = codes "NotAJournal: the first record is no ledger's head; tbd follow serves a log"
 fault_text (Damaged damage) path = codes "Damaged: " ++ damage_text damage
 fault_text (OtherRules numbers) path = mismatch_text numbers path
 fault_text Full path = codes "Full"
@@ -237,12 +237,12 @@ fault_line fault path = codes "tbd: " ++ (fault_text fault path ++ codes "\n")
 abbrev pub made_line : List ℕ → List ℕ
 made_line path = codes "tbd: made " ++ (path ++ codes "\n")
 
--- a line is told, or none is
+-- a line is reported, or none is
 abbrev pub TellsWhere : Bool → List ℕ → Output → Output → Type 0
 TellsWhere false line before after = after ≡ before
 TellsWhere true line before after = SaysLine line before after
 
--- of a file of so many bytes: it was made where it had none, and else nothing is told
+-- of a file of so many bytes: it was made where it had none, and else nothing is reported
 abbrev pub TellsMade : ℕ → List ℕ → Output → Output → Type 0
 TellsMade len path before after = TellsWhere (nat_eq len 0) (made_line path) before after
 

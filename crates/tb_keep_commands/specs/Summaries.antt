@@ -11,7 +11,7 @@ use Rattle.tb_keep.specs.Reading.{IsNoHistory, rules_of}
 use Rattle.tb_keep_commands.specs.declared.summaries.Found.{Found}
 use Rattle.tb_keep_commands.specs.declared.summaries.Summary.{Summary}
 
--- the file stands for a history, and this is what was read of it: the rules that it was made with, its records and entries, the time of
+-- the file represents a history, and this is what was read of it: the rules that it was made with, its records and entries, the time of
 -- the last one, and where they end
 pub record IsFound (found : Found) (file : List ℕ) : Type 0 where
   pub history : History

@@ -30,7 +30,7 @@ pub struct Terminals {
 }
 
 /// Serves a ledger over the device of a path, which is made where there is none. Where requests would come from a terminal it is
-/// told first where words are read.
+/// reported first where words are read.
 fn run_over<O: Opener, R: Source, W: Sink, E: Sink>(
     alloc: Global,
     opener: &mut O,

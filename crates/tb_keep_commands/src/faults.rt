@@ -60,7 +60,7 @@ pub enum Damage {
     Record { place: u64, fault: FrameFault },
     /// The entry may not come next.
     Entry(RestoreFault),
-    /// Behind the records, which end at this offset, stand more bytes than a batch can have that was not committed.
+    /// Behind the records, which end at this offset, are more bytes than a batch can have that was not committed.
     Torn { at: u64, bytes: u64 },
 }
 
@@ -118,7 +118,7 @@ fn refused_fault(why: Refusal) -> Fault
 }
 
 /// The fault of a journal that is not read or opened.
-pub(crate) fn opened_fault(fault: OpenFault) -> Fault
+pub fn opened_fault(fault: OpenFault) -> Fault
     ensures { result ≡ opened_fault fault }
 {
     match fault {

@@ -20,7 +20,7 @@ const INPUT: usize = 1 << 20;
 /// The bytes of output that `dump` holds at a time.
 const OUTPUT: usize = 65536;
 
-/// The bytes that a form's reader and writer hold. Replies are written at once, each time all that are at hand; and a form that
+/// The bytes that a form's reader and writer hold. Replies are written at once, each time all that are buffered; and a form that
 /// writes once needs no buffer.
 fn capacities(form: Option<Form>) -> (usize, usize)
     ensures { result.0 ≡ input_size form }
@@ -85,7 +85,7 @@ pub fn serve<O: Opener, R: Read + Drop, W: Write + Drop, E: Sink>(
     between(alloc, opener, words, terminals, input, output, faults)
 }
 
-/// Tells a fault of no file, and answers its status.
+/// Prints a fault of no file, and answers its status.
 pub fn refuse<E: Sink>(fault: Fault, faults: &mut E) -> u8
     ensures value { result ≡ fault_status fault }
     ensures told { SaysLine (fault_line fault []) (E.output faults.old) (E.output faults.new) }

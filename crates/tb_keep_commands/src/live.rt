@@ -18,13 +18,13 @@ pub trait Live: Device {
             → Grown (whole self.new) file (λ later. IfOk result (λ len. len ≡ length later)) }
         // Of any device: what it holds begins the file whose length that is.
         ensures extends { (file : List ℕ) → Self.holds self.old file → IfOk result (IsWholeLength file) }
-        // Of a device that tells what its calls do: nobody else appends to that.
+        // Of a device that reports what its calls do: nobody else appends to that.
         ensures told { Self.tells → IfOk result (λ len. len ≡ length (Self.disk self.old).seen) }
         ensures same { (file : List ℕ) → Self.holds self.old file → Self.holds self.new file }
         ensures names { IfErr result IsOfCall }
         ensures looks { Self.tells → Looks result (Self.disk self.old) (Self.disk self.new) };
 
-    /// Goes on to what has been committed by now: to all that the whole file stood for at some moment of the call. On a fault it
+    /// Goes on to what has been committed by now: to all that the whole file represented at some moment of the call. On a fault it
     /// holds what it held.
     fn refresh(&mut self) -> Result<(), Fault>
         ensures later { (file : List ℕ) → Self.holds self.old file → Refreshes whole Self.holds self.old self.new file result }

@@ -67,7 +67,7 @@ pub trait Opener {
     /// A file that is served, or made: nobody else serves it meanwhile.
     type File: Device + Drop;
 
-    /// A file that is read alone, as it stood at some moment: another program may serve it meanwhile.
+    /// A file that is read alone, as it was at some moment: another program may serve it meanwhile.
     type Reading: Live + Drop;
 
     /// An opening may answer this, where what is not there is made. Anything, where an opener does not say it.

@@ -14,7 +14,7 @@ use tb_journal::Device;
 use tb_keep::{KeepFault, Keeper, NotKept, Rules, keep};
 use tb_records::{Sink, Source};
 
-/// How a start is told: over a file of which path, and whether that it reads, and is done, is reported.
+/// How a start is reported: over a file of which path, and whether that it reads, and is done, is reported.
 #[derive(Clone, Copy)]
 pub(crate) struct Told<'a> {
     pub path: &'a str,
@@ -33,7 +33,7 @@ fn refused<D: Device + Drop>(alloc: Global, failed: NotKept<D>, asked: Rules) ->
 }
 
 /// Which pipe failed if one did, of a reader that had so many errors before, and has so many now.
-fn failed_pipe(before: u64, now: u64) -> Failed
+pub fn failed_pipe(before: u64, now: u64) -> Failed
     ensures { result ≡ failed_pipe before now }
 {
     if before == now {
@@ -43,7 +43,7 @@ fn failed_pipe(before: u64, now: u64) -> Failed
     }
 }
 
-/// What is told of serving that ended so.
+/// What is reported of serving that ended so.
 fn kept_outcome(kept: Result<u64, KeepFault>, pipe: Failed) -> Result<(), Fault>
     ensures { result ≡ kept_outcome pipe kept }
 {
@@ -53,7 +53,7 @@ fn kept_outcome(kept: Result<u64, KeepFault>, pipe: Failed) -> Result<(), Fault>
     }
 }
 
-/// Serves pairs over a ledger until they end. What its start made of the file of this path is told first: where it had no bytes
+/// Serves pairs over a ledger until they end. What its start made of the file of this path is reported first: where it had no bytes
 /// it was made, and else what was cut off behind the records; and then that it is done, where that is reported.
 fn serve<D: Device + Drop, A: Allocator + Clone, R: Source, W: Sink, E: Sink>(
     alloc: Global,
@@ -81,7 +81,7 @@ fn serve<D: Device + Drop, A: Allocator + Clone, R: Source, W: Sink, E: Sink>(
     kept_outcome(kept, failed_pipe(failures, reader.failures()))
 }
 
-/// Opens a ledger over a device, or creates one, and serves pairs until they end: each reply is told when the entry that it
+/// Opens a ledger over a device, or creates one, and serves pairs until they end: each reply is sent when the entry that it
 /// rests on is in the file. The machine's records take their memory of the pool. So many bytes were in the file before.
 fn start<D: Device + Drop, A: Allocator + Copy, R: Source, W: Sink, E: Sink>(
     alloc: Global,

@@ -1,4 +1,4 @@
--- What the file of a kept log stands for, and what a keeper is that keeps it.
+-- What the file of a kept log represents, and what a keeper is that keeps it.
 -- Cited by public contracts of: keepers, opening, serving.
 use Rattle.std.specs.Prelude.{ℕ, ◌≡◌, Bool, true, List, [], ◌∷◌, ◌++◌, codes, refl}
 use Rattle.tb_records.specs.declared.limits.Profile.{Profile}
@@ -42,7 +42,7 @@ pub record Leads (profile : Profile) (clients_max : ℕ) (F : Following) (record
 abbrev pub IsKept : Profile → ℕ → List (List ℕ) → Following → Type 0
 IsKept profile clients_max records F = Leads profile clients_max (begun profile clients_max) records F
 
--- the rules of a log, the journal on a device, the follower beside it, how many torn bytes a start cut off, and whether no call has failed
+-- the rules of a log, the journal on a device, the follower next to it, how many torn bytes a start cut off, and whether no call has failed
 pub record Keeping (D : Type 0) : Type 0 where
   pub rules : Rules
   pub journal : Kept D
@@ -56,7 +56,7 @@ pub record IsUsable {D : Type 0} (keeper : Keeping D) : Type 0 where
   pub journal : keeper.journal.usable ≡ true
   pub none_waits : keeper.journal.waiting ≡ []
 
--- the keeper's file has these records, and the follower stands behind them
+-- the keeper's file has these records, and the follower is behind them
 pub record Keeps {D : Type 0} (disk : D → Disk) (records : List (List ℕ)) (keeper : Keeping D) : Type 0 where
   pub ready : IsReady disk keeper.journal
   pub file : recorded (disk keeper.journal.device).seen ≡ records

@@ -1,4 +1,4 @@
--- What holds of every kept log: at each moment what was told is in the file, and what is opened goes on as if it had read all before.
+-- What holds of every kept log: at each moment what was acknowledged is in the file, and what is opened goes on as if it had read all before.
 -- Cited by public contracts of: laws.
 use Rattle.std.specs.Prelude.{ℕ, ◌≡◌, ◌⊎◌, ◌≤◌, List, [], ◌∷◌, ◌++◌, length, Result}
 use Rattle.tb_records.specs.declared.limits.Profile.{Profile}
@@ -21,7 +21,7 @@ GoesOn = (F : Following) (read more : List Item)
     × (given F (read ++ more) ≡ given F read ++ given (after_items F read) more)
     × (after_items F (read ++ more) ≡ after_items (after_items F read) more)
 
--- so is one that was opened: its file stands for items from the beginning of the log up to its position, and it wants those behind them
+-- so is one that was opened: its file represents items from the beginning of the log up to its position, and it wants those behind them
 abbrev pub OpenedGoesOn : Type 0
 OpenedGoesOn = (profile : Profile) (clients_max : ℕ) (records : List (List ℕ)) (F : Following) (more : List Item) → (kept : IsKept profile clients_max records F)
     → (bytes_of (begun profile clients_max) (kept.items ++ more) ≡ bytes_of (begun profile clients_max) kept.items ++ bytes_of F more)
@@ -35,7 +35,7 @@ OneLog = (profile : Profile) (clients_max : ℕ) (records : List (List ℕ)) (F 
 abbrev pub OtherFormat : Type 0
 OtherFormat = (profile other : Profile) (clients_max number : ℕ) (F : Following) (content : List ℕ) → record_bytes profile clients_max F content ≡ head_record other number → ⊥
 
--- the file has the records from before, and those of some first items, and a follower opened over it stands behind these
+-- the file has the records from before, and those of some first items, and a follower opened over it is behind these
 pub record HasFirst (profile : Profile) (clients_max : ℕ) (records : List (List ℕ)) (F : Following) (all : List Item) (file : List ℕ) : Type 0 where
   pub items : List Item
   pub others : List Item
@@ -44,7 +44,7 @@ pub record HasFirst (profile : Profile) (clients_max : ℕ) (records : List (Lis
   pub kept : IsKept profile clients_max (records ++ records_from profile clients_max F items) (after_items F items)
 
 module _ (tells : Type 0) {D : Type 0} (disk : D → Disk) where
-  -- a crash at any moment of a run: the items are those that were served, and at most one behind them, of which no reply was told in full
+  -- a crash at any moment of a run: the items are those that were served, and at most one behind them, of which no reply was sent in full
   abbrev pub AnyCrash : Type 0
   AnyCrash = (records : List (List ℕ)) (result : Result ℕ KeepLogFault) (keeper after : Keeping D) (first last : Input) (start written : Output) (file : List ℕ)
       → tells → Keeps disk records keeper
@@ -69,12 +69,12 @@ module _ (tells : Type 0) {D : Type 0} (disk : D → Disk) where
       → (disk after).left_since (disk before.journal.device).moment file
       → IsBeforeOrAfter (recorded (disk first.journal.device).seen ++ records_from profile clients_max first.now done) (record_of profile clients_max before.now item) file
 
-  -- and what was told until then are the answers to these
+  -- and what was acknowledged until then are the answers to these
   abbrev pub TellsTheDone : Type 0
   TellsTheDone = (profile : Profile) (clients_max : ℕ) (done : List Item) (first before : Point D) → Turns tells disk profile clients_max done first before
       → Sent (given first.now done) first.output before.output
 
-  -- once it is committed, when its answers are told, a crash leaves that one too
+  -- once it is committed, when its answers are sent, a crash leaves that one too
   abbrev pub WhileTelling : Type 0
   WhileTelling = (profile : Profile) (clients_max : ℕ) (done : List Item) (item : Item) (first before : Point D) (after : D) (file : List ℕ)
       → tells → Turns tells disk profile clients_max done first before

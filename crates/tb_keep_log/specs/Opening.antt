@@ -50,7 +50,7 @@ abbrev pub IsRefused : LogStartFault → Profile → ℕ → Disk → Disk → T
 IsRefused (start.Journal (open_faults.Device fault)) profile clients_max before after = Unit {0}
 IsRefused fault profile clients_max before after = StopsOpening fault profile clients_max before.seen × IsUntouched before after
 
--- by the file that the reads are of: the follower stands behind all its entries, or it is told why not
+-- by the file that the reads are of: the follower is behind all its entries, or it is reported why not
 abbrev pub OpensFile : {D : Type 0} → Result (Keeping D) (NotStarted D) → Profile → ℕ → List ℕ → Type 0
 OpensFile (Ok keeper) profile clients_max file =
     (contents file ≡ Records (recorded file)) × IsKept profile clients_max (recorded file) keeper.now

@@ -85,7 +85,7 @@ StopsReading (start.Journal fault) profile clients_max file = RefusesFile fault 
 StopsReading start.NoMemory profile clients_max file = Unit {0}
 StopsReading fault profile clients_max file = StopsBeginning fault profile clients_max file
 
--- the file was read to its end, and the follower stands behind its entries
+-- the file was read to its end, and the follower is behind its entries
 pub record IsRestored (profile : Profile) (clients_max : ℕ) (file : List ℕ) (F : Following) (extent : Extent) : Type 0 where
   pub extent_is : extent_of (contents file) ≡ Ok extent
   pub kept : IsKept profile clients_max (recorded file) F
@@ -107,7 +107,7 @@ StopsOpening (start.TornTooLong at bytes) profile clients_max file = IsTornTooLo
 StopsOpening fault profile clients_max file = StopsReading fault profile clients_max file
 
 -- the cause of a fault, by what the device has counted since: of one of the journal, that which it has when it is opened; behind any
--- other, which is the file's own or want of memory, no call on the device has failed
+-- other, which is the file's own or out of memory, no call on the device has failed
 abbrev pub IsLogCause : Disk → Disk → LogStartFault → Type 0
 IsLogCause before after (start.Journal fault) = IsOpenCause before after fault
 IsLogCause before after fault = FailsNone before after

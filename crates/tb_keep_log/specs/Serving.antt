@@ -47,7 +47,7 @@ module _ (tells : Type 0) {D : Type 0} (disk : D → Disk) (profile : Profile) (
     pub read : Takes (item_bytes before.now item) before.input after
     pub answered : IsAnswered before.now item
 
-  -- one item: it is read, the file grows by its record, whole or not at all, while nothing is told, and then it is answered
+  -- one item: it is read, the file grows by its record, whole or not at all, while nothing is sent, and then it is answered
   pub record Turn (item : Item) (before after : Point D) : Type 0 where
     pub read : IsRead item before after.input
     pub now : after.now ≡ with_item before.now item
@@ -59,7 +59,7 @@ module _ (tells : Type 0) {D : Type 0} (disk : D → Disk) (profile : Profile) (
   Turns [] before after = after ≡ before
   Turns (item ∷ items) before after = (middle : Point D) × Turn item before middle × Turns items middle after
 
-  -- the file is as it was, and nothing was told
+  -- the file is as it was, and nothing was sent
   pub record Quits (before after : Point D) : Type 0 where
     pub same : after.journal ≡ before.journal
     pub silent : after.output ≡ before.output
@@ -71,14 +71,14 @@ module _ (tells : Type 0) {D : Type 0} (disk : D → Disk) (profile : Profile) (
       ⊎ (tells → HasFailed (disk before.journal.device) (disk after.journal.device) fault
       × LeavesOnly (disk before.journal.device) (disk after.journal.device) (IsBeforeOrAfter (recorded (disk before.journal.device).seen) (record_of profile clients_max before.now item)))
 
-  -- an item was read, and its record not committed: nothing of it was told
+  -- an item was read, and its record not committed: nothing of it was sent
   pub record IsLost (fault : Fault) (before after : Point D) : Type 0 where
     pub item : Item
     pub read : IsRead item before after.input
     pub silent : after.output ≡ before.output
     pub why : IsUncommitted fault item before after
 
-  -- an item was read and its record committed, and the writer failed: a prefix of the answer was told
+  -- an item was read and its record committed, and the writer failed: a prefix of the answer was sent
   pub record BreaksOff (before after : Point D) : Type 0 where
     pub item : Item
     pub read : IsRead item before after.input

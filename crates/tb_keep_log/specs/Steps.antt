@@ -34,12 +34,12 @@ use Rattle.tb_keep_log.specs.Restoring.{EntersRecord, HasLogCause, IsHaltedConte
 use Rattle.tb_keep_log.specs.Opening.{IsCreatedCause}
 use Rattle.tb_keep_log.specs.Serving.{Point, Turn, Halts}
 
--- a writer into memory fails for want of memory alone
+-- a writer into memory fails only when out of memory
 abbrev pub in_memory : LogFault → LogFault
 in_memory log.Device = log.NoMemory
 in_memory fault = fault
 
--- the fault of an entry that cannot be entered, or of want of memory
+-- the fault of an entry that cannot be entered, or out of memory
 abbrev pub of_log : LogFault → LogStartFault
 of_log log.NoMemory = start.NoMemory
 of_log fault = start.Entry fault
@@ -107,7 +107,7 @@ MissesEntry fault F before after =
     RefusesEntry fault F.position before after
     ⊎ ((content : List ℕ) × ReadsEntry content F.position before after × IsPairs content × IsHaltedContent fault F content)
 
--- bytes were told, and passed on, or the writer failed and left a prefix of them
+-- bytes were sent, and passed on, or the writer failed and left a prefix of them
 abbrev pub TellsBytes : Result (Unit {0}) KeepLogFault → List ℕ → Output → Output → Type 0
 TellsBytes (Ok done) bytes before after = Sent bytes before after × (after.held ≡ false)
 TellsBytes (Err (keep.Log fault)) bytes before after = (fault ≡ log.Device) × CutOff bytes before after
@@ -137,7 +137,7 @@ module _ (tells : Type 0) {D : Type 0} (disk : D → Disk) where
   Puts (Ok done) bytes before after = IsPut (bytes ∷ []) before after
   Puts (Err fault) bytes before after = IsUnput fault bytes before after
 
-  -- a record was committed, and then its answers were told
+  -- a record was committed, and then its answers were sent
   abbrev pub PutsAndTells : Result (Unit {0}) KeepLogFault → List ℕ → List ℕ → Kept D → Kept D → Output → Output → Type 0
   PutsAndTells (Ok done) bytes held before after start written = IsPut (bytes ∷ []) before after × TellsBytes (Ok tt) held start written
   PutsAndTells (Err (keep.Journal fault)) bytes held before after start written = IsUnput fault bytes before after × (written ≡ start)
@@ -159,7 +159,7 @@ module _ (tells : Type 0) {D : Type 0} (disk : D → Disk) where
       pub put : IsPut (record_of profile clients_max F (Entry pairs)) old new
       pub told : TellsBytes (Ok tt) (given_to F (Entry pairs)) start written
 
-    -- or it was refused; or its record was not committed, and nothing was told; or it was, and the writer failed
+    -- or it was refused; or its record was not committed, and nothing was sent; or it was, and the writer failed
     abbrev pub FailsEntry : KeepLogFault → Following → Kept D → Kept D → Input → Input → Output → Output → Type 0
     FailsEntry (keep.Journal fault) F old new before after start written =
         (pairs : List Pair) × ReadsWhole pairs F before after

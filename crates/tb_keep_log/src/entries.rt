@@ -12,7 +12,7 @@ use tb_keep::Rules;
 use tb_log::{Follower, LogFault, check_pairs, serve_content};
 use tb_records::Counting;
 
-/// The fault of a writer into memory: it fails for want of memory alone.
+/// The fault of a writer into memory: it fails only when out of memory.
 fn in_memory(fault: LogFault) -> LogFault
     ensures { result ≡ in_memory fault }
 {

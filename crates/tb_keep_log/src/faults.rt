@@ -24,7 +24,7 @@ pub enum LogStartFault {
     OtherHashes(u64),
     /// There is no memory.
     NoMemory,
-    /// Behind the last whole record, which ends at this offset, are more bytes than a commit can leave that was cut short: so many,
+    /// Behind the last whole record, which ends at this offset, are more bytes than a torn commit can leave: so many,
     /// behind the latch there. They are not cut off.
     TornTooLong { at: u64, bytes: u64 },
 }

@@ -66,7 +66,7 @@ impl<D: Device, A: Allocator + Clone> LogKeeper<D, A> {
         self.follower.standing(global)
     }
 
-    /// How many bytes the start cut off: what a commit that was cut short had left behind the records and the latch there. 0 where
+    /// How many bytes the start cut off: what a torn commit had left behind the records and the latch there. 0 where
     /// there were none.
     pub fn cut_bytes(&self) -> u64
         ensures { result ≡ self.now.cut }

@@ -17,7 +17,7 @@ pub fn other_format()
     ensures { OtherFormat }
 {}
 
-/// A crash at any moment of `keep_log` leaves a file that stands for some first items of those that were read, and nothing else.
+/// A crash at any moment of `keep_log` leaves a file that represents some first items of those that were read, and nothing else.
 pub fn any_crash<D: Device>()
     ensures { AnyCrash D.tells D.disk }
 {}
@@ -28,7 +28,7 @@ pub fn after_kill<D: Device>()
     ensures { AfterKill D.tells D.disk }
 {}
 
-/// Whatever was told is in the file: while an entry is committed only the answers to earlier ones were told, and while its answers are told
+/// Whatever was acknowledged is in the file: while an entry is committed only the answers to earlier ones were sent, and while its answers are sent
 /// each file that a crash leaves has its record.
 pub fn told_is_kept<D: Device>()
     ensures committing { WhileCommitting D.tells D.disk }

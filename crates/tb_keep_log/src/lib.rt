@@ -1,5 +1,5 @@
 //! A follower of a log that outlives its process: each entry of the log is in a file, with the position and both hashes behind it, before
-//! its replies are told. What is opened at a position goes on as if it had read all entries up to it.
+//! its replies are sent. What is opened at a position goes on as if it had read all entries up to it.
 //!
 //! Modules, each over those before it:
 //!
@@ -9,7 +9,7 @@
 //! - `entries`: an entry served in memory; the entry of a record entered again, and compared with it.
 //! - `restoring`: `read_log`, a follower behind all records of a file.
 //! - `opening`: `LogKeeper::open` and `LogKeeper::start`.
-//! - `serving`: `keep_log`, items read, entries committed, and then answers told.
+//! - `serving`: `keep_log`, items read, entries committed, and then answers sent.
 //! - `dumps`: `write_log_dump`, the history of a kept log without positions.
 //! - `laws`: what holds of every kept log: functions that do nothing.
 #![tactic(auto)]

@@ -20,7 +20,7 @@ use tb_journal::{Device, Extent, Fault, Journal, NotOpened, OpenFault, create};
 use tb_keep::Rules;
 use tb_log::Follower;
 
-/// A commit that was cut short leaves at most so many bytes behind the records and the latch there: one record and its latch.
+/// A torn commit leaves at most so many bytes behind the records and the latch there: one record and its latch.
 const TORN_MAX: u64 = (1 << 24) + 8;
 
 /// A device whose file was not opened as a kept log, and why.

@@ -105,8 +105,8 @@ fn read_by<D: Device, A: Allocator + Clone>(
 }
 
 /// Reads the file of a kept log of these rules record by record, serves the pairs of each again, and compares what they leave behind with
-/// the position and the hashes of the record: the follower behind the last entry, and where the records end. What was read is on the disk;
-/// nothing is written. The first record that is damaged, or that is not that of the next entry, is told.
+/// the position and the hashes of the record: the follower behind the last entry, and where the records end. What was read is durable;
+/// nothing is written. The first record that is damaged, or that is not that of the next entry, is reported.
 pub fn read_log<D: Device, A: Allocator + Clone>(
     global: Global,
     alloc: A,

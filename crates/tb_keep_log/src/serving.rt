@@ -80,7 +80,7 @@ fn put<D: Device>(journal: &mut Journal<D>, bytes: &[u8]) -> Result<(), Fault>
     }
 }
 
-/// Commits the record of an entry, and then tells its answers.
+/// Commits the record of an entry, and then sends its answers.
 fn put_and_tell<D: Device, W: Sink>(
     journal: &mut Journal<D>,
     bytes: &[u8],
@@ -99,7 +99,7 @@ fn put_and_tell<D: Device, W: Sink>(
     }
 }
 
-/// Reads an entry behind its kind, commits its record, and then tells its answers.
+/// Reads an entry behind its kind, commits its record, and then sends its answers.
 fn keep_entry<D: Device, A: Allocator + Clone, R: Source, W: Sink>(
     global: Global,
     rules: Rules,
@@ -189,9 +189,9 @@ fn keep_all<D: Device, A: Allocator + Clone, R: Source, W: Sink>(
 }
 
 /// Follows a log from the entry behind the keeper's position until the input ends, and answers the position of the last entry. Each entry
-/// is read and served as a whole, and committed with the position and both hashes behind it; then its replies are told, each with the
+/// is read and served as a whole, and committed with the position and both hashes behind it; then its replies are sent, each with the
 /// position and its index in the entry. Each question is answered by the position and both hashes. Where an entry is refused, nothing of
-/// it is in the file or told. After a fault the keeper cannot go on.
+/// it is in the file or sent. After a fault the keeper cannot go on.
 pub fn keep_log<D: Device, A: Allocator + Clone, R: Source, W: Sink>(
     global: Global,
     keeper: &mut LogKeeper<D, A>,

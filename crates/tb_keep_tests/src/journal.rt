@@ -1,4 +1,4 @@
-//! Journals over a file in memory: worked rows, byte for byte, and what a crash or a call that fails leaves; and over files
+//! Journals over a file in memory: worked examples, byte for byte, and what a crash or a call that fails leaves; and over files
 //! of the system.
 //!
 //! Modules, each over those before it:

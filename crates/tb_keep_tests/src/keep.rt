@@ -1,4 +1,4 @@
-//! Kept ledgers over a file in memory: what is told, what a crash leaves, and what is opened again.
+//! Kept ledgers over a file in memory: what is reported, what a crash leaves, and what is opened again.
 //!
 //! Modules, each over those before it:
 //!

@@ -1,4 +1,4 @@
--- What a verdict of 0 tells: each test of its tables fails.
+-- What a verdict of 0 says: each test of its tables fails.
 use Rattle.tb_ledger.proofs.Common.{◌≡◌, ◌≢◌, ℕ, ◌+◌, ◌*◌, ◌≤◌, Bool, true, false, not, ◌&&◌, if◌then◌else◌, eqb, ltb, ◌==◌, List, [], ◌∷◌, Option, Some, None, option_map, bit_and, bit_or, refl, sym, ap, subst, ◌∙◌, arith, ltb-false, nat_tests, and_parts, and_from, and_or_apart, and_or_self, Account, Transfer, Each, found_key, State, Open, Posted, Voided, Expired, Books, has, closed, debits_limited, credits_limited, pending, resolves, is_open, is_posted, is_voided, is_expired, state_of, stands_closed, account_at, account_now, as_it_stands, transfer_at, debits_pending, debits_posted, credits_pending, credits_posted, Test, first_of, first_code, is_not, int_max, max_time, account_own_tests, account_exists_tests, account_new_tests, account_verdict, transfer_own_tests, transfer_exists_tests, failed_tests, transfer_verdict, filled, filled_amount, filled_from, given_or, differs, id_code, resolve_own_tests, named_tests, closed_tests, closed_at, named_code, resolve_code, single_own_tests, pair_tests, pair_code, amount_tests, single_code, balanced_amount, balanced_between, blank, FoundPending}
 use Rattle.tb_ledger.proofs.FoundPairs.{FoundPair}
 
@@ -23,7 +23,7 @@ none_fails (code ∷ codes) is = by (eqb code 0) refl (none_fails codes) is
     by true e later is = let here : code ≡ 0 = grind (arith, nat_tests) in (here, later is)
     by false e later is = absurd (grind (arith, nat_tests))
 
--- numbers that a test doesn't tell apart
+-- numbers that a test does not distinguish
 pub same_numbers : (x y : ℕ) → is_not x y ≡ false → x ≡ y
 same_numbers x y is = by (eqb x y) refl is
   where
@@ -31,7 +31,7 @@ same_numbers x y is = by (eqb x y) refl is
     by true e is = grind (arith, nat_tests)
     by false e is = absurd (cc)
 
--- numbers that a test tells apart
+-- numbers that a test distinguishes
 other_numbers : (x y : ℕ) → eqb x y ≡ false → x ≢ y
 other_numbers x y is same = grind (arith, nat_tests)
 
@@ -40,7 +40,7 @@ pub flag_stays : (mask flags : ℕ) (b : Bool) → bit_and 32 mask ≡ 0 → has
 flag_stays mask flags true apart = ap (λ n. not (n == 0)) (and_or_apart mask flags 32 apart)
 flag_stays mask flags false apart = refl
 
--- an account that is closed as it stands has the flag
+-- an account that is closed as it is now has the flag
 pub closed_flag : (B : Books) (a : Account) → closed (as_it_stands B a) ≡ false → stands_closed B a ≡ false
 closed_flag B a is = elim (stands_closed B a) as (λ b. has 32 (if b then bit_or a.flags 32 else a.flags) ≡ false → b ≡ false) [ true ↦ λ test. let set : has 32 (bit_or a.flags 32) ≡ true = ap (λ n. not (n == 0)) (and_or_self 32 a.flags) in absurd (cc) | false ↦ λ test. refl ] is
 

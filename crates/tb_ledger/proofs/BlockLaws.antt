@@ -81,7 +81,7 @@ module _ {E : Type 0} (kind : Kind E) where
       let some : (code == 0) ≡ false = subst (λ n. (n == 0) ≡ false) (sym is) (undone-is last) in
       ap (results_from (p + i)) codes ∙ results-one (p + i) code later some ∙ ap (λ k. record { index = p + i; result = code } ∷ results_from k later) next
 
-  -- what a chain leaves, by the place where a loop through it stands
+  -- what a chain leaves, by the place where a loop through it is
   pub broken-here : (B : Books) (block : List E) (time : ℕ) (B' : Books) (place stamp code : ℕ) (e : E)
       → failure_from kind place B' (timed_from stamp (drop place block)) ≡ failure_from kind 0 B (timed_from time block)
       → place < length block → e ≡ get_or block place e

@@ -63,7 +63,7 @@ holds_put key known admitted es rows has row k later at here others absent is =
     (own-inserted key row (key row) es refl own) (rising-put key row (values_of es) none has.knows.table.rising)
     (known-put key (MayBeKey known) (MayBeKey admitted) (key row) row (values_of es) refl here others has.knows.may)))
 
--- a row changed where it stands, or none
+-- a row changed in place, or none
 module _ {F V R : Type 0} (key : V → ℕ) (c : Mut F (MutBor V × Unit {0}) (R × (MutBor V × Unit {0}))) (keeps : KeepsKey key c) (id : ℕ) (known : AbsentIds) (m m' : Map ℕ V) (rows : List V) (has : Holds key known (entries m) rows) (f f' : F) where
   pub record Updates (o : Option R) : Type 0 where
     pub knows : KnowsAbsent key known (entries m')
@@ -79,7 +79,7 @@ module _ {F V R : Type 0} (key : V → ℕ) (c : Mut F (MutBor V × Unit {0}) (R
   updates None ch none =
       record { knows = rw none.2 has.knows; changed = tt; absent = (sym (found_in key known (entries m) rows has id) ∙ none.0, rw none.2 has.is) }
 
--- two rows changed where they stand, or none
+-- two rows changed in place, or none
 module _ {F V R : Type 0} (key : V → ℕ) (c : Mut F (MutBor V × (MutBor V × Unit {0})) (R × (MutBor V × (MutBor V × Unit {0})))) (keeps : KeepsKeys key c) (a b : ℕ) (known : AbsentIds) (m m' : Map ℕ V) (rows : List V) (has : Holds key known (entries m) rows) (f f' : F) where
   pub record UpdatesTwo (o : Option R) : Type 0 where
     pub knows : KnowsAbsent key known (entries m')
@@ -144,7 +144,7 @@ first-later time e (x ∷ es) ordered is later =
     let here : time < x.0.0 = rw same later in
     (here, each-both (λ d. timeout_key (timeout_at x) < timeout_key d) (λ d. d.id ≤ int_max) (λ d. time < d.at) (timeouts_of es) (λ d above fits. omega arith) ordered.rising.0 ordered.fit.1)
 
--- pairs of numbers compare as one number does, where the second part has its room
+-- pairs of numbers compare as one number does, where the second part fits
 pub pair-number : (a b c d : ℕ) → b ≤ int_max → d ≤ int_max → ordering_then (nat_cmp a c) (nat_cmp b d) ≡ nat_cmp (timeout_key (record { at = a; id = b })) (timeout_key (record { at = c; id = d }))
 pair-number a b c d b_fits d_fits = by (ltb a c) refl (eqb a c) refl (ltb b d) refl (eqb b d) refl (ltb x y) refl (eqb x y) refl
   where

@@ -80,7 +80,7 @@ sums_released accounts transfers p s rising found holds over =
     (λ x _. released_here credit closing_credit transfers p s found holds over x) (released_other credit closing_credit transfers p s found holds over)
     accounts rising (λ a _. tt) (λ a _. tt)
 
--- a side of which p leaves has room for what is posted of it
+-- a side of which p leaves can hold what is posted of it
 module _ (side : Transfer → ℕ) (closes : Transfer → Bool) (transfers : List TransferRow) (p : TransferRow) (r : Transfer) (s : State)
     (found : find (λ q. transfer_row_key q == transfer_row_key p) transfers ≡ Some p) (holds : row_holds p ≡ true) (over : is_open s ≡ false)
     (single : pending r ≡ false) (same : side r ≡ side p.recorded) (at_most : r.amount ≤ p.recorded.amount) where

@@ -3,7 +3,7 @@ use Rattle.tb_ledger.proofs.Common.{◌≡◌, ℕ, ◌==◌, Bool, List, find, 
 use Rattle.tb_ledger.proofs.Standing.{row_stands}
 
 module _ (accounts : List AccountRow) (transfers : List TransferRow) (failed : List ℕ) (keeps_failed : Bool) (timeouts : List Timeout) (time : ℕ) (kept : IsLedger accounts transfers failed keeps_failed timeouts time) where
-  -- the account of a row, as it stands
+  -- the account of a row, as it is now
   pub account_read : (books : Books) (id : ℕ) (row : AccountRow) (result : Account) → books_of accounts transfers failed keeps_failed time ≡ books → Some row ≡ find (λ a. a.created.id == id) accounts → result ≡ row_now row → Some result ≡ account_now books id
   account_read books id row result books_is found is =
       let has = each-find (HasSums transfers) (λ a. a.created.id == id) row accounts kept.kept.sums (sym found) in
@@ -15,7 +15,7 @@ module _ (accounts : List AccountRow) (transfers : List TransferRow) (failed : L
       sym (ap (λ B. account_now B id) (sym books_is)
       ∙ ap (option_map (as_it_stands (books_of accounts transfers failed keeps_failed time))) (find-map (λ a. a.id == id) (λ a. a.created) accounts ∙ ap (option_map (λ a. a.created)) (sym none)))
 
-  -- what is found of an id, as it stands
+  -- what is found of an id, as it is now
   pub account_of : (books : Books) (id : ℕ) (o : Option AccountRow) → books_of accounts transfers failed keeps_failed time ≡ books → o ≡ find (λ a. a.created.id == id) accounts → option_map row_now o ≡ account_now books id
   account_of books id (Some row) books_is found = account_read books id row (row_now row) books_is found refl
   account_of books id None books_is none = account_unread books id books_is none

@@ -1,4 +1,4 @@
--- A refusal that a function hands on.
+-- A refusal that a function passes on.
 use Rattle.tb_ledger.proofs.Common.{◌≡◌, ◌≢◌, ℕ, Result, Ok, Err, IfErr, sym, subst, IsErrAnd, AccountRow, Work, Books, IsKept, Noted, Decides, Stored}
 use Rattle.tb_ledger.proofs.Capacities.{leaves_still}
 

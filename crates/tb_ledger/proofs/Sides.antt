@@ -165,7 +165,7 @@ module _ (side other : Transfer → ℕ) (limited : Account → Bool) where
     at_most true n m le = le
     at_most false n m le = omega arith
 
-    -- both sums where there is room for it
+    -- both sums where it fits
     pub kept_added : ledger_at B.accounts (side r) ≡ Some r.ledger
         → pending_on side B (side r) + posted_on side B (side r) + r.amount ≤ int_max
         → ((a : Account) → account_at B (side r) ≡ Some a → limited a ≡ true → pending_on side B (side r) + posted_on side B (side r) + r.amount ≤ posted_on other B (side r))

@@ -114,7 +114,7 @@ time_after_transfers B events T = batch_kept transfer_events (λ B. B.time ≡ T
     refused : (B : Books) (t : Transfer) (code : ℕ) → B.time ≡ T → (transfer_events.refused B t code).time ≡ T
     refused B t code is = elim (is_final code) as (λ b. (if b then record B { failed = option_map (put (λ id. id) t.id) B.failed } else B).time ≡ T) [ true ↦ is | false ↦ is ]
 
--- of sound books, an account as it stands keeps its limits
+-- of sound books, an account as it is now keeps its limits
 pub sound_limits : (B : Books) (id : ℕ) (a : Account) → account_now B id ≡ Some a → Sound B → KeepsLimits a
 sound_limits B id a is sound = by (account_at B id) refl is
   where

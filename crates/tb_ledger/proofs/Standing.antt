@@ -1,4 +1,4 @@
--- A row is the account, or the transfer, as it stands in the books.
+-- A row is the account, or the transfer, as it is now in the books.
 use Rattle.tb_ledger.proofs.Common.{◌≡◌, ℕ, ◌+◌, Bool, true, false, ◌&&◌, ◌||◌, eqb, ◌==◌, List, [], ◌∷◌, map, find, sum_by, if◌then◌else◌, Some, option_map, refl, sym, ap, ◌∙◌, arith, list_any, sum_by-cons, Transfer, Each, sum_by-same, sum_by-through, find-map, found_key, each-map, each-find, AccountRow, TransferRow, Books, closed, pending, moves, is_open, holds, state_of, closing_debit, closing_credit, stands_closed, as_it_stands, account_at, account_now, debit, credit, pending_on, posted_on, account_row_key, books_of, row_closed, row_now, row_holds, bit, pending_share, posted_share, closing_share, HasSums, HasState, CanTake}
 use Rattle.tb_ledger.proofs.FoundPairs.{FoundPair}
 
@@ -71,7 +71,7 @@ module _ (accounts : List AccountRow) (transfers : List TransferRow) (failed : L
       pub closed_stands : row_closed a ≡ stands_closed B a.created
       closed_stands = rw (held_closed_stands debit closing_debit a.created.id a.debits.held_closed has.debits.held_closed, held_closed_stands credit closing_credit a.created.id a.credits.held_closed has.credits.held_closed) refl
 
-      -- the account as it stands
+      -- the account as it is now
       pub row_stands : account_now B id ≡ Some (row_now a)
       row_stands = ap (option_map (as_it_stands B)) account_there ∙ ap (λ a. Some a) (sym same)
         where

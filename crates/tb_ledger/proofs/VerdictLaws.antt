@@ -65,7 +65,7 @@ account_stands rows kept id = by (find (λ a. a.created.id == id) rows.accounts.
     by None e = ap (option_map (as_it_stands (books_in rows))) (find-map (λ a. a.id == id) (λ a. a.created) rows.accounts.items ∙ ap (option_map (λ a. a.created)) e)
     by (Some a) e = row_stands rows.accounts.items rows.transfers.items rows.failed.items rows.keeps_failed rows.time kept.kept.states id a (each-find (HasSums rows.transfers.items) (λ a. a.created.id == id) a rows.accounts.items kept.kept.sums e) e
 
--- an account as it stands is closed as its row is
+-- an account as it is now is closed as its row is
 flag_stands : (a : AccountRow) → closed (row_now a) ≡ row_closed a
 flag_stands a = by (row_closed a) refl
   where

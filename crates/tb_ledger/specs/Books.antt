@@ -50,7 +50,7 @@ debits_limited a = account_has account.DebitsMustNotExceedCredits a
 abbrev pub credits_limited : Account → Bool
 credits_limited a = account_has account.CreditsMustNotExceedDebits a
 
--- an account as it stands has this flag exactly where it is closed
+-- an account as it is now has this flag exactly where it is closed
 abbrev pub closed : Account → Bool
 closed a = account_has account.Closed a
 
@@ -181,7 +181,7 @@ stands_closed B a = closed a
     || list_any (λ t. holds B t && closing_debit t && (t.debit_account_id == a.id)) B.transfers
     || list_any (λ t. holds B t && closing_credit t && (t.credit_account_id == a.id)) B.transfers
 
--- the account as it stands
+-- the account as it is now
 abbrev pub as_it_stands : Books → Account → Account
 as_it_stands B a = record a {
   debits_pending = debits_pending B a.id;

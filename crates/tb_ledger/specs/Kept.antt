@@ -40,7 +40,7 @@ books_in rows = books_of rows.accounts.items rows.transfers.items rows.failed.it
 abbrev pub books_at : List TransferRow → ℕ → Books
 books_at transfers time = books_of [] transfers [] false time
 
--- an account as it stands
+-- an account as it is now
 
 abbrev pub row_closed : AccountRow → Bool
 row_closed a = closed a.created || a.debits.held_closed || a.credits.held_closed
@@ -103,7 +103,7 @@ times_out t = row_holds t && not (t.recorded.timeout == 0)
 abbrev pub timeout_of : TransferRow → Timeout
 timeout_of t = record { at = expires_at t.recorded; id = t.recorded.id }
 
--- its timeout stands among others
+-- its timeout is among others
 pub record IsListed (timeouts : List Timeout) (t : TransferRow) : Type 0 where
   pub in_range : expires_at t.recorded ≤ max_time
   pub there : find (λ d. timeout_key d == timeout_key (timeout_of t)) timeouts ≡ Some (timeout_of t)

@@ -5,7 +5,7 @@ use Rattle.tb_records.specs.declared.records.Transfer.{Transfer}
 use Rattle.tb_ledger.specs.declared.tables.accounts.Side.{Side}
 use Rattle.tb_ledger.specs.declared.tables.transfers.State.{State}
 
--- an account as it was created, and its two sides as they stand
+-- an account as it was created, and its two sides as they are now
 pub record KeptAccount : Type 0 where
   pub created : Account
   pub debits : Side

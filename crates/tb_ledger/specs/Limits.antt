@@ -5,14 +5,14 @@ use Rattle.tb_records.specs.declared.records.Account.{Account}
 use Rattle.tb_ledger.specs.Books.{Books, debits_limited, credits_limited, as_it_stands}
 use Rattle.tb_ledger.specs.Verdicts.{int_max}
 
--- of an account as it stands: its sums fit, debits_must_not_exceed_credits and credits_must_not_exceed_debits hold
+-- of an account as it is now: its sums fit, debits_must_not_exceed_credits and credits_must_not_exceed_debits hold
 pub record KeepsLimits (a : Account) : Type 0 where
   pub debits_fit : a.debits_pending + a.debits_posted ≤ int_max
   pub credits_fit : a.credits_pending + a.credits_posted ≤ int_max
   pub debits_within : debits_limited a ≡ true → a.debits_pending + a.debits_posted ≤ a.credits_posted
   pub credits_within : credits_limited a ≡ true → a.credits_pending + a.credits_posted ≤ a.debits_posted
 
--- a sum over the accounts of a ledger, as they stand
+-- a sum over the accounts of a ledger, as they are now
 abbrev pub in_ledger : Books → ℕ → (Account → ℕ) → ℕ
 in_ledger B ledger part = sum_by (λ a. if a.ledger == ledger then part a else 0) (map (as_it_stands B) B.accounts)
 

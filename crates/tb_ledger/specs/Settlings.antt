@@ -13,7 +13,7 @@ use Rattle.tb_ledger.specs.Kept.{row_closed, on_debits, on_credits, released_and
 use Rattle.tb_ledger.specs.Noted.{Noted, NotesPair}
 use Rattle.tb_ledger.specs.Verdicts.{closed_at, closed_tests, first_of, int_max}
 
--- the code of t by the accounts of p, as they stand
+-- the code of t by the accounts of p, as they are now
 abbrev pub closed_code : Books → Transfer → Transfer → ℕ
 closed_code B t p = first_of (closed_tests t (closed_at B p.debit_account_id) (closed_at B p.credit_account_id))
 
@@ -36,7 +36,7 @@ Settles p r undo_log d c result d' c' grown =
     Judges transfer_result_code result (first_of (closed_tests r (row_closed d) (row_closed c)))
     × MatchResult result (λ _. BothSettled p r undo_log d c d' c' grown) (λ _. (d' ≡ d) × (c' ≡ c) × (grown ≡ undo_log))
 
--- the same of a table of accounts, where both stand
+-- the same of a table of accounts, where both are
 pub record SettlesIn (p r : Transfer) (undo_log : Noted) (accounts : List AccountRow) (result : Result (Unit {0}) CreateTransferResult) (later : List AccountRow) (grown : Noted) : Type 0 where
   pub debit : AccountRow
   pub credit : AccountRow

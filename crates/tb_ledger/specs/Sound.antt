@@ -8,14 +8,14 @@ use Rattle.tb_records.specs.Ordered.{Each, Rising}
 use Rattle.tb_ledger.specs.Books.{Books, debits_limited, credits_limited, account_at, debit, credit, pending_on, posted_on}
 use Rattle.tb_ledger.specs.Verdicts.{int_max}
 
--- the keys by which accounts and transfers stand in order
+-- the keys by which accounts and transfers are in order
 abbrev pub account_key : Account → ℕ
 account_key a = a.id
 
 abbrev pub transfer_key : Transfer → ℕ
 transfer_key t = t.id
 
--- ids rise in the books: each stands once, of accounts, of transfers, and of failed ids where these are kept
+-- ids rise in the books: each is there once, of accounts, of transfers, and of failed ids where these are kept
 pub record IdsRise (B : Books) : Type 0 where
   pub accounts : Rising account_key B.accounts
   pub transfers : Rising transfer_key B.transfers

@@ -29,12 +29,12 @@ pub record Stored (V : Type 0) : Type 0 where
 abbrev pub freed : {X : Type 0} → Option X → ℕ
 freed o = if is_some o then 1 else 0
 
--- each row stands at its own key, and keys rise
+-- each row is at its own key, and keys rise
 pub record IsTable {V : Type 0} (key : V → ℕ) (es : List (ℕ × V)) : Type 0 where
   pub own : Each (λ e. key e.1 ≡ e.0) es
   pub rising : Rising key (values_of es)
 
--- by what a table knows of its keys, k may be one: it is at most the top, and where ids were sought, unlike each that was not found (0 stands for no id)
+-- by what a table knows of its keys, k may be one: it is at most the top, and where ids were looked up, unlike each that was not found (0 means no id)
 pub record MayBeKey (known : AbsentIds) (k : ℕ) : Type 0 where
   pub at_most : k ≤ known.top
   pub unlike : known.sought ≡ true → Each (λ id. 0 < id → k ≢ id) known.absent

@@ -8,7 +8,7 @@ use Rattle.tb_ledger.specs.declared.tables.timeouts.Timeout.{Timeout}
 use Rattle.tb_ledger.specs.Verdicts.{int_max}
 use Rattle.tb_ledger.specs.Tables.{freed, pairs_in, Stored}
 
--- timeouts stand by time, and by id where times are the same
+-- timeouts are by time, and by id where times are the same
 abbrev pub timeout_key : Timeout → ℕ
 timeout_key d = d.at * 340282366920938463463374607431768211456 + d.id
 

@@ -1,5 +1,5 @@
 -- The verdict on an account and on a transfer: the code of the first test of a table that holds, and 0 where none does.
--- The groups of tests stand in the order in which an event meets them.
+-- The groups of tests are in the order in which an event meets them.
 -- Cited by public contracts of: ledgers.
 use Rattle.std.specs.Prelude.{ℕ, Bool, true, false, not, ◌&&◌, ◌==◌, ◌+◌, ◌-◌, ◌*◌, min, nat_lt, List, [], ◌∷◌, Option, Some, None, if◌then◌else◌}
 use Rattle.std.specs.List.{list_any}
@@ -59,7 +59,7 @@ account_own_tests a =
     ∷ account_test account.IdMustNotBeIntMax (a.id == int_max)
     ∷ []
 
--- where the id is there, e is the account as it stands
+-- where the id is there, e is the account as it is now
 abbrev pub account_exists_tests : Option Account → Account → List Test
 account_exists_tests None a = []
 account_exists_tests (Some e) a =
@@ -83,7 +83,7 @@ account_new_tests a =
     ∷ account_test account.CodeMustNotBeZero (a.code == 0)
     ∷ []
 
--- present: the account of that id as it stands, if there is one
+-- present: the account of that id as it is now, if there is one
 abbrev pub account_code : Option Account → Account → ℕ
 account_code present a = first_code (first_of (account_own_tests a) ∷ first_of (account_exists_tests present a) ∷ first_of (account_new_tests a) ∷ [])
 
@@ -187,7 +187,7 @@ named_tests t p s =
     ∷ transfer_test transfer.PendingTransferExpired (is_expired s)
     ∷ []
 
--- whether the accounts of p, as they stand, are closed
+-- whether the accounts of p, as they are now, are closed
 abbrev pub closed_tests : Transfer → Bool → Bool → List Test
 closed_tests t debit_closed credit_closed =
     transfer_test transfer.DebitAccountAlreadyClosed (posts t && debit_closed)
@@ -223,7 +223,7 @@ single_own_tests t =
     ∷ transfer_test transfer.CodeMustNotBeZero (t.code == 0)
     ∷ []
 
--- the two accounts as they stand
+-- the two accounts as they are now
 abbrev pub pair_tests : Account → Account → Transfer → List Test
 pair_tests d c t =
     transfer_test transfer.AccountsMustHaveTheSameLedger (is_not d.ledger c.ledger)
@@ -245,7 +245,7 @@ balanced_debit d t = if balancing_debit t then min t.amount (debit_room d) else 
 abbrev pub balanced_amount : Account → Account → Transfer → ℕ
 balanced_amount d c t = if balancing_credit t then min (balanced_debit d t) (credit_room c) else balanced_debit d t
 
--- the two accounts as they stand, and the amount, balanced
+-- the two accounts as they are now, and the amount, balanced
 abbrev pub amount_tests : Account → Account → Transfer → ℕ → ℕ → List Test
 amount_tests d c t amount time =
     transfer_test transfer.OverflowsDebitsPending (pending t && nat_lt int_max (d.debits_pending + amount))
@@ -272,7 +272,7 @@ single_code B t time = first_code (first_of (single_own_tests t) ∷ pair_code (
 abbrev pub transfer_verdict : Books → Transfer → ℕ → ℕ
 transfer_verdict B t time = first_code (id_code B t ∷ (if resolves t then resolve_code B t else single_code B t time) ∷ [])
 
--- the amount of a transfer between two accounts as they stand
+-- the amount of a transfer between two accounts as they are now
 abbrev pub balanced_between : Option Account → Option Account → Transfer → ℕ
 balanced_between (Some d) (Some c) t = balanced_amount d c t
 balanced_between (Some d) None t = t.amount

@@ -1,4 +1,4 @@
--- Worked rows: what the definitions answer to requests of which the answers are known.
+-- Worked examples: what the definitions answer to requests of which the answers are known.
 -- Cited by public contracts of: worked_rows.
 use Rattle.std.specs.Prelude.{◌≡◌, ℕ, ◌+◌, max, List, [], ◌∷◌, map, ◌++◌, length, Option, Some, None}
 use Rattle.std.specs.Option.{option_map}
@@ -62,14 +62,14 @@ abbrev pub codes_of : Books → List Transfer → List ℕ
 codes_of B [] = []
 codes_of B (t ∷ later) = (request B (t ∷ [])).codes ++ codes_of (request B (t ∷ [])).books later
 
--- each gets the code that stands beside it: of transfers, each in a request of its own; of accounts, all in one request
+-- each gets the code next to it: of transfers, each in a request of its own; of accounts, all in one request
 abbrev pub Answered : Books → List (Row Transfer) → Type 0
 Answered B rows = codes_of B (events rows) ≡ codes rows
 
 abbrev pub CreatedAs : Books → List (Row Account) → Type 0
 CreatedAs B rows = (create B (events rows)).codes ≡ codes rows
 
--- an account's sums as they stand, and its flags
+-- an account's sums as they are now, and its flags
 abbrev pub sums : Books → ℕ → Option (List ℕ)
 sums B id = option_map (λ a. a.debits_pending ∷ a.debits_posted ∷ a.credits_pending ∷ a.credits_posted ∷ a.flags ∷ []) (account_now B id)
 

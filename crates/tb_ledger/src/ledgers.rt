@@ -129,7 +129,7 @@ impl<A: Allocator + Clone> Ledger<A> {
         self.work.rows.keeps_failed = true;
     }
 
-    /// The account of an id as it stands: its four sums, and flag closed where it is closed. None where it isn't there.
+    /// The account of an id as it is now: its four sums, and flag closed where it is closed. None where it isn't there.
     pub fn account(&self, id: u128) -> Option<Account>
         ensures { result ≡ account_now self.now id }
     {
@@ -230,7 +230,7 @@ impl<A: Allocator + Clone> Ledger<A> {
         enter(&mut self.work, &self.alloc, global, t, events)
     }
 
-    /// Accounts as they stand, in the order of the ids: one that isn't there is left out, one asked twice is answered twice.
+    /// Accounts as they are now, in the order of the ids: one that isn't there is left out, one asked twice is answered twice.
     pub fn lookup_accounts(&self, global: Global, ids: &[u128]) -> Result<Vec<Account>, AllocError>
         ensures { IfOk result (λ v. v.items ≡ found_accounts self.now ids.now) }
     {

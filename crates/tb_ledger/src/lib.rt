@@ -4,7 +4,7 @@
 //!
 //! - `tables`: what a ledger keeps.
 //!   - `absent_ids`: what a table knows of its keys without a search: the greatest, and absent ids.
-//!   - `map`: rows by rising key over an `AvlMap`; a finite map for all that stands above.
+//!   - `map`: rows by rising key over an `AvlMap`; a finite map for all that is above.
 //!   - `accounts`: the row of an account, 128 bytes.
 //!   - `transfers`: the row of a transfer, 128 bytes.
 //!   - `timeouts`: those of open pending transfers, by the moment at which they end.
@@ -12,7 +12,7 @@
 //!   - `index`: how the timeouts follow the rows.
 //!   - `undo_log`: the undo log of a chain.
 //!   - `work`: a batch in progress: all tables, the undo log of its present chain, the results so far.
-//! - `verdicts`: the result of an event, by the tables as they stand.
+//! - `verdicts`: the result of an event, by the tables as they are now.
 //!   - `blanks`: what a post or void takes over from the pending transfer that it names.
 //!   - `account`: what is wrong with an account.
 //!   - `transfer`: with a transfer of either kind, or with its id.
@@ -31,14 +31,14 @@
 //!   - `events`: what a batch asks of its events.
 //!   - `results`: the results of a broken chain; where a result becomes its number.
 //!   - `chains`: all of a chain, or nothing of it.
-//! - `lookups`: look-ups of many ids, eight at a time.
+//! - `lookups`: lookups of many ids, eight at a time.
 //! - `ledgers`: `Ledger`, all that the crates above call.
 //! - `laws`: laws of the definitions: functions that do nothing.
 //! - `worked_rows`: requests and the results that the definitions give to them.
 //!
 //! Memory for a batch is reserved first: rows, failed ids, timeouts, results, undo log. specs/Capacity says what the tables
 //! can still take, and what events use of it; specs/Steps what events ask of a batch in progress and what they leave. Undoing
-//! a chain gives nodes back as spare ones, and cannot fail. specs/Verdicts stands in the order in which an event meets its
+//! a chain gives nodes back as spare ones, and cannot fail. specs/Verdicts follows the order in which an event meets its
 //! tests, each test once: an account's own, exists, new; a transfer's own, exists, failed id; then a post or void (its own,
 //! those of the pending transfer that it names, the closed accounts), or any other (its own, the pair of accounts, the
 //! amounts).

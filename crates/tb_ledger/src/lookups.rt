@@ -1,4 +1,4 @@
-//! Look-ups of many ids, eight at a time: their searches go on interleaved, so that their waits for memory overlap.
+//! Lookups of many ids, eight at a time: their searches go on interleaved, so that their waits for memory overlap.
 ghost use Rattle.std.specs.Prelude.{◌≡◌, ◌+◌, ◌≤◌, ◌++◌, length, vec_len, vec_capacity};
 ghost use Rattle.std.specs.List.{filter_map};
 ghost use Rattle.std.specs.Option.{option_copied, option_map};
@@ -10,7 +10,7 @@ use crate::tables::transfers::TransferRow;
 use std::alloc::Allocator;
 use tb_records::{Account, Transfer};
 
-/// A row that a look-up gives as a record.
+/// A row that a lookup gives as a record.
 pub trait Found: Keyed {
     type Record;
 
@@ -20,7 +20,7 @@ pub trait Found: Keyed {
         ensures { result ≡ record_now self.now };
 }
 
-/// An account is found as it stands.
+/// An account is found as it is now.
 impl Found for AccountRow {
     ghost use Rattle.tb_ledger.specs.Kept.{row_now};
 

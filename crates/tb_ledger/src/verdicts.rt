@@ -1,4 +1,4 @@
-//! The code of an event, by the tables as they stand: each group of tests is answered before the next looks anything up.
+//! The code of an event, by the tables as they are now: each group of tests is answered before the next looks anything up.
 
 pub(crate) mod account;
 mod blanks;

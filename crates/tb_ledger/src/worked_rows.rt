@@ -1,4 +1,4 @@
-//! Worked rows, computed: what the definitions answer to requests of which the answers are known, by either profile.
+//! Worked examples, computed: what the definitions answer to requests of which the answers are known, by either profile.
 //! Its functions do nothing. Each states rows, and is proved by computing them.
 ghost use Rattle.tb_ledger.specs.WorkedRows.{Created, Balancing, PostsAndVoids, Lookups, Closing, Chains, Accounts, ReservedFlags, Overflow, FailedIds, Expiry};
 ghost use Rattle.tb_records.specs.declared.limits.Profile.TheVariants.{One, Two};
@@ -30,7 +30,7 @@ pub fn lookups()
 {}
 
 /// A closing transfer closes its account for all but voids, until it is voided itself. An account that is asked again exists, with
-/// the flags that it has as it stands.
+/// the flags that it has as it is now.
 pub fn closing()
     ensures one { Closing One }
     ensures two { Closing Two }

@@ -114,7 +114,7 @@ fn pass_on_before_waiting<R: Source, W: Sink>(reader: &R, writer: &mut W)
     }
 }
 
-/// Says whether bytes begin with a whole item, as far as an entry's numbers tell its length.
+/// Says whether bytes begin with a whole item, as far as an entry's numbers give its length.
 fn holds_item(bytes: &[u8]) -> bool {
     match bytes {
         [2, ..] => true,

@@ -1,5 +1,5 @@
 //! A follower of a log: entries of pairs, each at its position, are served as one script, and each reply is written with the
-//! position of its entry and its index there. Hashes of the log and of the replies tell whether two followers are the same.
+//! position of its entry and its index there. Hashes of the log and of the replies show whether two followers are the same.
 //!
 //! Modules, each over those before it:
 //!
@@ -10,7 +10,7 @@
 //! - `entries`: an entry's content from a reader, tested.
 //! - `followers`: `Follower`, a machine with the position and the hashes; the answers to a pair and to a question.
 //! - `following`: `follow`, all items of a log.
-//! - `laws`: that the replies are those to the script which the entries spell.
+//! - `laws`: that the replies are those to the script which the entries encode.
 #![tactic(auto)]
 
 mod chains;

@@ -237,7 +237,7 @@ each_filter_map {Y = Y} P h gives (x ∷ xs) = by (h x) refl (each_filter_map P 
     by None is later = later
     by (Some y) is later = (gives x y is, later)
 
--- an account as it stands: its sums fit in sound books
+-- an account as it is now: its sums fit in sound books
 account_fits : (B : Books) → Sound B → RecordsFit B → (id : ℕ) (a : Account) → account_now B id ≡ Some a → IsAccount a
 account_fits B sound fits id a is = by (account_at B id) refl is
   where

@@ -18,7 +18,7 @@ one_entry e f xs ys fits other is =
     let frame = spelled_once e.request f.request xs ys fits.request other.request numbers.2 in
     ((λ i. record { commit = numbers.0 i; time = numbers.1 i; request = frame.0 i }), frame.1)
 
--- no entry stands at the prefix of the bytes
+-- no entry is at the prefix of the bytes
 abbrev Ends : List ℕ → Type 0
 Ends b = (e : Entry) (rest : List ℕ) → IsDumpedEntry e → b ≡ dumped e ++ rest → ⊥
 
@@ -31,7 +31,7 @@ mark_ends more e rest fits is =
     (is ∙ append_assoc (numbers_bytes e.commit e.time) (request_bytes e.request) rest) in
     absurd (omega (arith, numbers.0, fits.entry))
 
--- entries, up to where none stands
+-- entries, up to where none is
 one_row : (h k : List Entry) (xs ys : List ℕ) → Each IsDumpedEntry h → Each IsDumpedEntry k → Ends xs → Ends ys → flat_map dumped h ++ xs ≡ flat_map dumped k ++ ys → (h ≡ k) × (xs ≡ ys)
 one_row [] [] xs ys all each ends stops is = (refl, is)
 one_row [] (f ∷ k) xs ys all each ends stops is = absurd (ends f (flat_map dumped k ++ ys) each.0 (is ∙ append_assoc (dumped f) (flat_map dumped k) ys))

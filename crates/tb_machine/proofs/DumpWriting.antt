@@ -59,7 +59,7 @@ module _ (at : Option ℕ) (S U T : State) (p : Pair) (due : Bool) (due_is : due
         bytes_are = λ i. mark_before (due_is i) ++ entry_bytes (commit_of i) (time_of_it i) (request_is i);
       }
 
--- where the mark stands
+-- where the mark is
 
 module _ (at : Option ℕ) where
   -- the mark stays where it is, or comes with the entry
@@ -96,7 +96,7 @@ place_cases (Some a) h e =
       ]
     ]
 
--- a mark stands among the entries
+-- a mark is among the entries
 pub placed : (at : Option ℕ) (h : List Entry) → IsPlace One (place_in at h) h
 placed None h = tt
 placed (Some a) h = by (ltb a (length h)) refl

@@ -8,7 +8,7 @@ use Rattle.tb_machine.specs.declared.restoring.Unfit.TheVariants.{Commit, Time, 
 use Rattle.tb_machine.specs.Histories.{State, least_time, is_new, is_lawful, fits}
 use Rattle.tb_machine.specs.Restoring.{cause_of, IsCause}
 
--- want of memory is no test
+-- out of memory is no test
 never : (a b n : Bool) → cond (not a) (Some Commit) (cond (not b) (Some Time) (cond (not n) (Some NotNew) None)) ≡ Some NoMemory → ⊥
 never false b n e = cc
 never true false n e = cc

@@ -45,7 +45,7 @@ module _ (profile : Profile) (clients_max : ℕ) where
     answered_is : answer_to (after profile clients_max h) r ≡ is_stored.row.reply
     answered_is = ap (λ (k : Class). answer_by k (row_of (after profile clients_max h).rows r.client) r) class ∙ ap (λ (o : Option Row). answer_by Repeat o r) is_stored.stored
 
-    -- a repeat stands in the entry that its answer names
+    -- a repeat is in the entry that its answer names
     pub held : (c : ℕ) → c ≡ (answer_to (after profile clients_max h) r).commit → Holds profile clients_max h r c
     held c is =
         let numbered : c ≡ is_stored.entry.commit = is ∙ ap (λ (a : Answer). a.commit) (answered_is ∙ is_stored.reply) in
@@ -61,7 +61,7 @@ module _ (profile : Profile) (clients_max : ℕ) where
           alone = is_stored.alone;
         }
 
-  -- an answer tells which entry holds the request
+  -- an answer names the entry that holds the request
   pub answers : (h : List Entry) (r : Message) (a : Answer) → IsLegal profile clients_max h → IsTrue (is_lawful r) → a ≡ answer_to (after profile clients_max h) r → IsAnswer profile clients_max h r a
   answers h r a legal lawful is = (is, λ reply. held h r legal lawful (status_reply (class_of (after profile clients_max h).rows r) (row_of (after profile clients_max h).rows r.client) r (sym (ap (λ (b : Answer). b.status) is) ∙ reply)) a.commit (ap (λ (b : Answer). b.commit) is))
 

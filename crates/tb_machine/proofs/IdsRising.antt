@@ -1,4 +1,4 @@
--- In the books after entries each id stands once, so that posts and voids settle.
+-- In the books after entries each id is there once, so that posts and voids settle.
 use Rattle.std.proofs.Common.{◌≡◌, ℕ, ◌+◌, ◌==◌, Bool, true, false, cond, eqb, List, [], ◌∷◌, fold, take, drop, Option, Some, None, option_map, inl, inr, refl, sym, ap, ◌∙◌, subst}
 use Rattle.std.specs.List.{list_any}
 use Rattle.std.specs.Option.{option_map_or}

@@ -1,4 +1,4 @@
--- A request that is New beside its client's row: its entry may come next, and its step puts the row in place of that one.
+-- A request that is New compared with its client's row: its entry may come next, and its step puts the row in place of that one.
 use Rattle.std.proofs.Common.{◌≡◌, ℕ, ◌+◌, ◌<◌, ◌≤◌, inl, inr, Bool, true, false, cond, ◌==◌, List, [], ◌∷◌, Some, is_none, is_some, find, Result, Ok, Err, is_err, OnOk, OnErr, refl, sym, ap, ◌∙◌, subst, IsTrue, arith, eqb, le-leb}
 use Rattle.tb_records.specs.Messages.{Message, Answer, IsLawful}
 use Rattle.tb_records.specs.Ordered.{Each, replaced}

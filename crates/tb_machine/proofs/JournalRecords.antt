@@ -24,7 +24,7 @@ one_record bytes e f mine yours =
     let frame = spelled_once e.request f.request [] [] mine.request yours.request (ap (λ l. l ++ []) numbers.2) in
     λ i. record { commit = numbers.0 i; time = numbers.1 i; request = frame.0 i }
 
--- of a record: it has room for the numbers, and the frame stands behind them
+-- of a record: its numbers fit, and the frame is behind them
 pub long_record : (bytes : List ℕ) (e : Entry) → IsRecord bytes e → 16 ≤ length bytes
 long_record bytes e is = omega (arith, ap length is.bytes_are, length-append (numbers_bytes e.commit e.time) (request_bytes e.request), length-numbers e.commit e.time)
 

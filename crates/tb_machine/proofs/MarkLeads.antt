@@ -140,12 +140,12 @@ module _ (profile : Profile) (clients_max : ℕ) where
   pub reached_with : (mark : Option ℕ) (h : List Entry) → IsLegalWith profile clients_max mark h → ReachedBy (next_in profile clients_max mark) h
   reached_with mark h legal = reached_after (next_in profile clients_max mark) [] h (begun mark) (legal_leads mark h legal)
 
-  -- a mark that stands among the entries or at their end is met
+  -- a mark that is among the entries or at their end is met
   pub next_whole : (mark : Option ℕ) (h : List Entry) → IsPlace profile mark h → next_in profile clients_max mark h ≡ after_with profile clients_max mark h
   next_whole None h place = refl
   next_whole (Some n) h place = late n h place.1
 
-  -- an entry of a legal history may come next where it stands
+  -- an entry of a legal history may come next where it is
   pub comes_next : (mark : Option ℕ) (h : List Entry) (e : Entry) (more : List Entry) → IsLegalWith profile clients_max mark (h ++ e ∷ more) → IsTrue (fits (next_in profile clients_max mark h) e)
   comes_next mark h e more legal =
       comes (next_in profile clients_max mark h) e (leads_split (next_in profile clients_max mark) [] h (e ∷ more) (legal_leads mark (h ++ e ∷ more) legal)).1.0.may

@@ -1,4 +1,4 @@
--- What holds of each row, through an admission and of the row that a look-up finds.
+-- What holds of each row, through an admission and of the row that a lookup finds.
 use Rattle.std.proofs.Common.{◌≡◌, ◌≢◌, ℕ, ◌<◌, ◌==◌, true, false, cond, List, [], ◌∷◌, ◌++◌, find, is_some, Option, Some, None, refl, ap, ◌∙◌, arith, eqb, eq-eqb, ne_eqb}
 use Rattle.std.proofs.lemmas.Bool.{cond_both}
 use Rattle.tb_records.specs.Ordered.{put, replaced, Each, Rising}
@@ -60,6 +60,6 @@ module _ (clients_max : ℕ) (rows : List Row) (row : Row) where
       (still_absent (driven_out clients_max rows) rows (client_of row) (none_of (row_of rows (client_of row)) e))
       (rising_without (driven_out clients_max rows) rows rising))
 
--- the row that a look-up finds is its client's, and what holds of each row holds of it
+-- the row that a lookup finds is its client's, and what holds of each row holds of it
 pub row_found : (P : Row → Type 0) (rows : List Row) (client : ℕ) (row : Row) → Each P rows → row_of rows client ≡ Some row → P row × (client_of row ≡ client)
 row_found P rows client row each found = (each-find P (λ (other : Row). client_of other == client) row rows each found, found_key client_of client row rows found)

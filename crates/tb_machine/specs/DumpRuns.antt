@@ -16,7 +16,7 @@ use Rattle.tb_machine.specs.Dumps.{dumped, DumpSpells, place_in, after_at, accep
 
 -- one pair
 
--- the mark stands directly before the entry behind so many
+-- the mark is directly before the entry behind so many
 abbrev pub marks_at : Option ℕ → ℕ → Bool
 marks_at None n = false
 marks_at (Some at) n = at == n
@@ -33,7 +33,7 @@ changed_profile due S = if due then to_two S else S
 abbrev pub added_bytes : Option ℕ → State → Pair → List ℕ
 added_bytes at S p = mark_before (marks_at at S.commit) ++ dumped (entry_of S p)
 
--- a new pair's entry is written, with the mark where that stands before it; of any other pair nothing is
+-- a new pair's entry is written, with the mark where that comes before it; of any other pair nothing is
 abbrev pub DumpsPair : Option ℕ → Result (Unit {0}) RunFault → State → State → Pair → Output → Output → Type 0
 DumpsPair at (Ok done) S T p before after =
     ((is_new_in S p ≡ false) × (T ≡ S) × (after ≡ before))

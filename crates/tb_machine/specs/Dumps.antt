@@ -13,7 +13,7 @@ use Rattle.tb_machine.specs.Scripts.{Pair, grown}
 
 -- spelling
 
--- a history as bytes, where the mark, if there is one, stands behind the first so many entries
+-- a history as bytes, where the mark, if there is one, is behind the first so many entries
 abbrev pub dumped : Entry → List ℕ
 dumped e = entry_bytes e.commit e.time e.request
 
@@ -24,7 +24,7 @@ history_bytes (Some n) h = flat_map dumped (take n h) ++ (mark_bytes ++ flat_map
 abbrev pub IsDumpedEntry : Entry → Type 0
 IsDumpedEntry e = IsDumped e.commit e.time e.request
 
--- a mark stands among the entries, under profile 1
+-- a mark is among the entries, under profile 1
 abbrev pub IsPlace : Profile → Option ℕ → List Entry → Type 0
 IsPlace profile None h = Unit {0}
 IsPlace profile (Some n) h = (profile ≡ One) × (n ≤ length h)
@@ -67,7 +67,7 @@ module _ (profile : Profile) (clients_max : ℕ) where
   replies_with None h = replies_along (start profile clients_max) h
   replies_with (Some n) h = replies_along (start profile clients_max) (take n h) ++ replies_along (marked_after (take n h)) (drop n h)
 
--- a dump that is made of a script: the mark stands directly before the first entry whose commit number is above `at`, and
+-- a dump that is made of a script: the mark is directly before the first entry whose commit number is above `at`, and
 -- comes with that entry
 
 abbrev pub place_in : Option ℕ → List Entry → Option ℕ

@@ -20,11 +20,11 @@ use Rattle.tb_sessions.specs.Judged.{row_of, class_of}
 use Rattle.tb_sessions.specs.Admission.{admitted}
 use Rattle.tb_machine.specs.declared.entries.Entry.{Entry}
 
--- what stands after a history
+-- the state after a history
 pub record State : Type 0 where
   pub clients_max : ℕ  -- the number of clients that can have a session at one time
   pub commit : ℕ  -- the number of the last entry
-  pub books : Books  -- which tell the profile: failed ids are kept by profile 2 alone
+  pub books : Books  -- which show the profile: failed ids are kept by profile 2 alone
   pub rows : List Row  -- the session table, by rising client
 
 abbrev pub start : Profile → ℕ → State
@@ -81,7 +81,7 @@ executed B (CreateTransfers events) time = (batch_after transfer_events B events
 executed B (LookupAccounts ids) time = at_time B time
 executed B (LookupTransfers ids) time = at_time B time
 
--- what its reply says: a lookup finds records as they stand at its time
+-- what its reply says: a lookup finds records as they are at its time
 abbrev pub found : Books → Body → ℕ → ReplyBody
 found B Register time = Empty
 found B (CreateAccounts events) time = Results (results (batch_after account_events B events time).codes)

@@ -24,7 +24,7 @@ OneKey = (profile : Profile) (clients_max : ℕ) (h : List Entry) → IsLegal pr
 
 -- a repeat gets its first reply
 
--- the request stands in the history, in one entry, which its client's row names now; the row keeps the reply that was given
+-- the request is in the history, in one entry, which its client's row names now; the row keeps the reply that was given
 -- there, in the state behind the entries before
 pub record IsStoredIn (state : List Entry → State) (now : State) (h : List Entry) (r : Message) : Type 0 where
   pub row : Row

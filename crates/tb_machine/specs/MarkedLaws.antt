@@ -18,20 +18,20 @@ use Rattle.tb_machine.specs.Scripts.{Pair}
 use Rattle.tb_machine.specs.ScriptLaws.{AreLawful}
 use Rattle.tb_machine.specs.DumpRuns.{history_of, HasDumped}
 
--- the mark, where it stands behind no more entries than these
+-- the mark, where it is behind no more entries than these
 abbrev pub met : Option ℕ → List Entry → Option ℕ
 met None h = None
 met (Some n) h = if nat_le n (length h) then Some n else None
 
 module _ (profile : Profile) (clients_max : ℕ) (mark : Option ℕ) where
-  -- the state in which the entry behind h is executed: after the mark, where it stands there already
+  -- the state in which the entry behind h is executed: after the mark, where it is there already
   abbrev pub next_in : List Entry → State
   next_in h = after_with profile clients_max (met mark h) h
 
   abbrev pub IsStoredWith : List Entry → Message → Type 0
   IsStoredWith h r = IsStoredIn next_in (after_with profile clients_max mark h) h r
 
--- keys stand once
+-- keys are there once
 abbrev pub OneKeyWith : Type 0
 OneKeyWith = (profile : Profile) (clients_max : ℕ) (mark : Option ℕ) (h : List Entry) → IsLegalWith profile clients_max mark h → KeysDiffer h
 
@@ -73,7 +73,7 @@ NextIsLegalWith = (profile : Profile) (clients_max : ℕ) (mark : Option ℕ) (h
     → IsTrue (fits (after_with profile clients_max mark h) e)
     → IsLegalWith profile clients_max mark (h ++ e ∷ []) × (after_with profile clients_max mark (h ++ e ∷ []) ≡ step (after_with profile clients_max mark h) e)
 
--- a machine that goes over to profile 2 after h stands behind a mark there
+-- a machine that goes over to profile 2 after h is behind a mark there
 abbrev pub MovedIsLegalWith : Type 0
 MovedIsLegalWith = (profile : Profile) (clients_max : ℕ) (h : List Entry) → IsLegal profile clients_max h
     → IsLegalWith profile clients_max (Some (length h)) h × (after_with profile clients_max (Some (length h)) h ≡ to_two (after profile clients_max h))

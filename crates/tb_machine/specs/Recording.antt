@@ -27,7 +27,7 @@ RecordAnswers (Err BadLength) bytes = (request_fault (drop 16 bytes) ≡ Some Ba
 RecordAnswers (Err NoMemory) bytes = (16 ≤ length bytes) × (request_fault (drop 16 bytes) ≡ None)
 RecordAnswers (Err fault) bytes = request_fault (drop 16 bytes) ≡ Some fault
 
--- no other answer than this entry, but for want of memory
+-- no other answer than this entry, unless memory runs out
 abbrev pub OnlyEntry : Result Entry FrameFault → Entry → Type 0
 OnlyEntry (Ok found) e = found ≡ e
 OnlyEntry (Err NoMemory) e = Unit {0}

@@ -29,12 +29,12 @@ cause_of S e =
     else if not (is_new (class_of S.rows e.request)) then Some NotNew
     else None
 
--- want of memory comes only of an entry that may come next
+-- out of memory is reported only of an entry that may come next
 abbrev pub IsCause : Unfit → Option Unfit → Type 0
 IsCause NoMemory first = first ≡ None
 IsCause cause first = first ≡ Some cause
 
--- an entry that may come next is entered; of any other the place and the first test that it fails are told
+-- an entry that may come next is entered; of any other the place and the first test that it fails are reported
 abbrev pub Restores : Result (Unit {0}) RestoreFault → State → State → Entry → Type 0
 Restores (Ok done) S T e = IsTrue (fits S e) × (T ≡ step S e)
 Restores (Err fault) S T e = (T ≡ S) × (fault.place ≡ S.commit + 1) × IsCause fault.cause (cause_of S e)
@@ -49,7 +49,7 @@ module _ (profile : Profile) (clients_max : ℕ) (mark : Option ℕ) (h : List E
   GoesOn (Ok done) T = IsLegalWith profile clients_max mark (h ++ e ∷ []) × (T ≡ after_with profile clients_max mark (h ++ e ∷ []))
   GoesOn (Err fault) T = (T ≡ after_with profile clients_max mark h) × (fault.place ≡ length h + 1) × IsBarred fault.cause
 
--- entries restored one after another, from a machine that stands after a legal history
+-- entries restored one after another, from a machine that is in the state after a legal history
 abbrev pub RestoresHistory : Type 0
 RestoresHistory = (profile : Profile) (clients_max : ℕ) (mark : Option ℕ) (h : List Entry) (e : Entry) (result : Result (Unit {0}) RestoreFault) (T : State)
     → IsPlace profile mark h → IsLegalWith profile clients_max mark h → IsTrue (is_lawful e.request)

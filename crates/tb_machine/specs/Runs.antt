@@ -38,7 +38,7 @@ IsTimely S p = is_new_in S p ≡ true → has_time S p ≡ true
 abbrev pub answer_bytes : State → Pair → List ℕ
 answer_bytes S p = reply_bytes (answer_to (after_pair S p) p.1)
 
--- a pair is answered: by the reply that its entry has once it is entered, or by the one that its request has as it stands,
+-- a pair is answered: by the reply that its entry has once it is entered, or by the one that its request has as it is now,
 -- whose numbers fit, so that what is written is read as that reply and no other;
 -- where the reply could not be written, the machine has moved on all the same, and a repeat gets that reply
 abbrev pub AnswersPair : Result (Unit {0}) RunFault → State → State → Pair → Output → Output → Type 0

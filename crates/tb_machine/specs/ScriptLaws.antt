@@ -47,7 +47,7 @@ AreOf profile clients_max h (p ∷ ps) (a ∷ replies) = (IsGiven profile client
 abbrev pub RepliesAreOfHistory : Type 0
 RepliesAreOfHistory = (profile : Profile) (clients_max : ℕ) (ps : List Pair) → AreLawful ps → AreOf profile clients_max (accepted profile clients_max [] ps) ps (replies_to profile clients_max ps)
 
--- the pairs that a run served are lawful, where its reader tells its bytes
+-- the pairs that a run served are lawful, where its reader reports its bytes
 abbrev pub ServedAreLawful : Type 0
 ServedAreLawful = (profile : Profile) (clients_max : ℕ) (result : Result ℕ RunFault) (before after : Input) (start written : Output) (bytes : List ℕ)
     → (ran : Ran profile clients_max result before after start written) → before.left ≡ Some bytes → AreLawful ran.items

@@ -36,7 +36,7 @@ Delivers result bytes before after = MatchResult result (λ _. Sent bytes before
 abbrev pub made : ℕ → ℕ → Message → Entry
 made commit time r = record { commit = commit; time = time; request = r }
 
--- the row that an entry leaves its client, where the ledger stands so before it
+-- the row that an entry leaves its client, where the ledger is so before it
 abbrev pub row_in : Books → Entry → Row
 row_in B e = row_with e (found B e.request.body e.time)
 
@@ -58,7 +58,7 @@ served_as (Ok (Ok done)) = served.Told
 served_as (Ok (Err f)) = served.Untold f
 served_as (Err refused) = served.NoMemory
 
--- the server's answer to a pair that was served beside its client's row; of any other its class is told, and nothing changed
+-- the server's answer to a pair that was served by its client's row; of any other its class is reported, and nothing changed
 abbrev pub ServesPair : Served → State → State → Pair → Output → Output → Type 0
 ServesPair served.Told S T p before after = AnswersPair (Ok tt) S T p before after
 ServesPair (served.Untold f) S T p before after = AnswersPair (Err (fault.Frame f)) S T p before after

@@ -31,7 +31,7 @@ IsJudged S e t timestamp C =
     (events : List Transfer) × (e.request.body ≡ CreateTransfers events)
     × JudgedAmong transfer_events (at_time S.books e.time) (blocks transfer_events (timed e.time events)) (t, timestamp) C
 
--- in the books after entries, with a mark or none, each id stands once
+-- in the books after entries, with a mark or none, each id is there once
 abbrev pub IdsRiseAfter : Type 0
 IdsRiseAfter = (profile : Profile) (clients_max : ℕ) (mark : Option ℕ) (h : List Entry) → IdsRise (after_with profile clients_max mark h).books
 

@@ -1,4 +1,4 @@
-//! Answers from a machine as it stands.
+//! Answers from a machine as it is now.
 ghost use Rattle.std.specs.Prelude.{◌≡◌, IfOk};
 ghost use Rattle.tb_records.specs.Messages.{IsLawful};
 ghost use Rattle.tb_machine.specs.Histories.{answer_to};

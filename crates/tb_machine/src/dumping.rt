@@ -19,7 +19,7 @@ use tb_records::streams::read_timed_from;
 use tb_records::{ClientsMax, DumpHead, FrameFault, Profile, Request, Sink, Source};
 use tb_sessions::{Class, Row};
 
-/// Says that the mark stands directly before the entry behind `commit` others.
+/// Says that the mark is directly before the entry behind `commit` others.
 fn marks_at(at: Option<u64>, commit: u64) -> bool
     ensures { result ≡ marks_at at commit }
 {
@@ -89,7 +89,7 @@ fn write_entry<W: Sink>(
     send_entry(writer, commit, time, request)
 }
 
-/// Enters a request that comes at a moment and writes its entry, where it is new. A mark that stands before it is written
+/// Enters a request that comes at a moment and writes its entry, where it is new. A mark that comes before it is written
 /// with it, so that none is where there is no entry.
 fn dump_pair<W: Sink>(
     machine: &mut Machine<Global>,
@@ -115,7 +115,7 @@ fn dump_pair<W: Sink>(
 }
 
 /// Dumps the next pair of a script: false where there is none. The reader is asked only where nothing is held back, or a
-/// whole pair is at hand.
+/// whole pair is buffered.
 fn dump_next<R: Source, W: Sink>(
     alloc: Global,
     machine: &mut Machine<Global>,

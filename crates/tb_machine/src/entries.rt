@@ -4,7 +4,7 @@ ghost use Rattle.std.specs.Prelude.{◌≡◌, IfOk};
 use std::alloc::{AllocError, Global};
 use tb_records::Request;
 
-/// A request that stands in the history.
+/// A request that is in the history.
 #[derive(Drop)]
 pub struct Entry {
     /// Its number in the history: 1, 2, 3 and so on.

@@ -12,7 +12,7 @@ use tb_ledger::Ledger;
 use tb_records::{Body, FrameFault, Items, Reply, ReplyBody, Request, Sink, Status, send_reply};
 use tb_sessions::Row;
 
-/// Does what a body asks for, at a time, and tells what its reply says; on a refusal the ledger is unchanged.
+/// Does what a body asks for, at a time, and reports what its reply says; on a refusal the ledger is unchanged.
 pub(crate) fn execute<A: Allocator + Clone>(
     global: Global,
     ledger: &mut Ledger<A>,
@@ -87,8 +87,8 @@ fn reply_with(request: &Request, commit: u64, body: ReplyBody) -> Reply
     reply
 }
 
-/// Executes an entry's request, and makes the row that its client's session gets: the request moves into it, beside the
-/// reply. On a refusal, for want of memory, the entry comes back and the ledger is unchanged.
+/// Executes an entry's request, and makes the row that its client's session gets: the request moves into it, next to the
+/// reply. Where an allocation fails the entry comes back and the ledger is unchanged.
 pub(crate) fn row_for<A: Allocator + Clone>(
     global: Global,
     ledger: &mut Ledger<A>,
@@ -120,10 +120,10 @@ pub(crate) fn row_for<A: Allocator + Clone>(
     })
 }
 
-/// Executes a request that is New beside its client's row, and puts it into the row, beside the reply, which is written. What
-/// the row had for it is where the request was. On a refusal, for want of memory, all is as it was.
+/// Executes a request that is New compared with its client's row, and puts it into the row, next to the reply, which is written. What
+/// the row had for it is where the request was. Where an allocation fails all is as it was.
 ///
-/// The request and its row are changed where they stand, since some 250 bytes would else be moved three times.
+/// The request and its row are changed in place, since some 250 bytes would else be moved three times.
 pub(crate) fn serve_row<A: Allocator + Clone, W: Sink>(
     global: Global,
     ledger: &mut Ledger<A>,

@@ -10,13 +10,13 @@ ghost use Rattle.tb_machine.specs.Restoring.{RestoresHistory};
 ghost use Rattle.tb_machine.specs.Settling.{IdsRiseAfter, PostsAndVoidsSettle};
 ghost use Rattle.tb_machine.specs.HistoryLaws.{OneKey, FirstReply, NotNewAgain, StaysOut, LimitsHold, LedgersBalance};
 
-/// In a legal history no client, session and request number stand together twice, where a register counts with the
+/// In a legal history no client, session and request number are there twice, where a register counts with the
 /// session that its reply names.
 pub fn one_key()
     ensures { OneKey }
 {}
 
-/// After a legal history a request that is a repeat stands in the one entry that its client's row names by its commit
+/// After a legal history a request that is a repeat is in the one entry that its client's row names by its commit
 /// number, and the stored reply is the one that was given there.
 pub fn first_reply()
     ensures { FirstReply }
@@ -54,7 +54,7 @@ pub fn replies_are_of_history()
 {}
 
 /// The replies to a script of requests have frames, whatever their moments are: the numbers of each fit their fields and go
-/// together. So what spells them spells no other replies.
+/// together. So what encodes them encodes no other replies.
 pub fn replies_fit()
     ensures fit { RepliesFit }
     ensures read_back { RepliesReadBack }
@@ -68,17 +68,17 @@ pub fn answers_fit()
     ensures held { AcceptedAreRequests }
 {}
 
-/// The requests that `run` served keep the rules, where the reader tells its bytes.
+/// The requests that `run` served keep the rules, where the reader reports its bytes.
 pub fn served_are_lawful()
     ensures { ServedAreLawful }
 {}
 
-/// Each spelling of a dump has one reading: one profile, one number of clients, one history, and one place of a mark.
+/// Each encoding of a dump has one reading: one profile, one number of clients, one history, and one place of a mark.
 pub fn one_dump()
     ensures { OneDump }
 {}
 
-/// The laws of legal histories hold with a mark among the entries too, from which on profile 2 serves: keys stand once, a
+/// The laws of legal histories hold with a mark among the entries too, from which on profile 2 serves: keys are there once, a
 /// repeat gets its first reply, no request is new again, a session that was taken out stays out, limits and sums hold.
 pub fn laws_with_a_mark()
     ensures keys { OneKeyWith }
@@ -99,7 +99,7 @@ pub fn legal_with_a_mark()
 {}
 
 /// A machine that is restored from the entries of a journal follows them exactly as far as they are a legal history: an
-/// entry is entered where the history stays legal with it; where it isn't, however the history goes on, its place is told.
+/// entry is entered where the history stays legal with it; where it isn't, however the history goes on, its place is reported.
 pub fn restores_history()
     ensures { RestoresHistory }
 {}
@@ -109,7 +109,7 @@ pub fn one_record()
     ensures { OneRecord }
 {}
 
-/// After entries, with a mark among them or none, each id stands once in the books, and so each post or void that an entry
+/// After entries, with a mark among them or none, each id is there once in the books, and so each post or void that an entry
 /// brings behind them and that is accepted settles: the pending transfer that it names is there and holds, its whole amount
 /// leaves the pending sums on both sides, and what is posted comes to the posted ones.
 pub fn posts_and_voids_settle()

@@ -22,7 +22,7 @@ use tb_records::{
 };
 use tb_sessions::{Class, Row, Sessions};
 
-/// How a request was served that was to be executed beside its client's row.
+/// How a request was served that was to be executed by its client's row.
 #[derive(Clone, Copy)]
 pub(crate) enum Served {
     /// It was executed, and its reply was written.
@@ -164,7 +164,7 @@ impl<A: Allocator + Clone> Machine<A> {
         self.commit
     }
 
-    /// How a request stands to the sessions.
+    /// How a request relates to the sessions.
     pub fn class(&self, request: &Request) -> Class
         ensures { result ≡ class_of self.now.rows request.now }
     {
@@ -190,7 +190,7 @@ impl<A: Allocator + Clone> Machine<A> {
         self.sessions.stored(client)
     }
 
-    /// The account as it stands; None where there is none with this id.
+    /// The account as it is now; None where there is none with this id.
     pub fn account(&self, id: u128) -> Option<Account>
         ensures { result ≡ account_now self.now.books id }
     {
@@ -219,7 +219,7 @@ impl<A: Allocator + Clone> Machine<A> {
         self.ledger.transfer(id)
     }
 
-    /// The accounts that are found, in the order of the ids, as they stand.
+    /// The accounts that are found, in the order of the ids, as they are now.
     pub fn lookup_accounts(&self, ids: &[u128]) -> Result<Vec<Account>, AllocError>
         ensures { IfOk result (λ v. v.items ≡ found_accounts self.now.books ids.now) }
     {
@@ -263,7 +263,7 @@ impl<A: Allocator + Clone> Machine<A> {
         self.enter(entry).map_err(|_| AllocError)
     }
 
-    /// As `apply`, of an entry whose request moves into its client's row. A refusal, for want of memory, gives the entry
+    /// As `apply`, of an entry whose request moves into its client's row. An allocation that fails gives the entry
     /// back.
     pub fn enter(&mut self, entry: Entry) -> Result<(), Entry>
         requires { IsTrue (fits self.old entry) }
@@ -280,7 +280,7 @@ impl<A: Allocator + Clone> Machine<A> {
         Ok(())
     }
 
-    /// Serves a request that comes at a moment, where it is New beside its client's row: by one search of the sessions it is
+    /// Serves a request that comes at a moment, where it is New compared with its client's row: by one search of the sessions it is
     /// executed, the row keeps it and the reply, and the reply is written. Any other request gets its class, and so do a
     /// register of a client without a row and a request for which there is no time: nothing is called or changed then.
     pub(crate) fn serve_in_session<W: Sink>(

@@ -81,8 +81,8 @@ fn replay_item<W: Sink>(
     }
 }
 
-/// Replays what stands next in a dump: false where nothing does. The reader is asked only where nothing is held back, or
-/// a whole item is at hand.
+/// Replays what comes next in a dump: false where nothing does. The reader is asked only where nothing is held back, or
+/// a whole item is buffered.
 fn replay_next<R: Source, W: Sink>(
     alloc: Global,
     machine: &mut Machine<Global>,

@@ -227,7 +227,7 @@ pub fn serve_pair<A: Allocator + Clone, W: Sink>(
 }
 
 /// Serves the next pair of a script: false where there is none. The reader is asked only where nothing is held back, or a
-/// whole pair is at hand.
+/// whole pair is buffered.
 fn serve_next<A: Allocator + Clone, R: Source, W: Sink>(
     alloc: Global,
     machine: &mut Machine<A>,

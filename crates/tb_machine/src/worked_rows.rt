@@ -1,4 +1,4 @@
-//! Worked rows: scripts, and what the definitions answer to them, computed. A call does nothing; its promise is the row.
+//! Worked examples: scripts, and what the definitions answer to them, computed. A call does nothing; its promise is the row.
 ghost use Rattle.tb_machine.specs.WorkedRows.{FirstRequests, Refusals, GreatestSum, Eviction, EndOfTime, EvictionStorm, UnfitEntries, MarkedHistory, ScriptInParts, CopiesInAScript, BoundedMoments};
 
 /// A register, the same again, two accounts, their lookup, a transfer.

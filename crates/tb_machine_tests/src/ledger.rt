@@ -1,4 +1,4 @@
-//! What a ledger's own calls show, by public calls alone. The worked rows of accounts and transfers are in `machine`, where
+//! What a ledger's own calls show, by public calls alone. The worked examples of accounts and transfers are in `machine`, where
 //! requests are served by machines.
 //!
 //! Modules, each over those before it:

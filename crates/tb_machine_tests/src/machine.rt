@@ -1,4 +1,4 @@
-//! What machines, scripts and dumps do, by public calls alone: worked rows, value for value and byte for byte.
+//! What machines, scripts and dumps do, by public calls alone: worked examples, value for value and byte for byte.
 //!
 //! Modules, each over those before it:
 //!

@@ -3,12 +3,12 @@
 //! Modules, each over those before it:
 //!
 //! - `comparing`: what is compared, in one function.
-//! - `map_tests`: each growth of a map refused.
-//! - `turns`: the requests of worked rows.
+//! - `map_tests`: each allocation of a map refused.
+//! - `turns`: the requests of worked examples.
 //! - `shown`: what a machine shows.
 //! - `applying`: the requests, applied as entries.
 //! - `pooling`: the same, served as pairs.
-//! - `growth_tests`: each growth and each chunk refused.
+//! - `growth_tests`: each allocation and each chunk refused.
 //! - `batch_tests`: how many bytes a batch of transfers asks for.
 mod applying;
 mod batch_tests;

@@ -37,7 +37,7 @@ status_is o h r legal = status_by (class_of (after_in o h).rows r) (row_of (afte
         let found = row_found (Stands o.profile o.clients_max h) (after_in o h).rows r.client by.0 (reached o.profile o.clients_max h legal).stands by.1 in
         (by.0, by.1, ap (λ (row : Row). row.reply.status) found.0.is)
 
--- an answer to a lawful request tells which entry holds it
+-- an answer to a lawful request names the entry that holds it
 pub answers_ok : {E : Type 0} (o : Opening) (h : List Entry) (r : Message) (result : Result Answer E) → LegalIn o h → IsLawful r
     → IfOk result (λ (a : Answer). a ≡ answer_to (after_in o h) r) → IfOk result (λ (a : Answer). LegalIn o h × IsAnswerIn o h r a)
 answers_ok o h r (Ok a) legal lawful is = (legal, answers o.profile o.clients_max h r a legal (ap is_none lawful) is)

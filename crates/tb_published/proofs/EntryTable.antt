@@ -33,7 +33,7 @@ fits_new S now r e lawful new time is = subst (λ (e : Entry). IsTrue (fits S e)
   new = new;
 }))
 
--- what the state of a history tells of a request holds of the state after it
+-- what the state of a history says of a request holds of the state after it
 module _ (o : Opening) (h : List Entry) (r : Message) (now : ℕ) where
   pub enters_by : (S : State) (result : Result Taken TakeFault) (T : State) (m : List Entry) → S ≡ after_in o h → LegalIn o h → EntersBy S h r now result T m → Enters o h r now result m
   enters_by S result T m state legal by = entered result (subst (λ (S : State). EntersBy S h r now result T m) state by)

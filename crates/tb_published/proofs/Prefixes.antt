@@ -41,7 +41,7 @@ prefix_whole (x ∷ xs) (y ∷ ys) p le =
 pub prefix_length : {A : Type 0} (xs ys : List A) → IsPrefix xs ys → length xs ≤ length ys
 prefix_length xs ys p = omega (arith, sym (ap length p.1) ∙ length-append xs p.0)
 
--- the list goes on behind a prefix with the item that stands there
+-- the list goes on behind a prefix with the item that is there
 next_at : {A : Type 0} (xs ys : List A) (x : A) → IsPrefix xs ys → length xs < length ys → x ≡ get_or ys (length xs) x → IsPrefix (xs ++ x ∷ []) ys
 next_at [] [] x p lt at = absurd (omega arith)
 next_at [] (y ∷ ys) x p lt at = (ys, ap (λ z. z ∷ ys) at)

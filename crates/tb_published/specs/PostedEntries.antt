@@ -32,6 +32,6 @@ pub record TwoCopies : Type 0 where
 abbrev pub showing : Prefix → TwoCopies
 showing l = record { shown = l; posted = []; seen = Some l }
 
--- with a posted entry more, if one waits for room
+-- with a posted entry more, if one waits for capacity
 abbrev pub and_waiting : TwoCopies → Option PostedEntry → TwoCopies
 and_waiting copies waiting = record copies { posted = copies.posted ++ option_to_list waiting }

@@ -101,7 +101,7 @@ impl<J: Naming> Copies<J> {
         replace_with(self, rt, Copies::swapped)
     }
 
-    /// One posted entry more; it comes back where there is no room for it.
+    /// One posted entry more; it comes back where there is no capacity for it.
     pub(crate) fn append(&mut self, posted: Posted<J>) -> Result<(), Posted<J>>
         ensures { MatchResult result
             (λ _. self.new ≡ record self.old { posted = self.old.posted ++ posted ∷ [] })

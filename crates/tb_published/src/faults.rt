@@ -11,7 +11,7 @@ use thiserror::Error;
 pub enum Taken {
     /// It was new, and is the entry of the history with this commit number.
     Committed(u64),
-    /// It stands in the history already, as the entry with this commit number.
+    /// It is in the history already, as the entry with this commit number.
     Repeat(u64),
     /// It is refused, with this status.
     Refused(Status),

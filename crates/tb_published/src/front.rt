@@ -1,4 +1,4 @@
-//! Prefixes of a history as tokens: each tells how many entries it has, and the entries themselves to proofs alone.
+//! Prefixes of a history as tokens: each gives the number of its entries, and the entries themselves to proofs alone.
 ghost use Rattle.std.specs.Prelude.{◌≡◌, ◌+◌, ◌<◌, ◌^◌, [], length, IsTrue, IfSome, MatchBool};
 ghost use Rattle.tb_published.specs.Openings.{LegalIn};
 ghost use Rattle.tb_published.specs.Prefixes.{state_of, with_entry, IsPrefixOf, longer};

@@ -34,7 +34,7 @@ where
     history: Vec<Entry>,
     machine: Machine<Global>,
     offered: HistoryHead,
-    /// A posted entry that the copies had no room for.
+    /// A posted entry that the copies had no capacity for.
     waiting: Option<Posted<J>>,
     global: Global,
 }
@@ -56,7 +56,7 @@ where
 }
 
 impl<J: Naming> Publisher<J> {
-    /// A publisher of an empty history, with room for so many seats.
+    /// A publisher of an empty history, with capacity for so many seats.
     pub(crate) fn start<W: Wait>(
         alloc: Global,
         rt: &W,
@@ -258,7 +258,7 @@ impl<J: Naming> Publisher<J> {
         look_ahead(self.global, history, count, &mut self.waiting);
     }
 
-    /// Hands over the posted entry that waits; false where none does, or there is no room for it.
+    /// Passes on the posted entry that waits; false where none does, or there is no capacity for it.
     fn hand_over(&mut self) -> bool
         ensures { self.new ≡ self.old }
     {

@@ -128,7 +128,7 @@ impl<J: Naming> Seat<J> {
         answer.map_err(|_| SeatFault::NoMemory)
     }
 
-    /// The accounts that are found, in the order of the ids, as they stand after the entries that are shown, and the
+    /// The accounts that are found, in the order of the ids, as they are now after the entries that are shown, and the
     /// number of those entries.
     pub fn lookup_accounts(&mut self, ids: &[u128]) -> Result<(u64, Vec<Account>), SeatFault>
         ensures begins { IsPrefix self.old self.new }

@@ -12,7 +12,7 @@ use tb_records::{Reply, ReplyBody};
 pub struct Tally {
     pub answers: u64,
     pub wrong: u64,
-    /// The entries of the history, and the requests that were handed over.
+    /// The entries of the history, and the requests that were sent.
     pub commits: usize,
     pub offered: usize,
     /// Of the answers the replies and refusals by their status, NotYet last.
@@ -118,7 +118,7 @@ impl Checker {
         }
     }
 
-    /// Checks a log's records, as far as their commit is not above the machine's. A record whose commit is below stands
+    /// Checks a log's records, as far as their commit is not above the machine's. A record whose commit is below is
     /// behind one of a later commit: that is wrong.
     fn check(&mut self, log: &mut Log) -> Result<(), Fault> {
         for record in log.records.iter().skip(log.checked) {
@@ -141,7 +141,7 @@ impl Checker {
     }
 
     /// Applies the history entry by entry, up to one that may not come next, and checks each answer where the machine has
-    /// the commit at which its seat stood.
+    /// the commit at which its seat was.
     fn replay(&mut self, history: &[Entry], logs: &mut [Log]) -> Result<(), Fault> {
         self.check_all(logs)?;
         for entry in history {

@@ -56,8 +56,8 @@ fn gather<J: Naming, S: Serving>(
     taken
 }
 
-/// Checks that what was offered, by place, makes this history; that no key stands twice in it; and each answer, against a
-/// machine of one thread at the commit at which its seat stood.
+/// Checks that what was offered, by place, makes this history; that no key is there twice in it; and each answer, against a
+/// machine of one thread at the commit at which its seat was.
 fn check(
     alloc: Global,
     rules: Rules,
@@ -74,8 +74,8 @@ fn check(
 }
 
 /// Checks what a run left: that each port's places are what its client offered, in order, and that all of it by place
-/// makes this history; that no key stands twice in it; and each answer, against a machine of one thread at the commit
-/// at which its seat stood.
+/// makes this history; that no key is there twice in it; and each answer, against a machine of one thread at the commit
+/// at which its seat was.
 pub fn audit<J: Naming, S: Serving>(
     alloc: Global,
     rules: Rules,

@@ -97,7 +97,7 @@ impl<J: Naming, S: Serving> Client<J, S> {
         Ok(self.seat.answer(request)?)
     }
 
-    /// A call without turns hands the request over exactly where it answers NotYet. Then the seat is asked.
+    /// A call without turns sends the request exactly where it answers NotYet. Then the seat is asked.
     fn call<R: Wait>(&mut self, rt: &R, asked: Asked, request: &Request) -> Result<Reply, Fault> {
         if let Some(reply) = settled(self.door.call(rt, &mut self.seat, request)?) {
             return Ok(reply);
@@ -197,7 +197,7 @@ impl<J: Naming, S: Serving> Client<J, S> {
         Ok(())
     }
 
-    /// So many steps; how they went is told when the port is closed.
+    /// So many steps; how they went is known when the port is closed.
     pub fn play<R: Wait>(&mut self, rt: &R, notes: &[Note], steps: u32) {
         self.outcome = self.take_steps(rt, notes, steps);
     }

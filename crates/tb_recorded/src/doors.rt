@@ -45,7 +45,7 @@ impl<S: Serving> Door<S> {
         port.close(rt)
     }
 
-    /// A call without turns: it hands the request over exactly where it answers NotYet.
+    /// A call without turns: it sends the request exactly where it answers NotYet.
     pub fn call<J: Naming, R: Wait>(
         &mut self,
         rt: &R,

@@ -30,7 +30,7 @@ impl From<AllocError> for Fault {
     }
 }
 
-/// What was handed over was taken, or it comes back for this reason, and is let go.
+/// What was sent was taken, or it comes back for this reason, and is freed.
 pub fn taken<T: Drop>(handed: Result<(), T>, fault: Fault) -> Result<(), Fault> {
     if is_taken(handed) { Ok(()) } else { Err(fault) }
 }

@@ -1,8 +1,8 @@
 //! `tb_recorded CLIENTS STEPS SEED`: so many hostile clients (4 to 16) take so many steps each against one server, each
-//! in a thread of its own. Every answer is written down with the commit at which its seat stood, and checked afterwards.
+//! in a thread of its own. Every answer is written down with the commit at which its seat was, and checked afterwards.
 //!
 //! Standard output has what does not depend on the schedule: the clients, the seed, the answers that were checked, and
-//! how many were wrong. Standard error tells the commits, the requests handed over, and the answers by status.
+//! how many were wrong. Standard error gives the commits, the requests sent, and the answers by status.
 //!
 //! Modules, each over those before it:
 //!
@@ -58,7 +58,7 @@ fn number(word: Option<&String>) -> Result<u32, Error> {
     Ok(word.as_str().parse::<u32>()?)
 }
 
-/// The scale that the words tell.
+/// The scale that the words give.
 fn scale_of(words: &[String]) -> Result<Scale, Error> {
     let clients = number(words.get(0))?;
     let steps = number(words.get(1))?;
@@ -89,7 +89,7 @@ fn rules_of(scale: Scale) -> Result<Rules, Error> {
     })
 }
 
-/// Tells what the audit counted: the answers by status on standard error.
+/// Prints what the audit counted: the answers by status on standard error.
 fn tell<R: Print + Eprint>(rt: &R, scale: Scale, tally: Tally) -> Result<(), Error> {
     println!(rt; "clients {}\nseed {}", scale.clients, scale.seed)?;
     println!(rt; "answers {}\n{} wrong", tally.answers, tally.wrong)?;
@@ -104,7 +104,7 @@ fn tell<R: Print + Eprint>(rt: &R, scale: Scale, tally: Tally) -> Result<(), Err
     Ok(())
 }
 
-/// The scale that the program's words tell.
+/// The scale that the program's words give.
 fn read_scale(rt: &HostRuntime) -> Result<Scale, Error> {
     let words = env::args(rt)?.skip(1).collect::<Vec<String>>(rt.alloc())?;
     let scale = scale_of(words.as_slice());
@@ -112,7 +112,7 @@ fn read_scale(rt: &HostRuntime) -> Result<Scale, Error> {
     scale
 }
 
-/// Plays a run of a scale, and tells what its audit counted.
+/// Plays a run of a scale, and prints what its audit counted.
 fn play<R: Threads + Wait + Print + Eprint + Sync>(
     rt: &R,
     alloc: Global,

@@ -27,7 +27,7 @@ impl Known {
 }
 
 /// What is known of a client, for all threads to read. Session and last number are read one after the other, so a
-/// reader can meet two that never stood together: it then sends a wrong number.
+/// reader can meet two that never were together: it then sends a wrong number.
 #[derive(Drop)]
 pub struct Note {
     session: AtomicU64,

@@ -20,7 +20,7 @@ pub struct Record {
     pub commit: u64,
 }
 
-/// What one thread did, in its order: each answer, and each request that it handed over.
+/// What one thread did, in its order: each answer, and each request that it sent.
 #[derive(Drop)]
 pub struct Log {
     pub records: Vec<Record>,

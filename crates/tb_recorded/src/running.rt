@@ -28,7 +28,7 @@ pub struct Scale {
     pub seed: u64,
 }
 
-/// Moments 1, 2, 3 and so on, so that a place tells its moment.
+/// Moments 1, 2, 3 and so on, so that a place gives its moment.
 #[derive(Drop)]
 pub struct Ticks(u64);
 

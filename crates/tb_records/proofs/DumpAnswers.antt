@@ -34,7 +34,7 @@ head_row profile clients_max = 3553425134609187412 ∷ profile_number profile �
 head_fits : (profile : Profile) (clients_max : ℕ) → IsClients clients_max → Fit (8 ∷ 4 ∷ 4 ∷ []) (head_row profile clients_max)
 head_fits profile clients_max few = grind arith
 
--- they stand in bytes that begin with it
+-- they are in bytes that begin with it
 pub head_stands : (profile : Profile) (clients_max : ℕ) (rest : List ℕ) → IsClients clients_max → Stand (8 ∷ 4 ∷ 4 ∷ []) (head_row profile clients_max) 0 (head_bytes profile clients_max ++ rest)
 unfolding head_bytes le_bytes
 head_stands profile clients_max rest few = row_stands (8 ∷ 4 ∷ 4 ∷ []) (head_row profile clients_max) 0 [] rest refl (head_fits profile clients_max few)
@@ -72,7 +72,7 @@ pub length-numbers : (first second : ℕ) → length (numbers_bytes first second
 unfolding numbers_bytes
 length-numbers first second = simp (length-append, length-le_bytes)
 
--- an entry's numbers were read, and what stands behind them
+-- an entry's numbers were read, and what follows them
 begins : (commit time : ℕ) (old mid : List ℕ) → (commit ≡ 0 → ⊥) → old ≡ numbers_bytes commit time ++ mid → Begins old mid
 begins commit time old mid some left = record { commit = commit; time = time; entry = omega arith; bytes = left }
 

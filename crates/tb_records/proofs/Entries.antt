@@ -1,4 +1,4 @@
--- The pairs of a tree, as rows by a number that its keys stand for.
+-- The pairs of a tree, as rows by a number that its keys represent.
 use Rattle.std.proofs.Common.{◌≡◌, ℕ, cond, eqb, ◌==◌, List, [], ◌∷◌, map, find, is_some, Some, None, refl, sym, ap, ◌∙◌, arith}
 use Rattle.std.proofs.lemmas.Bool.Decides.{nat_tests}
 use Rattle.std.specs.declared.cmp.Ordering.{Ordering}
@@ -36,7 +36,7 @@ module _ {K V X : Type 0} (cmp : K → K → Ordering) (row : K × V → X) (key
       let compared = agree.0 in
       grind (arith, nat_tests, rows-inserted v es own agree.1)
 
--- rows that stand at their own keys
+-- rows that are at their own keys
 module _ {V : Type 0} (key : V → ℕ) where
   abbrev pub Own : ℕ × V → Type 0
   Own e = key e.1 ≡ e.0

@@ -1,4 +1,4 @@
--- Numbers and their bytes: each number has one spelling, and bytes spell the number that stands in them.
+-- Numbers and their bytes: each number has one spelling, and bytes spell the number that is in them.
 use Rattle.std.proofs.Common.{◌≡◌, ℕ, set, zero, suc, ◌+◌, ◌*◌, ◌/◌, ◌%◌, ◌^◌, ◌-◌, ◌<◌, ◌≤◌, List, [], ◌∷◌, ◌++◌, length, take, drop, slice_index, refl, sym, ap, ◌∙◌, arith, add-zero}
 use Rattle.std.proofs.Math.Nat.{add-mul-mod_self_left, add-mul-div_left, div-div-eq-div-mul, div-one, mod-eq_of_lt, mod-lt, div-eq_of_lt, pow-succ'}
 use Rattle.std.proofs.Math.Seq.{take-add}
@@ -79,7 +79,7 @@ pub le_at-fits : (n at : ℕ) (xs : List ℕ) → ((i : ℕ) → slice_index xs 
 unfolding le_at
 le_at-fits n at xs b = little_from-lt 0 n (drop at xs) (λ k. let e = get_or-drop at xs k 0 in omega (arith, b (at + k)))
 
--- the bytes from a place on are the spelling of the number that stands there
+-- the bytes from a place on are the spelling of the number that is there
 pub le_at-spelled : (n at : ℕ) (xs : List ℕ) → at + n ≤ length xs → ((i : ℕ) → slice_index xs i < 256) → take (at + n) xs ≡ take at xs ++ le_bytes n (le_at n at xs)
 unfolding le_at le_bytes
 le_at-spelled n at xs h b =

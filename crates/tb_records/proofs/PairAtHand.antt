@@ -1,4 +1,4 @@
--- What is answered of a pair among the bytes at hand.
+-- What is answered of a pair among the buffered bytes.
 use Rattle.std.proofs.Common.{◌≡◌, ℕ, Bool, true, false, if◌then◌else◌, subst, ◌+◌, ◌-◌, ◌<◌, ◌≤◌, ◌^◌, List, ◌++◌, length, take, drop, Option, Some, None, Ok, Err, refl, sym, ap, ◌∙◌, arith, length-append, length-take, length-drop, drop_at, append_assoc, take_all}
 use Rattle.std.proofs.Math.Seq.{take-add}
 use Rattle.std.proofs.lemmas.List.{take-append-drop, take-append-le}
@@ -68,7 +68,7 @@ pair_refused hand (Some old) (Some new) found read =
       sym (drop_at header new 48 size) ∙ sym (ap (drop 48) behind),
     )
 
--- bytes at hand were consumed, of a buffer before a reader that may not tell its bytes
+-- buffered bytes were consumed, of a buffer before a reader that may not report its bytes
 pub skipped : (n : ℕ) (buffer : List ℕ) (none : Bool) (inner new : Option (List ℕ)) → n ≤ length buffer
     → DropsConsumable (if none then None else prepend_known buffer inner) new (Some (length buffer)) n
     → Consumes (if none then None else prepend_known buffer inner) new (take n buffer)

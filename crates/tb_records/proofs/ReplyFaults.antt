@@ -21,7 +21,7 @@ pub whole_reply : (b : List ℕ) → 48 ≤ length b → 48 + length_at b ≤ le
 unfolding reply_fault reply_header_fault
 whole_reply b h long = grind (arith, nat_tests)
 
--- a fault of the header is that of the frame, and never want of memory
+-- a fault of the header is that of the frame, and never out of memory
 header_first : (b : List ℕ) (f : FrameFault) → 48 ≤ length b → reply_header_fault b ≡ Some f → reply_fault b ≡ Some f
 unfolding reply_fault reply_header_fault
 header_first b f h e = grind (arith, nat_tests)

@@ -65,7 +65,7 @@ header_numbers r = header_row r.client r.session r.request r.operation (status_c
 row_fits : (r : Answer) → FitsFrame r → Fit reply_widths (header_numbers r)
 row_fits r fits = let status = status_small r.status in grind arith
 
--- they stand in it
+-- they are in it
 places : (r : Answer) (more : List ℕ) → FitsFrame r → Stand reply_widths (header_numbers r) 0 (header_of_reply r (length (reply_body_bytes r.body)) ++ more)
 places r more fits = reply_places r.client r.session r.request r.operation (status_code r.status) (length (reply_body_bytes r.body)) r.commit more (row_fits r fits)
 
@@ -81,7 +81,7 @@ header_fault_is r more fits kind =
     let status = status_small r.status in
     grind (arith, nat_tests)
 
--- a reply's values have the first fault that their frame has, whatever stands behind it
+-- a reply's values have the first fault that their frame has, whatever follows it
 pub one_fault : (r : Answer) (more : List ℕ) → FitsFrame r → HasKind r → reply_fault (reply_bytes r ++ more) ≡ answer_fault r
 one_fault r more fits kind =
     let len = length (reply_body_bytes r.body) in
@@ -96,7 +96,7 @@ one_fault r more fits kind =
     ∙ whole_reply b (omega arith) (omega (arith, at.1.1.1.1.1.1.0))
     ∙ header_fault_is r rest fits kind
 
--- what is spelled has no fault, whatever stands behind it
+-- what is spelled has no fault, whatever follows it
 pub spelled_whole : (r : Answer) (more : List ℕ) → IsReply r → reply_fault (reply_bytes r ++ more) ≡ None
 spelled_whole r more is = one_fault r more (fits_frame r is) (kind_right r is) ∙ is.right
 

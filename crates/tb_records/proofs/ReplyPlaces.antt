@@ -1,4 +1,4 @@
--- The numbers of a reply's header, which stand in its bytes.
+-- The numbers of a reply's header, which are in its bytes.
 use Rattle.std.proofs.Common.{◌≡◌, ℕ, List, [], ◌∷◌, ◌++◌, length, refl, length-append}
 use Rattle.tb_records.specs.Numbers.{le_bytes}
 use Rattle.tb_records.specs.ReplyFrames.{reply_header_bytes}

@@ -39,6 +39,6 @@ is_row operation status body e = row_by operation status (kind_of body) _ _ (bod
 pub row_length : (operation status len count : ℕ) → IsRow operation status len count → has_reply_length operation status len ≡ true
 row_length operation status len count row = grind (arith, nat_tests, mul-mod_right)
 
--- a row's length tells the number of its items
+-- a row's length gives the number of its items
 pub row_count : (operation status len count : ℕ) → IsRow operation status len count → len / reply_item_size operation ≡ count
 row_count operation status len count row = grind (arith, nat_tests)

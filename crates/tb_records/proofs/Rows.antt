@@ -1,4 +1,4 @@
--- Numbers one behind another, each in so many bytes: what stands in their bytes, and that no others have the same.
+-- Numbers one behind another, each in so many bytes: what is in their bytes, and that no others have the same.
 use Rattle.std.proofs.Common.{◌≡◌, ℕ, ◌+◌, ◌^◌, ◌<◌, ◌≤◌, List, [], ◌∷◌, ◌++◌, length, take, slice_index, refl, sym, ap, subst, ◌∙◌, arith, length-append, append_assoc, append-nil}
 use Rattle.tb_records.specs.Numbers.{le_bytes, le_at}
 use Rattle.tb_records.specs.Sizes.{length-le_bytes}
@@ -14,12 +14,12 @@ abbrev pub Fit : List ℕ → List ℕ → Type 0
 Fit (n ∷ widths) (x ∷ xs) = (x < 256 ^ n) × Fit widths xs
 Fit widths xs = Unit {0}
 
--- these numbers stand in the bytes, from a place on
+-- these numbers are in the bytes, from a place on
 abbrev pub Stand : List ℕ → List ℕ → ℕ → List ℕ → Type 0
 Stand (n ∷ widths) (x ∷ xs) at b = (le_at n at b ≡ x) × Stand widths xs (at + n) b
 Stand widths xs at b = Unit {0}
 
--- what stands in the bytes, from a place on
+-- what is in the bytes, from a place on
 abbrev pub standing : List ℕ → ℕ → List ℕ → List ℕ
 standing [] at b = []
 standing (n ∷ widths) at b = le_at n at b ∷ standing widths (at + n) b
@@ -28,7 +28,7 @@ abbrev pub total : List ℕ → ℕ
 total [] = 0
 total (n ∷ widths) = n + total widths
 
--- numbers that fit stand in their bytes
+-- numbers that fit are in their bytes
 pub row_stands : (widths xs : List ℕ) (at : ℕ) (front back : List ℕ) → length front ≡ at → Fit widths xs → Stand widths xs at (front ++ (row_bytes widths xs ++ back))
 row_stands [] xs at front back long fit = tt
 row_stands (n ∷ widths) [] at front back long fit = tt
@@ -41,7 +41,7 @@ row_stands (n ∷ widths) (x ∷ xs) at front back long fit =
       subst (Stand widths xs (at + n)) (sym cut) (row_stands widths xs (at + n) here back further fit.1),
     )
 
--- bytes are those of the numbers that stand in them
+-- bytes are those of the numbers that are in them
 pub row_read : (widths : List ℕ) (at : ℕ) (b : List ℕ) → at + total widths ≤ length b → ((i : ℕ) → slice_index b i < 256) → take (at + total widths) b ≡ take at b ++ row_bytes widths (standing widths at b)
 row_read [] at b long fits =
     let end : at + 0 ≡ at = omega arith in
@@ -54,7 +54,7 @@ row_read (n ∷ widths) at b long fits =
     ∙ ap (λ l. l ++ row) (le_at-spelled n at b (omega arith) fits)
     ∙ append_assoc (take at b) (le_bytes n (le_at n at b)) row
 
--- two rows of numbers that are spelled alike, whatever stands behind them
+-- two rows of numbers that are spelled alike, whatever follows them
 pub one_row : (widths xs ys s t : List ℕ) → length xs ≡ length widths → length ys ≡ length widths → Fit widths xs → Fit widths ys
     → row_bytes widths xs ++ s ≡ row_bytes widths ys ++ t → (xs ≡ ys) × (s ≡ t)
 one_row [] [] [] s t many_x many_y fit_x fit_y e = (refl, e)

@@ -52,7 +52,7 @@ header_numbers r = r.client ∷ r.session ∷ r.request ∷ operation r.body ∷
 row_fits : (r : Message) → FitsFrame r → Fit header_widths (header_numbers r)
 row_fits r fits = let code = code_small r.body in grind arith
 
--- they stand in it
+-- they are in it
 places : (r : Message) (more : List ℕ) → FitsFrame r → Stand header_widths (header_numbers r) 0 (header_of r ++ more)
 unfolding header_bytes le_bytes
 places r more fits = row_stands header_widths (header_numbers r) 0 [] more refl (row_fits r fits)
@@ -61,7 +61,7 @@ length-header : (r : Message) → length (header_of r) ≡ 48
 unfolding header_bytes
 length-header r = simp (length-append, length-le_bytes)
 
--- the length of a body, which tells the number of its items
+-- the length of a body, which gives the number of its items
 length_passes : (body : Body) → let len = length (body_bytes body) in let size = item_size (operation body) in (len / size ≡ item_count body) × (len % size ≡ 0) × (operation body ≡ 2 → len ≡ 0)
 length_passes body = let len = length-body body in grind (arith, mul-mod_left, mul-div_left)
 
@@ -74,7 +74,7 @@ header_fault_is r more fits =
     let known = code_known r.body in
     grind (arith, nat_tests)
 
--- a request's values have the first fault that their frame has, whatever stands behind it
+-- a request's values have the first fault that their frame has, whatever follows it
 pub one_fault : (r : Message) (more : List ℕ) → FitsFrame r → request_fault (request_bytes r ++ more) ≡ number_fault r
 one_fault r more fits =
     let body = body_bytes r.body in
@@ -85,7 +85,7 @@ one_fault r more fits =
     ∙ whole_frame b (omega arith) (omega (arith, at.1.1.1.1.1.0))
     ∙ header_fault_is r (body ++ more) fits
 
--- what is spelled has no fault, whatever stands behind it
+-- what is spelled has no fault, whatever follows it
 pub spelled_sound : (r : Message) (more : List ℕ) → IsRequest r → request_fault (request_bytes r ++ more) ≡ None
 spelled_sound r more is = one_fault r more (fits_frame r is) ∙ is.lawful
 

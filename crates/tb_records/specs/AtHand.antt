@@ -1,10 +1,10 @@
--- What stands whole at the beginning of bytes that are at hand.
+-- What is whole at the beginning of bytes that are buffered.
 -- Cited by public contracts of: dumps, streams.
 use Rattle.std.specs.Prelude.{ℕ, Bool, ◌+◌, ◌&&◌, ◌||◌, ◌==◌, nat_le, List, length, drop}
 use Rattle.tb_records.specs.Frames.{length_at}
 use Rattle.tb_records.specs.Numbers.{le_at}
 
--- the frame of a request, as far as its header tells its length
+-- the frame of a request, as far as its header gives its length
 abbrev pub holds_frame : List ℕ → Bool
 holds_frame bytes = nat_le 48 (length bytes) && nat_le (48 + length_at bytes) (length bytes)
 

@@ -44,7 +44,7 @@ mark_bytes = numbers_bytes 0 2
 abbrev pub entry_bytes : ℕ → ℕ → Message → List ℕ
 entry_bytes commit time r = numbers_bytes commit time ++ request_bytes r
 
--- what the bytes of an entry can hold: commit number 0 says that a mark stands there
+-- what the bytes of an entry can hold: commit number 0 says that a mark is there
 pub record IsDumped (commit time : ℕ) (r : Message) : Type 0 where
   pub entry : 0 < commit
   pub commit_fits : commit < 2 ^ 64
@@ -53,7 +53,7 @@ pub record IsDumped (commit time : ℕ) (r : Message) : Type 0 where
 
 -- what is read
 
--- no head stands at the beginning of the bytes
+-- no head is at the beginning of the bytes
 abbrev pub HasNoHead : List ℕ → Type 0
 HasNoHead b = (profile : Profile) (clients_max : ℕ) (rest : List ℕ) → IsClients clients_max → b ≡ head_bytes profile clients_max ++ rest → ⊥
 
@@ -63,7 +63,7 @@ HeadAnswered (Err Head) before after = HasNoHead before × (after ≡ drop 16 be
 HeadAnswered (Err (Frame Device)) before after = (front : List ℕ) × (length front ≤ 16) × (before ≡ front ++ after)
 HeadAnswered (Err fault) before after = ⊥
 
--- the same of a reader that may not tell its bytes
+-- the same of a reader that may not report its bytes
 abbrev pub HeadAnswers : Result DumpHead DumpFault → Option (List ℕ) → Option (List ℕ) → Type 0
 HeadAnswers result before after = IsOfBytes (HeadAnswered result) before after
 
@@ -91,14 +91,14 @@ ItemFaulted (Frame Short) before after = (IsCut before × (after ≡ [])) ⊎ ((
 ItemFaulted (Frame fault) before after = (rest : List ℕ) × Begins before rest × FrameFaulted fault rest after
 ItemFaulted fault before after = ⊥
 
--- what stands next in a dump: nothing at its end, else a mark or an entry, of which just the bytes are read, or a fault
+-- what comes next in a dump: nothing at its end, else a mark or an entry, of which just the bytes are read, or a fault
 abbrev pub ItemAnswered : Result (Option DumpItem) DumpFault → List ℕ → List ℕ → Type 0
 ItemAnswered (Ok None) before after = (before ≡ []) × (after ≡ [])
 ItemAnswered (Ok (Some item.Mark)) before after = before ≡ mark_bytes ++ after
 ItemAnswered (Ok (Some (item.Entry commit time request))) before after = (before ≡ entry_bytes commit time request ++ after) × IsDumped commit time request
 ItemAnswered (Err fault) before after = ItemFaulted fault before after
 
--- the same of a reader that may not tell its bytes
+-- the same of a reader that may not report its bytes
 abbrev pub ItemAnswers : Result (Option DumpItem) DumpFault → Option (List ℕ) → Option (List ℕ) → Type 0
 ItemAnswers result before after = IsOfBytes (ItemAnswered result) before after
 

@@ -8,13 +8,13 @@ use Rattle.tb_records.specs.Messages.{Message}
 use Rattle.tb_records.specs.Numbers.{le_bytes}
 use Rattle.tb_records.specs.Transport.{IsOfBytes}
 
--- what a slice answers: the request that its first n bytes spell, or the first fault; want of memory only where there is none
+-- what a slice answers: the request that its first n bytes spell, or the first fault; out of memory only where there is none
 abbrev pub Found : Result (Message × ℕ) FrameFault → List ℕ → Type 0
 Found (Ok (r, n)) bytes = (n ≤ length bytes) × Spells (take n bytes) r
 Found (Err NoMemory) bytes = request_fault bytes ≡ None
 Found (Err fault) bytes = request_fault bytes ≡ Some fault
 
--- no other answer than the request of n bytes, but for want of memory
+-- no other answer than the request of n bytes, unless memory runs out
 abbrev pub OnlyThis : Result (Message × ℕ) FrameFault → Message → ℕ → Type 0
 OnlyThis (Ok (found, k)) r n = (found ≡ r) × (k ≡ n)
 OnlyThis (Err NoMemory) r n = Unit {0}
@@ -49,7 +49,7 @@ Answered (Ok None) before after = (before ≡ []) × (after ≡ [])
 Answered (Ok (Some r)) before after = (before ≡ request_bytes r ++ after) × IsRequest r
 Answered (Err fault) before after = Faulted fault before after
 
--- the same of a reader that may not tell its bytes
+-- the same of a reader that may not report its bytes
 abbrev pub Answers : Result (Option Message) FrameFault → Option (List ℕ) → Option (List ℕ) → Type 0
 Answers result before after = IsOfBytes (Answered result) before after
 
@@ -73,6 +73,6 @@ TimedAnswered (Ok None) before after = (before ≡ []) × (after ≡ [])
 TimedAnswered (Ok (Some pair)) before after = (before ≡ timed_bytes pair ++ after) × (pair.0 < 2 ^ 64) × IsRequest pair.1
 TimedAnswered (Err fault) before after = TimedFaulted fault before after
 
--- the same of a reader that may not tell its bytes
+-- the same of a reader that may not report its bytes
 abbrev pub TimedAnswers : Result (Option (ℕ × Message)) FrameFault → Option (List ℕ) → Option (List ℕ) → Type 0
 TimedAnswers result before after = IsOfBytes (TimedAnswered result) before after

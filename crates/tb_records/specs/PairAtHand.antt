@@ -1,4 +1,4 @@
--- What is found among the bytes at hand, before they are consumed: for private functions alone.
+-- What is found among the buffered bytes, before they are consumed: for private functions alone.
 -- Cited by private contracts alone, of: streams.
 use Rattle.std.specs.Prelude.{ℕ, ◌≤◌, ◌≡◌, List, length, take, drop, None}
 use Rattle.tb_records.specs.Frames.{header_fault}

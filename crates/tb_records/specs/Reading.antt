@@ -38,7 +38,7 @@ ReadFault Short n before after = RunsOut n before after
 ReadFault Device n before after = Lost n before after
 ReadFault fault n before after = ⊥
 
--- the same for a body of n bytes, for which there may be no room: then none of them was read
+-- the same for a body of n bytes, for which there may be no memory: then none of them was read
 abbrev pub BodyFault : FrameFault → ℕ → Option (List ℕ) → Option (List ℕ) → Type 0
 BodyFault NoMemory n before after = Keeps before after
 BodyFault fault n before after = ReadFault fault n before after

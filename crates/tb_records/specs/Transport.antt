@@ -1,19 +1,19 @@
--- What readers and writers tell of their bytes, and how their failures are counted.
+-- What readers and writers report of their bytes, and how their failures are counted.
 -- Cited by public contracts of: devices, dumps, streams, writing.
 use Rattle.std.specs.Prelude.{ℕ, Bool, true, false, ◌≡◌, ◌+◌, ◌-◌, ◌^◌, ◌⊎◌, ◌&&◌, ◌==◌, not, min, List, length, take, Option, None, Some, Result, Ok, Err, MatchResult, if◌then◌else◌}
 use Rattle.std.specs.Io.KnownBytes.{Appends}
 use Rattle.tb_records.specs.declared.faults.FrameFault.{FrameFault}
 use Rattle.tb_records.specs.declared.faults.FrameFault.TheVariants.{Device}
 
--- a reader: the bytes that are left, where it tells them, the number of its errors, whether its last answer was one, and the
--- bytes that are at hand, which the next reads give without waiting for more
+-- a reader: the bytes that are left, where it reports them, the number of its errors, whether its last answer was one, and the
+-- bytes that are buffered, which the next reads give without waiting for more
 pub record Input : Type 0 where
   pub left : Option (List ℕ)
   pub failed : ℕ
   pub halted : Bool
   pub at_hand : List ℕ
 
--- a writer: the bytes written, where it tells them, the number of its errors, how often it took nothing of what it was
+-- a writer: the bytes written, where it reports them, the number of its errors, how often it took nothing of what it was
 -- offered, whether its last answer was one of these, and whether it holds bytes back: it took some since what it holds was
 -- passed on the last time
 pub record Output : Type 0 where
@@ -41,7 +41,7 @@ risen n = min (n + 1) (2 ^ 64 - 1)
 
 -- readers
 
--- what holds of the bytes left before and after, of a reader that tells them; of one that does not, nothing is said
+-- what holds of the bytes left before and after, of a reader that reports them; of one that does not, nothing is said
 abbrev pub IsOfBytes : (List ℕ → List ℕ → Type 0) → Option (List ℕ) → Option (List ℕ) → Type 0
 IsOfBytes Holds None after = Unit {0}
 IsOfBytes Holds (Some before) None = ⊥

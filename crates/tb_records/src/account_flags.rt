@@ -6,10 +6,10 @@ ghost use Rattle.tb_records.specs.Flags.{has_flag};
 
 use std::fmt;
 
-/// A flag of an account: the number beside it is its bit.
+/// A flag of an account: the number next to it is its bit.
 #[derive(Clone, Copy, Debug, PartialEq, Eq)]
 pub enum AccountFlag {
-    /// The next event stands or falls with this one.
+    /// The next event succeeds or fails with this one.
     Linked = 1,
     /// What is debited, pending and posted, is at most what is credited for good.
     DebitsMustNotExceedCredits = 2,
@@ -37,7 +37,7 @@ impl AccountFlag {
     /// The bits that no account may have: imported, and those that are no flag.
     pub const RESERVED: u16 = 0xFFD0;
 
-    /// The bit that stands for it in the record.
+    /// The bit that represents it in the record.
     pub fn bit(self) -> u16
         ensures { result ≡ account_flag_bit self }
     {

@@ -5,7 +5,7 @@ ghost use Rattle.tb_records.specs.AccountResults.{account_result_code, account_r
 
 use std::fmt;
 
-/// How the creation of an account fared: the number beside it is its result code.
+/// How the creation of an account fared: the number next to it is its result code.
 #[derive(Clone, Copy, Debug, PartialEq, Eq)]
 pub enum CreateAccountResult {
     /// The account is recorded.

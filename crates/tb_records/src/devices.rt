@@ -16,7 +16,7 @@ use std::marker::Model;
 
 /// A reader that counts the errors that it answers.
 pub trait Source {
-    // The bytes that are left, where the reader tells them, and its errors.
+    // The bytes that are left, where the reader reports them, and its errors.
     ghost input: { Self → Input };
 
     /// Reads into the buffer, in the manner of std's `read`. Ok(0) for a buffer that is not empty says that the input is
@@ -36,7 +36,7 @@ pub trait Source {
         ensures exact { result.now ≡ (input self.now).at_hand }
         ensures first { IfSome (input self.now).left (λ bytes. StartsWith bytes result.now) };
 
-    /// Consumes the first n of the bytes at hand.
+    /// Consumes the first n of the buffered bytes.
     fn skip(&mut self, n: usize)
         requires { n ≤ length (input self.old).at_hand }
         ensures bytes { Consumes (input self.old).left (input self.new).left (take n (input self.old).at_hand) }
@@ -47,7 +47,7 @@ pub trait Source {
 
 /// A writer that counts the errors that it answers.
 pub trait Sink {
-    // The bytes written, where the writer tells them, its errors, and how often it took nothing of bytes that were offered.
+    // The bytes written, where the writer reports them, its errors, and how often it took nothing of bytes that were offered.
     ghost output: { Self → Output };
 
     /// Writes a beginning of the bytes, in the manner of std's `write`.
@@ -141,7 +141,7 @@ impl<T: Read> Source for Counting<T> {
         &[]
     }
 
-    // No byte of it is at hand.
+    // No byte of it is buffered.
     fn skip(&mut self, _: usize) {}
 }
 
@@ -180,7 +180,7 @@ impl<T: Write> Sink for Counting<T> {
     }
 }
 
-/// A std reader behind a buffer, with a count of its errors. It knows which bytes are at hand.
+/// A std reader behind a buffer, with a count of its errors. It knows which bytes are buffered.
 #[derive(Drop)]
 pub struct Buffered<R> {
     inner: Counting<BufReader<R>>,
@@ -291,7 +291,7 @@ fn fill_all<S: Source>(source: &mut S, buf: &mut [u8]) -> Result<(), FrameFault>
     Ok(())
 }
 
-/// Adds the items that the bytes spell, one behind the other.
+/// Adds the items that the bytes encode, one behind the other.
 pub(crate) fn push_items<T: Item>(bytes: &[u8], count: usize, items: &mut Vec<T>)
     requires long { length bytes.now ≡ T.SIZE * count }
     requires capacity { vec_len items.old + count ≤ vec_capacity items.old }

@@ -25,7 +25,7 @@ const SIGNATURE: u64 = 0x3150_4d55_4453_4254;
 pub enum DumpFault {
     /// It does not begin with a head.
     Head,
-    /// Where a mark would stand there is another number than 2; or a mark stands behind another one, or under profile 2.
+    /// Where a mark would come there is another number than 2; or a mark is behind another one, or under profile 2.
     Mark,
     /// The next entry can't be read, or the reply to it can't be written.
     Frame(FrameFault),
@@ -104,7 +104,7 @@ pub struct DumpHead {
     pub clients_max: ClientsMax,
 }
 
-/// What stands behind the head of a dump.
+/// What follows the head of a dump.
 #[derive(Drop)]
 pub enum DumpItem {
     /// From here on the entries go by profile 2.
@@ -142,7 +142,7 @@ fn number_of(profile: Profile) -> u32
     }
 }
 
-/// The head that 16 bytes spell.
+/// The head that 16 bytes encode.
 fn head_in(bytes: &[u8]) -> Option<DumpHead>
     requires { length bytes.now ≡ 16 }
     ensures some { IfSome result
@@ -194,8 +194,8 @@ fn numbers_from<S: Source>(source: &mut S) -> Result<Option<(u64, u64)>, FrameFa
     }
 }
 
-/// Reads what stands next behind the head of a dump: a mark or an entry; None where the input ends before the first byte.
-/// Mark where eight zero bytes and another number than 2 stand there; Short where the input ends in the 16 bytes of
+/// Reads what comes next behind the head of a dump: a mark or an entry; None where the input ends before the first byte.
+/// Mark where eight zero bytes and another number than 2 are there; Short where the input ends in the 16 bytes of
 /// either, in the frame of an entry, or before it.
 #[tactic(auto, using(crate::proofs::DumpAnswers::no_frame, crate::proofs::DumpAnswers::bad_frame))]
 pub fn read_item_from<S: Source>(

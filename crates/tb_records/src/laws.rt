@@ -3,7 +3,7 @@ ghost use Rattle.std.specs.Prelude.{◌≡◌, ◌++◌, None, ℕ, List};
 ghost use Rattle.tb_records.specs.Frames.{request_bytes, request_fault, FitsFrame, IsRequest};
 ghost use Rattle.tb_records.specs.Messages.{Message, number_fault};
 
-/// The frame of a request has no fault, whatever stands behind it.
+/// The frame of a request has no fault, whatever follows it.
 #[tactic(auto, using(crate::proofs::Spellings::spelled_sound))]
 pub fn spelled_whole()
     ensures { (r : Message) (more : List ℕ) → IsRequest r → request_fault (request_bytes r ++ more) ≡ None }

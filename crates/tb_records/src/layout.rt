@@ -21,7 +21,7 @@ pub(crate) trait Item: Copy + Drop {
     /// How many bytes an item has.
     const SIZE: usize;
 
-    /// The item that the bytes spell.
+    /// The item that the bytes encode.
     fn read(bytes: &[u8]) -> Self
         requires { length bytes.now ≡ SIZE }
         ensures spelled { spelling result ≡ bytes.now }

@@ -6,7 +6,7 @@ ghost use Rattle.tb_records.specs.Operations.{operation_code, operation_name};
 
 use std::fmt;
 
-/// What a request asks for: the number beside it is the one in a frame.
+/// What a request asks for: the number next to it is the one in a frame.
 #[derive(Clone, Copy, Debug, PartialEq, Eq)]
 pub enum Operation {
     /// Opens a session of a client.

@@ -26,7 +26,7 @@ pub fn read_request(alloc: Global, bytes: &[u8]) -> Result<(Request, usize), Fra
     read(alloc, bytes)
 }
 
-/// The body that the bytes spell.
+/// The body that the bytes encode.
 #[tactic(auto, using(crate::proofs::SliceAnswers::all_read), unfolding(crate::specs::Frames::body_bytes))]
 fn body_in(
     alloc: Global,
@@ -47,7 +47,7 @@ fn body_in(
     })
 }
 
-/// The request of a header whose body the bytes spell. The only fault is that there is no memory.
+/// The request of a header whose body the bytes encode. The only fault is that there is no memory.
 #[inline(always)]
 fn request_in(alloc: Global, bytes: &[u8], header: &Header) -> Result<Request, FrameFault>
     requires size { length bytes.now ≡ body_length header.now }

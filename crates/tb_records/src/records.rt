@@ -45,7 +45,7 @@ impl Account {
         flag.is_in(self.flags)
     }
 
-    /// The next event of the batch stands or falls with this one.
+    /// The next event of the batch succeeds or fails with this one.
     pub fn is_linked(&self) -> bool
         ensures { result ≡ account_has AccountFlag.Linked self.now }
     {
@@ -69,7 +69,7 @@ impl Account {
         out
     }
 
-    /// The account that the bytes spell. Any 128 bytes spell one, and only one.
+    /// The account that the bytes encode. Any 128 bytes encode one, and only one.
     pub fn from_bytes(bytes: &[u8; 128]) -> Account
         ensures spelled { account_bytes result ≡ bytes.now }
         ensures fits { IsAccount result }
@@ -113,7 +113,7 @@ impl Transfer {
         flag.is_in(self.flags)
     }
 
-    /// The next event of the batch stands or falls with this one.
+    /// The next event of the batch succeeds or fails with this one.
     pub fn is_linked(&self) -> bool
         ensures { result ≡ transfer_has TransferFlag.Linked self.now }
     {
@@ -172,7 +172,7 @@ impl Transfer {
         bytes
     }
 
-    /// The transfer that the bytes spell. Any 128 bytes spell one, and only one.
+    /// The transfer that the bytes encode. Any 128 bytes encode one, and only one.
     pub fn from_bytes(bytes: &[u8; 128]) -> Transfer
         ensures spelled { transfer_bytes result ≡ bytes.now }
         ensures fits { IsTransfer result }

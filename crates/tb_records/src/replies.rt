@@ -16,7 +16,7 @@ use std::marker::Model;
 /// How a request fared.
 #[derive(Clone, Copy, Debug, PartialEq, Eq)]
 pub enum Status {
-    /// 0: the request stands in the history, and this is its reply.
+    /// 0: the request is in the history, and this is its reply.
     Reply,
     /// 1: the client has no session.
     NoSession,

@@ -3,7 +3,7 @@ ghost use Rattle.std.specs.Prelude.{◌≡◌, ◌++◌, None, ℕ, List};
 ghost use Rattle.tb_records.specs.Messages.{Answer, answer_fault};
 ghost use Rattle.tb_records.specs.ReplyFrames.{reply_bytes, reply_fault, FitsFrame, HasKind, IsReply};
 
-/// The frame of a reply has no fault, whatever stands behind it.
+/// The frame of a reply has no fault, whatever follows it.
 #[tactic(auto, using(crate::proofs::ReplyLaws::spelled_whole))]
 pub fn spelled_whole()
     ensures { (r : Answer) (more : List ℕ) → IsReply r → reply_fault (reply_bytes r ++ more) ≡ None }

@@ -108,7 +108,7 @@ fn is_long(operation: u8, status: u8, len: u32) -> bool
     }
 }
 
-/// The items that the bytes spell, one behind the other.
+/// The items that the bytes encode, one behind the other.
 pub(crate) fn items_in<T: Item>(
     alloc: Global,
     bytes: &[u8],
@@ -123,7 +123,7 @@ pub(crate) fn items_in<T: Item>(
     Ok(Items::new(items))
 }
 
-/// The body that the bytes spell, of the kind that the operation and the status ask for.
+/// The body that the bytes encode, of the kind that the operation and the status ask for.
 #[tactic(auto, unfolding(crate::specs::ReplyFrames::reply_body_bytes))]
 fn body_in(alloc: Global, operation: u8, status: u8, bytes: &[u8]) -> Result<ReplyBody, AllocError>
     requires { IsTrue (has_reply_length operation status (length bytes.now)) }

@@ -95,7 +95,7 @@ impl<R: Source + Drop> RequestStream<R> {
     }
 }
 
-/// Says that bytes begin with a whole request frame, as far as its header tells its length.
+/// Says that bytes begin with a whole request frame, as far as its header gives its length.
 pub fn holds_frame(bytes: &[u8]) -> bool
     ensures { result ≡ holds_frame bytes.now }
 {

@@ -6,10 +6,10 @@ ghost use Rattle.tb_records.specs.Flags.{has_flag};
 
 use std::fmt;
 
-/// A flag of a transfer: the number beside it is its bit.
+/// A flag of a transfer: the number next to it is its bit.
 #[derive(Clone, Copy, Debug, PartialEq, Eq)]
 pub enum TransferFlag {
-    /// The next event stands or falls with this one.
+    /// The next event succeeds or fails with this one.
     Linked = 1,
     /// The amount is held until the transfer is posted or voided, or expires.
     Pending = 2,
@@ -46,7 +46,7 @@ impl TransferFlag {
     /// The bits that no transfer may have: imported, and those that are no flag.
     pub const RESERVED: u16 = 0xFF00;
 
-    /// The bit that stands for it in the record.
+    /// The bit that represents it in the record.
     pub fn bit(self) -> u16
         ensures { result ≡ transfer_flag_bit self }
     {

@@ -5,7 +5,7 @@ ghost use Rattle.tb_records.specs.TransferResults.{transfer_result_code, transfe
 
 use std::fmt;
 
-/// How the creation of a transfer fared: the number beside it is its result code.
+/// How the creation of a transfer fared: the number next to it is its result code.
 #[derive(Clone, Copy, Debug, PartialEq, Eq)]
 pub enum CreateTransferResult {
     /// The transfer is recorded.

@@ -73,7 +73,7 @@ struct Shown {
 }
 
 impl Shown {
-    /// Nothing, with room for all that a script names.
+    /// Nothing, with capacity for all that a script names.
     fn with_room(alloc: Global, named: &Named) -> Result<Shown, Trouble> {
         Ok(Shown {
             commit: 0,

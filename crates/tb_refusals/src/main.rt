@@ -1,9 +1,9 @@
 //! `tb_refusals FORM CLIENTS_MAX`: serves the script of standard input by calls that may want memory, and makes a call that
-//! was refused again. checks/refusals.py runs it with each growth refused in turn, one a run. `tb_refusals read` reads frames.
+//! was refused again. checks/refusals.py runs it with each allocation refused in turn, one a run. `tb_refusals read` reads frames.
 //!
 //! The forms `apply`, `take`, `offer` and `call` look at what a refused call left behind; `run`, `dump` and `replay` (which
-//! reads a dump) end at their first fault, and tell of which kind it is. What was answered goes to standard output, a line for
-//! each refusal to standard error; Trouble::status tells the statuses.
+//! reads a dump) end at their first fault, and say of which kind it is. What was answered goes to standard output, a line for
+//! each refusal to standard error; Trouble::status gives the statuses.
 //!
 //! Modules, each over those before it:
 //!
@@ -128,7 +128,7 @@ fn serve_opening<J: Naming + Send + Sync, R: Threads + Wait + Eprint + Sync>(
     }
 }
 
-/// Serves a script by a publisher: by another one where the first is refused, since one growth a run is refused.
+/// Serves a script by a publisher: by another one where the first is refused, since one allocation a run is refused.
 fn serve_published<R: Threads + Wait + Eprint + Sync>(
     rt: &R,
     alloc: Global,
@@ -190,7 +190,7 @@ struct Task {
     out: Vec<u8>,
 }
 
-/// Reads the program's words and its input, and makes room for what is answered.
+/// Reads the program's words and its input, and reserves memory for what is answered.
 fn read_task(rt: &HostRuntime) -> Result<Task, Trouble> {
     let form = read_words(rt)?;
     let mut input = Vec::new(rt.alloc());

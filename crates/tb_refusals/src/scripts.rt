@@ -53,7 +53,7 @@ pub fn read_pairs(alloc: Global, script: &[u8]) -> Result<Vec<Pair>, Trouble> {
     }
 }
 
-/// A copy of a request; the growth for it may be refused once.
+/// A copy of a request; the allocation for it may be refused once.
 pub fn copy_of<R: Eprint>(rt: &R, alloc: Global, request: &Request) -> Result<Request, Trouble> {
     match request.copy(alloc) {
         Ok(copy) => Ok(copy),
@@ -89,12 +89,12 @@ pub fn copy_all<R: Eprint>(rt: &R, alloc: Global, pairs: &[Pair]) -> Result<Vec<
     }
 }
 
-/// Appends a reply, for which there is room.
+/// Appends a reply, for which there is capacity.
 pub fn put_reply(reply: &Reply, out: &mut Vec<u8>) -> Result<(), Trouble> {
     expect(write_reply(reply, out).is_ok(), Why::NoRoom)
 }
 
-/// Appends a history as a dump, for which there is room.
+/// Appends a history as a dump, for which there is capacity.
 pub fn put_history(
     clients_max: ClientsMax,
     history: &[Entry],

@@ -5,7 +5,7 @@ use std::io;
 /// What a call answered, or left behind, that it must not.
 #[derive(Clone, Copy, Debug, PartialEq, Eq)]
 pub enum Why {
-    /// It was refused though growths are refused once.
+    /// It was refused though allocations are refused once.
     RefusedTwice,
     /// It was refused, or the request was not new, and something changed all the same.
     Changed,
@@ -39,7 +39,7 @@ pub enum Why {
     NoPort,
     /// The script has more pairs than a queue holds.
     TooManyPairs,
-    /// More was answered than there is room for.
+    /// More was answered than there is capacity for.
     NoRoom,
 }
 
@@ -48,7 +48,7 @@ pub enum Why {
 pub enum Trouble {
     /// There is no memory for what the program itself needs, or it was given no such script.
     SetUp,
-    /// The server is gone: it ended for want of memory.
+    /// The server is gone: it ended out of memory.
     Gone,
     /// A call answered, or left behind, what it must not.
     Wrong(Why),

@@ -1,4 +1,4 @@
--- `refuses` and `takes_back` at a call: what each is handed, and what a caller has of it. Assumes `Logic`.
+-- `refuses` and `takes_back` at a call: what each is passed, and what a caller has of it. Assumes `Logic`.
 use Rattle.std.proofs.Common.{◌≡◌, ℕ, ◌<◌, ◌^◌, Bool, List, [], ◌∷◌, refl, ap, w64}
 use seplogic.Ra.Ura.{Ura}
 use mir.Val.{Val, vunit, vbool, vint, vptr}

@@ -1,25 +1,25 @@
-//! An allocator that refuses one growth, or all from one on, and counts its blocks and the bytes that it is asked for.
+//! An allocator that refuses one allocation, or all from one on, and counts its blocks and the bytes that it is asked for.
 use std::alloc::{AllocError, Allocator};
 use std::cell::Cell;
 
 /// What was asked of an allocator.
 #[derive(Clone, Copy, Debug, PartialEq, Eq)]
 pub struct Tally {
-    /// The growths that were asked for.
+    /// The allocations that were asked for.
     pub asked: u64,
-    /// The first growth that is refused; 0 for none.
+    /// The first allocation that is refused; 0 for none.
     pub refused_at: u64,
     /// The last one that is refused.
     pub refused_until: u64,
     /// The blocks taken and not given back.
     pub blocks: u64,
-    /// The bytes of all growths that were asked for.
+    /// The bytes of all allocations that were asked for.
     pub bytes: u64,
     /// The bytes of the greatest of them.
     pub greatest: u64,
 }
 
-/// An allocator over another one, that refuses one growth, once, or all from one on until it relents, and counts its blocks and
+/// An allocator over another one, that refuses one allocation, once, or all from one on until it relents, and counts its blocks and
 /// bytes.
 pub struct Refusing<B: Allocator> {
     inner: B,
@@ -27,18 +27,18 @@ pub struct Refusing<B: Allocator> {
 }
 
 impl<B: Allocator> Refusing<B> {
-    /// Refuses the growth with this number, from 1; none where that is 0.
+    /// Refuses the allocation with this number, from 1; none where that is 0.
     pub fn new(inner: B, refused_at: u64) -> Refusing<B> {
         Refusing::within(inner, refused_at, refused_at)
     }
 
-    /// Refuses the growth with this number, from 1, and all behind it until it relents; none where that is 0.
+    /// Refuses the allocation with this number, from 1, and all behind it until it relents; none where that is 0.
     pub fn from(inner: B, refused_at: u64) -> Refusing<B> {
         let refused_until = if refused_at == 0 { 0 } else { u64::MAX };
         Refusing::within(inner, refused_at, refused_until)
     }
 
-    /// Refuses the growths from one number up to another.
+    /// Refuses the allocations from one number up to another.
     fn within(inner: B, refused_at: u64, refused_until: u64) -> Refusing<B> {
         Refusing {
             inner,
@@ -53,7 +53,7 @@ impl<B: Allocator> Refusing<B> {
         }
     }
 
-    /// Grants so many growths from now on, and refuses all behind them until it relents.
+    /// Grants so many allocations from now on, and refuses all behind them until it relents.
     pub fn allow(&self, count: u64) {
         let mut now = self.tally.get();
         now.refused_at = now.asked.wrapping_add(count).wrapping_add(1);
@@ -61,7 +61,7 @@ impl<B: Allocator> Refusing<B> {
         self.tally.set(now);
     }
 
-    /// Refuses no growth any more.
+    /// Refuses no allocation any more.
     pub fn relent(&self) {
         let mut now = self.tally.get();
         now.refused_until = 0;
@@ -80,7 +80,7 @@ impl<B: Allocator> Drop for Refusing<B> {
     }
 }
 
-/// Counts a growth of so many bytes that is asked for, and says whether it is refused.
+/// Counts an allocation of so many bytes that is asked for, and says whether it is refused.
 fn refuses(tally: &Cell<Tally>, size: usize) -> bool {
     let mut now = tally.get();
     now.asked = now.asked.wrapping_add(1);

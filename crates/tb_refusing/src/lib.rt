@@ -1,4 +1,4 @@
-//! An allocator over another one, for tests: it refuses one growth, or all from one on, and counts its blocks and bytes.
+//! An allocator over another one, for tests: it refuses one allocation, or all from one on, and counts its blocks and bytes.
 //!
 //! Module:
 //!

@@ -1,4 +1,4 @@
-//! `tb_script`: `tbs` without its storm, with the same forms, lines and statuses. It stands on the one-thread server alone, so it
+//! `tb_script`: `tbs` without its storm, with the same forms, lines and statuses. It is built on the one-thread server alone, so it
 //! is proved and built before the copies and ports are.
 #![tactic(auto)]
 

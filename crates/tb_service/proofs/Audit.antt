@@ -74,7 +74,7 @@ by_place p n front whole (o ∷ os) is long =
     ∙ ap (λ (l : List (Option Message)). (if o.port == p then map Some rs else []) ++ l) rest
     ∙ joined (o.port == p) rs (requests_of p os)
 
--- what a port offered stands at its places, as far as it was taken
+-- what a port offered is at its places, as far as it was taken
 pub accounted : (v u w : View) (items : List Order) (number : ℕ) (places : List ℕ) (ended : Ended) → w ≡ taken_in v u → Accounts w items → number ≡ u.port
     → places ≡ places_from number 1 (ports v.taken) → (ended ≡ way.Closed → (p : ℕ) → p < v.ports → is_closed p v.taken ≡ true)
     → IsOffered u.offered (requests v.taken) places ended

@@ -14,7 +14,7 @@ use Rattle.tb_service.specs.Places.{places_from, HaveOwners}
 use Rattle.tb_service.specs.Finished.{IsOffered}
 use Rattle.tb_service.specs.OfferedLaws.{HasOwner, NoneInvented}
 
--- x stands in a list
+-- x is in a list
 
 abbrev Stands : {X : Type 0} → X → List X → Type 0
 Stands x [] = ⊥
@@ -35,7 +35,7 @@ some_stands x (y ∷ xs) s =
     (λ t. let h = some_stands x xs t in let lt = h.1 in (suc h.0, omega arith, h.2))
     s
 
--- a place stands among those of its port
+-- a place is among those of its port
 
 behind : (b : Bool) (x n : ℕ) (rest : List ℕ) → Stands x rest → Stands x (if b then n ∷ rest else rest)
 behind true x n rest s = inr s

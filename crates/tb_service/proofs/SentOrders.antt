@@ -132,7 +132,7 @@ ends_at_close-other p (x ∷ xs) o other ends =
     (λ is. has_none_of-other xs o p other (if_true (x.port == p && closes x.what) (has_none_of p xs) (ends_at_close p xs) is ends))
     (λ is. ends_at_close-other p xs o other (if_false (x.port == p && closes x.what) (has_none_of p xs) (ends_at_close p xs) is ends))
 
--- nothing of a port stands behind its close
+-- nothing of a port is behind its close
 
 and_right : (a b : Bool) → (a && b) ≡ true → b ≡ true
 and_right true b h = h

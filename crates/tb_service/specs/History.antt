@@ -54,7 +54,7 @@ abbrev pub refused_from : ℕ → List Turn → List (ℕ × TakeFault)
 refused_from n [] = []
 refused_from n (t ∷ ts) = at_place n t.fault ++ refused_from (n + 1) ts
 
--- a request that is kept has a time where it is new; only a new one is left out: for want of memory though it has a time, or
+-- a request that is kept has a time where it is new; only a new one is left out: since memory ran out though it has a time, or
 -- because it has none
 abbrev pub Fares : Class → Bool → Option TakeFault → Type 0
 Fares class timely None = class ≡ New → timely ≡ true
@@ -92,7 +92,7 @@ pub record ServerState (M G : Type 0) : Type 0 where
 
 module _ {M G : Type 0} (o : Opening) (tells : M → ℕ → M → Type 0) (passes : G → ℕ → G → Type 0) where
   -- The requests had their turns, from the place n on, and these were left out. The new history is what the others made of the
-  -- old one, each with the moment that was told for it; the gate was passed with each place.
+  -- old one, each with the moment that was given for it; the gate was passed with each place.
   pub record Serves (before : ServerState M G) (n : ℕ) (requests : List Message) (refused : List (ℕ × TakeFault)) (after : ServerState M G) : Type 0 where
     pub turns : List Turn
     pub served : requests_at turns ≡ requests

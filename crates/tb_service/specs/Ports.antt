@@ -7,7 +7,7 @@ use Rattle.tb_service.specs.declared.orders.Order.{Order}
 use Rattle.tb_service.specs.declared.rule.View.{View}
 use Rattle.tb_service.specs.Names.{Name, service_of}
 
--- a port, open or closed: its service, its number, from 0, and the requests that it handed over, in order
+-- a port, open or closed: its service, its number, from 0, and the requests that it sent, in order
 pub record Offers : Type 0 where
   pub service : Name
   pub number : ℕ
@@ -16,7 +16,7 @@ pub record Offers : Type 0 where
 abbrev pub offers_of : Pass Order View → Offers
 offers_of pass = record { service = service_of pass; number = (view pass).port; offered = (view pass).offered }
 
--- what a pass knows is a port's, with this number, which has handed so many requests over
+-- what a pass knows is a port's, with this number, which has sent so many requests
 pub record IsPortOf (v : View) (number count : ℕ) : Type 0 where
   pub offers : v.offers ≡ true
   pub number_is : number ≡ v.port

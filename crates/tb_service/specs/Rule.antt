@@ -57,7 +57,7 @@ Fits sent_orders taken ports seat reader pass v =
     (v.offers ≡ true → IsPort sent_orders ports seat pass v) × (v.serves ≡ true → IsServer sent_orders taken ports seat reader pass v)
 
 -- The orders taken and then those queued are all that were sent: in them each port's requests are what it offered, in order, and nothing
--- of a port stands behind its close. `seat` names each port's pass, which is the server's once it took the port in.
+-- of a port is behind its close. `seat` names each port's pass, which is the server's once it took the port in.
 pub record Queued (items : List Order) (views : List View) : Type 0 where
   pub taken : List Order
   pub ports : ℕ

@@ -8,11 +8,11 @@ use Rattle.tb_published.specs.Openings.{Opening}
 use Rattle.tb_service.specs.History.{ServerState, Leads}
 use Rattle.tb_service.specs.Servers.{Finishes}
 
--- from each state one number alone can be told, and one state is left
+-- from each state one number alone can be given, and one state is left
 abbrev pub IsOneWay : {S : Type 0} → (S → ℕ → S → Type 0) → Type 0
 IsOneWay {S} step = (x y z : S) (k l : ℕ) → step x k y → step x l z → (k ≡ l) × (y ≡ z)
 
--- two lists of one length that were told from one state are the same, and end in the same state
+-- two lists of one length that were given from one state are the same, and end in the same state
 abbrev pub OneList : {S : Type 0} → (S → ℕ → S → Type 0) → Type 0
 OneList {S} step = (x y z : S) (ks ls : List ℕ) → Leads step x ks y → Leads step x ls z → length ks ≡ length ls → (ks ≡ ls) × (y ≡ z)
 

@@ -1,4 +1,4 @@
-//! A call: a request is handed over, and a seat is asked for its reply.
+//! A call: a request is sent, and a seat is asked for its reply.
 ghost use Rattle.std.specs.Prelude.{IfOk};
 ghost use mathlib.Core.List.{IsPrefix};
 ghost use Rattle.tb_published.specs.Openings.{LegalIn, IsAnswerIn};

@@ -24,7 +24,7 @@ pub struct Finished<J: Naming> {
     pub publisher: Publisher<J>,
     /// Why the run ended.
     pub ended: Ended,
-    /// The places, from 1, of the requests that were not entered, though they were new: for want of memory, or of time.
+    /// The places, from 1, of the requests that were not entered, though they were new: memory or time ran out.
     pub refused: Vec<(u64, TakeFault)>,
     places: Vec<u32>,
     sender: Sender,
@@ -108,7 +108,7 @@ impl<J: Naming> Finished<J> {
         }
     }
 
-    /// Takes a closed port in, and answers the places of the requests that were taken from it. For want of memory the
+    /// Takes a closed port in, and answers the places of the requests that were taken from it. Where an allocation fails the
     /// same port comes back, and nothing has changed.
     pub fn offered_by(&mut self, closed: Closed) -> Result<Vec<u64>, Closed>
         requires service { closed.service ≡ self.old.service }

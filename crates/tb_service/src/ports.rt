@@ -15,8 +15,8 @@ use std::sync::Wait;
 use tb_published::{Naming, Seat, SeatFault};
 use tb_records::{Reply, Request, Status};
 
-/// One client thread's way to the server. Contracts see it as its service, its number, and the requests that it handed
-/// over. A port that is dropped and not closed keeps the server waiting.
+/// One client thread's way to the server. Contracts see it as its service, its number, and the requests that it sent
+/// so far. A port that is dropped and not closed keeps the server waiting.
 #[derive(Drop)]
 pub struct Port {
     sender: Sender,
@@ -84,7 +84,7 @@ impl Port {
         }
     }
 
-    /// Hands a request over. It comes back only where the server is gone, or the port handed 2^64 - 1 requests over.
+    /// Sends a request. It comes back only where the server is gone, or the port sent 2^64 - 1 requests.
     pub fn offer<R: Wait>(&mut self, rt: &R, request: Request) -> Result<(), Request>
         ensures offered { MatchResult result (λ _. self.new.offered ≡ self.old.offered ++ request ∷ [])
             (λ back. (back ≡ request) × (self.new.offered ≡ self.old.offered)) }
@@ -109,7 +109,7 @@ impl Port {
         }
     }
 
-    /// Hands one to eight requests over, in one order: they are entered in turn and shown together. They come back
+    /// Sends one to eight requests, in one order: they are entered in turn and shown together. They come back
     /// only where the server is gone, or the port's count of requests would pass 2^64 - 1.
     pub fn offer_many<R: Wait>(
         &mut self,
@@ -143,7 +143,7 @@ impl Port {
     }
 
     /// Asks the seat for the reply to a request. Where the history that the seat shows does not have it yet, a copy is
-    /// handed over, once, and the seat is asked again, at most `turns` times, until the reply has another status than NotYet. The answer
+    /// sent, once, and the seat is asked again, at most `turns` times, until the reply has another status than NotYet. The answer
     /// is the seat's last one. A fault of the seat ends the call, and so does a copy that finds no memory, as NoMemory.
     pub fn call<J: Naming, R: Wait>(
         &mut self,
@@ -200,7 +200,7 @@ impl Port {
 impl Closed {
     ghost use Rattle.tb_service.specs.Ports.{offers_of};
 
-    /// The number of requests that the port handed over.
+    /// The number of requests that the port sent.
     pub fn offered(&self) -> u64
         ensures { result ≡ length self.now.offered }
     {

@@ -14,7 +14,7 @@ use std::time::Duration;
 /// So many times a port naps where the queue is full, before it sleeps until the server wakes it.
 const NAPS: u32 = 16;
 
-/// The first nap with an order of one request, in microseconds. It is over before a server has taken what stands in a full queue.
+/// The first nap with an order of one request, in microseconds. It is over before a server has taken what is in a full queue.
 const NAP: u64 = 20;
 
 /// The same with an order of several requests, which take the server longer.
@@ -31,7 +31,7 @@ fn nap<R: Wait>(rt: &R, what: &What, naps: u32) {
 }
 
 /// Sends an order. It comes back where the server is gone. A server wakes one sleeper with each order that it takes, which takes it longer
-/// than a small request does. So a port whose order finds the queue full naps at first, and then finds room for several orders.
+/// than a small request does. So a port whose order finds the queue full naps at first, and then finds space for several orders.
 pub(crate) fn send<R: Wait>(
     sender: &Sender,
     pass: &mut Pass<Order, View>,

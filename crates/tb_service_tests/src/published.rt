@@ -1,4 +1,4 @@
-//! Worked rows through `take` and seats, by public calls of tb_published alone.
+//! Worked examples through `take` and seats, by public calls of tb_published alone.
 //!
 //! Modules, each over those before it:
 //!

@@ -45,7 +45,7 @@ put_or_before {k = k} {f' = f'} put q x is = elim (decide q k) [
   | inr n ↦ inr (n, sym (put.others q n) ∙ is)
 ]
 
--- a client's row leaves, and the commit that the client stands at
+-- a client's row leaves, and the commit that the client is at
 linked_out : {R R' : ℕ → Option Row} {B B' : ℕ → Option ℕ} (k d : ℕ) → IsLinked R B → B d ≡ Some k → GoneAt k R R' → GoneAt d B B' → IsLinked R' B'
 linked_out {R} {R'} {B} {B'} k d l stood row client = record {
   noted = λ q x is. let was = row_before q x is in let noted = l.noted q x was.1 in (noted.0, noted.1, client.others noted.0 (λ same. was.0 (inside (sym noted.2 ∙ ap B same ∙ stood))) ∙ noted.2);
@@ -110,7 +110,7 @@ linked_in {R} {R'} {B} {B'} k r l absent fresh unlike row client = record {
   differ = still_differ k r row l.differ unlike;
 }
 
--- a later row comes in place of a client's, and the client stands where it stood
+-- a later row comes in place of a client's, and the client is where it was
 linked_renewed : {R R' : ℕ → Option Row} {B : ℕ → Option ℕ} (k : ℕ) (r old : Row) → IsLinked R B → R k ≡ Some old → old.commit ≤ r.commit → B r.commit ≡ None → ((q : ℕ) (x : Row) → R q ≡ Some x → x.commit ≢ r.commit)
     → PutAt k r R R' → IsLinked R' B
 linked_renewed {R} {R'} {B} k r old l found later fresh unlike row = record {
@@ -130,7 +130,7 @@ linked_renewed {R} {R'} {B} k r old l found later fresh unlike row = record {
   differ = still_differ k r row l.differ unlike;
 }
 
--- a client goes from the commit where it stands to its row's
+-- a client goes from the commit where it is to its row's
 linked_moved : {R : ℕ → Option Row} {B M B' : ℕ → Option ℕ} (k d : ℕ) (r : Row) → IsLinked R B → B d ≡ Some k → R k ≡ Some r → GoneAt d B M → PutAt r.commit k M B' → IsLinked R B'
 linked_moved {R} {B} {M} {B'} k d r l stood here gone put = record {
   noted = λ q x is. elim (decide q k) [
@@ -167,7 +167,7 @@ linked_moved {R} {B} {M} {B'} k d r l stood here gone put = record {
       | inr a ↦ inr (before gone c j a.1)
     ]
 
--- the first of the clients stands at its commit
+-- the first of the clients is at its commit
 pub first_found : (es : List (ℕ × ℕ)) (c k : ℕ) → slice_get es 0 ≡ Some (c, k) → lookup (is_at (nat_cmp c)) es ≡ Some k
 first_found [] c k is = absurd (cc)
 first_found (e ∷ es) c k is =
@@ -176,7 +176,7 @@ first_found (e ∷ es) c k is =
     ap (λ b. cond b (Some e.1) (lookup (is_at (nat_cmp c)) es)) (subst (λ d. is_at (nat_cmp c) d ≡ true) (sym at) (at_itself c)) ∙ ap (λ p. Some p.1) same
 
 module _ {n : ℕ} {rows : Map ℕ Row} {clients : Map ℕ ℕ} (i : IsIndexed n rows clients) where
-  -- each row found is of an earlier commit, and no client stands at a later one
+  -- each row found is of an earlier commit, and no client is at a later one
   earlier : (commit : ℕ) → Each (λ (other : Row). other.commit < commit) (values_of (entries rows)) → (q : ℕ) (x : Row) → kept_row rows q ≡ Some x → x.commit < commit
   earlier commit later q x is = each-find (λ (other : Row). other.commit < commit) (λ row. client_of row == q) x (values_of (entries rows)) later (sym (found-row client_of q (entries rows) i.own) ∙ is)
 
@@ -254,7 +254,7 @@ module _ {n : ℕ} {rows : Map ℕ Row} {clients : Map ℕ ℕ} (i : IsIndexed n
         clients_fit = i.clients_fit;
       }
 
-  -- no client stands at the commit of a row that is not at the commit where its client stands
+  -- no client is at the commit of a row that is not at the commit where its client is
   moved_fresh : (k d : ℕ) (r : Row) → client_at clients d ≡ Some k → kept_row rows k ≡ Some r → r.commit ≢ d → client_at clients r.commit ≡ None
   moved_fresh k d r stood here behind =
       none_where (client_at clients r.commit) (λ j is. behind (i.linked.once r.commit d k (is ∙ ap Some (i.linked.apart k j r here is)) stood))

@@ -1,4 +1,4 @@
--- What look-ups by number find after each change, and what holds of all that they find.
+-- What lookups by number find after each change, and what holds of all that they find.
 use Rattle.std.proofs.Common.{◌≡◌, ◌≢◌, ℕ, ◌<◌, ◌≤◌, Bool, true, false, cond, eqb, ◌⊎◌, inl, inr, List, [], ◌∷◌, Option, Some, None, refl, sym, ap, ◌∙◌, subst, arith}
 use Rattle.std.proofs.lemmas.Bool.Decides.{nat_tests}
 use Rattle.std.specs.declared.cmp.Ordering.{Ordering}
@@ -35,7 +35,7 @@ not_at q k n = eq-number k q ∙ by (eqb q k) refl
 one : (k x y : ℕ) → is_at (nat_cmp k) x ≡ true → is_at (nat_cmp k) y ≡ is_at (nat_cmp x) y
 one k x y p = (eq_by_cmp_equiv nat_cmp_total).congr k x y p
 
--- what is found by number, once nothing stands at k, or v does
+-- what is found by number, once nothing is at k, or v is
 pub record GoneAt {X : Type 0} (k : ℕ) (f f' : ℕ → Option X) : Type 0 where
   pub here : f' k ≡ None
   pub others : (q : ℕ) → q ≢ k → f' q ≡ f q

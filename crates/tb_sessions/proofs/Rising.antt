@@ -29,12 +29,12 @@ each_latest (row ∷ rows) = (omega arith, each-map (λ (x : Row). x.commit ≤ 
 pub no_later : {n : ℕ} {rows : Map ℕ Row} {clients : Map ℕ ℕ} → IsIndexed n rows clients → (k : ℕ) (row : Row) → kept_row rows k ≡ Some row → row.commit ≤ latest (values_of (entries rows))
 no_later {rows = rows} i k row here = each-find (λ (x : Row). x.commit ≤ latest (values_of (entries rows))) (λ x. client_of x == k) row (values_of (entries rows)) (each_latest (values_of (entries rows))) (sym (found-row client_of k (entries rows) i.own) ∙ here)
 
--- the first commit; 0 where no client stands
+-- the first commit; 0 where there is no client
 abbrev pub first_commit : List (ℕ × ℕ) → ℕ
 first_commit [] = 0
 first_commit (e ∷ es) = e.0
 
--- a client that is behind stands at a commit before its row's
+-- a client that is behind is at a commit before its row's
 pub first_later : {n : ℕ} {rows : Map ℕ Row} {clients : Map ℕ ℕ} → IsIndexed n rows clients → (later : ℕ) → (f : IsFirstBehind rows clients later) → f.commit < later
 first_later {clients = clients} i later f =
     let kept = i.linked.kept f.commit f.client (first_found (entries clients) f.commit f.client f.first) in

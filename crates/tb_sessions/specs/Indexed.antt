@@ -1,4 +1,4 @@
--- The rows of the sessions by client, and beside them each client by a commit of its own: its row's, or an earlier one.
+-- The rows of the sessions by client, and next to them each client by a commit of its own: its row's, or an earlier one.
 -- Cited by private contracts alone, of: eviction, table.
 use Rattle.std.specs.Prelude.{ℕ, ◌≡◌, ◌≢◌, ◌+◌, ◌<◌, ◌≤◌, length, Option, Some}
 use Rattle.std.specs.Ordering.{nat_cmp}
@@ -15,11 +15,11 @@ use Rattle.tb_sessions.specs.Judged.{client_of}
 abbrev pub kept_row : Map ℕ Row → ℕ → Option Row
 kept_row rows client = lookup (is_at (nat_cmp client)) (entries rows)
 
--- the client that stands at a commit
+-- the client that is at a commit
 abbrev pub client_at : Map ℕ ℕ → ℕ → Option ℕ
 client_at clients commit = lookup (is_at (nat_cmp commit)) (entries clients)
 
--- each client with a row stands at one commit, no later than its row's; and what one client stands at, or has in its row, is no other's commit
+-- each client with a row is at one commit, no later than its row's; and what one client is at, or has in its row, is no other's commit
 pub record IsLinked (kept_row : ℕ → Option Row) (client_at : ℕ → Option ℕ) : Type 0 where
   pub noted : (client : ℕ) (row : Row) → kept_row client ≡ Some row → (commit : ℕ) × (commit ≤ row.commit) × (client_at commit ≡ Some client)
   pub kept : (commit client : ℕ) → client_at commit ≡ Some client → (row : Row) × (kept_row client ≡ Some row) × (commit ≤ row.commit)
@@ -39,11 +39,11 @@ pub record IsIndexed (clients_max : ℕ) (rows : Map ℕ Row) (clients : Map ℕ
   pub rows_fit : clients_max ≤ length (entries rows) + rows.spare
   pub clients_fit : clients_max ≤ length (entries clients) + clients.spare
 
--- the first of the clients stands at its row's commit
+-- the first of the clients is at its row's commit
 abbrev pub IsFirstDue : Map ℕ Row → Map ℕ ℕ → Type 0
 IsFirstDue rows clients = (commit client : ℕ) (row : Row) → slice_get (entries clients) 0 ≡ Some (commit, client) → kept_row rows client ≡ Some row → row.commit ≡ commit
 
--- the first of the clients stands at an earlier commit than its row's
+-- the first of the clients is at an earlier commit than its row's
 pub record IsFirstBehind (rows : Map ℕ Row) (clients : Map ℕ ℕ) (later : ℕ) : Type 0 where
   pub commit : ℕ
   pub client : ℕ

@@ -1,4 +1,4 @@
--- How a request stands to the sessions: its class.
+-- How a request relates to the sessions: its class.
 -- Cited by public contracts of: table.
 use Rattle.std.specs.Prelude.{ℕ, Bool, ◌&&◌, ◌==◌, ◌+◌, nat_lt, List, [], ◌∷◌, Option, Some, None, if◌then◌else◌, find}
 use Rattle.tb_records.specs.Messages.{Message, is_register}
@@ -7,7 +7,7 @@ use Rattle.tb_sessions.specs.declared.classes.Class.{Class}
 use Rattle.tb_sessions.specs.declared.classes.Class.TheVariants.{New, Repeat, NoSession, SessionTooLow, NewerSession, Older, Collision, NewerRequest}
 use Rattle.tb_sessions.specs.declared.rows.Row.{Row}
 
--- the rows stand by rising client
+-- the rows are in order of their clients
 abbrev pub client_of : Row → ℕ
 client_of row = row.client
 
@@ -49,6 +49,6 @@ abbrev pub class_by : Option Row → Message → Class
 class_by None r = if is_register r.body then New else NoSession
 class_by (Some row) r = class_beside row r
 
--- the class of a request beside the rows
+-- the class of a request by the rows
 abbrev pub class_of : List Row → Message → Class
 class_of rows r = class_by (row_of rows r.client) r

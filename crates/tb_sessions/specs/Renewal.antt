@@ -1,4 +1,4 @@
--- How the table serves a request that is New beside its client's row: by a call at the request and the row, which may put a later row there.
+-- How the table serves a request that is New compared with its client's row: by a call at the request and the row, which may put a later row there.
 -- Cited by public contracts of: table.
 use Rattle.std.specs.Prelude.{◌≡◌, ℕ, ◌<◌, ◌⊎◌, List, Option, Some}
 use Rattle.std.specs.Fn.{Mut, Called}
@@ -13,7 +13,7 @@ use denote.Ref.{MutBor}
 abbrev pub Serving : Type 0 → Type 0 → Type 1
 Serving F A = Mut F (MutBor Message × (MutBor Row × Unit {0})) (A × (MutBor Message × (MutBor Row × Unit {0})))
 
--- the client's row, beside which the request is New
+-- the client's row, compared with which the request is New
 pub record IsNewBeside (rows : List Row) (r : Message) (row : Row) : Type 0 where
   pub here : row_of rows r.client ≡ Some row
   pub new : class_beside row r ≡ New
@@ -40,7 +40,7 @@ module _ {F A : Type 0} (c : Serving F A) where
     pub called : Called c f (request, (shown, tt)) (answer, ends) f'
     pub leaves : (ends.0.now ≡ r') × (ends.1.0.now ≡ left)
 
-  -- f may be called where the request is New beside its client's row
+  -- f may be called where the request is New compared with its client's row
   abbrev pub MayServe : F → List Row → Message → Type 0
   MayServe f rows r = (row : Row) → IsNewBeside rows r row → TakesBoth f r row
 
@@ -48,7 +48,7 @@ module _ {F A : Type 0} (c : Serving F A) where
   abbrev pub Renews : F → List Row → Message → Type 0
   Renews f rows r = (row : Row) (answer : A) (f' : F) (r' : Message) (left : Row) → IsNewBeside rows r row → CalledBeside f r row answer f' r' left → IsRenewal rows row left
 
-  -- it was called there, and what it left stands among the rows
+  -- it was called there, and what it left is among the rows
   pub record Served (f : F) (rows : List Row) (r : Message) (answer : A) (f' : F) (r' : Message) (rows' : List Row) : Type 0 where
     pub row : Row
     pub left : Row

@@ -1,6 +1,6 @@
-//! How a request stands to its client's session.
+//! How a request relates to its client's session.
 
-/// How a request stands to its client's session.
+/// How a request relates to its client's session.
 #[derive(Clone, Copy, Debug, PartialEq, Eq)]
 pub enum Class {
     /// The client has no session.

@@ -7,7 +7,7 @@ use crate::rows::Row;
 use avl_tree::AvlMap;
 use std::alloc::Global;
 
-/// The commit of the first client's row, where the client stands at an earlier one.
+/// The commit of the first client's row, where the client is at an earlier one.
 fn first_behind(
     rows: &AvlMap<u128, Row, Global>,
     clients: &AvlMap<u64, u128, Global>,
@@ -24,7 +24,7 @@ fn first_behind(
     }
 }
 
-/// Moves clients to the commits of their rows, from the first on, until the first stands at its row's: of a full table
+/// Moves clients to the commits of their rows, from the first on, until the first is at its row's: of a full table
 /// alone, since no session ends of another.
 pub fn bring_up(
     clients_max: usize,

@@ -1,17 +1,17 @@
-//! The sessions of clients: how a request stands to what its client sent last, and which session ends where there are
+//! The sessions of clients: how a request relates to what its client sent last, and which session ends where there are
 //! too many.
 //!
 //! Modules, each over those before it:
 //!
-//! - `classes`: `Class`, how a request stands to its client's session.
-//! - `rows`: `Row`, what is kept of a client; the class of a request beside it.
+//! - `classes`: `Class`, how a request relates to its client's session.
+//! - `rows`: `Row`, what is kept of a client; the class of a request by it.
 //! - `eviction`: who is evicted next: the client whose place in the second map comes first, brought up to its row's commit
 //!   number where it lags behind.
 //! - `table`: `Sessions`, rows by client in one `AvlMap`, and a second from a commit number to its client.
-//! - `tests`: worked rows, by the crate's public calls.
+//! - `tests`: worked examples, by the crate's public calls.
 //!
-//! A client stands in the second map at its row's commit number, or at one that its row had before. Only in a full table
-//! is the first client moved up to its row's number, and only while it stands at an earlier one.
+//! A client is in the second map at its row's commit number, or at one that its row had before. Only in a full table
+//! is the first client moved up to its row's number, and only while it is at an earlier one.
 #![tactic(auto)]
 
 mod classes;

@@ -1,4 +1,4 @@
-//! What is kept of a client, and how a request stands to it.
+//! What is kept of a client, and how a request relates to it.
 ghost use Rattle.std.specs.Prelude.{◌≡◌, false};
 ghost use Rattle.tb_records.specs.Messages.{is_register};
 ghost use Rattle.tb_sessions.specs.Judged.{class_beside, first_class, register_lines, request_lines};
@@ -29,7 +29,7 @@ fn filler() -> Request {
     }
 }
 
-/// What stands in a node for a row that isn't used. Nothing reads it.
+/// What is in a node for a row that isn't used. Nothing reads it.
 impl Default for Row {
     fn default() -> Row {
         let request = filler();
@@ -45,7 +45,7 @@ impl Default for Row {
 }
 
 impl Row {
-    /// How a request of the row's client stands to the row.
+    /// How a request of the row's client relates to the row.
     pub(crate) fn class_beside(&self, request: &Request) -> Class
         ensures { result ≡ class_beside self.now request.now }
     {
@@ -65,7 +65,7 @@ impl Row {
         self.class_in_session(request)
     }
 
-    /// How a numbered request of the row's session stands to the session's last.
+    /// How a numbered request of the row's session relates to the session's last.
     fn class_in_session(&self, request: &Request) -> Class
         requires numbered { is_register request.now.body ≡ false }
         requires same_session { request.now.session ≡ self.now.session }

@@ -37,7 +37,7 @@ impl Model for Sessions {
     ghost invariant = { λ s. FindsOldest s.clients_max s.rows s.clients };
 }
 
-/// How a request of a client without a session stands to the sessions.
+/// How a request of a client without a session relates to the sessions.
 fn class_alone(request: &Request) -> Class
     ensures { result ≡ class_by None request.now }
 {
@@ -48,7 +48,7 @@ fn class_alone(request: &Request) -> Class
     }
 }
 
-/// Calls the closure with a request and its client's row, where the request is New beside it; else answers the class.
+/// Calls the closure with a request and its client's row, where the request is New compared with it; else answers the class.
 fn serve_new<R, F: FnMut(&mut Request, &mut Row) -> R>(
     row: &mut Row,
     request: &mut Request,
@@ -95,7 +95,7 @@ impl Sessions {
         self.rows.get(&client)
     }
 
-    /// How a request stands to the sessions: New where it is to be executed, Repeat where it is answered by the stored
+    /// How a request relates to the sessions: New where it is to be executed, Repeat where it is answered by the stored
     /// reply, else why it is refused.
     pub fn classify(&self, request: &Request) -> Class
         ensures { result ≡ class_of self.now.rows request.now }
@@ -124,7 +124,7 @@ impl Sessions {
     /// table is full, the row of least commit. The row is of a request that is New here, and of a later commit than any
     /// row here.
     ///
-    /// It stands in its callers, so that a row is not copied on its way in and out.
+    /// It is inlined into its callers, so that a row is not copied on its way in and out.
     #[inline(always)]
     pub fn record(&mut self, row: Row) -> Option<Row>
         requires of_client { row.request.client ≡ row.client }
@@ -146,11 +146,11 @@ impl Sessions {
         gone
     }
 
-    /// Serves a request that is New beside its client's row: the closure is called once, with the request and the row, and may
+    /// Serves a request that is New compared with its client's row: the closure is called once, with the request and the row, and may
     /// put a later row of the client in its place. Any other request, and one of a client without a row, gets its class, and
     /// nothing is called or changed. The closure is lent, so that the caller has the state that the call left it in.
     ///
-    /// It stands in its callers, as `record` does.
+    /// It is inlined into its callers, as `record` does.
     #[inline(always)]
     pub fn renew_with<R, F: FnMut(&mut Request, &mut Row) -> R>(
         &mut self,

@@ -1,4 +1,4 @@
-//! Worked rows: what the table answers to clients that repeat, skip and change requests, and whom it forgets.
+//! Worked examples: what the table answers to clients that repeat, skip and change requests, and whom it forgets.
 ghost use Rattle.std.specs.Prelude.{◌≡◌, ◌+◌, ◌<◌, [], IfOk};
 ghost use Rattle.tb_records.specs.Ordered.{Each};
 
@@ -211,7 +211,7 @@ fn renewed_before_it_is_full(rt: HostRuntime) -> Result<(), Fail> {
     renew_before_full(&rt, rt.alloc(), &mut table)
 }
 
-/// Serves a request beside its client's row, which gets the request and the commit number, and answers that number. The request that
+/// Serves a request by its client's row, which gets the request and the commit number, and answers that number. The request that
 /// the row had comes out.
 fn renew(table: &mut Sessions, commit: u64, request: &mut Request) -> Result<u64, Class>
     requires { Each (λ (row : Row). row.commit < commit) table.old.rows }
@@ -231,7 +231,7 @@ fn leave(table: &mut Sessions, request: &mut Request) -> Result<u64, Class> {
     table.renew_with(request, &mut |_: &mut Request, row: &mut Row| row.commit)
 }
 
-/// What comes of requests beside the row of client 7.
+/// What comes of requests by the row of client 7.
 fn serve_beside(rt: &impl Abort, alloc: Global, table: &mut Sessions) -> Result<(), Fail>
     requires { table.old.rows ≡ [] }
 {

@@ -1,4 +1,4 @@
--- What is told of a storm that was played is what a storm ends with.
+-- What is reported of a storm that was played is what a storm ends with.
 use Rattle.std.proofs.Common.{ℕ, inl, inr, Result, Ok, Err, IfOk}
 use Rattle.tb_records.specs.Transport.{Output}
 use Rattle.tb_storm.specs.declared.faults.StormFault.{StormFault}

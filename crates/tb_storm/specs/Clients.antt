@@ -3,7 +3,7 @@
 use Rattle.std.specs.Prelude.{ℕ, ◌%◌, ◌==◌, length, Option, Some, None, if◌then◌else◌}
 use Rattle.tb_service.specs.Ports.{Offers}
 
--- how many requests a port has handed over; none where it is closed
+-- how many requests a port has sent; none where it is closed
 abbrev pub offers : Option Offers → ℕ
 offers None = 0
 offers (Some port) = length port.offered

@@ -1,4 +1,4 @@
--- The exit status of each fault of a storm: 1 a device, memory or a copy failed, 3 a client gave up; the line that a fault is told by;
+-- The exit status of each fault of a storm: 1 a device, memory or a copy failed, 3 a client gave up; the line that a fault is reported by;
 -- and the lines of a storm that ended well.
 -- Cited by public contracts of: faults, storms.
 use Rattle.std.specs.Prelude.{ℕ, ◌≡◌, ◌⊎◌, List, ◌++◌, Result, Ok, Err, IfOk, codes}
@@ -49,17 +49,17 @@ storm_lines clients totals =
     ((line_of (codes "clients ") clients ++ line_of (codes "commits ") totals.commits) ++ line_of (codes "transfers ") totals.transfers)
     ++ line_of (codes "credited ") totals.credited
 
--- Lines were written, and nothing is told; or as far as the writer took them, and the fault is Device.
+-- Lines were written, and nothing is reported; or as far as the writer took them, and the fault is Device.
 abbrev pub Writes : List ℕ → ℕ → Output → Output → Output → Output → Type 0
 Writes lines status start written quiet told = ((status ≡ 0) × Sent lines start written × (told ≡ quiet))
     ⊎ ((status ≡ storm_status storm.Device) × CutOff lines start written × TellsLine (storm_line storm.Device) quiet told)
 
--- of a storm that ended with totals its lines are written; of another nothing is, and its fault is told
+-- of a storm that ended with totals its lines are written; of another nothing is, and its fault is reported
 abbrev pub Exits : ℕ → Result Totals StormFault → ℕ → Output → Output → Output → Output → Type 0
 Exits clients (Ok totals) status start written quiet told = Writes (storm_lines clients totals) status start written quiet told
 Exits clients (Err fault) status start written quiet told = (status ≡ storm_status fault) × (written ≡ start) × TellsLine (storm_line fault) quiet told
 
--- A storm of so many clients was played, and this is told of it: its totals, or that there is no memory for their lines; or its
+-- A storm of so many clients was played, and this is reported of it: its totals, or that there is no memory for their lines; or its
 -- fault, and nothing else.
 abbrev pub TellsOf : ℕ → Result Totals StormFault → ℕ → Output → Output → Output → Output → Type 0
 TellsOf clients (Ok totals) status start written quiet told =

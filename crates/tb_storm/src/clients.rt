@@ -12,10 +12,10 @@ use tb_records::{Account, Body, Items, Request, Status, Transfer};
 use tb_service::Port;
 
 /// How often a call looks for its reply.
-const ASKS: u32 = 1_000_000;
+const LOOKS_PER_CALL: u32 = 1_000_000;
 
 /// How often a request is called.
-const CALLS: u32 = 100;
+const CALLS_MAX: u32 = 100;
 
 /// The account that all transfers credit.
 const BANK: u128 = 1000;
@@ -103,7 +103,7 @@ impl<J: Naming> Client<J> {
         let Some(port) = &mut self.port else {
             return Err(StormFault::NoPlace);
         };
-        let reply = port.call(rt, &mut self.seat, request, ASKS)?;
+        let reply = port.call(rt, &mut self.seat, request, LOOKS_PER_CALL)?;
         let session = match reply.status() {
             Status::Reply => Some(reply.session()),
             _ => None,
@@ -121,7 +121,7 @@ impl<J: Naming> Client<J> {
     ) -> Result<u64, StormFault>
         ensures { offers self.old.port ≤ offers self.new.port }
     {
-        for _ in 0..CALLS {
+        for _ in 0..CALLS_MAX {
             if let Some(session) = self.call(rt, request)? {
                 return Ok(session);
             }

@@ -1,13 +1,13 @@
-//! `storm`: many client threads at once, each with a port and a seat of its own, beside one server thread.
+//! `storm`: many client threads at once, each with a port and a seat of its own, next to one server thread.
 //!
 //! Modules, each over those before it:
 //!
 //! - `scale`: how many clients there are, and how many transfers each makes.
-//! - `stage`: what the server's thread tells the clients: it has begun, it has ended.
+//! - `stage`: what the server's thread reports to the clients: it has begun, it has ended.
 //! - `totals`: what a storm leaves, and its lines.
 //! - `faults`: why a storm does not end well.
 //! - `clients`: a client's thread: it registers, creates, and repeats what was answered.
-//! - `outcomes`: which fault is told where there are several.
+//! - `outcomes`: which fault is reported where there are several.
 //! - `storms`: `storm`, the server's thread, the clients' threads, and the lines.
 #![tactic(auto)]
 

@@ -1,4 +1,4 @@
-//! Which fault of a storm is told.
+//! Which fault of a storm is reported.
 ghost use Rattle.std.specs.Prelude.{◌≡◌, ◌≤◌, Ok, IfOk};
 ghost use Rattle.tb_storm.specs.Outcomes.{answered, first_of, outcome_of};
 
@@ -6,7 +6,7 @@ use crate::faults::StormFault;
 use crate::totals::Totals;
 use tb_service::Ended;
 
-/// Of two faults the first; but that a client gave up is told only where there is no other.
+/// Of two faults the first; but that a client gave up is reported only where there is no other.
 pub(crate) fn first_fault(first: Option<StormFault>, next: Option<StormFault>) -> Option<StormFault>
     ensures { result ≡ first_of first next }
 {
@@ -17,7 +17,7 @@ pub(crate) fn first_fault(first: Option<StormFault>, next: Option<StormFault>) -
     }
 }
 
-/// What is told of a storm whose server ended so, whose clients fared so, and after which a seat found these totals.
+/// What is reported of a storm whose server ended so, whose clients fared so, and after which a seat found these totals.
 pub(crate) fn conclude(
     ended: Ended,
     fared: Option<StormFault>,
@@ -34,7 +34,7 @@ pub(crate) fn conclude(
     }
 }
 
-/// What is told, but that totals of fewer entries than the clients saw replies are none.
+/// What is reported, but that totals of fewer entries than the clients saw replies are none.
 pub(crate) fn answered(replies: u32, told: Result<Totals, StormFault>) -> Result<Totals, StormFault>
     ensures told { result ≡ answered replies told }
     ensures totals { IfOk result (λ totals. (told ≡ Ok totals) × (replies ≤ totals.commits)) }

@@ -1,14 +1,14 @@
-//! What the server's thread tells the clients.
+//! What the server's thread reports to the clients.
 use std::sync::Wait;
 use std::sync::atomic::{AtomicBool, Ordering};
 use std::thread::Parker;
 use std::time::Duration;
 
 /// So often the clients look whether the server's thread has begun.
-const LOOKS: u32 = 400_000;
+const LOOKS_MAX: u32 = 400_000;
 
-/// They nap between two looks, in microseconds: twenty seconds in all, or more.
-const NAP: u64 = 50;
+/// So many microseconds lie between two looks: twenty seconds in all, or more.
+const NAP_US: u64 = 50;
 
 /// Whether the server's thread has begun, and whether it has ended.
 #[derive(Drop)]
@@ -44,11 +44,11 @@ impl Stage {
     /// the clients: an offer would then wait for ever, once the queue is full. Each nap gives the core away, so that a thread
     /// that was made has begun long before the last look, whatever else the machine does.
     pub fn has_begun<R: Wait>(&self, rt: &R) -> bool {
-        for _ in 0..LOOKS {
+        for _ in 0..LOOKS_MAX {
             if self.begun.load(Ordering::SeqCst) {
                 return true;
             }
-            Parker::new().park_timeout(rt, Duration::from_micros(NAP));
+            Parker::new().park_timeout(rt, Duration::from_micros(NAP_US));
         }
         false
     }

@@ -1,4 +1,4 @@
-//! A storm: the server's thread, the clients' threads, and the lines that tell of them.
+//! A storm: the server's thread, the clients' threads, and the lines that report on them.
 ghost use Rattle.std.specs.Prelude.{◌≡◌, ◌<◌, ◌≤◌, IfOk, length, map, fold};
 ghost use mathlib.Core.List.{IsPrefix};
 ghost use Rattle.tb_records.specs.Transport.{risen};
@@ -103,7 +103,7 @@ fn close_all<J: Naming, R: Wait>(rt: &R, first: &mut Client<J>, others: &mut Vec
     }
 }
 
-/// The fault that is told of the clients.
+/// The fault that is reported of the clients.
 fn fared<J: Naming>(first: Option<StormFault>, others: &[Client<J>]) -> Option<StormFault>
     ensures { result ≡ fold first_of first (map (λ client. client.fault) others.now) }
 {
@@ -170,7 +170,7 @@ fn totals_of<J: Naming>(
     })
 }
 
-/// What is told of a storm whose server has finished.
+/// What is reported of a storm whose server has finished.
 fn end<J: Naming, R: Wait>(
     rt: &R,
     alloc: Global,
@@ -286,7 +286,7 @@ fn play<R: Threads + Wait + Sync>(rt: &R, alloc: Global, scale: Scale) -> Result
     storm_in::<Brand, R>(rt, alloc, opening, scale)
 }
 
-/// The exit status of a fault, whose line is told.
+/// The exit status of a fault, whose line is reported.
 fn refuse<E: Sink>(fault: StormFault, faults: &mut E) -> u8
     ensures status { result ≡ storm_status fault }
     ensures line { TellsLine (storm_line fault) (E.output faults.old) (E.output faults.new) }
@@ -308,7 +308,7 @@ fn write_lines<W: Sink, E: Sink>(lines: &[u8], writer: &mut W, faults: &mut E) -
     }
 }
 
-/// Tells of a storm that was played: writes the lines of its totals, or tells its fault. Answers the exit status.
+/// Reports on a storm that was played: writes the lines of its totals, or reports its fault. Answers the exit status.
 fn tell_of<W: Sink, E: Sink>(
     alloc: Global,
     clients: u32,

@@ -1,4 +1,4 @@
-//! What a storm leaves, and the lines that tell of it.
+//! What a storm leaves, and the lines that report on it.
 ghost use Rattle.std.specs.Prelude.{◌≡◌, ◌++◌, string_bytes, IfOk};
 ghost use Rattle.tb_storm.specs.Storms.{line_of, storm_lines};
 
@@ -23,7 +23,7 @@ fn add_line(alloc: Global, lines: &mut String, word: &str, number: u128) -> Resu
     lines.push_str("\n")
 }
 
-/// The four lines that tell of a storm of so many clients.
+/// The four lines that report on a storm of so many clients.
 pub(crate) fn lines_of(alloc: Global, clients: u32, totals: Totals) -> Result<String, AllocError>
     ensures { IfOk result (λ lines. string_bytes lines ≡ storm_lines clients totals) }
 {

@@ -1,4 +1,4 @@
--- What could stand next: the words, the number and the marks that may stand where a line ends are those with which some
+-- What could come next: the words, the number and the marks that may come where a line ends are those with which some
 -- text of statements goes on.
 use Rattle.std.proofs.Common.{◌≡◌, ℕ, ◌+◌, ◌<◌, Bool, true, false, cond, ◌&&◌, ◌==◌, List, [], ◌∷◌, ◌++◌, length, get_or, take, drop, Option, Some, None, IsSome, Result, Ok, Err, IfOk, refl, sym, ap, subst, ◌∙◌, append_assoc, arith, ◌↔◌}
 use Rattle.std.specs.Prelude.{nat_lt}
@@ -83,7 +83,7 @@ is_clear text s u h e =
 
 -- words
 
--- a word that may not stand is not taken as a whole
+-- a word that may not come is not taken as a whole
 not_whole : (s : Scan) (w : Word) (p q : List ℕ) → p ++ q ≡ word_text w → may_stand s w ≡ false → all_word_bytes q ≡ true → run (spelling s p) (q ++ 10 ∷ []) ≡ None
 unfolding step
 not_whole s w p [] e refuses letters =
@@ -196,7 +196,7 @@ number_both s (Some f) w e =
     step_is one 10 (Decimal 1) refl ∙ ap (λ (q : Option Field). option_and_then (λ t. gap t 10) (option_and_then (λ g. cond (1 == 0 && is_positive g) None (Some (entered one g 1))) q)) w in
     (λ h. (entered one f 1, one_step s one 49 (10 ∷ []) (e ∙ decimal_one s f w) ∙ one_step one (entered one f 1) 10 [] over), λ r. refl)
 
--- what may stand where a line ends is what could stand next
+-- what may come where a line ends is what could come next
 
 both : (text piece : List ℕ) (u : Scan) (X : Type 0) → run (behind []) (text ++ 10 ∷ []) ≡ Some u → (X ↔ Runs u (piece ++ 10 ∷ [])) → X ↔ GoesOn text piece
 both text piece u X h b = (λ x. goes_on text piece u h (b.0 x), λ g. b.1 (went_on text piece u h g))

@@ -31,7 +31,7 @@ pub record IsKnown (w : Word) : Type 0 where
   pub stands : get_or all_words place word.AmountMax ≡ w
   pub below : place < length all_words
 
--- how many of these words stand before the one that is written so
+-- how many of these words come before the one that is written so
 abbrev place_among : List ℕ → List Word → ℕ
 place_among text [] = 0
 place_among text (w ∷ ws) = cond (pointwise nat_eq (word_text w) text) 0 (place_among text ws + 1)

@@ -145,7 +145,7 @@ number_over s f n w p =
     ap (λ (q : Option Field). option_and_then (λ t. gap t 32) (option_and_then (λ g. cond (n == 0 && is_positive g) None (Some (entered s g n))) q)) w
     ∙ ap (λ (c : Bool). option_and_then (λ t. gap t 32) (cond c None (Some (entered s f n)))) p
 
--- a number that may stand ends before a space
+-- a number that may come ends before a space
 ends_number : (s : Scan) (f : Field) (n : ℕ) → step s 32 ≡ number_left s n 32 → s.place ≡ Wanted f → (n == 0 && is_positive f) ≡ false → n ≤ field_max f
     → Stands s.operation (Wanted f) s.given s.header (item_count s) → CanEnd s
 ends_number s f n e p positive most h =
@@ -190,7 +190,7 @@ ends_named : (s : Scan) (f : Field) → s.lexeme ≡ Gap → s.place ≡ Named f
 ends_named s f g p h =
     steps s (moved s (Wanted f)) 61 (at_gap s 61 g ∙ ap (valued_at s) p) (ends_wanted (moved s (Wanted f)) f refl refl (wanted_stands s.operation f s.given s.header (item_count s) h))
 
--- behind a mark an id stands
+-- behind a mark is an id
 ends_parted : (s : Scan) (o : Operation) → IsBetween s → s.operation ≡ Some o → s.place ≡ Parted → s.given ≡ [] → has_field o field.Id ≡ true → Stands s.operation s.place s.given s.header (item_count s) → CanEnd s
 ends_parted s o between e p none id h =
     let may : may_stand s (word.Field field.Id) ≡ true =

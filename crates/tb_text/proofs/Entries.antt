@@ -40,7 +40,7 @@ abbrev pub InOrder : Option Operation → ℕ → List Entry → Type 0
 InOrder o k [] = Unit {0}
 InOrder o k (e ∷ es) = (k ≤ field_index e.0) × (may_have o e.0 ≡ true) × (e.1 ≤ field_max e.0) × (e.1 < 10 ^ 64) × InOrder o (field_index e.0 + 1) es
 
--- each stands before a place in the order of the fields
+-- each comes before a place in the order of the fields
 abbrev pub Before : ℕ → List Entry → Type 0
 Before k [] = Unit {0}
 Before k (e ∷ es) = (field_index e.0 < k) × Before k es
@@ -190,7 +190,7 @@ flags_elsewhere o (g ∷ fs) f v mark rest n is = by (n % 2 == 0) (flags_elsewhe
     by true skipped later = skipped
     by false skipped later = ap (λ (c : Bool). value_from (cond c (bit_or v (flag_bit o g)) v) f (flag_entries o fs 124 rest (n / 2))) is ∙ later
 
--- a number behind others has what stands before it, or nothing, by the entries that it is read as
+-- a number behind others has what comes before it, or nothing, by the entries that it is read as
 abbrev Adds : Operation → Field → ℕ → Entry → Type 0
 Adds o f v e = value_from v f (entries_of o e) ≡ cond (same_field f e.0) (bit_or v e.1) v
 
@@ -228,7 +228,7 @@ told_one o f v e es adds same later = by (e.1 == 0) refl
     by true is = same ∙ ap (λ (k : ℕ). value_from k f es) (sym (nothing (same_field f e.0) (eqb-true e.1 0 is)))
     by false is = value_append f v (entries_of o e) (told o es) ∙ (ap (λ (k : ℕ). value_from k f (told o es)) adds ∙ later)
 
--- the number of a field, where nothing stands before that of the flags, which stand once
+-- the number of a field, where nothing comes before that of the flags, which are there once
 adds : (o : Operation) (f : Field) (v : ℕ) (e : Entry) → (same_field f field.Flags ≡ true → same_field field.Flags e.0 ≡ true → v ≡ 0) → Adds o f v e
 adds o f v e first = by (same_field f field.Flags) refl (same_field field.Flags e.0) refl
   where

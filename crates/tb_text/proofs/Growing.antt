@@ -1,4 +1,4 @@
--- The requests of statements that are whole stand first in whatever follows.
+-- The requests of statements that are whole come first in whatever follows.
 use Rattle.std.proofs.Common.{◌≡◌, ℕ, List, [], ◌∷◌, ◌++◌, take, Some, refl, sym, ap, subst, ◌∙◌, append_assoc}
 use Rattle.std.proofs.lemmas.List.{append-nil}
 use Rattle.std.proofs.lemmas.Option.{option_and_then_some, same_Some}

@@ -17,7 +17,7 @@ use Rattle.tb_text.proofs.Orders.{accounts_in_order, transfers_in_order}
 abbrev pub mid : List (ℕ × Message) → List Entry → Operation → Place → List Account → List Transfer → List ℕ → Scan
 mid pairs header o place accounts transfers ids = with_items (bare pairs place (Some o) header) accounts transfers ids
 
--- an event is given, and stands behind others once a mark follows
+-- an event is given, and is behind others once a mark follows
 pub record Holds {X : Type 0} (state : List X → Place → Scan) (o : Operation) (xs : List X) (x : X) (s : Scan) : Type 0 where
   pub parts : length xs + 1 < 8190 → step s 44 ≡ Some (state (xs ++ x ∷ []) Parted)
   pub ends : step s 59 ≡ finished (state (xs ++ x ∷ []) Opened) o

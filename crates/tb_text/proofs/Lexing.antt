@@ -76,7 +76,7 @@ within_stands : (s : Scan) (w : Word) → may_stand (within s Gap) w ≡ may_sta
 within_stands s (word.Field f) = refl
 within_stands s w = refl
 
--- what stands behind a word or a number ends it
+-- what follows a word or a number ends it
 no_zero : (b : ℕ) → (b == 48) ≡ true → is_word_byte b ≡ false → ⊥
 no_zero b h k = grind (arith, nat_tests)
 

@@ -78,7 +78,7 @@ one_number s start mark n g tail few ready e =
     ∙ (number_through behind field.Flags n e.byte e.rest (between s (Wanted field.Flags) g) refl (omega arith) (omega arith) (and_right (n == 0) false refl) e.ends
     ∙ ap (run (at s field.Flags (g ++ (field.Flags, n) ∷ []))) (sym e.text_is)))
 
--- where a flag is printed its mark ends what stands before it
+-- where a flag is printed its mark ends what comes before it
 marked_end : (f : Flag) (fs : List Flag) (mark rest n : ℕ) (text : List ℕ) → is_word_byte mark ≡ false → IsEnd (flags_from fs mark rest (n / 2) ++ text) → IsEnd (flags_from (f ∷ fs) mark rest n ++ text)
 marked_end f fs mark rest n text ends skipped = by (n % 2 == 0)
   where
@@ -95,7 +95,7 @@ more_end [] rest n text e = by (rest == 0)
     by false = record { byte = 124; rest = decimal rest ++ text; text_is = refl; ends = refl }
 more_end (f ∷ fs) rest n text e = marked_end f fs 124 rest n text refl (more_end fs rest (n / 2) text e)
 
--- behind the field's name stands `=`
+-- behind the field's name is `=`
 first_end : (fs : List Flag) (rest n : ℕ) (text : List ℕ) → IsEnd (flags_from fs 61 rest n ++ text)
 first_end [] rest n text = record { byte = 61; rest = decimal rest ++ text; text_is = refl; ends = refl }
 first_end (f ∷ fs) rest n text = marked_end f fs 61 rest n text refl (first_end fs rest (n / 2) text)

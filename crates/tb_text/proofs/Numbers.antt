@@ -132,7 +132,7 @@ grows base n m (b ∷ bs) up e =
     let d = first_digit_of base n b m bs e in
     omega (arith, up n d.digit, grows base (n * base + d.digit) m bs up d.later)
 
--- digits to a base, where one of them more makes a number that the field has room for
+-- digits to a base, where one of them more makes a number that fits the field
 record Reads (s : Scan) (f : Field) (base : ℕ) (lexeme : ℕ → Lexeme) : Type 0 where
   up : (k d : ℕ) → k ≤ k * base + d
   next : (n b d : ℕ) → digit_of b ≡ Some d → nat_lt d base ≡ true → n * base + d ≤ field_max f → step (within s (lexeme n)) b ≡ Some (within s (lexeme (n * base + d)))
@@ -175,7 +175,7 @@ hexadecimal_reads s f w = record {
       ∙ (ap (hexadecimal_at (within s (Hexadecimal n)) n b) is ∙ hexadecimal_grown_is (within s (Hexadecimal n)) f n d w le);
 }
 
--- a number that may stand, and the byte that ends it
+-- a number that may come, and the byte that ends it
 pub record Ended (s : Scan) (f : Field) (n d : ℕ) : Type 0 where
   pub wants : wanted s.place ≡ Some f
   pub most : n ≤ field_max f

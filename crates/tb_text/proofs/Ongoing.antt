@@ -1,5 +1,5 @@
 -- What holds of whatever has been read: the numbers before an operation are those of a request, a number that is begun
--- fits, a word that is begun goes on, and there is room for the event that is begun.
+-- fits, a word that is begun goes on, and there is space for the event that is begun.
 use Rattle.std.proofs.Common.{◌≡◌, ℕ, ◌+◌, ◌-◌, ◌^◌, ◌<◌, ◌≤◌, Bool, true, false, cond, not, ◌&&◌, ◌||◌, ◌==◌, List, [], ◌∷◌, ◌++◌, length, take, drop, Option, Some, None, refl, sym, ap, subst, ◌∙◌, arith, length-append, lit<}
 use Rattle.std.specs.Prelude.{nat_eq, bit_or}
 use Rattle.std.specs.Option.{is_none}
@@ -19,13 +19,13 @@ use Rattle.tb_text.proofs.Tokens.{stands_spelling}
 use Rattle.tb_text.proofs.Entries.{none_or, value_append}
 use Rattle.tb_text.proofs.Moves.{Fits, Marked, equals, bar, comma, semicolon, Gapped, blank, sharp, nought, digit, letter, marked, Numbered, Stepped, between, line_over, line_goes, word_goes, word_over, prefixed, zero_goes, zero_over, hexadecimal_begins, decimal_goes, decimal_over, hexadecimal_goes, hexadecimal_over, closed_is, mark_cases, step_cases}
 
--- the numbers that stand before an operation
+-- the numbers that come before an operation
 pub record HeaderNumbers (given : List Entry) : Type 0 where
   pub client : is_given field.Client given ≡ true → (value_of field.Client given == 0) ≡ false
   pub request : is_given field.Request given ≡ true → (value_of field.Request given == 0) ≡ false
   pub small : value_of field.Request given < 2 ^ 32
 
--- a field that stands before an operation and has no number yet
+-- a field that comes before an operation and has no number yet
 abbrev pub IsNew : Field → List Entry → Type 0
 IsNew f given = (is_header_field f ≡ true) × (is_given f given ≡ false)
 
@@ -49,12 +49,12 @@ InBody o (Given f) given = has_field o field.Id ≡ true
 InBody o Opened given = Unit {0}
 InBody o Parted given = (given ≡ []) × (has_field o field.Id ≡ true)
 
--- a statement stands so: its operation, the place, the entries given, those before the operation, and the number of events
+-- the state of a statement: its operation, the place, the entries given, those before the operation, and the number of events
 abbrev pub Stands : Option Operation → Place → List Entry → List Entry → ℕ → Type 0
 Stands None place given header count = HeaderNumbers given × InHeader place given
 Stands (Some o) place given header count = IsChosen o header × (count < 8190) × InBody o place given
 
--- a word that may stand goes on behind these bytes
+-- a word that may come goes on behind these bytes
 pub record IsBegun (s : Scan) (text : List ℕ) : Type 0 where
   pub word : Word
   pub rest : List ℕ
@@ -157,7 +157,7 @@ number_stands None f n given header count positive most h = (
 )
 number_stands (Some o) f n given header count positive most h = h
 
--- before an operation stand no flags and no amount
+-- before an operation are no flags and no amount
 pub no_header_flags : (f : Field) → is_header_field f ≡ true → same_field field.Flags f ≡ true → ⊥
 no_header_flags field.Flags h e = absurd cc
 no_header_flags f h e = absurd cc
@@ -166,7 +166,7 @@ no_header_amount : (f : Field) → is_header_field f ≡ true → same_field fie
 no_header_amount field.Amount h e = absurd cc
 no_header_amount f h e = absurd cc
 
--- behind a word that stands for a number
+-- behind a word that represents a number
 named_number_stands : (o : Option Operation) (place : Place) (f : Field) (n : ℕ) (given header : List Entry) (count : ℕ) → is_field f (wanted place) ≡ true
     → ((g : Field) → is_header_field g ≡ true → same_field f g ≡ true → ⊥) → Stands o place given header count → Stands o (Given f) (given ++ (f, n) ∷ []) header count
 named_number_stands None (Wanted g) f n given header count is never h = absurd (never g h.1.0 is)
@@ -177,7 +177,7 @@ pub has_id : (o : Operation) (f : Field) → has_field o f ≡ true → has_fiel
 has_id Register f h = absurd cc
 has_id o f h = refl
 
--- behind the name of a field that may stand
+-- behind the name of a field that may come
 name_stands : (o : Option Operation) (place : Place) (f : Field) (given header : List Entry) (count : ℕ) → may_have o f ≡ true → is_given f given ≡ false
     → Stands o place given header count → Stands o (Named f) given header count
 name_stands None place f given header count may new h = (h.0, (may, new))
@@ -205,7 +205,7 @@ at_place s place e h = subst (λ (p : Place). Stands s.operation p s.given s.hea
 
 -- WORDS
 
--- behind a word that may stand
+-- behind a word that may come
 pub taken_clear : (s : Scan) (w : Word) → may_stand s w ≡ true → Stands s.operation s.place s.given s.header (item_count s) → IsClear (taken s w)
 taken_clear s (word.Field f) may h = record {
   gap = refl;

@@ -1,4 +1,4 @@
--- The fields of accounts and transfers stand in the order of the records, and their numbers fit.
+-- The fields of accounts and transfers are in the order of the records, and their numbers fit.
 use Rattle.std.proofs.Common.{◌≡◌, ℕ, ◌-◌, ◌^◌, ◌<◌, ◌≤◌, true, Some, refl, arith, lit≤}
 use Rattle.tb_text.proofs.Names.{Operation, CreateAccounts, CreateTransfers, Account, Transfer, Field}
 use Rattle.tb_records.specs.RecordBytes.{IsAccount, IsTransfer}

@@ -24,7 +24,7 @@ pub record Rest (pairs all : List (ℕ × Message)) (ts : List Token) : Type 0 w
   pub statements : Statements ts later
   pub all_are : all ≡ pairs ++ later
 
--- what stands behind `;`
+-- what follows `;`
 pub record Closed (pairs : List (ℕ × Message)) (header : List Entry) (o : Operation) (events : List (List Entry)) (all : List (ℕ × Message)) (ts : List Token) : Type 0 where
   pub lawful : IsLawful (said header o events).1
   pub rest : Rest (pairs ++ said header o events ∷ []) all ts
@@ -132,7 +132,7 @@ events_from : (c : Context) (f : Field) → may_have (operation_in c) f ≡ true
 events_from (front pairs) f h = tt
 events_from (event pairs header o done) f h = has_id o f h
 
--- a field where one may stand
+-- a field where one may come
 field_says : (c : Context) (place : Place) (given : List Entry) (f : Field) (ts : List Token) (u v : Scan) → Later ts u → after (stand c place given) (Name (word.Field f)) ≡ Some v → all_after v ts ≡ Some u
     → ValuedRest c u.pairs given (Name (word.Field f) ∷ ts)
 field_says c place given f ts u v later h k =

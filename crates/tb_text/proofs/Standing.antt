@@ -1,4 +1,4 @@
--- Where the reader stands between tokens, and what a token makes of that.
+-- Where the reader is between tokens, and what a token makes of that.
 use Rattle.std.proofs.Common.{◌≡◌, ℕ, ◌-◌, ◌^◌, Bool, true, false, cond, not, ◌&&◌, ◌==◌, List, [], ◌∷◌, ◌++◌, length, map, Option, Some, None, refl, sym, ap, arith}
 use Rattle.std.specs.Prelude.{nat_le}
 use Rattle.std.specs.Option.{option_and_then}
@@ -118,7 +118,7 @@ pub opened_is : (pairs : List (ℕ × Message)) (place : Place) (given : List En
 opened_is pairs place given Register = refl
 opened_is pairs place given o = refl
 
--- an event stands behind those that are done
+-- an event is behind those that are done
 pub pushed_is : (pairs : List (ℕ × Message)) (header : List Entry) (o : Operation) (done : List (List Entry)) (f : Field) (given : List Entry) (place : Place) → has_field o field.Id ≡ true
     → pushed (stand (event pairs header o done) (Given f) given) o place ≡ stand (event pairs header o (done ++ given ∷ [])) place []
 pushed_is pairs header Register done f given place h = absurd cc

@@ -36,7 +36,7 @@ field_taken c place given f awaits may new =
     cond-true (awaits_field place && may_have (operation_in c) f && not (is_given f given)) (Some (stand c (Named f) given)) None
     (and_from (awaits_field place && may_have (operation_in c) f) (not (is_given f given)) (and_from (awaits_field place) (may_have (operation_in c) f) awaits may) (ap not new))
 
--- behind entries the reader stands behind a number that was given
+-- behind entries the reader is behind a number that was given
 record Taken (c : Context) (from : Scan) (ts : List Token) (es : List Entry) (rest : List Token) : Type 0 where
   last : Field
   taken : all_after from ts ≡ all_after (stand c (Given last) es) rest
@@ -55,7 +55,7 @@ entries_taken c f (more_entries {given} {es} {all} {ts} {mid} {rest} first more)
     let others = entries_taken c one.last more in
     record { last = others.last; taken = one.taken ∙ others.taken }
 
--- behind a header an operation may stand
+-- behind a header an operation may come
 record HeaderTaken (pairs : List (ℕ × Message)) (ts : List Token) (header : List Entry) (rest : List Token) : Type 0 where
   place : Place
   awaits : awaits_operation place ≡ true

@@ -15,7 +15,7 @@ use Rattle.std.proofs.lemmas.Option.{cond_some}
 use Rattle.tb_text.proofs.Standing.{only_amount}
 use Rattle.std.proofs.lemmas.Bool.{and_from, and_parts, eqb-true, leb-true, not-false, both_ways, false_from_ne_true}
 
--- the numbers of a session and of a request have room
+-- the numbers of a session and of a request fit
 pub record IsSmall (given : List Entry) : Type 0 where
   pub session : value_of field.Session given < 2 ^ 64
   pub request : value_of field.Request given < 2 ^ 32

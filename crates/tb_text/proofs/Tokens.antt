@@ -1,4 +1,4 @@
--- A word that may stand next, a number that is wanted and a mark are read as what they are.
+-- A word that may come next, a number that is wanted and a mark are read as what they are.
 use Rattle.std.proofs.Common.{◌≡◌, ℕ, Bool, true, false, cond, ◌&&◌, ◌==◌, List, [], ◌∷◌, ◌++◌, length, take, Option, Some, None, refl, sym, ap, subst, ◌∙◌, append_assoc, arith}
 use Rattle.std.specs.Prelude.{nat_eq}
 use Rattle.std.specs.Option.{option_and_then}
@@ -20,7 +20,7 @@ pub record IsBetween (s : Scan) : Type 0 where
   pub lexeme : s.lexeme ≡ Gap
   pub spelled : s.spelled ≡ []
 
--- what stands behind a word or a number ends it
+-- what follows a word or a number ends it
 pub record IsEnd (text : List ℕ) : Type 0 where
   pub byte : ℕ
   pub rest : List ℕ

@@ -1,4 +1,4 @@
--- What could stand next in a text: by the texts of statements that go on so.
+-- What could come next in a text: by the texts of statements that go on so.
 -- Cited by public contracts of: awaited.
 use Rattle.std.specs.Prelude.{ℕ, Bool, true, false, ◌&&◌, ◌≡◌, ◌+◌, nat_lt, List, [], ◌∷◌, ◌++◌, Option, Some, None, IsSome, ◌↔◌}
 use Rattle.std.specs.List.{Contains, filter}
@@ -59,7 +59,7 @@ awaits_comma s = has_operation s.operation && is_given_place s.place && nat_lt (
 abbrev pub awaits_semicolon : Scan → Bool
 awaits_semicolon s = has_operation s.operation && is_opened_place s.place
 
--- what may stand next, where no word, number or comment is begun
+-- what may come next, where no word, number or comment is begun
 pub record MayStand (s : Scan) (a : Awaited) : Type 0 where
   pub words : a.words.items ≡ filter (may_stand s) all_words
   pub number : a.number ≡ wanted s.place

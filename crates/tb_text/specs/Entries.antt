@@ -37,7 +37,7 @@ abbrev pub is_given : Field → List Entry → Bool
 is_given f [] = false
 is_given f (e ∷ es) = same_field f e.0 || is_given f es
 
--- the number of a field that stands behind others: the flags that are named one by one are joined
+-- the number of a field that is behind others: the flags that are named one by one are joined
 abbrev pub value_from : ℕ → Field → List Entry → ℕ
 value_from n f [] = n
 value_from n f (e ∷ es) = value_from (if same_field f e.0 then bit_or n e.1 else n) f es

@@ -1,7 +1,7 @@
 -- The grammar of statements: which bytes are a text of which requests. First words, numbers and marks, as they are written; then phrases of
--- these. A phrase stands at the front of the tokens `ts`, and `rest` are the tokens behind it. `o` is the operation whose events are said, and
--- there is none before one is named. `given` are the entries (a field and a number each) that stand before the phrase, and `es` or `all` those
--- that stand behind it, the given ones among them.
+-- these. A phrase is at the front of the tokens `ts`, and `rest` are the tokens behind it. `o` is the operation whose events are said, and
+-- there is none before one is named. `given` are the entries (a field and a number each) that come before the phrase, and `es` or `all` those
+-- that are behind it, the given ones among them.
 -- Cited by public contracts of: text_laws.
 use Rattle.std.specs.Prelude.{ℕ, Bool, true, false, not, ◌≡◌, ◌⊎◌, ◌&&◌, ◌||◌, ◌==◌, ◌+◌, ◌-◌, ◌*◌, ◌%◌, ◌^◌, nat_le, nat_lt, List, [], ◌∷◌, ◌++◌, map, Option, Some, None, if◌then◌else◌}
 use Rattle.std.specs.Option.{option_and_then}
@@ -49,7 +49,7 @@ Writes (Mark b) text = (text ≡ b ∷ []) × (is_mark b ≡ true)
 abbrev pub ends_word : ℕ → Bool
 ends_word b = is_space b || b == 35 || is_mark b
 
--- a token may stand before these bytes: behind a mark anything stands, behind a word or a number what ends it
+-- a token may come before these bytes: behind a mark anything may be, behind a word or a number what ends it
 abbrev pub parts : Token → List ℕ → Bool
 parts (Mark m) rest = true
 parts t [] = false
@@ -71,7 +71,7 @@ pub data Text : List ℕ → List Token → Type 0 where
 
 -- PHRASES
 
--- the number that a token stands for as the value of a field: a number that the field has room for, and that is not 0 where it must not be;
+-- the number that a token represents as the value of a field: a number that fits the field, and that is not 0 where it must not be;
 -- a flag's name, in the flags of events that have it; `amount_max`, in an amount
 abbrev pub number_as : Option Operation → Field → Token → Option ℕ
 number_as o f (Number n) = if nat_le n (field_max f) && not (n == 0 && is_positive f) then Some n else None

@@ -42,7 +42,7 @@ barred (text ∷ texts) = text ++ flat_map (λ next. 124 ∷ next) texts
 unfoldable pub flags_text : Operation → ℕ → List ℕ
 flags_text o n = 61 ∷ barred (with_unnamed (flag_names o n) (unnamed o n))
 
--- what stands behind a field's name: `=` and the flags of the operation's events, or a number
+-- what follows a field's name: `=` and the flags of the operation's events, or a number
 abbrev pub value_text : Operation → Entry → List ℕ
 value_text o e =
     if same_field e.0 field.Flags then flags_text o e.1
@@ -100,7 +100,7 @@ account_text a = entries_text CreateAccounts (field.Id, a.id) (account_entries a
 unfoldable pub transfer_text : Transfer → List ℕ
 transfer_text t = entries_text CreateTransfers (field.Id, t.id) (transfer_entries t)
 
--- an id alone has no flags, nor has what stands before an operation: both are written as for a register
+-- an id alone has no flags, nor has what comes before an operation: both are written as for a register
 unfoldable pub id_text : ℕ → List ℕ
 id_text id = entry_text Register (field.Id, id)
 

@@ -58,7 +58,7 @@ behind pairs = bare pairs Head None []
 
 -- words
 
--- a field may stand next
+-- a field may come next
 abbrev pub awaits_field : Place → Bool
 awaits_field Head = true
 awaits_field Opened = true
@@ -66,13 +66,13 @@ awaits_field Parted = true
 awaits_field (Given f) = true
 awaits_field place = false
 
--- an operation may stand next
+-- an operation may come next
 abbrev pub awaits_operation : Place → Bool
 awaits_operation Head = true
 awaits_operation (Given f) = true
 awaits_operation place = false
 
--- the field whose number is to stand next
+-- the field whose number is to come next
 abbrev pub wanted : Place → Option Field
 wanted (Wanted f) = Some f
 wanted place = None
@@ -81,7 +81,7 @@ abbrev pub is_field : Field → Option Field → Bool
 is_field f None = false
 is_field f (Some g) = same_field f g
 
--- a word may stand next
+-- a word may come next
 abbrev pub may_stand : Scan → Word → Bool
 may_stand s (word.Field f) = awaits_field s.place && may_have s.operation f && not (is_given f s.given)
 may_stand s (word.Operation o) = awaits_operation s.place && is_none s.operation && suits o s.given
@@ -92,7 +92,7 @@ may_stand s word.AmountMax = is_field field.Amount (wanted s.place)
 abbrev pub word_named : List ℕ → Option Word
 word_named text = find (λ w. pointwise nat_eq (word_text w) text) all_words
 
--- a word that may stand next begins so
+-- a word that may come next begins so
 abbrev pub begins_word : Scan → List ℕ → Bool
 begins_word s text = list_any (λ w. may_stand s w && starts_with nat_eq (word_text w) text) all_words
 
@@ -111,7 +111,7 @@ standing s lexeme spelled place given = record {
   ids = s.ids;
 }
 
--- with one entry more, behind which another may stand
+-- with one entry more, behind which another may come
 abbrev pub entered : Scan → Field → ℕ → Scan
 entered s f n = standing s Gap [] (Given f) (s.given ++ (f, n) ∷ [])
 
@@ -128,7 +128,7 @@ spelling s text = standing s Spelled text s.place s.given
 abbrev pub opened : Scan → Operation → Scan
 opened s o = bare s.pairs Opened (Some o) s.given
 
--- what a word that may stand here makes of the statement
+-- what a word that may come here makes of the statement
 abbrev pub taken : Scan → Word → Scan
 taken s (word.Field f) = moved s (Named f)
 taken s (word.Operation o) = opened s o
@@ -163,7 +163,7 @@ with_items s accounts transfers ids = record {
   ids = ids;
 }
 
--- the account, the transfer or the id that was given stands behind the others
+-- the account, the transfer or the id that was given is behind the others
 abbrev pub accounts_with : Scan → Operation → List Account
 accounts_with s CreateAccounts = s.accounts ++ account_of s.given ∷ []
 accounts_with s o = s.accounts
@@ -234,7 +234,7 @@ word_grown s text = if begins_word s text then Some (spelling s text) else None
 abbrev pub appended : ℕ → ℕ → ℕ → ℕ → Option ℕ
 appended most base n d = if nat_le (n * base + d) most then Some (n * base + d) else None
 
--- and where a number is to stand next
+-- and where a number is to come next
 abbrev pub next_number : Scan → ℕ → ℕ → ℕ → Option ℕ
 next_number s base n d = option_and_then (λ f. appended (field_max f) base n d) (wanted s.place)
 
@@ -260,7 +260,7 @@ gap s b =
 abbrev pub word_left : Scan → ℕ → Option Scan
 word_left s b = option_and_then (λ t. gap t b) (word_ended s)
 
--- behind a number stands no letter
+-- behind a number is no letter
 abbrev pub number_left : Scan → ℕ → ℕ → Option Scan
 number_left s n b = if is_word_byte b then None else option_and_then (λ t. gap t b) (number_ended s n)
 

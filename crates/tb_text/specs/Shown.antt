@@ -13,7 +13,7 @@ is_hidden c = is_control c && not (c == 9) && not (c == 10)
 abbrev pub shown : ℕ → ℕ
 shown c = if is_hidden c then 63 else c
 
--- what is shown for bytes, where U+FFFD stands for what is no UTF-8
+-- what is shown for bytes, where U+FFFD represents what is no UTF-8
 abbrev pub shown_bytes : List ℕ → List ℕ
 shown_bytes bytes = encode_utf8_all (map shown (chars (utf8_lossy bytes)))
 

@@ -35,7 +35,7 @@ pub record Stops (text : List ℕ) (pairs : List (ℕ × Message)) (place : ℕ)
   pub pairs_are : last.pairs ≡ pairs
   pub why : ((place < length text) × (step last (get_or text place 0) ≡ None)) ⊎ ((place ≡ length text) × (is_at_rest last ≡ false))
 
--- these requests stand first among others
+-- these requests come first among others
 abbrev pub StandFirst : List (ℕ × Message) → List (ℕ × Message) → Type 0
 StandFirst pairs others = (further : List (ℕ × Message)) × (others ≡ pairs ++ further)
 
@@ -56,7 +56,7 @@ abbrev pub place_of : Option TextFault → Option ℕ
 place_of None = None
 place_of (Some fault) = Some fault.place
 
--- a fault says what a reader is within behind these bytes, and what is to stand next there
+-- a fault says what a reader is within behind these bytes, and what is to come next there
 abbrev pub StandsBehind : List ℕ → TextFault → Type 0
 StandsBehind before fault = (last : Scan) × (run (behind []) before ≡ Some last) × (fault.lexeme ≡ last.lexeme) × (fault.awaited ≡ last.place)
 

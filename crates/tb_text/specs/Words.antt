@@ -67,7 +67,7 @@ field_index Code = 19
 field_index Flags = 20
 field_index Timestamp = 21
 
--- the greatest number that a field has room for
+-- the greatest number that fits a field
 abbrev pub field_max : Field → ℕ
 field_max Code = 2 ^ 16 - 1
 field_max Flags = 2 ^ 16 - 1
@@ -85,7 +85,7 @@ field_max f = 2 ^ 128 - 1
 abbrev pub same_field : Field → Field → Bool
 same_field f g = field_index f == field_index g
 
--- what stands before the operation
+-- what comes before the operation
 abbrev pub is_header_field : Field → Bool
 is_header_field At = true
 is_header_field Client = true

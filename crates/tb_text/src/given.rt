@@ -95,7 +95,7 @@ pub(crate) fn transfer_of(given: &[(Field, u128)]) -> Transfer
     }
 }
 
-/// Says that a field may stand before the operation, or among the fields of an operation's events.
+/// Says that a field may come before the operation, or among the fields of an operation's events.
 pub(crate) fn may_have(operation: Option<Operation>, field: Field) -> bool
     ensures { result ≡ may_have operation field }
 {
@@ -128,7 +128,7 @@ pub(crate) fn bit_of(operation: Option<Operation>, flag: Flag) -> u128
     }
 }
 
-/// Says that the number of a field is not 0 where it stands: a client and a request's number.
+/// Says that the number of a field is not 0 where it is given: a client and a request's number.
 pub(crate) fn is_positive(field: Field) -> bool
     ensures { result ≡ is_positive field }
 {

@@ -1,14 +1,14 @@
-//! Requests as text: statements in the words of TigerBeetle's clients, read, printed, and told where they go wrong.
+//! Requests as text: statements in the words of TigerBeetle's clients, read and printed, with a message where they go wrong.
 //!
 //! Modules, each over those before it:
 //!
 //! - `words`: fields and flags by name, and which of them each operation has; operations are those of tb_records.
 //! - `lexemes`: the bytes of words and numbers, and the word that is named so.
 //! - `given`: the fields that were given, and the account or transfer that they make.
-//! - `places`: where a reader stands: in a word or number, and among the parts of a statement.
+//! - `places`: where a reader is: in a word or number, and among the parts of a statement.
 //! - `scanner`: the reader, a byte at a time.
 //! - `reading`: `read_text`, a text as requests, or its fault's place, line and column.
-//! - `awaited`: what could stand next.
+//! - `awaited`: what could come next.
 //! - `nearest`: the known name that is nearest to a written one.
 //! - `messages`: `explain_fault`, a fault in words, and `as_shown`, bytes as a terminal may be shown them.
 //! - `printing`: requests, printed as statements.

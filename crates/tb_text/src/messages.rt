@@ -1,5 +1,5 @@
 //! What is wrong with a text, in words: the place, the word there, its line with a mark under the place, and what could
-//! stand there.
+//! be there.
 ghost use Rattle.std.specs.Prelude.{◌≡◌, ◌≤◌, length, IfOk};
 ghost use Rattle.tb_text.specs.Positions.{is_of_word, ending_word, leading_word};
 ghost use Rattle.tb_text.specs.Shown.{IsShown, is_hidden, shown, shown_bytes};
@@ -119,7 +119,7 @@ fn put_number(alloc: Global, out: &mut Vec<u8>, number: usize) -> Result<(), All
     out.extend_from_slice(number.to_string(alloc)?.as_str().as_bytes())
 }
 
-/// Says that a field could stand next.
+/// Says that a field could come next.
 fn awaits(awaited: &Awaited, wanted: Field) -> bool {
     let is_wanted = |word: &Word| match word {
         Word::Field(field) => field.index() == wanted.index(),
@@ -142,7 +142,7 @@ fn is_zero(text: &[u8]) -> bool {
     text.iter().all(|byte| matches!(*byte, b'0' | b'x'))
 }
 
-/// Appends what stands at a place where no word does.
+/// Appends what is at a place where no word is.
 fn put_byte(alloc: Global, out: &mut Vec<u8>, next: Option<u8>) -> Result<(), AllocError> {
     match next {
         None => put(out, "the text ends within a statement"),
@@ -197,7 +197,7 @@ fn put_wrong_number(out: &mut Vec<u8>, word: &[u8], field: Field) -> Result<(), 
     out.extend_from_slice(name)
 }
 
-/// Appends why an operation does not stand where a statement begins.
+/// Appends why an operation does not come where a statement begins.
 fn put_early(out: &mut Vec<u8>, operation: Operation, awaited: &Awaited) -> Result<(), AllocError> {
     let name = operation.name().as_bytes();
     let before = if awaits(awaited, Field::Client) {
@@ -212,7 +212,7 @@ fn put_early(out: &mut Vec<u8>, operation: Operation, awaited: &Awaited) -> Resu
     put_parts(out, &[before.as_bytes(), name])
 }
 
-/// Says that a word stands before the events of a statement.
+/// Says that a word comes before the events of a statement.
 fn begins_statement(word: Word) -> bool {
     match word {
         Word::Field(field) => field.is_header(),
@@ -327,7 +327,7 @@ fn numbers_of(field: Field) -> &'static str {
     }
 }
 
-/// The names of the words that could stand next, of all words in their order: those that are awaited, and these.
+/// The names of the words that could come next, of all words in their order: those that are awaited, and these.
 fn word_names(
     alloc: Global,
     awaited: &Awaited,
@@ -342,7 +342,7 @@ fn word_names(
     Ok(names)
 }
 
-/// The names of what could stand next: what is awaited, and these words.
+/// The names of what could come next: what is awaited, and these words.
 fn names(alloc: Global, awaited: &Awaited, also: &[Word]) -> Result<Vec<&'static str>, AllocError> {
     let mut names = word_names(alloc, awaited, also)?;
     if let Some(field) = awaited.number {
@@ -361,7 +361,7 @@ fn names(alloc: Global, awaited: &Awaited, also: &[Word]) -> Result<Vec<&'static
     Ok(names)
 }
 
-/// Appends what could stand next, the last name behind an `or`: what is awaited, and these words.
+/// Appends what could come next, the last name behind an `or`: what is awaited, and these words.
 fn put_expected(
     alloc: Global,
     out: &mut Vec<u8>,
@@ -381,7 +381,7 @@ fn put_expected(
     Ok(())
 }
 
-/// Appends what is wrong where a text goes wrong, and what could stand there, these words too. The word at the place is its
+/// Appends what is wrong where a text goes wrong, and what could be there, these words too. The word at the place is its
 /// bytes, and the byte at the place the next one.
 fn put_wrong(
     alloc: Global,
@@ -401,7 +401,7 @@ fn put_wrong(
     put_expected(alloc, out, awaited, also)
 }
 
-/// The line and the column of a place behind bytes whose first stands at a line and a column.
+/// The line and the column of a place behind bytes whose first is at a line and a column.
 fn position_from(first: (usize, usize), before: &[u8]) -> (usize, usize) {
     let (line, column) = position(before);
     if line == 1 {
@@ -424,7 +424,7 @@ fn put_position(
     put(out, ": ")
 }
 
-/// Appends what is wrong at a place, between the bytes before it and those from it on. What could stand there is told with
+/// Appends what is wrong at a place, between the bytes before it and those from it on. What could come there is reported with
 /// these words.
 fn put_fault(
     alloc: Global,
@@ -480,9 +480,9 @@ pub fn as_shown(alloc: Global, bytes: &[u8]) -> Result<Vec<u8>, AllocError>
 }
 
 /// What is wrong with a text, in words for its writer, without a line end behind them: the line and the column, the whole
-/// word there and the nearest one that statements have, the line with a mark under the place, and all that could stand
+/// word there and the nearest one that statements have, the line with a mark under the place, and all that could come
 /// there: what goes on a text of statements, and the words of `also`, which a caller makes right by what it fills in. The
-/// text's first byte stands at the line and the column `first`, both from 1. The message is UTF-8, and no control character
+/// text's first byte is at the line and the column `first`, both from 1. The message is UTF-8, and no control character
 /// of the text gets there but the tab, so that no text moves a terminal. AllocError where there is no memory.
 pub fn explain_fault(
     alloc: Global,

@@ -1,4 +1,4 @@
-//! Where a reader of statements stands: within a word or number, and among the parts of a statement.
+//! Where a reader of statements is: within a word or number, and among the parts of a statement.
 use crate::words::Field;
 use std::alloc::AllocFailed;
 
@@ -13,7 +13,7 @@ pub enum Lexeme {
     Spelled,
     /// The digit 0, with which `0x` may begin.
     Zero,
-    /// `0x`, behind which a digit has to stand.
+    /// `0x`, behind which a digit has to come.
     Prefix,
     /// A number in decimal digits.
     Decimal(u128),
@@ -21,14 +21,14 @@ pub enum Lexeme {
     Hexadecimal(u128),
 }
 
-/// Which part of a statement stands next.
+/// Which part of a statement comes next.
 #[derive(Clone, Copy, Debug, PartialEq, Eq)]
 pub enum Place {
     /// A statement: a field before its operation, or the operation.
     Head,
     /// The `=` behind a field's name.
     Named(Field),
-    /// A field's number, or the name that stands for one.
+    /// A field's number, or the name that represents one.
     Wanted(Field),
     /// What follows a field's number.
     Given(Field),

@@ -223,7 +223,7 @@ impl Event for u128 {
     }
 }
 
-/// Appends events that stand behind others.
+/// Appends events that are behind others.
 fn put_more<T: Event>(alloc: Global, out: &mut Vec<u8>, events: &[T]) -> Result<(), AllocError>
     ensures put { OnOk result (out.new.items ≡ out.old.items ++ more_text T.text events.now) }
     ensures fits { OnOk result (All T.Fits events.now) }
@@ -282,7 +282,7 @@ fn put_body(alloc: Global, out: &mut Vec<u8>, body: &Body) -> Result<(), AllocEr
 }
 
 /// Appends the statement of a request at its moment, a line. The clause `fits` is what `printed_is_read` asks for, so
-/// the line is read back. After an AllocError a prefix of it may have been appended.
+/// the line is read again. After an AllocError a prefix of it may have been appended.
 #[tactic(auto, unfolding(crate::specs::Printed::statement_text))]
 pub fn print_request(
     alloc: Global,
@@ -308,7 +308,7 @@ pub fn print_request(
 
 /// The one text of requests at their moments: a statement a line, the fields in the order of the records, those that
 /// are 0 left out but for the moment and the ids, flags by name, numbers decimal. The clause `fits` is what
-/// `printed_is_read` asks for, so the text is read back as these requests. AllocError where there is no memory for it.
+/// `printed_is_read` asks for, so the text is read again as these requests. AllocError where there is no memory for it.
 pub fn print_requests(alloc: Global, pairs: &[(u64, Request)]) -> Result<Vec<u8>, AllocError>
     ensures text { IfOk result (λ text. text.items ≡ printed pairs.now) }
     ensures fits { OnOk result (All IsTimed pairs.now) }

@@ -17,7 +17,7 @@ pub struct TextFault {
     pub place: usize,
     /// What the reader is within behind these bytes.
     pub lexeme: Lexeme,
-    /// The part of a statement that is to stand next behind them; of a word or number that is begun, the part that it is.
+    /// The part of a statement that is to come next behind them; of a word or number that is begun, the part that it is.
     pub awaited: Place,
 }
 
@@ -79,7 +79,7 @@ fn fault_at(
 }
 
 /// Reads statements. With no fault the text means the requests; with one the text before its place begins a text of
-/// statements, and what stands there goes on none, or is the end of the text within a statement. AllocError where there
+/// statements, and what is there goes on none, or is the end of the text within a statement. AllocError where there
 /// is no memory for the requests.
 pub fn read_text(alloc: Global, text: &[u8]) -> Result<Reading, AllocError>
     ensures reads { IfOk result (λ reading. Reads text.now reading.pairs (place_of reading.fault)) }

@@ -56,7 +56,7 @@ impl Model for Scanner {
 }
 
 impl Place {
-    /// Says that a field may stand next.
+    /// Says that a field may come next.
     fn awaits_field(self) -> bool
         ensures { result ≡ awaits_field self }
     {
@@ -66,14 +66,14 @@ impl Place {
         )
     }
 
-    /// Says that an operation may stand next.
+    /// Says that an operation may come next.
     fn awaits_operation(self) -> bool
         ensures { result ≡ awaits_operation self }
     {
         matches!(self, Place::Head | Place::Given(_))
     }
 
-    /// The field whose number is to stand next.
+    /// The field whose number is to come next.
     pub(crate) fn wanted(self) -> Option<Field>
         ensures { result ≡ wanted self }
     {
@@ -91,7 +91,7 @@ fn take_items<T: Drop>(items: &mut Vec<T>, alloc: Global) -> Items<T>
     Items::new(mem::replace(items, Vec::new(alloc)))
 }
 
-/// Says that a field's number is to stand next.
+/// Says that a field's number is to come next.
 fn is_field(field: Field, wanted: Option<Field>) -> bool
     ensures { result ≡ is_field field wanted }
 {
@@ -102,7 +102,7 @@ fn is_field(field: Field, wanted: Option<Field>) -> bool
 }
 
 impl Scanner {
-    /// Says that a word may stand next.
+    /// Says that a word may come next.
     pub(crate) fn may_stand(&self, word: Word) -> bool
         ensures { result ≡ may_stand self.now word }
     {
@@ -124,7 +124,7 @@ impl Scanner {
         }
     }
 
-    /// Says that a word that may stand next begins so.
+    /// Says that a word that may come next begins so.
     fn begins_word(&self, text: &[u8]) -> bool
         ensures { result ≡ begins_word self.now text.now }
     {
@@ -182,7 +182,7 @@ impl Scanner {
         self.go(Place::Opened);
     }
 
-    /// Takes a word that may stand next.
+    /// Takes a word that may come next.
     fn take(&mut self, word: Word) -> Result<(), Refusal>
         ensures { Steps self.old result (Some (taken self.old word)) self.new }
     {
@@ -256,7 +256,7 @@ impl Scanner {
         }
     }
 
-    /// Begins anew behind the statements that are whole.
+    /// Begins again behind the statements that are whole.
     fn renew(&mut self)
         ensures { self.new ≡ behind self.old.pairs }
     {
@@ -314,7 +314,7 @@ impl Scanner {
         }
     }
 
-    /// Says that the operation may have two events, or ids, more than stand whole.
+    /// Says that the operation may have two events, or ids, more than are whole.
     pub(crate) fn has_room(&self) -> bool
         ensures { result ≡ nat_lt (item_count self.now + 1) 8190 }
     {
@@ -376,7 +376,7 @@ impl Scanner {
         Ok(())
     }
 
-    /// A number that may stand next, with one digit more.
+    /// A number that may come next, with one digit more.
     fn next_number(&self, base: u128, number: u128, digit: u128) -> Option<u128>
         ensures { result ≡ next_number self.now base number digit }
     {
@@ -552,14 +552,14 @@ impl Scanner {
         )
     }
 
-    /// Where the reader stands: within what, and before which part of a statement.
+    /// Where the reader is: within what, and before which part of a statement.
     pub fn stand(&self) -> (Lexeme, Place)
         ensures { result ≡ (self.now.lexeme, self.now.place) }
     {
         (self.lexeme, self.place)
     }
 
-    /// The part of a statement that is to stand next.
+    /// The part of a statement that is to come next.
     pub(crate) fn place(&self) -> Place
         ensures { result ≡ self.now.place }
     {

@@ -6,7 +6,7 @@ ghost use Rattle.tb_text.specs.Words.{field_name, field_index, field_max, has_ac
 
 use tb_records::{AccountFlag, Operation, TransferFlag};
 
-/// A field of a statement: of what stands before the operation, or of an event.
+/// A field of a statement: of what comes before the operation, or of an event.
 #[derive(Clone, Copy, Debug, PartialEq, Eq)]
 pub enum Field {
     /// The moment at which the request comes, in nanoseconds.
@@ -15,7 +15,7 @@ pub enum Field {
     Client,
     /// The session that the request belongs to.
     Session,
-    /// The number of the request in its session: not 0 where it stands.
+    /// The number of the request in its session: not 0 where it is given.
     Request,
     Id,
     DebitsPending,
@@ -209,7 +209,7 @@ impl Field {
         }
     }
 
-    /// Says that the field stands before the operation.
+    /// Says that the field comes before the operation.
     pub fn is_header(self) -> bool
         ensures { result ≡ is_header_field self }
     {

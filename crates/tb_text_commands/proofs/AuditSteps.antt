@@ -1,4 +1,4 @@
--- What an audit has told so far, and one step more.
+-- What an audit has reported so far, and one step more.
 use Rattle.std.proofs.Common.{◌≡◌, ℕ, ◌+◌, ◌<◌, ◌≤◌, ⊎_elim, get_or, drop, length, add-one, drop-cons, arith, Bool, true, false, IsTrue, List, [], ◌∷◌, ◌++◌, Option, Some, None, Result, Ok, Err, IfErr, IfOk, inl, inr, refl, sym, ap, subst, ◌∙◌, append_assoc, append-nil}
 use Rattle.std.proofs.lemmas.Bool.{false≢true}
 use Rattle.std.specs.List.{filter}
@@ -71,7 +71,7 @@ module _ (IsLine : Told → List ℕ → Type 0) (wants : Told → Bool) where
     cut = q.cut;
   }
 
-  -- more was to be told
+  -- more was to be reported
   pub stops_longer : (f : Fault) (xs ys : List Told) (a b : Output) → StopsTelling IsLine wants f xs a b → StopsTelling IsLine wants f (xs ++ ys) a b
   stops_longer f xs ys a b one = record {
     front = one.front;
@@ -89,7 +89,7 @@ module _ (IsLine : Told → List ℕ → Type 0) (wants : Told → Bool) where
   pub stops_first : (f : Fault) (told : List Told) (o : Output) → f ≡ NoMemory → StopsTelling IsLine wants f told o o
   stops_first f told o memory = record { front = []; rest = told; told_is = refl; made = o; tells = tells_none o; stops = inl (inl memory, refl) }
 
-  -- what is to be told goes on
+  -- what is to be reported goes on
   pub telling_join : (r : Result (Unit {0}) Fault) (xs ys : List Told) (a b d : Output) → Tells IsLine wants xs a b → Telling IsLine wants r ys b d → Telling IsLine wants r (xs ++ ys) a d
   telling_join (Ok done) xs ys a b d one two = tells_join xs ys a b d one two
   telling_join (Err f) xs ys a b d one two = stops_join f xs ys a b d one two

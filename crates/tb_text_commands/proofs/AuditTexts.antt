@@ -159,7 +159,7 @@ line_by ps text line plain has is = record {
   says = has_left ps text plain has;
 }
 
--- the line of what is told
+-- the line of what is reported
 pub line_of : (t : Told) (text line : List ℕ) → HasParts (parts t) text → line ≡ one_line text → IsLineOf (parts t) line
 line_of t text line has is = line_by (parts t) text line (plain_parts t) has is
 

@@ -23,7 +23,7 @@ keeps_whole P None b k w = tt
 keeps_whole P (Some x) None k w = absurd k
 keeps_whole P (Some x) (Some y) k w = subst P k w
 
--- a read into no room takes nothing
+-- a read into no space takes nothing
 pub none_taken : (a b : Option (List ℕ)) (taken : List ℕ) → taken ≡ [] → Consumes a b taken → Keeps a b
 none_taken None b taken none c = tt
 none_taken (Some x) None taken none c = absurd c
@@ -34,7 +34,7 @@ none_read zero buf e = refl
 none_read (suc n) [] e = refl
 none_read (suc n) (x ∷ xs) e = absurd (omega (arith, e))
 
--- what is at hand begins what is left, and its first bytes do
+-- what is buffered begins what is left, and its first bytes do
 pub begins_as : (n : ℕ) (a b : Option (List ℕ)) (hand : List ℕ) (kind : Kind) → Keeps a b → IfSome b (λ bytes. StartsWith bytes hand) → kind ≡ kind_of (take n hand) → WasWhole (BeginsAs kind) a
 begins_as n None b hand kind k h e = tt
 begins_as n (Some x) None hand kind k h e = absurd k

@@ -34,7 +34,7 @@ timed_once (m, r) (n, s) x y hp hq e =
     let requests = spelled_once r s x y hp.1 hq.1 parts.1 in
     (ap (λ (k : ℕ). (k, r)) moments ∙ ap (λ (t : Message). (n, t)) requests.0, requests.1)
 
--- what stands behind the moment of a pair that is spelled has no fault
+-- what follows the moment of a pair that is spelled has no fault
 timed_sound : (p : Pair) (x : List ℕ) → IsTimed p → request_fault (drop 8 (timed_bytes p ++ x)) ≡ None
 timed_sound (m, r) x h =
     let parts : timed_bytes (m, r) ++ x ≡ le_bytes 8 m ++ (request_bytes r ++ x) = append_assoc (le_bytes 8 m) (request_bytes r) x in
@@ -45,7 +45,7 @@ pair_is_some (m, r) x e = omega (arith, ap length e, length-append (timed_bytes 
 
 -- two readings of one script
 
--- one goes on where the other stands
+-- one goes on where the other is
 record GoesOn (ps qs : List Pair) (r s : List ℕ) : Type 0 where
   more : List Pair
   pairs_are : qs ≡ ps ++ more
@@ -65,13 +65,13 @@ two_readings (p ∷ ps) (q ∷ qs) r s hp hq e =
     further p q ps qs r s same (inl g) = inl (record { more = g.more; pairs_are = ap (λ (x : Pair). x ∷ qs) (sym same) ∙ ap (λ (l : List Pair). p ∷ l) g.pairs_are; bytes_are = g.bytes_are; each = g.each })
     further p q ps qs r s same (inr g) = inr (record { more = g.more; pairs_are = ap (λ (x : Pair). x ∷ ps) same ∙ ap (λ (l : List Pair). q ∷ l) g.pairs_are; bytes_are = g.bytes_are; each = g.each })
 
--- what stands behind a reading
+-- what follows a reading
 
 none_more : (more : List Pair) (rest : List ℕ) → [] ≡ flat_map timed_bytes more ++ rest → (more ≡ []) × (rest ≡ [])
 none_more [] rest e = (refl, sym e)
 none_more (p ∷ more) rest e = absurd (pair_is_some p (flat_map timed_bytes more ++ rest) (sym (append_assoc (timed_bytes p) (flat_map timed_bytes more) rest) ∙ sym e))
 
--- a fault of the bytes: what stands behind a moment has it, and something stands there
+-- a fault of the bytes: what follows a moment has it, and something is there
 record IsFaulty (f : FrameFault) (rest : List ℕ) : Type 0 where
   has : request_fault (drop 8 rest) ≡ Some f
   some : rest ≡ [] → ⊥
@@ -96,7 +96,7 @@ faulty frame.ReplyNumbers rest behind comes t = by_short frame.ReplyNumbers rest
 faulty frame.Device rest behind comes t = absurd comes
 faulty frame.NoMemory rest behind comes t = absurd comes
 
--- no pair stands where a fault does
+-- no pair is where a fault is
 no_pair : (f : FrameFault) (rest : List ℕ) (more : List Pair) (s : List ℕ) → IsFaulty f rest → Each IsTimed more → rest ≡ flat_map timed_bytes more ++ s → (more ≡ []) × (rest ≡ s)
 no_pair f rest [] s faulty each e = (refl, e)
 no_pair f rest (p ∷ more) s faulty each e =
@@ -122,7 +122,7 @@ run_read qs None after bytes is spell = absurd (nothing is)
 run_read qs (Some b) None bytes is spell = absurd spell
 run_read qs (Some b) (Some rest) bytes is spell = record { rest = rest; left = refl; bytes_are = sym (some_one is) ∙ spell.0; each = spell.1 }
 
--- behind a run that a fault of the bytes ended, the fault stands
+-- behind a run that a fault of the bytes ended, the fault is
 stopped : (profile : Profile) (clients_max : ℕ) (f : FrameFault) (before after : Input) (start written : Output) (bytes : List ℕ) → before.left ≡ Some bytes → ComesOfBytes f
     → (ran : Ran profile clients_max (Err (fault.Frame f)) before after start written) → (rest : List ℕ) × (bytes ≡ flat_map timed_bytes ran.items ++ rest) × Each IsTimed ran.items × IsFaulty f rest
 stopped profile clients_max f before after start written bytes is comes ran =

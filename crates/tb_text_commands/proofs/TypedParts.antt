@@ -63,7 +63,7 @@ end_held i n asks = record {
   same = record { rest = refl; same = refl };
 }
 
--- a word that ends the conversation stands first in what waits
+-- a word that ends the conversation comes first in what waits
 leaves_more : (bytes more : List ℕ) → Leaves bytes → Leaves (bytes ++ more)
 leaves_more bytes more l = record {
   word = l.word;
@@ -128,7 +128,7 @@ pub typed_rest : (r : Result Typed Fault) (a : Option (List ℕ)) (i j : Intake)
 typed_rest (Ok t) a i j input h taken = typed_next t a i j input h taken
 typed_rest (Err f) a i j input h taken = mistake_next f a i j input h taken
 
--- what is told of a fault that ends the conversation: nothing
+-- what is reported of a fault that ends the conversation: nothing
 pub unpassed : (pass : Bool) (a b : Option (List ℕ)) → pass ≡ false → TakesIfPassing pass a b
 unpassed false a b is = tt
 unpassed true a b is = absurd (false≢true (sym is))

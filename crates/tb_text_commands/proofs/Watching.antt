@@ -24,7 +24,7 @@ entry_watched S T e w v stepped told =
     ∙ (ap (λ (U : State). watched_of U.books (stored_results U.rows e.request.client) e.request.body w) stepped
     ∙ ap (λ (results : List EventResult). watched_of (step S e).books results e.request.body w) (stored_after S e))
 
--- what is told of an entry that was entered is what is told of the next one
+-- what is reported of an entry that was entered is what is reported of the next one
 pub entry_judged : (S T : State) (e : Entry) → T ≡ step S e → entry_told T (stored_results T.rows e.request.client) e ≡ next_told S e
 entry_judged S T e stepped =
     ap (λ (U : State). entry_told U (stored_results U.rows e.request.client) e) stepped

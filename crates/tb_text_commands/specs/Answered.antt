@@ -31,13 +31,13 @@ Refuses class (Ok (Some reply)) S T p = (T ≡ S) × (reply ≡ refusal (status_
 Refuses class result S T p = ⊥
 
 -- by its class: a new request is entered and a repeat changes nothing, and both get the reply that their client's row keeps,
--- told as None; any other is refused by the status of its class, and changes nothing
+-- reported as None; any other is refused by the status of its class, and changes nothing
 abbrev pub Answers : Class → Result (Option Answer) Fault → State → State → Pair → Type 0
 Answers New result S T p = AnswersNew result S T p
 Answers Repeat result S T p = AnswersRepeat result S T
 Answers class result S T p = Refuses class result S T p
 
--- a fault is told with its place where no time is left, as far as there is memory for that; else it stays
+-- a fault is reported with its place where no time is left, as far as there is memory for that; else it stays
 abbrev pub IsPlaced : Fault → Fault → Type 0
 IsPlaced TimeExhausted (Late line) = Unit {0}
 IsPlaced TimeExhausted NoMemory = Unit {0}

@@ -32,7 +32,7 @@ digits_field mark name n = key mark name ++ in_quotes (decimal n)
 abbrev pub object_field : List ℕ → ℕ → List ℕ
 object_field name id = key 44 name ++ digits_field 123 (codes "id") id
 
--- what is said of a told thing
+-- what is said of a reported thing
 
 abbrev pub entry_begin : Entry → List ℕ
 entry_begin e = digits_field 123 (codes "commit") e.commit ++ digits_field 44 (codes "time") e.time

@@ -1,4 +1,4 @@
--- What an audit tells of a whole dump: its items are read and taken one after another, each is told by its lines, and so on
+-- What an audit reports of a whole dump: its items are read and taken one after another, each is reported by its lines, and so on
 -- until the input ends or a fault comes.
 -- Cited by public contracts of: commands.
 use Rattle.std.specs.Prelude.{ℕ, zero, suc, Bool, true, false, ◌≡◌, ◌≢◌, ◌≤◌, ◌⊎◌, ◌+◌, ◌-◌, ◌^◌, length, IsSome, IsTrue, List, [], ◌∷◌, ◌++◌, map, Option, Some, None, Result, Ok, Err}
@@ -50,9 +50,9 @@ PutsNothing (Err fault) before after = (fault ≡ NoMemory) × (after ≡ before
 abbrev pub GivesUp : Fault → List Told → Type 0
 GivesUp fault front = (fault ≡ NoMemory) ⊎ ((fault ≡ TooLong) × (2 ^ 64 - 1 ≤ length front))
 
--- by what is a line of what is told, and what of it is wanted
+-- by what is a line of what is reported, and what of it is wanted
 module _ (IsLine : Told → List ℕ → Type 0) (wants : Told → Bool) where
-  -- bytes are the lines of what is told, one behind the other
+  -- bytes are the lines of what is reported, one behind the other
   abbrev pub AreLines : List Told → List ℕ → Type 0
   AreLines [] bytes = bytes ≡ []
   AreLines (t ∷ ts) bytes = (line rest : List ℕ) × IsLine t line × AreLines ts rest × (bytes ≡ line ++ rest)
@@ -74,7 +74,7 @@ module _ (IsLine : Told → List ℕ → Type 0) (wants : Told → Bool) where
     pub device : fault ≡ Device
     pub cut : CutOff line made written
 
-  -- the first of what is to be told was written, and then a fault came
+  -- the first of what is to be reported was written, and then a fault came
   pub record StopsTelling (fault : Fault) (told : List Told) (start written : Output) : Type 0 where
     pub front : List Told
     pub rest : List Told
@@ -89,12 +89,12 @@ module _ (IsLine : Told → List ℕ → Type 0) (wants : Told → Bool) where
 
 -- items
 
--- an entry is not entered, since it may not come next, or for want of memory
+-- an entry is not entered, since it may not come next, or since memory ran out
 abbrev pub RefusesEntry : Fault → State → Entry → Type 0
 RefusesEntry fault S e = ((fits S e ≡ false) × (fault ≡ Dump dump.NotLegal)) ⊎ (IsTrue (fits S e) × (fault ≡ NoMemory))
 
--- what an audit has come to: its machine, the pending transfers whose timeouts run, the account that is told, and how it was
--- told last
+-- what an audit has come to: its machine, the pending transfers whose timeouts run, the account that is reported, and how it was
+-- reported last
 pub record Audited : Type 0 where
   pub machine : State
   pub waiting : Waiting
@@ -108,25 +108,25 @@ audited_from account head = record { machine = histories.start head.profile head
 abbrev pub expiry_of : Entry → (ℕ × ℕ) × Transfer → Told
 expiry_of e x = expires e x.0.0 x.1
 
--- the first waits are over, each by an entry's time, and this is told of them
+-- the first waits are over, each by an entry's time, and this is reported of them
 pub record Goes (e : Entry) (before : Waiting) (told : List Told) (after : Waiting) : Type 0 where
   pub gone : Waiting
   pub before_is : before ≡ gone ++ after
   pub each : Each (λ x. x.0.0 ≤ e.time) gone
   pub told_is : told ≡ map (expiry_of e) gone
 
--- what is told of the events of a batch, from a place on, by their results
+-- what is reported of the events of a batch, from a place on, by their results
 abbrev pub events_told : {X : Type 0} → (ℕ → Option EventResult → X → Told) → List EventResult → ℕ → List X → List Told
 events_told tell results place [] = []
 events_told tell results place (x ∷ xs) = tell place (result_at results place) x ∷ events_told tell results (place + 1) xs
 
--- what is told of those of an entry, by the state behind it
+-- what is reported of those of an entry, by the state behind it
 abbrev pub batch_told : State → List EventResult → Entry → Body → List Told
 batch_told S results e (body.CreateAccounts events) = events_told (opening_of S e) results 0 events
 batch_told S results e (body.CreateTransfers events) = events_told (settling_of S e) results 0 events
 batch_told S results e other = []
 
--- first the entry is told, and then its events
+-- first the entry is reported, and then its events
 abbrev pub entry_told : State → List EventResult → Entry → List Told
 entry_told S results e = enters e ∷ batch_told S results e e.request.body
 
@@ -134,11 +134,11 @@ entry_told S results e = enters e ∷ batch_told S results e e.request.body
 abbrev pub next_told : State → Entry → List Told
 next_told S e = entry_told (step S e) (results_in (body_at S e)) e
 
--- the account that is told, as it stands
+-- the account that is reported, as it is now
 abbrev pub account_of : Option ℕ → State → Option Account
 account_of account S = option_and_then (λ id. account_now S.books id) account
 
--- it is told where it stands otherwise than it was told last
+-- it is reported where it differs from what was reported last
 abbrev pub Changes : Option Account → Option Account → Option Account → Type 0
 Changes None shown None = Unit {0}
 Changes None shown (Some b) = ⊥
@@ -159,7 +159,7 @@ pub record ShowsAccount (e : Entry) (is shown : Option Account) (told : List Tol
   pub told_is : told ≡ standing_told e changed
   pub later_is : later ≡ shown_behind shown changed
 
--- an entry that may come next is entered; what has expired by its time is told, then the entry and its events, then the
+-- an entry that may come next is entered; what has expired by its time is reported, then the entry and its events, then the
 -- account
 pub record TakesEntry (S T : Audited) (e : Entry) (told : List Told) : Type 0 where
   pub legal : IsTrue (fits S.machine e)
@@ -172,7 +172,7 @@ pub record TakesEntry (S T : Audited) (e : Entry) (told : List Told) : Type 0 wh
   pub shows : ShowsAccount e (account_of S.account (step S.machine e)) S.shown standing T.shown
   pub told_is : told ≡ due ++ (next_told S.machine e ++ standing)
 
--- what is told of an entry, as far as a fault lets it: of those that have expired, up to the entry, or up to the account
+-- what is reported of an entry, as far as a fault lets it: of those that have expired, up to the entry, or up to the account
 pub record MayTell (S : Audited) (e : Entry) (told : List Told) : Type 0 where
   pub due : List Told
   pub waiting : Waiting
@@ -191,7 +191,7 @@ Finds (Err NoMemory) S = (id : ℕ) × (S.account ≡ Some id) × (account_now S
 Finds (Err fault) S = ⊥
 
 module _ (IsLine : Told → List ℕ → Type 0) (wants : Told → Bool) where
-  -- those that have expired are told, up to a fault
+  -- those that have expired are reported, up to a fault
   abbrev pub TellsDue : Result (Unit {0}) Fault → Entry → Waiting → Waiting → Output → Output → Type 0
   TellsDue result e before after start written = (told : List Told) × Goes e before told after × Telling IsLine wants result told start written
 

@@ -1,5 +1,5 @@
 -- A statement that leaves out its moment, its client, its session or its request's number, and the whole statement that
--- it stands for.
+-- it represents.
 -- Cited by public contracts of: completing_laws.
 use Rattle.std.specs.Prelude.{ℕ, true, ◌≡◌, ◌&&◌, ◌==◌, ◌+◌, ◌^◌, nat_lt, option_map, List, [], ◌++◌, Option, Some, None, if◌then◌else◌, codes}
 use Rattle.std.specs.Option.{is_some, option_and_then, option_or}
@@ -14,7 +14,7 @@ use Rattle.tb_text_commands.specs.declared.completing.LeftOut.{LeftOut}
 use Rattle.tb_text_commands.specs.declared.completing.Standing.{Standing}
 use Rattle.tb_text_commands.specs.declared.completing.Standing.TheVariants.{Open, Closed, Unknown}
 
--- how a client stands
+-- how a client is known
 
 -- behind a request in a session; behind the greatest number nothing is next
 abbrev pub standing_behind : ℕ → ℕ → Standing
@@ -25,7 +25,7 @@ abbrev pub standing_by : ℕ → Option Answer → Standing
 standing_by commit None = Closed (commit + 1)
 standing_by commit (Some reply) = standing_behind reply.session reply.request
 
--- behind a statement with this request, where nothing but statements tells of clients: a session of 0 is not known
+-- behind a statement with this request, where nothing but statements says anything of clients: a session of 0 is not known
 abbrev pub standing_told : Message → Standing
 standing_told r = if r.session == 0 then Unknown else standing_behind r.session r.request
 
@@ -38,7 +38,7 @@ standing_in rows commit client = standing_by commit (option_map (λ row. row.rep
 abbrev pub nothing : LeftOut
 nothing = record { register_moment = None; registered = None; moment = None; client = None; session = None; request = None }
 
--- what stands for a number that is left out
+-- what fills in a number that is left out
 abbrev pub unless_given : Option ℕ → ℕ → Option ℕ
 unless_given None n = Some n
 unless_given (Some m) n = None
@@ -67,7 +67,7 @@ abbrev pub by_session : Given → ℕ → Standing → Option ℕ → LeftOut
 by_session g c standing None = without_session g c standing
 by_session g c standing (Some session) = record (left_out_of_register g c) { request = unless_given g.request (next_in session standing) }
 
--- where client and request stand, a session that is left out is 0, as ever
+-- where client and request are given, a session that is left out is 0, as ever
 abbrev pub left_out_of_batch : Given → ℕ → Standing → LeftOut
 left_out_of_batch g c standing =
     if is_some g.client && is_some g.request then nothing
@@ -81,7 +81,7 @@ at_moment clock g x = record x {
   moment = if is_some g.moment then None else clock;
 }
 
--- of a client that stands so, before what stands from the operation's word on
+-- of a client that is known so, before what comes from the operation's word on
 abbrev pub left_out : Option ℕ → Given → List ℕ → ℕ → Standing → LeftOut
 left_out clock g rest c standing =
     if is_register (operation_named (first_word rest)) then at_moment clock g (left_out_of_register g c)
@@ -112,12 +112,12 @@ written x =
     ++ (number_line (codes "session=") (codes "\n") x.session
     ++ number_line (codes "request=") (codes "\n") x.request))))
 
--- the whole statement: lines for what is left out, and the statement as it stands, by the clock, by the client that was
--- named last, and by how each client stands
+-- the whole statement: lines for what is left out, and the statement as it is, by the clock, by the client that was
+-- named last, and by how each client is known
 abbrev pub completed : Option ℕ → Option ℕ → (ℕ → Standing) → List ℕ → List ℕ
 completed clock last standing text = written (left_out_in clock last standing text) ++ text
 
--- what is told of a text by itself
+-- what is reported of a text by itself
 
 abbrev pub NamesMoment : List ℕ → Type 0
 NamesMoment text = is_some (head_of text).0.moment ≡ true

@@ -83,12 +83,12 @@ abbrev pub outcome_status : Result (Unit {0}) Fault → ℕ
 outcome_status (Ok done) = 0
 outcome_status (Err fault) = fault_status fault
 
--- the outcome as it is told: of a device that failed, which one, by the reader's errors
+-- the outcome as it is reported: of a device that failed, which one, by the reader's errors
 abbrev pub named : Result (Unit {0}) Fault → ℕ → ℕ → Result (Unit {0}) Fault
 named (Ok done) before after = Ok done
 named (Err fault) before after = Err (device_named fault before after)
 
--- what is told of a fault, where the input is of another kind than the form reads: if it is one of what was read, what the
+-- what is reported of a fault, where the input is of another kind than the form reads: if it is one of what was read, what the
 -- input is
 abbrev pub TellsWhere : Bool → Awaited × Kind → Fault → Output → Output → Type 0
 TellsWhere true it fault quiet told = TellsLine (foreign_line it.0 it.1) quiet told
@@ -98,14 +98,14 @@ abbrev pub TellsAs : Option (Awaited × Kind) → Fault → Output → Output �
 TellsAs None fault quiet told = TellsOf fault quiet told
 TellsAs (Some it) fault quiet told = TellsWhere (is_of_bytes fault) it fault quiet told
 
--- what is told of an outcome: nothing of one that was done, and of a fault its line
+-- what is reported of an outcome: nothing of one that was done, and of a fault its line
 abbrev pub Tells : Option (Awaited × Kind) → Result (Unit {0}) Fault → Output → Output → Type 0
 Tells foreign (Ok done) quiet told = told ≡ quiet
 Tells foreign (Err fault) quiet told = TellsAs foreign fault quiet told
 
 -- a form of the program was done, or a fault ended it: the status is the outcome's, and a device failed exactly where that
 -- says so; with status 0 a whole input was read, and `explain` says where `tbs` stops in it; where no statements are typed,
--- nothing but its line is told, and the input is of another kind than the form reads where that line says so
+-- nothing but its line is reported, and the input is of another kind than the form reads where that line says so
 pub record Exits (form : Form) (talks : Bool) (status : ℕ) (before after : Input) (start written quiet told : Output) : Type 0 where
   pub outcome : Result (Unit {0}) Fault
   pub ended : Ended outcome before after start written

@@ -12,7 +12,7 @@ use Rattle.tb_text_commands.specs.declared.stops.ScriptEnd.{ScriptEnd}
 use Rattle.tb_text_commands.specs.declared.stops.ScriptEnd.TheVariants as script_end
 use Rattle.tb_text_commands.specs.Explained.{ComesOfBytes, ScriptEnds}
 
--- of a script that is served to its end: its number of pairs is told, or one of them that leaves no time for a new request
+-- of a script that is served to its end: its number of pairs is reported, or one of them that leaves no time for a new request
 abbrev pub EndsWellAs : ScriptEnd → ℕ → Type 0
 EndsWellAs (script_end.Whole pairs) served = pairs ≡ served
 EndsWellAs (script_end.Late place) served = place.number ≤ served
@@ -20,7 +20,7 @@ EndsWellAs (script_end.Wrong place fault) served = ⊥
 EndsWellAs script_end.TooLong served = 2 ^ 64 - 2 ≤ served
 
 -- of one at whose next pair a frame's fault stops `tbs`, behind these pairs: that pair, the bytes before it and that fault are
--- told, or a pair before it that leaves no time for a new request
+-- reported, or a pair before it that leaves no time for a new request
 abbrev pub StopsAs : ScriptEnd → FrameFault → List Pair → Type 0
 StopsAs (script_end.Whole pairs) fault served = ⊥
 StopsAs (script_end.Late place) fault served = place.number ≤ length served

@@ -34,14 +34,14 @@ use Rattle.tb_text_commands.specs.declared.stops.Stop.TheVariants as stop
 abbrev pub IsInTime : Pair → Type 0
 IsInTime p = IsTimed p × (p.0 ≤ max_time)
 
--- bytes begin with such pairs, one fewer than a number, and others stand behind them
+-- bytes begin with such pairs, one fewer than a number, and others follow them
 pub record Leads (number : ℕ) (bytes rest : List ℕ) : Type 0 where
   pub pairs : List Pair
   pub bytes_are : bytes ≡ flat_map timed_bytes pairs ++ rest
   pub each : Each IsInTime pairs
   pub counted : number ≡ length pairs + 1
 
--- a pair of a moment stands next
+-- a pair of a moment comes next
 abbrev pub IsNextPair : ℕ → List ℕ → List ℕ → Type 0
 IsNextPair moment rest behind = (r : Message) × TimedAnswered (Ok (Some (moment, r))) rest behind
 
@@ -109,7 +109,7 @@ abbrev pub item_bytes : DumpItem → List ℕ
 item_bytes (item.Entry commit time request) = entry_bytes commit time request
 item_bytes item.Mark = mark_bytes
 
--- bytes begin with so many items that lead from a state to another, and others stand behind them
+-- bytes begin with so many items that lead from a state to another, and others follow them
 pub record LeadsTo (count : ℕ) (S T : State) (bytes rest : List ℕ) : Type 0 where
   pub items : List DumpItem
   pub bytes_are : bytes ≡ flat_map item_bytes items ++ rest
@@ -120,7 +120,7 @@ pub record LeadsTo (count : ℕ) (S T : State) (bytes rest : List ℕ) : Type 0 
 abbrev pub IsNextPlace : Place → State → List ℕ → List ℕ → Type 0
 IsNextPlace place T bytes rest = (place.number ≡ T.commit + 1) × IsPlace place bytes rest
 
--- an item stands next
+-- an item comes next
 abbrev pub IsNextItem : DumpItem → List ℕ → List ℕ → Type 0
 IsNextItem item rest behind = ItemAnswered (Ok (Some item)) rest behind
 

@@ -17,7 +17,7 @@ use Rattle.tb_text_commands.specs.Kinds.{begins_with, kind_text}
 use Rattle.tb_text_commands.specs.declared.kinds.Kind.TheVariants.{Ledger}
 use Rattle.tb_text_commands.specs.Whole.{WasWhole}
 
--- a unit's number, the bytes before it, why `tbs` stops there in words, and the name that `tbs` prints; more may stand behind
+-- a unit's number, the bytes before it, why `tbs` stops there in words, and the name that `tbs` prints; more may follow
 -- the line
 abbrev pub stop_text : List ℕ → Place → List ℕ → List ℕ → List ℕ → List ℕ
 stop_text unit place words name more =
@@ -35,7 +35,7 @@ pub record NamesStop (unit : List ℕ) (place : Place) (name line : List ℕ) : 
 abbrev pub NamesEnd : List ℕ → List ℕ → List ℕ → ℕ → ℕ → List ℕ → Type 0
 NamesEnd first behind last count total line = line ≡ first ++ (decimal count ++ (behind ++ (decimal total ++ last)))
 
--- what is told by how far a script is read
+-- what is reported by how far a script is read
 abbrev pub TellsScript : ScriptEnd → List ℕ → List ℕ → Type 0
 TellsScript (script_end.Whole pairs) bytes line = NamesEnd (codes "a script, ") (codes " pairs in ") (codes " bytes: tbs reads it to its end\n") pairs (length bytes) line
 TellsScript (script_end.Late place) bytes line = NamesStop (codes "pair") place (codes "TimeExhausted") line
@@ -47,12 +47,12 @@ pub record SaysScript (bytes line : List ℕ) : Type 0 where
   pub ends : ScriptEnds end bytes
   pub tells : TellsScript end bytes line
 
--- what is told of an item that is not taken
+-- what is reported of an item that is not taken
 abbrev pub SaysRefused : Place → Stop → List ℕ → Type 0
 SaysRefused place stop.Mark line = NamesStop (codes "entry") place (codes "Mark") line
 SaysRefused place (stop.NotLegal cause) line = NamesStop (codes "entry") place (codes "NotLegal") line
 
--- what is told of what is no head: words, and the name of the fault
+-- what is reported of what is no head: words, and the name of the fault
 abbrev pub head_text : List ℕ → List ℕ → List ℕ
 head_text words name = codes "the head, at byte 0: " ++ (words ++ (codes " (" ++ (name ++ codes ")\n")))
 
@@ -60,7 +60,7 @@ pub record NamesHead (name line : List ℕ) : Type 0 where
   pub words : List ℕ
   pub line_is : line ≡ head_text words name
 
--- what is told by how far a dump is replayed
+-- what is reported by how far a dump is replayed
 abbrev pub TellsDump : DumpEnd → List ℕ → List ℕ → Type 0
 TellsDump (dump_end.NoHead fault) bytes line = NamesHead (dump_fault_name fault) line
 TellsDump (dump_end.Whole entries) bytes line = NamesEnd (codes "a dump, ") (codes " entries in ") (codes " bytes: tbs replays it to its end\n") entries (length bytes) line
@@ -73,7 +73,7 @@ pub record SaysDump (bytes line : List ℕ) : Type 0 where
   pub ends : DumpEnds end bytes
   pub tells : TellsDump end bytes line
 
--- what is told of bytes: of a dump by its first 8 bytes, of a ledger's file that it is one, and else of a script
+-- what is reported of bytes: of a dump by its first 8 bytes, of a ledger's file that it is one, and else of a script
 abbrev pub ExplainsBy : Bool → Bool → List ℕ → List ℕ → Type 0
 ExplainsBy true dump bytes line = line ≡ kind_text Ledger
 ExplainsBy false true bytes line = SaysDump bytes line
@@ -88,6 +88,6 @@ pub record IsExplained (bytes : List ℕ) (start written : Output) : Type 0 wher
   pub explains : Explains bytes line
   pub sent : Sent line start written
 
--- where the reader tells its bytes
+-- where the reader reports its bytes
 abbrev pub Explained : Input → Output → Output → Type 0
 Explained before start written = WasWhole (λ bytes. IsExplained bytes start written) before.left

@@ -1,4 +1,4 @@
--- What stands before the operation of a statement: at, client, session and request, each with its number, in any order,
+-- What comes before the operation of a statement: at, client, session and request, each with its number, in any order,
 -- with spaces and comments between.
 -- Public contracts reach it through: Completed, Typed.
 use Rattle.std.specs.Prelude.{ℕ, Bool, true, false, not, ◌&&◌, ◌||◌, ◌==◌, ◌+◌, ◌*◌, ◌^◌, nat_le, nat_lt, List, [], ◌∷◌, length, drop, take, unwrap_or, Option, Some, None, if◌then◌else◌}
@@ -83,18 +83,18 @@ with_field g field.Session n = record g { session = Some n }
 with_field g field.Request n = record g { request = Some n }
 with_field g f n = g
 
--- a field whose number stands first, among those before it, and what stands behind it
+-- a field whose number comes first, among those before it, and what follows it
 abbrev pub number_read : Given → Field → List ℕ → Option (Given × List ℕ)
 number_read g f bytes = option_and_then (λ n. Some (with_field g f n, behind_word bytes)) (number_of (first_word bytes))
 
 abbrev pub equals_read : Given → Field → List ℕ → Option (Given × List ℕ)
 equals_read g f bytes = option_and_then (λ value. number_read g f value) (behind_equals bytes)
 
--- the field that bytes begin with, among those before it, and what stands behind it
+-- the field that bytes begin with, among those before it, and what follows it
 abbrev pub field_read : Given → List ℕ → Option (Given × List ℕ)
 field_read g bytes = option_and_then (λ f. equals_read g f (behind_word bytes)) (field_named (first_word bytes))
 
--- behind one field more, where one stands
+-- behind one field more, where one is
 unfoldable pub next : Given × List ℕ → Given × List ℕ
 next h = unwrap_or (field_read h.0 h.1) h
 
@@ -124,7 +124,7 @@ is_register o = false
 abbrev pub is_batch : Option Operation → Bool
 is_batch o = is_some o && not (is_register o)
 
--- an operation's word stands first, or one that may be meant so: no field's name, no `=` behind it, and not cut off, as a
+-- an operation's word comes first, or one that may be meant so: no field's name, no `=` behind it, and not cut off, as a
 -- word at the end of the bytes may be
 abbrev pub begins_operation : List ℕ → Bool
 begins_operation bytes =

@@ -1,5 +1,5 @@
 -- The exit status of each fault: 1 a device or memory failed, 2 the input or the arguments are wrong. And the line that a
--- fault is told by.
+-- fault is reported by.
 -- Cited by public contracts of: faults, host.
 use Rattle.std.specs.Prelude.{ℕ, not, ◌==◌, ◌-◌, ◌^◌, nat_lt, ◌++◌, List, [], if◌then◌else◌, codes}
 use Rattle.tb_records.specs.declared.faults.FrameFault.{FrameFault}
@@ -13,7 +13,7 @@ use Rattle.tb_commands.specs.Statuses.{frame_status, dump_status, TellsLine}
 use Rattle.tb_text_commands.specs.declared.faults.Fault.{Fault}
 use Rattle.tb_text_commands.specs.declared.faults.Fault.TheVariants.{Usage, Device, NoMemory, Reader, Writer, TimeExhausted, TooLong, Frame, Dump, Arguments, Text, Late}
 
--- the faults of a frame and of a dump: a device that failed and want of memory are the program's own
+-- the faults of a frame and of a dump: a device that failed and out of memory are the program's own
 
 abbrev pub frame_fault_of : FrameFault → Fault
 frame_fault_of frame.Device = Device

@@ -17,7 +17,7 @@ use Rattle.tb_text_commands.specs.Whole.{WasWhole}
 abbrev pub rest_of : Intake → List ℕ
 rest_of intake = drop intake.at intake.bytes.items
 
--- what is left to take, where the reader tells its bytes: nothing behind the rest once the reader told its end
+-- what is left to take, where the reader reports its bytes: nothing behind the rest once the reader reported its end
 abbrev pub waiting : Intake → Input → Option (List ℕ)
 waiting intake input = if intake.ended then Some (rest_of intake) else prepend_known (rest_of intake) input.left
 

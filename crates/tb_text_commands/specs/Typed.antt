@@ -1,4 +1,4 @@
--- What is typed on a terminal: statements, and words beside them that ask for help or end the conversation. A mistake is told
+-- What is typed on a terminal: statements, and words besides them that ask for help or end the conversation. A mistake is reported
 -- when it comes, and the next statement is read.
 -- Public contracts reach it through: Ends.
 use Rattle.std.specs.Prelude.{ℕ, Bool, true, false, ◌≡◌, ◌≤◌, ◌⊎◌, ◌||◌, ◌==◌, nat_eq, List, [], ◌∷◌, ◌++◌, flat_map, length, Option, Some, None, if◌then◌else◌, codes}
@@ -23,7 +23,7 @@ ask_named word =
     else if pointwise nat_eq word (codes "exit") || pointwise nat_eq word (codes "quit") then Some Leave
     else None
 
--- nothing stands behind a word, or a `;`
+-- nothing follows a word, or a `;`
 abbrev pub ask_before : List ℕ → List ℕ → Option Ask
 ask_before word [] = ask_named word
 ask_before word (b ∷ []) = if b == 59 then ask_named word else None
@@ -52,7 +52,7 @@ IsCut text = 4096 ≤ length text
 abbrev pub IsTypedPart : List ℕ → Type 0
 IsTypedPart text = IsStatement text ⊎ (IsHelp text ⊎ (IsWrong text ⊎ IsCut text))
 
--- a word that ends the conversation, and what stands behind it
+-- a word that ends the conversation, and what follows it
 pub record Leaves (bytes : List ℕ) : Type 0 where
   pub word : List ℕ
   pub behind : List ℕ

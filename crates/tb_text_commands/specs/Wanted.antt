@@ -1,4 +1,4 @@
--- What the lines of an audit tell, and which of them are wanted.
+-- What the lines of an audit report, and which of them are wanted.
 -- Public contracts reach it through: AuditLines, AuditRuns.
 use Rattle.std.specs.Prelude.{ℕ, Bool, true, false, not, ◌&&◌, ◌||◌, ◌==◌, nat_le, Option, Some, None, if◌then◌else◌, unwrap_or}
 use Rattle.std.specs.Option.{option_map_or}
@@ -11,9 +11,9 @@ use Rattle.tb_machine.specs.declared.entries.Entry.{Entry}
 use Rattle.tb_machine.specs.Histories.{State}
 use Rattle.tb_text_commands.specs.declared.wanted.Wanted.{Wanted}
 
--- what one line tells: a head, a pending transfer whose timeout ran out before an entry and when, an entry, the event of a
+-- what one line reports: a head, a pending transfer whose timeout ran out before an entry and when, an entry, the event of a
 -- place in it that asks for an account or a transfer, with its result where it was not accepted and its record, a mark, or
--- an account as it stands behind an entry; with a post or void also the pending transfer that it names
+-- an account as it is behind an entry; with a post or void also the pending transfer that it names
 pub data Told : Type 0 where
   begins : DumpHead → Told
   expires : Entry → ℕ → Transfer → Told
@@ -32,7 +32,7 @@ recorded (Some refused) kept asked = asked
 abbrev pub resolved_by : Books → Transfer → Option Transfer
 resolved_by B t = if resolves t then transfer_at B t.pending_id else None
 
--- what is told of an event, by the state behind its entry
+-- what is reported of an event, by the state behind its entry
 abbrev pub opening_of : State → Entry → ℕ → Option EventResult → Account → Told
 opening_of S e place outcome a = opens e place outcome (recorded outcome (account_now S.books a.id) a)
 

@@ -20,7 +20,7 @@ pub record Parts (Part : List ℕ → Type 0) (bytes : List ℕ) : Type 0 where
   pub bytes_are : bytes ≡ flat_map (λ part. part) parts
   pub each : Each Part parts
 
--- a statement, or what stands behind the last one: with lines for what it leaves out before it, it means requests
+-- a statement, or what follows the last one: with lines for what it leaves out before it, it means requests
 pub record IsStatement (text : List ℕ) : Type 0 where
   pub clock : Option ℕ
   pub last : Option ℕ
@@ -73,7 +73,7 @@ IsInputOf (form.Run clients_max profile) bytes = Parts IsStatement bytes
 IsInputOf form.Help bytes = Unit {0}
 IsInputOf form.Version bytes = Unit {0}
 
--- of a reader that may not tell its bytes
+-- of a reader that may not report its bytes
 abbrev pub WasWhole : (List ℕ → Type 0) → Option (List ℕ) → Type 0
 WasWhole P None = Unit {0}
 WasWhole P (Some bytes) = P bytes

@@ -1,10 +1,10 @@
-//! The words beside statements on a terminal: for help, and to leave.
+//! The words besides statements on a terminal: for help, and to leave.
 ghost use Rattle.std.specs.Prelude.{◌≡◌};
 ghost use Rattle.tb_text_commands.specs.Typed.{ask_in, ask_named};
 
 use crate::heads::{behind_word, first_word, past_gap};
 
-/// What a word beside statements asks for.
+/// What a word besides statements asks for.
 #[derive(Clone, Copy)]
 pub enum Ask {
     /// `help`: how statements are written.

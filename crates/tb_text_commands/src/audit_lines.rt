@@ -13,21 +13,21 @@ use std::alloc::Global;
 use tb_machine::{Entry, Machine};
 use tb_records::{Account, DumpHead, EventResult, Sink, Transfer};
 
-/// What writes a line for each thing that an audit tells, where it is wanted.
+/// What writes a line for each thing that an audit reports, where it is wanted.
 pub trait Teller {
-    // The line of what is told.
+    // The line of what is reported.
     ghost IsLine: { Told → List ℕ → Type 0 };
 
-    // What is wanted of what is told.
+    // What is wanted of what is reported.
     ghost wants: { Self → Told → Bool };
 
-    /// Tells the head of a dump.
+    /// Prints the head of a dump.
     fn tell_head<W: Sink>(&self, writer: &mut W, head: &DumpHead) -> Result<(), Fault>
         ensures written { Written result (W.output writer.old) (W.output writer.new) }
         ensures told { Telling IsLine (wants self.now) result (begins head.now ∷ [])
             (W.output writer.old) (W.output writer.new) };
 
-    /// Tells a pending transfer whose timeout ran out before an entry, and when it did.
+    /// Prints a pending transfer whose timeout ran out before an entry, and when it did.
     fn tell_expiry<W: Sink>(
         &self,
         writer: &mut W,
@@ -40,13 +40,13 @@ pub trait Teller {
             (expires entry.now end transfer.now ∷ []) (W.output writer.old)
             (W.output writer.new) };
 
-    /// Tells an entry: who asked for it.
+    /// Prints an entry: who asked for it.
     fn tell_entry<W: Sink>(&self, writer: &mut W, entry: &Entry) -> Result<(), Fault>
         ensures written { Written result (W.output writer.old) (W.output writer.new) }
         ensures told { Telling IsLine (wants self.now) result (enters entry.now ∷ [])
             (W.output writer.old) (W.output writer.new) };
 
-    /// Tells what became of an account that the event of a place asks for.
+    /// Prints what became of an account that the event of a place asks for.
     fn tell_opening<W: Sink>(
         &self,
         writer: &mut W,
@@ -60,7 +60,7 @@ pub trait Teller {
             (opens entry.now place outcome account.now ∷ []) (W.output writer.old)
             (W.output writer.new) };
 
-    /// Tells what became of a transfer that the event of a place asks for, by the machine behind the entry.
+    /// Prints what became of a transfer that the event of a place asks for, by the machine behind the entry.
     fn tell_transfer<W: Sink>(
         &self,
         writer: &mut W,
@@ -76,13 +76,13 @@ pub trait Teller {
             (resolved_by machine.now.books transfer.now) ∷ []) (W.output writer.old)
             (W.output writer.new) };
 
-    /// Tells a mark.
+    /// Prints a mark.
     fn tell_mark<W: Sink>(&self, writer: &mut W) -> Result<(), Fault>
         ensures written { Written result (W.output writer.old) (W.output writer.new) }
         ensures told { Telling IsLine (wants self.now) result (moves ∷ []) (W.output writer.old)
             (W.output writer.new) };
 
-    /// Tells an account as it stands behind an entry.
+    /// Prints an account as it is behind an entry.
     fn tell_standing<W: Sink>(
         &self,
         writer: &mut W,

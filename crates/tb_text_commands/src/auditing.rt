@@ -26,15 +26,15 @@ use tb_machine::{Entry, Machine};
 use tb_records::dumps::read_head_from;
 use tb_records::{Account, Body, DumpFault, DumpHead, DumpItem, Profile, Sink, Source};
 
-/// A replay of a dump, and what is watched beside it.
+/// A replay of a dump, and what is watched next to it.
 #[derive(Drop)]
 struct Replay {
     alloc: Global,
     machine: Machine<Global>,
     waits: Waits,
-    /// The id of the account whose balances are told.
+    /// The id of the account whose balances are reported.
     account: Option<u128>,
-    /// The account as it was told last.
+    /// The account as it was reported last.
     told: Option<Account>,
 }
 
@@ -113,7 +113,7 @@ impl Replay {
         }
     }
 
-    /// Tells the pending transfers that have expired at an entry's time, in the order in which they did.
+    /// Prints the pending transfers that have expired at an entry's time, in the order in which they did.
     fn tell_expired<T: Teller, W: Sink>(
         &mut self,
         entry: &Entry,
@@ -138,7 +138,7 @@ impl Replay {
         Err(Fault::TooLong)
     }
 
-    /// Tells what became of the events of the machine's last entry, one by one.
+    /// Prints what became of the events of the machine's last entry, one by one.
     fn tell_events<E: Judged, T: Teller, W: Sink>(
         &self,
         entry: &Entry,
@@ -160,7 +160,7 @@ impl Replay {
         Ok(())
     }
 
-    /// Tells what became of the events of the machine's last entry, if it is a batch.
+    /// Prints what became of the events of the machine's last entry, if it is a batch.
     fn tell_batch<T: Teller, W: Sink>(
         &self,
         entry: &Entry,
@@ -185,7 +185,7 @@ impl Replay {
         }
     }
 
-    /// Tells the machine's last entry, and what became of its events.
+    /// Prints the machine's last entry, and what became of its events.
     fn tell_entry<T: Teller, W: Sink>(
         &self,
         entry: &Entry,
@@ -201,7 +201,7 @@ impl Replay {
         self.tell_batch(entry, teller, writer)
     }
 
-    /// The account that is told, where it stands otherwise than it was told last.
+    /// The account that is reported, where it differs from what was reported last.
     fn changed_account(&self) -> Option<Account>
         ensures { Changes (account_of self.now.account self.now.machine) self.now.told result }
     {
@@ -213,7 +213,7 @@ impl Replay {
         }
     }
 
-    /// Tells the account, where it is another than it was told.
+    /// Prints the account, where it is another than it was reported.
     fn tell_account<T: Teller, W: Sink>(
         &mut self,
         entry: &Entry,
@@ -235,7 +235,7 @@ impl Replay {
         teller.tell_standing(writer, entry, &account)
     }
 
-    /// Enters an entry that may come next, and tells what it did.
+    /// Enters an entry that may come next, and reports what it did.
     fn put_entry<T: Teller, W: Sink>(
         &mut self,
         teller: &T,
@@ -252,7 +252,7 @@ impl Replay {
         self.tell_account(entry, teller, writer)
     }
 
-    /// Goes over to profile 2, and tells so.
+    /// Goes over to profile 2, and reports so.
     fn put_mark<T: Teller, W: Sink>(&mut self, teller: &T, writer: &mut W) -> Result<(), Fault>
         ensures written { Written result (W.output writer.old) (W.output writer.new) }
         ensures told { AuditsMark T.IsLine (T.wants teller.now) result (audited self.old) (audited self.new)
@@ -262,7 +262,7 @@ impl Replay {
         teller.tell_mark(writer)
     }
 
-    /// Takes an item, and tells what it did.
+    /// Takes an item, and reports what it did.
     fn put_item<T: Teller, W: Sink>(
         &mut self,
         teller: &T,
@@ -290,7 +290,7 @@ impl Replay {
         }
     }
 
-    /// Reads the next item, takes it, and tells what it did: false where there is none.
+    /// Reads the next item, takes it, and reports what it did: false where there is none.
     fn put_next<T: Teller, R: Source, W: Sink>(
         &mut self,
         alloc: Global,
@@ -313,7 +313,7 @@ impl Replay {
         Ok(true)
     }
 
-    /// Takes all items, and tells what they did. Then the account whose lines are wanted has to be there.
+    /// Takes all items, and reports what they did. Then the account whose lines are wanted has to be there.
     fn put_all<T: Teller, R: Source, W: Sink>(
         &mut self,
         alloc: Global,
@@ -358,7 +358,7 @@ fn no_account(alloc: Global, id: u128) -> Result<Lines, AllocError> {
     Lines::new(alloc, line.as_bytes())
 }
 
-/// Reads the head of a dump, and tells it.
+/// Reads the head of a dump, and reports it.
 fn put_head<T: Teller, R: Source, W: Sink>(
     teller: &T,
     reader: &mut R,
@@ -377,7 +377,7 @@ fn put_head<T: Teller, R: Source, W: Sink>(
     Ok(head)
 }
 
-/// Tells what a dump's entries did: before each entry the pending transfers that have expired since, then the entry and
+/// Prints what a dump's entries did: before each entry the pending transfers that have expired since, then the entry and
 /// what became of each event, then the account, where it changed.
 fn audit_by<T: Teller, R: Source, W: Sink>(
     alloc: Global,

@@ -82,7 +82,7 @@ fn usage_line(alloc: Global, word: &str, rest: &[String]) -> Result<Lines, Alloc
     Lines::new(alloc, line.as_bytes())
 }
 
-/// The fault of words that are none of the program's forms. Where there is no memory to name one, it is told as no
+/// The fault of words that are none of the program's forms. Where there is no memory to name one, it is reported as no
 /// words are, by the page of usage, which needs none.
 fn usage_fault(alloc: Global, words: &[String]) -> Fault {
     match words {
@@ -138,7 +138,7 @@ fn perform_known<C: Clock, R: Source, W: Sink, E: Sink>(
     }
 }
 
-/// Tells why a form ended: where the fault is one of what was read and the input is of another kind, what it is.
+/// Prints why a form ended: where the fault is one of what was read and the input is of another kind, what it is.
 fn tell<E: Sink>(fault: &Fault, foreign: Option<(Awaited, Kind)>, faults: &mut E)
     ensures { TellsAs foreign fault.now (E.output faults.old) (E.output faults.new) }
 {

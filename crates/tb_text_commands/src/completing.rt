@@ -1,4 +1,4 @@
-//! Statements that leave out their moment, their client, their session or their request's number, and what stands for
+//! Statements that leave out their moment, their client, their session or their request's number, and what fills in
 //! these.
 ghost use Rattle.std.specs.Prelude.{◌≡◌, ◌++◌, Option, ℕ, IfOk, OnOk};
 ghost use Rattle.tb_text_commands.specs.Completed.{at_moment, completed, left_out, left_out_in, left_out_of_batch, left_out_of_register, next_in, standing_behind, number_line, unless_given, written};
@@ -18,7 +18,7 @@ const OPERATIONS: [Operation; 5] = [
     Operation::LookupTransfers,
 ];
 
-/// How a client stands.
+/// How a client is known.
 #[derive(Clone, Copy)]
 pub enum Standing {
     /// It has a session, and the next request there has this number.
@@ -46,14 +46,14 @@ pub trait Standings {
     // The client that was named last.
     ghost last: { Self → Option ℕ };
 
-    // How a client stands.
+    // How a client is known.
     ghost standing: { Self → ℕ → Standing };
 
     /// The client that was named last.
     fn last(&self) -> Option<u128>
         ensures { result ≡ last self.now };
 
-    /// How a client stands.
+    /// How a client is known.
     fn standing(&self, client: u128) -> Standing
         ensures { result ≡ standing self.now client };
 
@@ -61,7 +61,7 @@ pub trait Standings {
     fn moment(&self) -> Option<u64>;
 }
 
-/// What stands for what a statement leaves out: a client that is registered first, at a moment, and numbers.
+/// What fills in what a statement leaves out: a client that is registered first, at a moment, and numbers.
 #[derive(Clone, Copy, Default)]
 pub struct LeftOut {
     pub register_moment: Option<u128>,
@@ -72,7 +72,7 @@ pub struct LeftOut {
     pub request: Option<u128>,
 }
 
-/// What stands for a number that is left out.
+/// What fills in a number that is left out.
 fn unless_given(given: Option<u128>, number: u128) -> Option<u128>
     ensures { result ≡ unless_given given number }
 {
@@ -148,7 +148,7 @@ impl LeftOut {
         }
     }
 
-    /// Before what stands from the operation's word on.
+    /// Before what comes from the operation's word on.
     fn before(
         clock: Option<u128>,
         given: Given,
@@ -167,7 +167,7 @@ impl LeftOut {
         }
     }
 
-    /// What stands for what a statement leaves out.
+    /// What fills in what a statement leaves out.
     #[tactic(auto, unfolding(crate::specs::Completed::left_out_in))]
     fn in_statement<S: Standings>(clock: Option<u128>, standings: &S, text: &[u8]) -> LeftOut
         ensures { result
@@ -216,7 +216,7 @@ fn put_left_out(alloc: Global, out: &mut Vec<u8>, left_out: LeftOut) -> Result<(
     put_line(alloc, out, b"request=", b"\n", left_out.request)
 }
 
-/// The whole statement that a statement stands for: lines for what it leaves out, and itself.
+/// The whole statement that a statement represents: lines for what it leaves out, and itself.
 pub fn completed<S: Standings>(
     alloc: Global,
     clock: Option<u128>,
@@ -290,7 +290,7 @@ fn begins_with<S: Standings>(
     Ok(awaited_behind(alloc, whole.as_slice())?.is_some())
 }
 
-/// What stands before the word at a place, which lies before these bytes; a word that ends there and is right stands before it.
+/// What comes before the word at a place, which lies before these bytes; a word that ends there and is right comes before it.
 fn before_word<'a>(alloc: Global, before: &'a [u8], rest: &[u8]) -> Result<&'a [u8], AllocError> {
     let (begun, further) = word_around(before, rest);
     if further == 0 && awaited_behind(alloc, before)?.is_some() {
@@ -299,7 +299,7 @@ fn before_word<'a>(alloc: Global, before: &'a [u8], rest: &[u8]) -> Result<&'a [
     Ok(before.split_at(before.len() - begun).0)
 }
 
-/// What may be written at a place of a statement, beside what goes on the whole one: where its operation is not written yet.
+/// What may be written at a place of a statement, besides what goes on the whole one: where its operation is not written yet.
 pub fn words_to_fill<S: Standings>(
     alloc: Global,
     standings: &S,

@@ -3,8 +3,8 @@ ghost use Rattle.std.specs.Prelude.{◌≡◌, List, Option, ℕ, Some, None, co
 ghost use Rattle.tb_text_commands.specs.Completed.{completed, IsRegister, NamesClient, NamesMoment, NamesRequest, StandsForItself};
 ghost use Rattle.tb_text_commands.specs.declared.completing.Standing.TheVariants.{Open, Closed, Unknown};
 
-/// Nothing is put before a statement in which client and request stand, nor before a register in which a client stands, but
-/// for the clock's moment: where there is no clock, as in `script`, or a moment stands too, what had a meaning keeps it.
+/// Nothing is put before a statement that gives client and request, nor before a register that gives a client, but
+/// for the clock's moment: where there is no clock, as in `script`, or a moment is given too, what had a meaning keeps it.
 #[tactic(auto, unfolding(crate::specs::Completed::left_out_in, crate::specs::Completed::written))]
 pub fn whole_statement_stays()
     ensures script { (text : List ℕ) → NamesClient text → NamesRequest text
@@ -53,7 +53,7 @@ pub fn next_request()
         ≡ codes "client=7\nrequest=9\n# request=4\n session=3 lookup_accounts;" }
 {}
 
-/// An operation that is misspelled is completed too, so that its fault tells what could stand there.
+/// An operation that is misspelled is completed too, so that its fault reports what could be there.
 pub fn misspelled()
     ensures { completed None (Some 7) (λ c. Open 3 3) (codes "lookup_acounts id=1;")
         ≡ codes "client=7\nsession=3\nrequest=3\nlookup_acounts id=1;" }

@@ -11,7 +11,7 @@ use tb_records::{Sink, Source};
 /// The next part, or none, or the fault that ended the input.
 pub type Next<T> = Result<Option<T>, Fault>;
 
-/// What takes an input part by part, and writes what each part stands for.
+/// What takes an input part by part, and writes what each part represents.
 pub trait Converter {
     /// What a part is read as.
     type Piece;
@@ -31,13 +31,13 @@ pub trait Converter {
             TakesNext Part next (remaining self.old (R.input reader.old))
             (remaining self.new (R.input reader.new))) };
 
-    /// Writes what a part stands for.
+    /// Writes what a part represents.
     fn put<W: Sink>(&mut self, writer: &mut W, piece: Self::Piece) -> Result<(), Fault>
         ensures written { Written result (W.output writer.old) (W.output writer.new) }
         ensures kept { (input : Input) → remaining self.new input ≡ remaining self.old input };
 }
 
-/// Takes the next part, and writes what it stands for: false where there is none.
+/// Takes the next part, and writes what it represents: false where there is none.
 pub fn convert_next<C: Converter, R: Source, W: Sink>(
     converter: &mut C,
     reader: &mut R,
@@ -56,7 +56,7 @@ pub fn convert_next<C: Converter, R: Source, W: Sink>(
     Ok(true)
 }
 
-/// Takes all parts, writes what they stand for, and lets the converter go.
+/// Takes all parts, writes what they represent, and frees the converter.
 pub fn convert<C: Converter + Drop, R: Source, W: Sink>(
     mut converter: C,
     reader: &mut R,

@@ -17,7 +17,7 @@ use tb_machine::Entry;
 use tb_records::dumps::{holds_item, read_head_from, read_item_from};
 use tb_records::{DumpHead, DumpItem, Sink, Source};
 
-/// The entry that stands in a dump; None of a mark.
+/// The entry that is in a dump; None of a mark.
 pub fn entry_of(item: DumpItem) -> Option<Entry> {
     match item {
         DumpItem::Entry {
@@ -70,11 +70,11 @@ pub fn next_item<R: Source, W: Sink>(
 
 /// What writes for each item of a dump: an entry, or a mark.
 pub trait ItemWriter {
-    /// Writes what an entry stands for.
+    /// Writes what an entry represents.
     fn put_entry<W: Sink>(&mut self, writer: &mut W, entry: &Entry) -> Result<(), Fault>
         ensures { Written result (W.output writer.old) (W.output writer.new) };
 
-    /// Writes what a mark stands for.
+    /// Writes what a mark represents.
     fn put_mark<W: Sink>(&mut self, writer: &mut W) -> Result<(), Fault>
         ensures { Written result (W.output writer.old) (W.output writer.new) };
 }

@@ -59,7 +59,7 @@ fn hint(bytes: &[u8]) -> &'static str {
     }
 }
 
-/// The line that is told where `tbs` stops, and what stands behind it.
+/// The line that is reported where `tbs` stops, and what follows it.
 fn stop_line(
     alloc: Global,
     unit: &str,
@@ -75,7 +75,7 @@ fn stop_line(
     format!(in alloc; "{unit} {number}, at byte {at}: {words} ({name})\n{more}")
 }
 
-/// What is told where `tbs` stops.
+/// What is reported where `tbs` stops.
 fn stops_at(
     alloc: Global,
     unit: &str,
@@ -90,7 +90,7 @@ fn stops_at(
     Ok(line)
 }
 
-/// What is told by how far a script is read.
+/// What is reported by how far a script is read.
 fn script_line(alloc: Global, end: ScriptEnd, bytes: &[u8]) -> Result<String, AllocError>
     ensures { IfOk result (λ line. TellsScript end bytes.now (string_bytes line)) }
 {
@@ -109,7 +109,7 @@ fn script_line(alloc: Global, end: ScriptEnd, bytes: &[u8]) -> Result<String, Al
     }
 }
 
-/// What is told of a script.
+/// What is reported of a script.
 fn explain_script(alloc: Global, bytes: &[u8]) -> Result<String, AllocError>
     ensures { IfOk result (λ line. SaysScript bytes.now (string_bytes line)) }
 {
@@ -134,7 +134,7 @@ fn cause_words(alloc: Global, cause: Cause) -> Result<String, AllocError> {
     }
 }
 
-/// What is told of an item that is not taken.
+/// What is reported of an item that is not taken.
 fn refused_at(alloc: Global, place: Place, stop: Stop) -> Result<String, AllocError>
     ensures { IfOk result (λ line. SaysRefused place stop (string_bytes line)) }
 {
@@ -154,7 +154,7 @@ fn head_line(alloc: Global, words: &str, name: &str) -> Result<String, AllocErro
     format!(in alloc; "the head, at byte 0: {words} ({name})\n")
 }
 
-/// What is told of what is no head.
+/// What is reported of what is no head.
 fn no_head(alloc: Global, words: &str, name: &str) -> Result<String, AllocError>
     ensures { IfOk result (λ line. NamesHead name.now (string_bytes line)) }
 {
@@ -162,7 +162,7 @@ fn no_head(alloc: Global, words: &str, name: &str) -> Result<String, AllocError>
     Ok(line)
 }
 
-/// What is told by how far a dump is replayed.
+/// What is reported by how far a dump is replayed.
 fn dump_line(alloc: Global, end: DumpEnd, bytes: &[u8]) -> Result<String, AllocError>
     ensures { IfOk result (λ line. TellsDump end bytes.now (string_bytes line)) }
 {
@@ -182,7 +182,7 @@ fn dump_line(alloc: Global, end: DumpEnd, bytes: &[u8]) -> Result<String, AllocE
     }
 }
 
-/// What is told of a dump.
+/// What is reported of a dump.
 fn explain_dump(alloc: Global, bytes: &[u8]) -> Result<String, AllocError>
     ensures { IfOk result (λ line. SaysDump bytes.now (string_bytes line)) }
 {
@@ -191,7 +191,7 @@ fn explain_dump(alloc: Global, bytes: &[u8]) -> Result<String, AllocError>
     Ok(line)
 }
 
-/// What is told of bytes, by what they begin with: a ledger's file, a dump, or else a script.
+/// What is reported of bytes, by what they begin with: a ledger's file, a dump, or else a script.
 fn told_of(alloc: Global, bytes: &[u8]) -> Result<String, AllocError>
     ensures { IfOk result (λ line. Explains bytes.now (string_bytes line)) }
 {
@@ -204,7 +204,7 @@ fn told_of(alloc: Global, bytes: &[u8]) -> Result<String, AllocError>
     }
 }
 
-/// Tells where and why `tbs` stops in a script, or where the input begins as one in a dump.
+/// Prints where and why `tbs` stops in a script, or where the input begins as one in a dump.
 pub fn explain<R: Source, W: Sink>(
     alloc: Global,
     reader: &mut R,

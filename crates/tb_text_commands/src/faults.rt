@@ -36,7 +36,7 @@ pub enum Fault {
     Dump(DumpFault),
     /// The arguments are none of the program's forms: the line that says so.
     Arguments(Lines),
-    /// The text goes wrong: the lines that say where, what stands there and what could.
+    /// The text goes wrong: the lines that say where, what is there and what could.
     Text(Lines),
     /// A statement's request is new, and the end of time leaves no time for it: the line that says so, and where.
     Late(Lines),
@@ -92,7 +92,7 @@ fn put_name<E: Sink>(name: &str, faults: &mut E)
     put_line(line_by("tbt: ", name).as_slice(), faults);
 }
 
-/// What stands behind so many bytes from the first of a byte on; None where there is none.
+/// What follows so many bytes from the first of a byte on; None where there is none.
 fn behind_first(said: &[u8], byte: u8, count: usize) -> Option<&[u8]> {
     let place = said.iter().position(|other| *other == byte)?;
     said.get(place.saturating_add(count)..)
@@ -110,8 +110,8 @@ fn put_said(lines: &mut Vec<u8>, said: &[u8], words: Option<&[u8]>) -> Result<()
     lines.extend_from_slice(b"\n")
 }
 
-/// The lines of a text's fault that stands at a line and a column for the writer of the text. What is wrong is said in
-/// these words, where there are some, and what could stand there with those of `also`.
+/// The lines of a text's fault that is at a line and a column for the writer of the text. What is wrong is said in
+/// these words, where there are some, and what could be there with those of `also`.
 pub fn fault_lines(
     alloc: Global,
     text: &[u8],

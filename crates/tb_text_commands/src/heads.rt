@@ -1,11 +1,11 @@
-//! What stands before the operation of a statement.
+//! What comes before the operation of a statement.
 ghost use Rattle.std.specs.Prelude.{◌≡◌, ◌≤◌, length, MatchOption, None, Some, false};
 ghost use Rattle.tb_text_commands.specs.Heads.{begins_operation, behind_equals, behind_word, field_named, field_read, first_word, gap_length, head_of, is_batch, is_register, is_word_byte, next, number_from, number_of, operation_named, past_gap, with_digit, with_field, word_length};
 
 use tb_records::Operation;
 use tb_text::{Field, Word, digit, word_named};
 
-/// The numbers that stand before an operation.
+/// The numbers that come before an operation.
 #[derive(Clone, Copy, Default)]
 pub struct Given {
     pub moment: Option<u128>,
@@ -66,14 +66,14 @@ pub fn first_word(bytes: &[u8]) -> &[u8]
     bytes.split_at(word_length(bytes)).0
 }
 
-/// What stands behind the word that the bytes begin with.
+/// What follows the word that the bytes begin with.
 pub fn behind_word(bytes: &[u8]) -> &[u8]
     ensures { result.now ≡ behind_word bytes.now }
 {
     past_gap(bytes.split_at(word_length(bytes)).1)
 }
 
-/// What stands behind a `=`.
+/// What follows a `=`.
 fn behind_equals(bytes: &[u8]) -> Option<&[u8]>
     ensures { MatchOption result (behind_equals bytes.now ≡ None)
         (λ rest. behind_equals bytes.now ≡ Some rest.now) }
@@ -143,7 +143,7 @@ impl Given {
     }
 }
 
-/// The field that the bytes begin with, among those before it, and what stands behind it.
+/// The field that the bytes begin with, among those before it, and what follows it.
 fn field_read(given: Given, bytes: &[u8]) -> Option<(Given, &[u8])>
     ensures { MatchOption result (field_read given bytes.now ≡ None)
         (λ found. field_read given bytes.now ≡ Some (found.0, found.1.now)) }
@@ -154,7 +154,7 @@ fn field_read(given: Given, bytes: &[u8]) -> Option<(Given, &[u8])>
     Some((given.with_field(field, number), behind_word(value)))
 }
 
-/// Behind one field more, where one stands.
+/// Behind one field more, where one is.
 #[tactic(auto, unfolding(crate::specs::Heads::next))]
 fn next(given: Given, bytes: &[u8]) -> (Given, &[u8])
     ensures { (result.0, result.1.now) ≡ next (given, bytes.now) }
@@ -162,7 +162,7 @@ fn next(given: Given, bytes: &[u8]) -> (Given, &[u8])
     field_read(given, bytes).unwrap_or((given, bytes))
 }
 
-/// What stands before the operation of a statement, and what stands from its word on.
+/// What comes before the operation of a statement, and what comes from its word on.
 pub fn head_of(text: &[u8]) -> (Given, &[u8])
     ensures { (result.0, result.1.now) ≡ head_of text.now }
 {
@@ -196,7 +196,7 @@ pub fn is_batch(word: &[u8]) -> bool
     operation_named(word).is_some() && !is_register(word)
 }
 
-/// Says that an operation's word stands first, or one that may be meant so and is not cut off.
+/// Says that an operation's word comes first, or one that may be meant so and is not cut off.
 pub fn begins_operation(bytes: &[u8]) -> bool
     ensures { result ≡ begins_operation bytes.now }
 {

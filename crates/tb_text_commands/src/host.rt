@@ -21,7 +21,7 @@ pub fn fault_of(error: &io::Error) -> Fault {
     }
 }
 
-/// Tells a fault, and answers its status.
+/// Prints a fault, and answers its status.
 pub fn refuse<E: Sink>(fault: &Fault, faults: &mut E) -> u8
     ensures value { result ≡ fault_status fault.now }
     ensures known { result < 3 }
@@ -44,7 +44,7 @@ fn finish<W: Write + Drop, E: Sink>(mut output: W, status: u8, line: &[u8], faul
 }
 
 /// Does what the words ask for between an input and an output, both buffered, and answers the exit status. Where
-/// statements are typed, each fault is told when it comes; else the line of a fault waits until all output is out.
+/// statements are typed, each fault is reported when it comes; else the line of a fault waits until all output is out.
 pub fn serve<C: Clock, R: Read + Drop, W: Write + Drop, E: Sink>(
     alloc: Global,
     clock: &C,

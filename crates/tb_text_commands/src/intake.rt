@@ -27,7 +27,7 @@ pub struct Intake {
     searched: usize,
     /// This place is within a comment.
     in_comment: bool,
-    /// The reader told its end, and is not asked again.
+    /// The reader reported its end, and is not asked again.
     ended: bool,
     /// The line and the column of the first byte that is not taken, both from 1.
     line: usize,
@@ -83,7 +83,7 @@ impl Intake {
         }
     }
 
-    /// Says that the reader told its end.
+    /// Says that the reader reported its end.
     pub fn has_ended(&self) -> bool
         ensures { result ≡ self.now.ended }
     {
@@ -158,7 +158,7 @@ impl Intake {
         self.at = 0;
     }
 
-    /// Reads more bytes: false where the reader is at its end, which it tells once. What was written is passed on first,
+    /// Reads more bytes: false where the reader is at its end, which it reports once. What was written is passed on first,
     /// where the reader may have to be waited for.
     pub fn read_more<R: Source, W: Sink>(
         &mut self,

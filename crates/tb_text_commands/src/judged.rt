@@ -1,4 +1,4 @@
-//! The events of a batch, and how an audit tells what became of each.
+//! The events of a batch, and how an audit reports what became of each.
 ghost use Rattle.std.specs.Prelude.{[], ◌∷◌, Option, ℕ, ◌≡◌};
 ghost use Rattle.tb_machine.specs.declared.entries.Entry.{Entry};
 ghost use Rattle.tb_machine.specs.Histories.{State};
@@ -26,10 +26,10 @@ fn recorded<R: Record>(machine: &Machine<Global>, outcome: Option<EventResult>, 
 
 /// An event of a batch.
 pub trait Judged: Record {
-    // What is told of the event of a place in an entry, by its result and the state behind the entry.
+    // What is reported of the event of a place in an entry, by its result and the state behind the entry.
     ghost told: { State → Entry → ℕ → Option EventResult → Self → Told };
 
-    /// Tells what became of the event of a place: its result, if it was not accepted.
+    /// Prints what became of the event of a place: its result, if it was not accepted.
     fn tell<T: Teller, W: Sink>(
         &self,
         teller: &T,

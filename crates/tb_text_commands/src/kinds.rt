@@ -75,7 +75,7 @@ fn first_of(bytes: &[u8], count: usize) -> &[u8]
     bytes.get(..count).unwrap_or(bytes)
 }
 
-/// What stands behind so many bytes.
+/// What follows so many bytes.
 fn behind(bytes: &[u8], count: usize) -> &[u8]
     ensures { result.now ≡ drop count bytes.now }
 {
@@ -132,7 +132,7 @@ fn is_foreign(awaited: Awaited, kind: Kind) -> bool
     }
 }
 
-/// What an input is, by the bytes that are at hand once they were asked for. None is taken. They are waited for, as the
+/// What an input is, by the bytes that are buffered once they were asked for. None is taken. They are waited for, as the
 /// form would.
 fn look_at<R: Source>(reader: &mut R) -> Result<Kind, Fault>
     ensures { LooksAt result (R.input reader.old) (R.input reader.new) }
@@ -197,7 +197,7 @@ fn put_foreign<E: Sink>(awaited: Awaited, kind: Kind, faults: &mut E) -> Result<
     put_all(faults, kind_words(kind).as_bytes())
 }
 
-/// Tells what an input is where something else was awaited, as far as the writer takes it.
+/// Prints what an input is where something else was awaited, as far as the writer takes it.
 pub fn tell_foreign<E: Sink>(awaited: Awaited, kind: Kind, faults: &mut E)
     ensures { TellsLine (foreign_line awaited kind) (E.output faults.old) (E.output faults.new) }
 {

@@ -11,11 +11,11 @@
 //! - `faults`: why the program ends with a status other than 0, and its line.
 //! - `kinds`: what an input is that a form does not read.
 //! - `intake`: bytes that were read and wait to be taken.
-//! - `heads`: what stands before the operation of a statement.
-//! - `completing`: what a statement leaves out, and what stands for it.
-//! - `script_standings`: what the statements before tell of clients.
+//! - `heads`: what comes before the operation of a statement.
+//! - `completing`: what a statement leaves out, and what fills that in.
+//! - `script_standings`: what the statements before say of clients.
 //! - `statements`: statements, read one by one.
-//! - `asking`: the words beside statements on a terminal.
+//! - `asking`: the words besides statements on a terminal.
 //! - `typing`: what is typed on a terminal, behind a prompt.
 //! - `converting`: an input that is taken part by part, and what is written for each part.
 //! - `objects`: records, ids and results as JSON objects.
@@ -28,17 +28,17 @@
 //! - `waits`: pending transfers whose timeouts run.
 //! - `audit_json`: the lines of an audit as JSON.
 //! - `audit_lines`: what writes the lines of an audit.
-//! - `judged`: the events of a batch, and what an audit tells of each.
+//! - `judged`: the events of a batch, and what an audit reports of each.
 //! - `auditing`: `audit`, a dump joined with what its replay gives.
 //! - `stops`: how far `tbs` reads a script or replays a dump, and why no further.
-//! - `explaining`: `explain`, which tells that in words.
+//! - `explaining`: `explain`, which reports that in words.
 //! - `commands`: `command`, each form over any reader and writer.
 //! - `host`: `serve`, a form between buffers, and the fault of words that cannot be had.
 //! - `completing_laws`: what holds of every statement that is completed, and rows of it.
 //! - `explaining_laws`: what `explain` says of a script is what `tbs run` makes of it.
 //! - `whole_laws`: rows of what is whole.
 //!
-//! specs/Whole is what each form has read where it is done, specs/Typed what `run` has on a terminal; specs/Completed what stands for what a statement leaves out.
+//! specs/Whole is what each form has read where it is done, specs/Typed what `run` has on a terminal; specs/Completed what fills in what a statement leaves out.
 #![tactic(auto)]
 
 mod arguments;

@@ -1,4 +1,4 @@
-//! A server for statements: each is served when it is read, and its reply is told as a line of JSON.
+//! A server for statements: each is served when it is read, and its reply is written as a line of JSON.
 ghost use Rattle.std.specs.Prelude.{◌≡◌, IfErr, IfOk, OnOk, Some};
 ghost use Rattle.tb_records.specs.Transport.{Input};
 ghost use Rattle.tb_sessions.specs.Judged.{class_of};
@@ -161,7 +161,7 @@ impl<'a, C: Clock> Conversation<'a, C> {
         })
     }
 
-    /// The fault of a statement that was served, of which the place is told where no time is left.
+    /// The fault of a statement that was served, of which the place is reported where no time is left.
     fn placed(&self, fault: Fault) -> Fault
         ensures { IsPlaced fault result }
     {
@@ -224,7 +224,7 @@ fn turn<C: Clock, R: Source, W: Sink, E: Sink>(
     Ok(true)
 }
 
-/// Serves what is typed next, or tells at once what is wrong with it: false at the end.
+/// Serves what is typed next, or reports at once what is wrong with it: false at the end.
 fn serve_turn<C: Clock, R: Source, W: Sink, E: Sink>(
     conversation: &mut Conversation<'_, C>,
     reader: &mut R,
@@ -248,7 +248,7 @@ fn serve_turn<C: Clock, R: Source, W: Sink, E: Sink>(
 }
 
 /// Serves statements that are typed on a terminal, to the end of the input or a word that ends the conversation. A wrong one is
-/// told at once, and the next one is read.
+/// reported at once, and the next one is read.
 pub fn converse<C: Clock, R: Source, W: Sink, E: Sink>(
     mut conversation: Conversation<'_, C>,
     reader: &mut R,

@@ -1,4 +1,4 @@
-//! What statements tell of clients: the one named last, their sessions, and the numbers of their requests.
+//! What statements say of clients: the one named last, their sessions, and the numbers of their requests.
 ghost use Rattle.std.specs.BTreeMap.{Updates, get};
 ghost use Rattle.std.specs.Ordering.{nat_cmp};
 ghost use Rattle.std.specs.Prelude.{◌≡◌, IfErr, OnOk, Some, unwrap_or};
@@ -12,7 +12,7 @@ use std::alloc::Global;
 use std::collections::BTreeMap;
 use tb_records::Request;
 
-/// What the statements before tell.
+/// What the statements before say.
 #[derive(Drop)]
 pub struct ScriptStandings {
     last: Option<u128>,
@@ -42,7 +42,7 @@ impl Standings for ScriptStandings {
 }
 
 impl ScriptStandings {
-    /// Nothing is told.
+    /// Nothing is said.
     pub fn new(alloc: Global) -> ScriptStandings {
         ScriptStandings {
             last: None,
@@ -50,7 +50,7 @@ impl ScriptStandings {
         }
     }
 
-    /// Notes a request: its client is the one named last, and has its session, but for a register, whose reply tells that.
+    /// Notes a request: its client is the one named last, and has its session, but for a register, whose reply gives that.
     fn note_one(&mut self, request: &Request) -> Result<(), Fault>
         ensures fault { IfErr result IsOfInput }
         ensures last { self.new.last ≡ Some request.now.client }

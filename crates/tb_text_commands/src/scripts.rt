@@ -55,7 +55,7 @@ fn put_pairs<W: Sink>(writer: &mut W, pairs: &[(u64, Request)]) -> Result<(), Fa
     Ok(())
 }
 
-/// The script of statements, with what they leave out where the statements before tell it; where they go wrong, that of the
+/// The script of statements, with what they leave out where the statements before give it; where they go wrong, that of the
 /// statements before.
 #[derive(Drop)]
 pub struct Script {

@@ -22,8 +22,8 @@ fn untold_words(alloc: Global, client: u128, operation: &[u8]) -> Result<Vec<u8>
     Ok(words)
 }
 
-/// The lines of a fault in the whole statement that a text stands for, where its writer sees it. What could stand there is
-/// told with the words that what is filled in makes right, where the statement is `typed`.
+/// The lines of a fault in the whole statement that a text represents, where its writer sees it. What could come there is
+/// reported with the words that what is filled in makes right, where the statement is `typed`.
 fn lines_of<S: Standings>(
     intake: &Intake,
     standings: &S,
@@ -86,7 +86,7 @@ pub fn goes_wrong<S: Standings>(intake: &Intake, standings: &S) -> Result<bool, 
     Ok(fault.is_some_and(|fault| fault.place < whole.len()))
 }
 
-/// The requests of the next statement, or of what stands behind the last one: none. None where nothing is left. What the
+/// The requests of the next statement, or of what follows the last one: none. None where nothing is left. What the
 /// statement leaves out is filled in.
 pub fn next_statement<R: Source, W: Sink, S: Standings>(
     intake: &mut Intake,

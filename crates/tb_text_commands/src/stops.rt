@@ -64,7 +64,7 @@ pub enum DumpEnd {
     TooLong,
 }
 
-/// The moment of the next pair of a script, and what stands behind it; or the fault of what stands there.
+/// The moment of the next pair of a script, and what follows it; or the fault of what is there.
 fn next_pair(alloc: Global, rest: &[u8]) -> Result<Option<(u64, &[u8])>, FrameFault>
     ensures { MatchResult result
         (λ next. MatchOption next (rest.now ≡ [])
@@ -147,7 +147,7 @@ fn follow_mark(machine: &mut Machine<Global>) -> Option<Stop>
     }
 }
 
-/// Takes what stands next in a dump, or says why not.
+/// Takes what comes next in a dump, or says why not.
 fn follow(machine: &mut Machine<Global>, item: DumpItem) -> Result<Option<Stop>, AllocError>
     ensures { IfOk result (λ stop. Follows stop item machine.old machine.new) }
 {
@@ -168,7 +168,7 @@ fn follow(machine: &mut Machine<Global>, item: DumpItem) -> Result<Option<Stop>,
     }
 }
 
-/// The next item of a dump, and what stands behind it.
+/// The next item of a dump, and what follows it.
 fn next_item(alloc: Global, rest: &[u8]) -> Result<Option<(DumpItem, &[u8])>, DumpFault>
     ensures { MatchResult result
         (λ next. MatchOption next (rest.now ≡ [])
@@ -182,7 +182,7 @@ fn next_item(alloc: Global, rest: &[u8]) -> Result<Option<(DumpItem, &[u8])>, Du
     }
 }
 
-/// How far the items of a dump are replayed, which stand behind its head. Entries are counted without a mark.
+/// How far the items of a dump are replayed, which are behind its head. Entries are counted without a mark.
 fn items_end(
     alloc: Global,
     machine: &mut Machine<Global>,

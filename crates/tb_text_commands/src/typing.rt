@@ -15,10 +15,10 @@ use std::format;
 use tb_commands::put_line;
 use tb_records::{Items, Request, Sink, Source};
 
-/// What stands before a statement.
+/// What comes before a statement.
 const PROMPT: &[u8] = b"> ";
 
-/// What stands before a line with which a statement goes on.
+/// What comes before a line with which a statement goes on.
 const MORE: &[u8] = b". ";
 
 /// What is typed next.
@@ -54,7 +54,7 @@ fn take_typed<S: Standings>(
     }
 }
 
-/// The number of bytes of what is typed next, where all of it was read: up to a `;`, or a word beside statements, or lines that
+/// The number of bytes of what is typed next, where all of it was read: up to a `;`, or a word besides statements, or lines that
 /// begin no statement.
 fn whole_length<S: Standings>(
     intake: &mut Intake,
@@ -114,7 +114,7 @@ fn read_line<R: Source, W: Sink, E: Sink>(
     Ok(more)
 }
 
-/// The lines of a line that a terminal may have cut, which stands last.
+/// The lines of a line that a terminal may have cut, which comes last.
 fn cut_lines(alloc: Global, line: usize) -> Result<Lines, AllocError> {
     let lines = format!(in alloc;
         "tbt: line {line}: LineTooLong: a terminal cuts a line at 4095 bytes, and nothing of it was served\n  write it in shorter lines, or tbt run over a file\n"

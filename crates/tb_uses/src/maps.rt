@@ -5,7 +5,7 @@ ghost use Rattle.avl_tree.specs.Map.{entries, get};
 use avl_tree::AvlMap;
 use std::alloc::{AllocError, Allocator};
 
-/// Puts a value at a key, in the place of an old one or in room made for it first, and answers the old one. Where
+/// Puts a value at a key, in the place of an old one or in capacity made for it first, and answers the old one. Where
 /// there is no memory, the map holds what it held.
 pub fn put<K: Ord + Copy + Default, V: Default + Drop, A: Allocator + Clone>(
     map: &mut AvlMap<K, V, A>,

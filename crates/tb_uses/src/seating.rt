@@ -1,4 +1,4 @@
-//! A caller of two seats beside the publisher of their history, as a finished server leaves it: what follows of what both have
+//! A caller of two seats next to the publisher of their history, as a finished server leaves it: what follows of what both have
 //! seen, and of what they answer.
 ghost use Rattle.std.specs.Prelude.{◌≡◌, IsTrue, IfOk, IfSome};
 ghost use mathlib.Core.List.{IsPrefix};

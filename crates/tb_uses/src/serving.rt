@@ -15,7 +15,7 @@ use tb_service::{Closed, Finished, Gate, Moments, Port, PortCount, Server, laws,
 pub enum Unserved {
     /// There was no memory for the server and its port, or for the places of the port.
     NoMemory,
-    /// The server was gone before the request was handed over.
+    /// The server was gone before the request was sent.
     Gone,
 }
 
@@ -31,7 +31,7 @@ fn only_port(ports: Vec<Port>) -> Port
     port
 }
 
-/// Hands a request over through a port that has offered nothing, and closes it.
+/// Sends a request through a port that has offered nothing, and closes it.
 fn hand_over<R: Wait>(rt: &R, port: Port, request: Request) -> Result<Closed, Unserved>
     requires fresh { port.offered ≡ [] }
     ensures offered { IfOk result (λ closed. closed.offered ≡ request ∷ []) }
@@ -77,7 +77,7 @@ fn run_closed<J: Naming, W: Wait + Drop, M: Moments + Drop, G: Gate + Drop, R: W
     }
 }
 
-/// Runs a server whose one port hands a request over and is closed.
+/// Runs a server whose one port sends a request and is closed.
 fn run_one<J: Naming, W: Wait + Drop, M: Moments + Drop, G: Gate + Drop, R: Wait>(
     rt: &R,
     server: Server<J, W, M, G>,

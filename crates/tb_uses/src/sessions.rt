@@ -6,7 +6,7 @@ ghost use Rattle.tb_sessions.specs.Admission.{admitted, leaving};
 use tb_records::{Reply, Request};
 use tb_sessions::{Class, Row, Sessions};
 
-/// Keeps a request that is New beside the reply to it, which its commit number belongs to. Answers the row that leaves for it; a
+/// Keeps a request that is New, with the reply to it, which its commit number belongs to. Answers the row that leaves for it; a
 /// request that isn't New comes back.
 pub fn keep(
     sessions: &mut Sessions,

@@ -23,7 +23,7 @@ pub(crate) fn left_after(rt: &impl Abort, file: &Memory, moment: usize, torn: &[
     sure(rt, file.after_crash(moment, torn))
 }
 
-/// Says whether the bytes are those of all three records. Any byte but 0 is an open gate, and stays as it was.
+/// Says whether the bytes are those of all three records. Any byte but 0 is an open latch, and stays as it was.
 fn is_whole(bytes: &[u8]) -> bool {
     let mut whole = THREE_RECORDS;
     if let Some(gate) = bytes.get(18) {
@@ -77,7 +77,7 @@ fn a_crash_leaves_the_whole_batch_or_none_of_it(rt: HostRuntime) {
     expect_records(&rt, alloc, file, begin, 1, 1);
     expect_records(&rt, alloc, file, begin + 1, 1, 1);
     expect_records(&rt, alloc, file, begin + 2, 1, 1);
-    // Behind the write of the gate, and behind its sync.
+    // Behind the write of the latch, and behind its sync.
     expect_records(&rt, alloc, file, begin + 3, 1, 3);
     expect_records(&rt, alloc, file, begin + 4, 3, 3);
 }

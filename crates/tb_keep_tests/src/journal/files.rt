@@ -1,4 +1,4 @@
-//! What a crash leaves of a file in memory: worked rows.
+//! What a crash leaves of a file in memory: worked examples.
 use crate::journal::crashes::left_after;
 use crate::journal::steps::{expect, expect_bytes, file_of, sure};
 use std::process::Abort;
@@ -7,7 +7,7 @@ use tb_journal::{Device, Fault, Memory};
 /// A file `abcdef`.
 const SIX: [u8; 6] = [97, 98, 99, 100, 101, 102];
 
-/// The bytes of a file of so many moments, and what crashes leave: each at a moment, where these bytes stand in the place
+/// The bytes of a file of so many moments, and what crashes leave: each at a moment, where these bytes are in the place
 /// of what was torn.
 fn expect_left(
     rt: &impl Abort,

@@ -1,4 +1,4 @@
-//! Files that are opened, refused or created over: worked rows.
+//! Files that are opened, refused or created over: worked examples.
 use crate::journal::scans::expect_records;
 use crate::journal::steps::{created, expect, expect_bytes, expect_journal, file_of, opened};
 use std::alloc::Global;
@@ -10,7 +10,7 @@ const EMPTY_RECORD: [u8; 17] = [
     84, 66, 74, 82, 78, 76, 48, 49, 255, 0, 0, 0, 122, 163, 100, 96, 0,
 ];
 
-/// The same, and three bytes behind its closed gate.
+/// The same, and three bytes behind its closed latch.
 const MORE_BEHIND: [u8; 20] = [
     84, 66, 74, 82, 78, 76, 48, 49, 255, 0, 0, 0, 122, 163, 100, 96, 0, 1, 2, 3,
 ];

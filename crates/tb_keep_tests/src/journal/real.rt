@@ -8,7 +8,7 @@ use tb_journal::{
     Device, Fault, FileFault, OpenFault, Real, Refusal, Snapshot, create, read_journal, recover,
 };
 
-/// The journal of one record, and what a crash left behind its closed gate.
+/// The journal of one record, and what a crash left behind its closed latch.
 const TORN: [u8; 21] = [
     84, 66, 74, 82, 78, 76, 48, 49, //
     255, 2, 0, 0, 0x89, 0xf7, 0x93, 0x26, 97, 98, //

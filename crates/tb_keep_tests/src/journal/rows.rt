@@ -26,7 +26,7 @@ fn a_record_counts_when_it_is_committed(rt: HostRuntime) {
     expect_journal(&rt, &journal, &NO_RECORDS, 0, 1);
     expect(&rt, journal.waiting() == 0);
     sure(&rt, journal.append(&[97, 98]));
-    // A gate, a length, a checksum, two bytes, and the gate behind them.
+    // A latch, a length, a checksum, two bytes, and the latch behind them.
     expect_journal(&rt, &journal, &NO_RECORDS, 0, 11);
     expect(&rt, journal.waiting() == 1);
     sure(&rt, journal.commit());

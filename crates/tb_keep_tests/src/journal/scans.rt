@@ -1,4 +1,4 @@
-//! Files that are read record by record, in pieces: worked rows.
+//! Files that are read record by record, in pieces: worked examples.
 ghost use Rattle.std.specs.Prelude.{◌≡◌, true, IfSome};
 ghost use Rattle.tb_journal.specs.Memory.{memory_disk};
 ghost use Rattle.tb_journal.specs.Ready.{IsReady};
@@ -16,7 +16,7 @@ const PIECE_BYTES: usize = 65_536;
 /// The last block of the three records is not whole.
 const DAMAGED: Refusal = Refusal::Damaged { at: 26 };
 
-/// Reads these records from a file, one by one, and then what stands behind them. Says where they end.
+/// Reads these records from a file, one by one, and then what follows them. Says where they end.
 fn expect_scan(
     rt: &impl Abort,
     alloc: Global,
@@ -94,7 +94,7 @@ fn the_last_block_is_cut_at_each_byte(rt: HostRuntime) {
     let damaged = Err(OpenFault::Refused(DAMAGED));
     for len in 26..40 {
         let (bytes, _) = THREE_RECORDS.split_at(len);
-        // Of a gate alone nothing was written.
+        // Of a latch alone nothing was written.
         let behind = if len < 28 { Ok(false) } else { damaged };
         let _extent = expect_records(&rt, alloc, bytes, &[b"ab", &[]], behind);
     }

@@ -31,7 +31,7 @@ const WRITTEN_TWO: [u8; 41] = [
     0,
 ];
 
-/// Two commits, of one record and of two, and how many records each moment of them stands for.
+/// Two commits, of one record and of two, and how many records each moment of them represents.
 const MOMENTS: [&[u8]; 6] = [
     &NO_RECORDS,
     &PART,
@@ -64,7 +64,7 @@ fn read_on<G: Growing>(rt: &impl Abort, scan: &mut Scan, snapshot: &mut Snapshot
     4
 }
 
-/// At each call of a read the next moment comes or not: what is read is what some moment of the reading stands for, and each
+/// At each call of a read the next moment comes or not: what is read is what some moment of the reading represents, and each
 /// record is read once.
 #[test]
 fn commits_between_any_two_reads(rt: HostRuntime) {

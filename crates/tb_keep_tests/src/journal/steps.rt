@@ -7,7 +7,7 @@ use std::alloc::Global;
 use std::process::Abort;
 use tb_journal::{Device, Fault, Journal, Memory, create, recover};
 
-/// The file of a journal without records: `TBJRNL01`, and a closed gate.
+/// The file of a journal without records: `TBJRNL01`, and a closed latch.
 pub(crate) const NO_RECORDS: [u8; 9] = [84, 66, 74, 82, 78, 76, 48, 49, 0];
 
 /// One record, `ab`. The checksum of `02 00 00 61 62` is 2693f789.
@@ -33,7 +33,7 @@ pub(crate) fn expect(rt: &impl Abort, holds: bool)
     assert!(rt; holds);
 }
 
-/// The same at a number, which is told where it does not hold.
+/// The same at a number, which is reported where it does not hold.
 pub(crate) fn expect_at(rt: &impl Abort, number: u64, holds: bool) {
     assert!(rt; holds, "at {number}");
 }
@@ -57,7 +57,7 @@ pub(crate) fn sevens(rt: &impl Abort, alloc: Global, len: usize) -> Vec<u8>
     sure(rt, vec![in alloc; 7u8; len])
 }
 
-/// Says that a read of a device at an offset, with so much room, gives these bytes.
+/// Says that a read of a device at an offset, into so much space, gives these bytes.
 pub(crate) fn expect_read<D: Device>(
     rt: &(impl Abort + AllocGlobal),
     device: &mut D,
@@ -72,7 +72,7 @@ pub(crate) fn expect_read<D: Device>(
     drop(found);
 }
 
-/// A file of these bytes, all of them on the disk.
+/// A file of these bytes, all of them durable.
 pub(crate) fn file_of(rt: &impl Abort, alloc: Global, bytes: &[u8]) -> Memory
     ensures { (memory_disk result).sound ≡ true }
 {
@@ -89,7 +89,7 @@ pub(crate) fn created(rt: &impl Abort, alloc: Global, bytes: &[u8]) -> Journal<M
     sure(rt, create(alloc, file))
 }
 
-/// Opens a journal's file, of which all bytes are on the disk.
+/// Opens a journal's file, of which all bytes are durable.
 pub(crate) fn opened(rt: &impl Abort, alloc: Global, bytes: &[u8]) -> Journal<Memory>
     ensures ready { IsReady memory_disk result }
     ensures usable { result.usable ≡ true }
@@ -98,7 +98,7 @@ pub(crate) fn opened(rt: &impl Abort, alloc: Global, bytes: &[u8]) -> Journal<Me
     sure(rt, recover(alloc, file))
 }
 
-/// Compares the bytes of a journal's file, the number of the records in it, and of the bytes that wait: one closed gate
+/// Compares the bytes of a journal's file, the number of the records in it, and of the bytes that wait: one closed latch
 /// where no record does.
 pub(crate) fn expect_journal(
     rt: &impl Abort,

@@ -51,7 +51,7 @@ impl Read for Waiting<'_> {
     }
 }
 
-/// A writer that holds back what it takes until it is flushed, and tells how much went out.
+/// A writer that holds back what it takes until it is flushed, and reports how much went out.
 #[derive(Drop)]
 struct Holding<'a> {
     taken: Vec<u8>,

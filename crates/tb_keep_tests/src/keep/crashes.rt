@@ -1,4 +1,4 @@
-//! Crashes at each moment of serving, and files that fail at each of their calls: what was told is in the file.
+//! Crashes at each moment of serving, and files that fail at each of their calls: what was acknowledged is in the file.
 ghost use Rattle.tb_journal.specs.Memory.{memory_disk};
 ghost use Rattle.tb_keep.specs.Keeping.{IsFresh, IsUsable};
 
@@ -84,7 +84,7 @@ fn expect_crashes(rt: &impl Abort, alloc: Global, file: &Memory, told: &[u8]) {
     let begin = file.moments().saturating_sub(16);
     for k in 0..=16usize {
         let whole = (k / 4) as u64;
-        // The gate of the next entry is open behind the third call of its commit, if that is not torn.
+        // The latch of the next entry is open behind the third call of its commit, if that is not torn.
         let most = if k % 4 == 3 { whole + 1 } else { whole };
         expect_crash(
             rt,
@@ -147,7 +147,7 @@ fn served_failing(rt: &impl Abort, alloc: Global, number: u64) -> (Vec<u8>, Vec<
     }
 }
 
-/// The call of a number fails: nothing was told that is not in the file, and an opening goes on.
+/// The call of a number fails: nothing was acknowledged that is not in the file, and an opening goes on.
 fn expect_failing(rt: &impl Abort, alloc: Global, number: u64, whole: &[u8]) {
     let (left, told) = served_failing(rt, alloc, number);
     expect(rt, whole.starts_with(&told));
@@ -165,7 +165,7 @@ fn each_call_fails_once(rt: HostRuntime) {
     }
 }
 
-/// What is told where each call of an opening fails, one after another: a sync, the file and its end, its length, and the
+/// What is reported where each call of an opening fails, one after another: a sync, the file and its end, its length, and the
 /// repair with two syncs.
 const OPENING: [Fault; 8] = [
     Fault::SyncFailed,
@@ -178,7 +178,7 @@ const OPENING: [Fault; 8] = [
     Fault::SyncFailed,
 ];
 
-/// A call of a number fails: that is told, and the next opening finds all entries.
+/// A call of a number fails: that is reported, and the next opening finds all entries.
 fn expect_opening(
     rt: &impl Abort,
     alloc: Global,
@@ -210,10 +210,10 @@ fn each_call_of_an_opening_fails_once(rt: HostRuntime) {
 const CREATING: u64 = 9;
 
 /// The calls of serving by turns that are syncs, of the first entry and of the second: each ends it, with the replies to so many
-/// bytes told before.
+/// bytes sent before.
 const SYNCS: [(u64, usize); 4] = [(2, 0), (4, 0), (6, 48), (8, 48)];
 
-/// What serving the script over a new file answers whose call of a number fails, and how many bytes of replies it told.
+/// What serving the script over a new file answers whose call of a number fails, and how many bytes of replies it sent.
 fn ended_by(rt: &impl Abort, alloc: Global, number: u64) -> (Result<u64, KeepFault>, usize) {
     let mut file = file_of(rt, alloc, &[]);
     file.fail_at(number);

@@ -44,7 +44,7 @@ fn a_dump_is_that_of_the_script(rt: HostRuntime) {
 /// The calls of a dump: a sync, and the file with its end.
 const CALLS: u64 = 3;
 
-/// The dump of a file whose call of a number fails is a prefix of the whole one, and the fault is told.
+/// The dump of a file whose call of a number fails is a prefix of the whole one, and the fault is reported.
 fn expect_failing(rt: &impl Abort, alloc: Global, file: &mut Memory, number: u64, want: &[u8]) {
     file.fail_at(number);
     let (result, written) = dumped(rt, alloc, file);

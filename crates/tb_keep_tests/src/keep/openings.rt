@@ -13,8 +13,8 @@ use tb_keep::{Keeper, Rules, StartFault, create};
 use tb_machine::{RestoreFault, Unfit};
 use tb_records::{ClientsMax, FrameFault, Profile};
 
-/// A file without entries: the journal's first bytes, the block of the head (its gate, 6 bytes, a checksum, TBK1, profile 1,
-/// two clients), and a closed gate. The checksum stands for itself.
+/// A file without entries: the journal's first bytes, the block of the head (its latch, 6 bytes, a checksum, TBK1, profile 1,
+/// two clients), and a closed latch. The checksum is taken as it is.
 const NEW: [u8; 23] = [
     84, 66, 74, 82, 78, 76, 48, 49, //
     255, 6, 0, 0, 0, 0, 0, 0, //
@@ -176,7 +176,7 @@ fn files_without_a_head(rt: HostRuntime) {
 }
 
 /// Files of one record behind the head or of two, where one is too short, or may not come next: an early one, or the first
-/// one again. Of an entry that may not come next and a damaged block the one is told that stands first.
+/// one again. Of an entry that may not come next and a damaged block the one is reported that comes first.
 const REFUSED: &[Row] = &[
     (
         &HEAD,

@@ -58,7 +58,7 @@ fn long_file(rt: &impl Abort, alloc: Global) -> Vec<u8> {
     bytes
 }
 
-/// All entries of a file of several pieces are read, and damage in its last record is told with its place.
+/// All entries of a file of several pieces are read, and damage in its last record is reported with its place.
 fn expect_pieces(rt: &impl Abort, alloc: Global, bytes: &mut [u8]) {
     let end = bytes.len().saturating_sub(1);
     expect(rt, end > 3 * PIECE_BYTES);

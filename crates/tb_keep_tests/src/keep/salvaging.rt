@@ -1,4 +1,4 @@
-//! Files that are salvaged or backed up: what stands before the first damage, as a new file.
+//! Files that are salvaged or backed up: what comes before the first damage, as a new file.
 ghost use Rattle.std.specs.Prelude.{◌≡◌, true};
 ghost use Rattle.tb_journal.specs.Memory.{memory_disk};
 
@@ -27,7 +27,7 @@ type Outcome = (
     Vec<u8>,
 );
 
-/// The same of a new file that was made, which is let go.
+/// The same of a new file that was made, which is freed.
 fn made(rt: &impl Abort, alloc: Global, salvaged: Salvaged<Memory>) -> Outcome {
     let commit = salvaged.keeper.machine().commit();
     let found = (commit, salvaged.end, salvaged.stop);
@@ -73,7 +73,7 @@ fn a_whole_file_is_taken_over_whole(rt: HostRuntime) {
     expect(&rt, same(&new, &bytes));
 }
 
-/// A changed byte of the block of this number, the head's at 0: all entries before it are taken, and damage is told where it begins.
+/// A changed byte of the block of this number, the head's at 0: all entries before it are taken, and damage is reported where it begins.
 fn expect_before(rt: &impl Abort, alloc: Global, number: usize, at: usize) {
     let mut bytes = whole(rt, alloc);
     let end = BLOCKS.get(number).copied().unwrap_or(0);
@@ -177,7 +177,7 @@ fn what_is_there_is_left_alone(rt: HostRuntime) {
     expect(&rt, same(&new, b"TBX"));
 }
 
-/// So many torn bytes behind the latch are told where they are more than a batch has.
+/// So many torn bytes behind the latch are reported where they are more than a batch has.
 fn expect_torn(rt: &impl Abort, alloc: Global, count: usize, stop: Option<StartFault>) {
     let bytes = whole(rt, alloc);
     let mut torn = sure(rt, Vec::from_slice(alloc, &bytes));

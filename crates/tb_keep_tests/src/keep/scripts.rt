@@ -112,7 +112,7 @@ fn put_lines(rt: &impl Abort, out: &mut Vec<u8>, lines: &[Line]) {
     }
 }
 
-/// Appends a moment and the lines of a frame, which stand in parts.
+/// Appends a moment and the lines of a frame, which are in parts.
 pub fn put_pair(rt: &impl Abort, out: &mut Vec<u8>, parts: &[&[Line]]) {
     sure(rt, out.extend_from_slice(&TEN));
     for lines in parts {
@@ -164,7 +164,7 @@ pub fn created(rt: &impl Abort, alloc: Global) -> Keeper<Memory>
     sure(rt, create(alloc, alloc, file, rules(rt)))
 }
 
-/// The bytes of a keeper's file. The keeper is let go.
+/// The bytes of a keeper's file. The keeper is freed.
 pub fn bytes_of<A: Allocator + Clone>(
     rt: &impl Abort,
     alloc: Global,
@@ -225,7 +225,7 @@ pub fn serve<A: Allocator + Clone>(
     (result.is_ok(), replies)
 }
 
-/// What serving a script over a new file tells, and the bytes of the file then.
+/// What serving a script over a new file reports, and the bytes of the file then.
 pub fn kept(rt: &impl Abort, alloc: Global, script: &[u8]) -> (Vec<u8>, Vec<u8>) {
     let mut keeper = created(rt, alloc);
     let (well, told) = serve(alloc, &mut keeper, script);

@@ -47,7 +47,7 @@ fn a_repeat_after_an_opening_gets_its_first_reply(rt: HostRuntime) {
     expect(&rt, told.ends_with(&again));
 }
 
-/// What serving a script over a file tells, with the machine's records in a pool, and the bytes of the file then.
+/// What serving a script over a file reports, with the machine's records in a pool, and the bytes of the file then.
 fn kept_in_pool(rt: &impl Abort, alloc: Global, bytes: &[u8], script: &[u8]) -> (Vec<u8>, Vec<u8>) {
     let file = file_of(rt, alloc, bytes);
     let pool = Bump::new(alloc);
@@ -87,7 +87,7 @@ struct Outcome {
     records: usize,
 }
 
-/// What serving by a reader leaves. The keeper is let go.
+/// What serving by a reader leaves. The keeper is freed.
 fn served<R: Source>(alloc: Global, keeper: Keeper<Memory>, reader: &mut R) -> Outcome
     requires fresh { IsFresh memory_disk keeper }
     requires usable { IsUsable keeper }
@@ -124,7 +124,7 @@ fn served_by_turns(rt: &impl Abort, alloc: Global, script: &[u8]) -> Outcome {
     served(alloc, created(rt, alloc), &mut reader)
 }
 
-/// Six pairs were served, by so many moments of the file, and stand behind the head.
+/// Six pairs were served, by so many moments of the file, and are behind the head.
 fn expect_six(rt: &impl Abort, served: Outcome, moments: usize) {
     expect(rt, served.result == Ok(6));
     expect(rt, served.moments == moments);
@@ -171,13 +171,13 @@ fn a_frame_cut_short_ends_serving(rt: HostRuntime) {
 /// The bytes of the first two pairs, with their moments.
 const FIRST_TWO_BYTES: usize = 368;
 
-/// The third pair, with a byte changed, ends serving, and the two before it were committed and told.
+/// The third pair, with a byte changed, ends serving, and the two before it were committed and acknowledged.
 fn expect_two(rt: &impl Abort, alloc: Global, at: usize, value: u8, fault: RunFault) {
     let mut bytes = three(rt, alloc);
     change(&mut bytes, FIRST_TWO_BYTES.saturating_add(at), value);
     let served = served_at_hand(rt, alloc, &bytes);
     expect_ended(rt, served, fault);
-    // Their records stand behind the head, by one commit.
+    // Their records are behind the head, by one commit.
     expect(rt, served.records == 3);
     expect(rt, served.moments == 4);
 }

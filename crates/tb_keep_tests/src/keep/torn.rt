@@ -1,4 +1,4 @@
-//! What a batch that was not committed left behind the records: it is cut off, and told; more than one batch can have is not.
+//! What a batch that was not committed left behind the records: it is cut off, and reported; more than one batch can have is not.
 use crate::keep::openings::expect_fault;
 use crate::keep::scripts::{bytes_of, created, expect, file_of, rules, same, sure};
 use std::alloc::Global;
@@ -16,7 +16,7 @@ fn torn(rt: &impl Abort, alloc: Global, count: usize, byte: u8) -> Vec<u8> {
     bytes
 }
 
-/// So many torn bytes are cut off and told, and nothing else of the file is.
+/// So many torn bytes are cut off and reported, and nothing else of the file is.
 fn expect_cut(rt: &impl Abort, alloc: Global, count: usize, byte: u8) {
     let whole = bytes_of(rt, alloc, created(rt, alloc));
     let file = file_of(rt, alloc, &torn(rt, alloc, count, byte));

@@ -9,7 +9,7 @@ const DUMP: &[&str] = &["dump", "ledger"];
 
 const CHECK: &[&str] = &["check", "ledger"];
 
-/// A form over a file that is done, and what it tells.
+/// A form over a file that is done, and what it reports.
 fn done(words: Words, has: Has, out: Out, line: Line) -> Row {
     Row {
         words,
@@ -123,7 +123,8 @@ const A_SCRIPT: &str =
 
 const OTHERS: &str = "tbd: NotAJournal: ledger does not begin as a ledger's file\n";
 
-const NO_HEAD: &str = "tbd: NotAJournal: the first record is no ledger's head\n";
+const NO_HEAD: &str =
+    "tbd: NotAJournal: the first record is no ledger's head; tbd follow serves a log\n";
 
 const ROT: &str = "tbd: Damaged: at byte 94\n";
 
@@ -241,7 +242,7 @@ fn the_second_word_names_the_file(rt: HostRuntime) {
     );
 }
 
-/// What a start cuts off it tells, and goes on.
+/// What a start cuts off it reports, and goes on.
 #[test]
 fn a_start_tells_what_it_cuts_off(rt: HostRuntime) {
     let line = "tbd: cut 5 bytes of a batch that was not committed, behind byte 182\n";
@@ -252,7 +253,7 @@ fn a_start_tells_what_it_cuts_off(rt: HostRuntime) {
     run(&rt, rt.alloc(), row);
 }
 
-/// A file that has a ledger is not told, with entries or without.
+/// A file that has a ledger is not reported, with entries or without.
 #[test]
 fn a_start_tells_nothing_of_a_file_that_is_there(rt: HostRuntime) {
     for has in [Has::NoRecord, Has::Entries] {
@@ -310,7 +311,7 @@ fn a_start_is_reported(rt: HostRuntime) {
     }
 }
 
-/// Of a long file it is told that it is read; one that is refused is never ready.
+/// Of a long file it is reported that it is read; one that is refused is never ready.
 #[test]
 fn a_long_file_is_read_and_refused(rt: HostRuntime) {
     run(
@@ -320,7 +321,7 @@ fn a_long_file_is_read_and_refused(rt: HostRuntime) {
     );
 }
 
-/// Requests from a terminal: where words are read is told once, and before the file is opened.
+/// Requests from a terminal: where words are read is reported once, and before the file is opened.
 #[test]
 fn a_terminal_is_told_where_words_are_read(rt: HostRuntime) {
     let line =

@@ -209,7 +209,7 @@ fn a_call_on_the_file_fails(rt: HostRuntime) {
     }
 }
 
-/// It is told that the input failed, and not the output.
+/// It is reported that the input failed, and not the output.
 #[test]
 fn an_input_fails(rt: HostRuntime) {
     let row = Row {

@@ -1,4 +1,4 @@
-//! Crashes at each moment of keeping a log, and files that fail at each of their calls: what was told is in the file.
+//! Crashes at each moment of keeping a log, and files that fail at each of their calls: what was acknowledged is in the file.
 ghost use Rattle.std.specs.Prelude.{◌≡◌, true};
 ghost use Rattle.tb_journal.specs.Memory.{memory_disk};
 ghost use Rattle.tb_journal.specs.Ready.{IsReady};
@@ -84,7 +84,7 @@ fn entries_told(told: usize) -> u64 {
     }
 }
 
-/// Keeps the log over a keeper: the file as it reads, and what was told.
+/// Keeps the log over a keeper: the file as it reads, and what was acknowledged.
 fn kept_by(rt: &impl Abort, alloc: Global, keeper: LogKeeper<Memory>) -> (Vec<u8>, Vec<u8>)
     requires usable { IsUsable keeper }
     requires ready { IsReady memory_disk keeper.journal }

@@ -13,7 +13,7 @@ use tb_machine::dump;
 use tb_records::{Counting, FrameFault};
 
 /// The records of the file of the whole log.
-fn whole_file(rt: &impl Abort, alloc: Global) -> Vec<u8> {
+pub fn whole_file(rt: &impl Abort, alloc: Global) -> Vec<u8> {
     let mut keeper = started(rt, alloc, &[]);
     let (answer, _) = kept(alloc, &mut keeper, &log(rt, alloc));
     expect(rt, answer == Ok(3));
@@ -114,7 +114,7 @@ fn refused_record(rt: &impl Abort, alloc: Global, record: &[u8]) -> Option<LogSt
 /// The record of the first entry, with one byte that is another.
 fn changed(rt: &impl Abort, alloc: Global, at: usize) -> Vec<u8> {
     let file = whole_file(rt, alloc);
-    // Behind the journal's first bytes and the first block's gate, length and checksum.
+    // Behind the journal's first bytes and the first block's latch, length and checksum.
     let mut record = sure(rt, Vec::from_slice(alloc, part(&file, 16, 16 + 79 + 368)));
     if let Some(byte) = record.get_mut(at) {
         *byte = byte.wrapping_add(1);
@@ -175,7 +175,7 @@ fn other_formats(rt: HostRuntime) {
 const PAIRS: [(usize, usize); 3] = [(17, 385), (403, 587), (604, 860)];
 
 /// The dump that tb_machine makes of the pairs of the log.
-fn dump_of_pairs(rt: &impl Abort, alloc: Global) -> Vec<u8> {
+pub fn dump_of_pairs(rt: &impl Abort, alloc: Global) -> Vec<u8> {
     let log = log(rt, alloc);
     let mut script = Vec::new(alloc);
     for (begin, end) in PAIRS {

@@ -13,7 +13,7 @@ use tb_log::follow;
 use tb_records::{ClientsMax, Counting, Profile};
 
 /// The log: an entry of a register and of the creation of accounts 1 and 2, a question, an entry of a transfer, an entry of the same
-/// transfer again and of a look-up, and a question.
+/// transfer again and of a lookup, and a question.
 const LOG: [u128; 54] = [
     0x01010000000000000070010000ed36af,
     0xc10a0000000000000007000000000000,
@@ -168,7 +168,7 @@ pub fn started(rt: &impl Abort, alloc: Global, bytes: &[u8]) -> LogKeeper<Memory
     started_on(rt, alloc, file_of(rt, alloc, bytes))
 }
 
-/// The bytes of a keeper's file. The keeper is let go.
+/// The bytes of a keeper's file. The keeper is freed.
 pub fn bytes_of(rt: &impl Abort, alloc: Global, keeper: LogKeeper<Memory>) -> Vec<u8> {
     let bytes = Vec::from_slice(alloc, keeper.journal().device().bytes());
     drop(keeper);

@@ -44,7 +44,7 @@ pub(crate) fn run_block<E: Event, A: Allocator + Clone>(
         (block_after E.kind (books_in work.old.rows) (timed_from time block.now)).codes }
     ensures leaves { LeavesAfter (length block.now) work.old work.new }
 {
-    // an event that is refused changes nothing, so one that stands alone has nothing to undo
+    // an event that is refused changes nothing, so one that is alone has nothing to undo
     work.undo_log.start(block.len() > 1);
     let mut i = 0;
     let mut stamp = time;

@@ -30,7 +30,7 @@ pub trait Event: Copy {
     // the tables can still take n events
     ghost HasCapacity: { ℕ → Capacity → Type 0 };
 
-    // beside the failed ids, a refusal of the event by a code can be noted
+    // next to the failed ids, a refusal of the event by a code can be noted
     ghost IsNew: { Option (List ℕ) → Self → ℕ → Type 0 };
 
     /// The event is linked to the next one.

@@ -1,5 +1,5 @@
 //! Pending transfers whose timeout has passed.
-ghost use Rattle.std.specs.Prelude.{◌≡◌, ◌≢◌, ◌≤◌, ◌==◌, find, Some, IsSome};
+ghost use Rattle.std.specs.Prelude.{◌≡◌, ◌≢◌, ◌≤◌, ◌==◌, true, false, find, Some, IsSome};
 ghost use Rattle.tb_records.specs.Ordered.{replaced};
 ghost use Rattle.tb_ledger.specs.Books.{closing_debit, closing_credit};
 ghost use Rattle.tb_ledger.specs.Kept.{books_in, IsKept, IsTimeout, transfer_row_key, on_debits, on_credits, released, settled, accounts_released};
@@ -24,7 +24,7 @@ fn release_rows(debit: &mut AccountRow, credit: &mut AccountRow, p: &Transfer)
     credit.set_credits(release_side(credit.credits(), p, p.has(TransferFlag::ClosingCredit)));
 }
 
-/// Takes what a pending transfer holds from both of its accounts, where their rows stand.
+/// Takes what a pending transfer holds from both of its accounts, in place.
 #[inline(never)]
 fn release<A: Allocator + Clone>(accounts: &mut Table<AccountRow, A>, p: &Transfer)
     requires apart { p.now.debit_account_id ≢ p.now.credit_account_id }
@@ -53,7 +53,7 @@ fn expire_row(row: &mut TransferRow, before: &mut Option<TransferRow>)
     row.set_state(State::Expired);
 }
 
-/// Marks the transfer that a timeout names as expired, where its row stands, and answers the row from before.
+/// Marks the transfer that a timeout names as expired, in place, and answers the row from before.
 #[inline(never)]
 fn mark_expired<A: Allocator + Clone>(
     transfers: &mut Table<TransferRow, A>,
@@ -114,11 +114,9 @@ fn look_ahead<A: Allocator + Clone>(rows: &mut Rows<A>, ended: usize)
     }
 }
 
-/// Moves the ledger on to `time`: pending transfers whose timeout has passed hold no more. It takes as many steps as there are
-/// of these.
-///
-/// Most entries find none: so its steps are functions of their own, and it has a small frame.
-pub fn expire<A: Allocator + Clone>(rows: &mut Rows<A>, time: u64)
+/// Moves the ledger on to `time`, a pending transfer after the other whose timeout has passed.
+#[inline(never)]
+fn expire_due<A: Allocator + Clone>(rows: &mut Rows<A>, time: u64)
     requires kept { IsKept rows.old }
     requires later { rows.old.time ≤ time }
     ensures kept { IsKept rows.new }
@@ -134,4 +132,22 @@ pub fn expire<A: Allocator + Clone>(rows: &mut Rows<A>, time: u64)
         look_ahead(rows, ended);
     }
     rows.time = time;
+}
+
+/// Moves the ledger on to `time`: pending transfers whose timeout has passed hold no more. It takes as many steps as there are
+/// of these. Most entries find none.
+#[inline(always)]
+pub fn expire<A: Allocator + Clone>(rows: &mut Rows<A>, time: u64)
+    requires kept { IsKept rows.old }
+    requires later { rows.old.time ≤ time }
+    ensures kept { IsKept rows.new }
+    ensures books { books_in rows.new ≡ record (books_in rows.old) { time = time } }
+    ensures records { KeepsRecords rows.old rows.new }
+    ensures time { rows.new.time ≡ time }
+{
+    if rows.timeouts.is_due(time) {
+        expire_due(rows, time);
+    } else {
+        rows.time = time;
+    }
 }

@@ -1,4 +1,4 @@
-//! A transfer between two accounts: both rows are found by one walk, judged, and changed where they stand.
+//! A transfer between two accounts: both rows are found by one walk, judged, and changed in place.
 ghost use Rattle.std.specs.Prelude.{◌≡◌, ◌^◌, ◌<◌, false, ◌≢◌, if◌then◌else◌};
 ghost use Rattle.std.specs.Option.{is_some};
 ghost use Rattle.tb_ledger.specs.Batches.{transfer_events};

@@ -11,7 +11,7 @@ pub struct AbsentIds {
     pub top: u128,
     /// Ids were looked for.
     pub sought: bool,
-    /// Those of them that are no keys; 0 stands for none.
+    /// Those of them that are no keys; 0 means none.
     pub absent: [u128; 8],
 }
 

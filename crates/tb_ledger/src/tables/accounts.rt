@@ -14,8 +14,8 @@ pub struct Side {
     pub held_closed: bool,
 }
 
-/// An account as it was created, and its two sides as they stand. An account is created with sums of 0 and nothing reserved, so
-/// its sums stand where its record has them, and both sides' holds in place of what is reserved: a row is as long as a record.
+/// An account as it was created, and its two sides as they are now. An account is created with sums of 0 and nothing reserved, so
+/// its sums are where its record has them, and both sides' holds in place of what is reserved: a row is as long as a record.
 #[derive(Clone, Copy, Default)]
 pub struct AccountRow {
     id: u128,
@@ -173,7 +173,7 @@ impl AccountRow {
         AccountFlag::Closed.is_in(self.flags) || self.debits_held || self.credits_held
     }
 
-    /// Its flags as it stands.
+    /// Its flags as it is now.
     pub fn flags_now(&self) -> u16
         ensures { result ≡ (row_now self.now).flags }
     {
@@ -184,7 +184,7 @@ impl AccountRow {
         }
     }
 
-    /// The account as it stands: with its present sums, and closed where it was created so or a pending transfer holds it so.
+    /// The account as it is now: with its present sums, and closed where it was created so or a pending transfer holds it so.
     pub fn as_it_stands(&self) -> Account
         ensures { result ≡ row_now self.now }
     {

@@ -56,7 +56,7 @@ impl<V: Keyed, A: Allocator + Clone> Model for Table<V, A> {
     ghost invariant = { λ t. KnowsAbsent V.key t.absent_ids (pairs_in t.rows) };
 }
 
-/// So many rows no longer stand in a core's own memory, where a search for one of them hardly waits.
+/// So many rows are no longer in a core's own memory, where a search for one of them hardly waits.
 const MANY_ROWS: usize = 4096;
 
 /// So many rows no longer fit the caches, where a search for a row waits for memory at most of its levels.

@@ -1,6 +1,6 @@
 //! When open pending transfers expire: their timeouts, by rising time.
-ghost use Rattle.std.specs.Prelude.{◌≡◌, ◌+◌, ◌-◌, ◌<◌, ◌≤◌, ◌==◌, max, [], None, find, OnOk};
-ghost use Rattle.tb_records.specs.Ordered.{put, taken_out};
+ghost use Rattle.std.specs.Prelude.{◌≡◌, ◌+◌, ◌-◌, ◌<◌, ◌≤◌, ◌==◌, max, false, [], None, find, OnOk};
+ghost use Rattle.tb_records.specs.Ordered.{put, taken_out, Each};
 ghost use Rattle.avl_tree.specs.Map.{entries};
 ghost use Rattle.tb_ledger.specs.Tables.{freed};
 ghost use Rattle.tb_ledger.specs.Timeouts.{timeout_key, timeouts_of, AreTimeouts, with_timeout, without_timeout, TakesDue, IsFirstDue};
@@ -155,6 +155,16 @@ impl<A: Allocator + Clone> Timeouts<A> {
             );
         }
         ids
+    }
+
+    /// Whether a timeout is due at the time.
+    pub fn is_due(&self, time: u64) -> bool
+        ensures { result ≡ false → Each (λ d. time < d.at) self.now.items }
+    {
+        match &self.keys {
+            Some(keys) => keys.len() > 0 && first_due(keys, time).is_some(),
+            None => false,
+        }
     }
 
     /// Takes the first timeout out, where it is due at the time.

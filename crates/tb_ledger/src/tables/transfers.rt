@@ -6,7 +6,7 @@ use crate::tables::map::Keyed;
 use std::marker::Model;
 use tb_records::Transfer;
 
-/// Where a pending transfer stands.
+/// Where a pending transfer is.
 #[derive(Clone, Copy, Debug, PartialEq, Eq, Default)]
 pub enum State {
     /// It holds its amount on both accounts.
@@ -21,7 +21,7 @@ pub enum State {
 }
 
 /// A transfer as it was recorded, and the state of a pending one. A recorded transfer has none of the flags of the high byte, so
-/// its state stands in place of that: a row is as long as a record.
+/// its state is in place of that: a row is as long as a record.
 #[derive(Clone, Copy, Default)]
 pub struct TransferRow {
     id: u128,
@@ -150,7 +150,7 @@ impl TransferRow {
         (self.debit_account_id, self.credit_account_id)
     }
 
-    /// Where it stands, if it is pending.
+    /// Where it is, if it is pending.
     pub fn state(&self) -> State
         ensures { result ≡ self.now.state }
     {

@@ -28,7 +28,7 @@ pub enum Undo {
 /// The records that an event adds to the log at most.
 pub const UNDOS_PER_EVENT: usize = 4;
 
-/// The changes since a chain began, the oldest first. Of an event that stands alone none is noted: it happens whole or not at
+/// The changes since a chain began, the oldest first. Of an event that is alone none is noted: it happens whole or not at
 /// all.
 #[derive(Drop)]
 pub struct UndoLog<A: Allocator + Clone> {
@@ -141,7 +141,7 @@ impl<A: Allocator + Clone> UndoLog<A> {
         }
     }
 
-    /// Adds the rows of two accounts from before their change, where changes are noted. The search that calls this can't tell that
+    /// Adds the rows of two accounts from before their change, where changes are noted. The search that calls this cannot know that
     /// there is capacity for both: where there is none, nothing is noted.
     pub fn note_pair(&mut self, debit: &AccountRow, credit: &AccountRow)
         ensures { NotesPair debit.now credit.now self.old self.new }

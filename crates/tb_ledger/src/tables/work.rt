@@ -57,7 +57,7 @@ impl Results {
         Results { list: None }
     }
 
-    /// Begins the results of a batch of so many events: makes memory where the last ones were handed out, or had too little.
+    /// Begins the results of a batch of so many events: makes memory where the last ones were returned, or had too little.
     pub(crate) fn reserve(&mut self, global: Global, events: usize) -> Result<(), AllocError>
         ensures none { OnOk result (self.new.items ≡ []) }
         ensures capacity { OnOk result (events ≤ self.new.capacity) }

@@ -1,4 +1,4 @@
-//! Scripts that are dumped and dumps that are replayed, in memory: worked rows, by the bytes that the formats give.
+//! Scripts that are dumped and dumps that are replayed, in memory: worked examples, by the bytes that the formats give.
 use crate::comparing::holds;
 use crate::machine::frames::{ACCOUNTS, put_lines, put_parts};
 use crate::machine::machines::clients_max;

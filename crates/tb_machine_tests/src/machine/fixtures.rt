@@ -1,4 +1,4 @@
-//! Transfers that the worked rows of balancing and closing have, and a post or void as it is recorded.
+//! Transfers that the worked examples of balancing and closing have, and a post or void as it is recorded.
 use tb_fixtures::{held, transfer, transfer_with};
 use tb_records::{Transfer, TransferFlag};
 

@@ -1,5 +1,5 @@
 //! Nothing is asked for while something is held back: a reader and a writer that share a count of the bytes that were written
-//! and not yet passed on. No contract of the three forms can say that, since a reader's states and a writer's are told apart.
+//! and not yet passed on. No contract of the three forms can say that, since a reader's states and a writer's are separate.
 use crate::comparing::holds;
 use crate::machine::forms::{Form, Outcome, serve};
 use crate::machine::scripts::Script;

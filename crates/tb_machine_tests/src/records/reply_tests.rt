@@ -450,7 +450,7 @@ fn frame_of(alloc: Global, reply: &Reply) -> Result<Vec<u8>, AllocError> {
 }
 
 /// Writes a reply and reads it back. That no other one is read follows of the contracts alone: what was written is the
-/// reply's own spelling, of which there is one reading.
+/// reply's own encoding, of which there is one reading.
 fn read_back(alloc: Global, reply: &Reply) -> Result<Reply, FrameFault>
     ensures { MatchResult result (λ read. read ≡ reply.now) (λ fault. fault ≡ FrameFault.NoMemory) }
 {

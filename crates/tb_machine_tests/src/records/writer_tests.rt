@@ -7,7 +7,7 @@ use std::io;
 use std::io::{Error, ErrorKind, Write};
 use tb_records::{Counting, FrameFault, Reply, Sink, send_reply};
 
-/// A writer with little room, which takes at most 20 bytes at a time, and then fails or takes nothing.
+/// A writer with little capacity, which takes at most 20 bytes at a time, and then fails or takes nothing.
 #[derive(Drop)]
 struct Narrow {
     taken: Vec<u8>,
@@ -31,7 +31,7 @@ impl Write for Narrow {
     }
 }
 
-/// A writer with room for so many bytes.
+/// A writer with capacity for so many bytes.
 fn writer_of(alloc: Global, room: usize, fails: bool) -> Counting<Narrow> {
     let taken = Vec::new(alloc);
     Counting::new(Narrow { taken, room, fails })

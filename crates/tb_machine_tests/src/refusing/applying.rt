@@ -1,4 +1,4 @@
-//! Rows' requests, each applied as an entry: where a growth is refused the entry is applied again.
+//! Rows' requests, each applied as an entry: where an allocation is refused the entry is applied again.
 use crate::refusing::comparing::holds;
 use crate::refusing::shown::{Shown, expect_same, look};
 use crate::refusing::turns::Turn;

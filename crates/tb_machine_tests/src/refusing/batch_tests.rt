@@ -1,4 +1,4 @@
-//! How many bytes a batch of transfers asks for: the room of its undo log, and its records.
+//! How many bytes a batch of transfers asks for: the capacity of its undo log, and its records.
 use crate::refusing::applying::enter;
 use crate::refusing::comparing::holds;
 use crate::refusing::turns::{Turn, moving, register, two_accounts};
@@ -9,7 +9,7 @@ use tb_machine::Machine;
 use tb_records::{ClientsMax, Profile};
 use tb_refusing::{Refusing, Tally};
 
-/// The undo log has room for four changes of each event, and of the next power of two of them; a change has at most so many bytes:
+/// The undo log has capacity for four changes of each event, and of the next power of two of them; a change has at most so many bytes:
 /// a row, and which change it is.
 const LOG_BYTES: u64 = 4 * 144;
 
@@ -75,8 +75,8 @@ fn ask(rt: &impl Abort, alloc: Global, profile: Profile, count: u32, chained: bo
     asked
 }
 
-/// The undo log of a batch of so many events, of which the next power of two is given, is one growth, and the greatest; all that the
-/// batch asks for is the log's room and that of its records. The batch of two accounts before it asks for a log too.
+/// The undo log of a batch of so many events, of which the next power of two is given, is one allocation, and the greatest; all that the
+/// batch asks for is the log's capacity and that of its records. The batch of two accounts before it asks for a log too.
 fn expect_bounded(
     rt: &impl Abort,
     alloc: Global,

@@ -1,5 +1,5 @@
-//! Each growth of a ledger's rows is refused in turn, below `Machine::apply`, and each chunk of a pool with the rows, below `serve_pair`.
-//! A pool whose chunk is refused asks for a smaller one, so all chunks are refused until the want of memory was answered.
+//! Each allocation of a ledger's rows is refused in turn, below `Machine::apply`, and each chunk of a pool with the rows, below `serve_pair`.
+//! A pool whose chunk is refused asks for a smaller one, so all chunks are refused until out of memory was answered.
 use crate::refusing::applying::enter_all;
 use crate::refusing::comparing::holds;
 use crate::refusing::pooling::serve_all;
@@ -15,9 +15,9 @@ use tb_refusing::{Refusing, Tally};
 /// How rows are served.
 #[derive(Clone, Copy)]
 enum Way {
-    /// By `Machine::apply`, with one growth refused.
+    /// By `Machine::apply`, with one allocation refused.
     Applied,
-    /// By `serve_pair` over a pool that asks for so many chunks, with all growths refused from one on.
+    /// By `serve_pair` over a pool that asks for so many chunks, with all allocations refused from one on.
     Pooled(u64),
 }
 
@@ -68,7 +68,7 @@ fn serve_over(rt: &impl Abort, alloc: Global, heap: &Refusing<Global>, case: Cas
     refused
 }
 
-/// Serves the rows with a growth refused, or with none where that is 0: what was asked, and the commit numbers of the requests that were
+/// Serves the rows with an allocation refused, or with none where that is 0: what was asked, and the commit numbers of the requests that were
 /// refused once.
 fn serve_refused(rt: &impl Abort, alloc: Global, case: Case, refused_at: u64) -> (Tally, Vec<u64>) {
     let heap = match case.way {
@@ -81,7 +81,7 @@ fn serve_refused(rt: &impl Abort, alloc: Global, case: Case, refused_at: u64) ->
     (tally, refused)
 }
 
-/// Serves the rows with a growth refused: all blocks come back, and one request is refused, whose commit number is added where it is not
+/// Serves the rows with an allocation refused: all blocks come back, and one request is refused, whose commit number is added where it is not
 /// the last one.
 fn refuse(rt: &impl Abort, alloc: Global, case: Case, refused_at: u64, refusing: &mut Vec<u64>) {
     let (tally, refused) = serve_refused(rt, alloc, case, refused_at);
@@ -94,8 +94,8 @@ fn refuse(rt: &impl Abort, alloc: Global, case: Case, refused_at: u64, refusing:
     holds(rt, one, "a growth is refused", refused_at);
 }
 
-/// Serves the rows with no growth refused, with the first, with the second and so on: all blocks come back, and each refused growth
-/// refuses one request. These are the commit numbers of the entries that ask for a growth; of a pool's chunks so many are asked for.
+/// Serves the rows with no allocation refused, with the first, with the second and so on: all blocks come back, and each refused allocation
+/// refuses one request. These are the commit numbers of the entries that ask for an allocation; of a pool's chunks so many are asked for.
 fn refuse_each(rt: &impl Abort, alloc: Global, case: Case, entries: &[u64]) {
     let (plain, refused) = serve_refused(rt, alloc, case, 0);
     let none = plain.blocks == 0 && refused.is_empty();
@@ -125,13 +125,13 @@ fn first_rows(rt: HostRuntime) {
     serve_each(&rt, rt.alloc(), Way::Applied, Rows::First, &[2, 4]);
 }
 
-/// Entry 5 has two events, and entry 4 made room for three and left no row: so it asks for none.
+/// Entry 5 has two events, and entry 4 made capacity for three and left no row: so it asks for none.
 #[test]
 fn broken_chain(rt: HostRuntime) {
     serve_each(&rt, rt.alloc(), Way::Applied, Rows::Chain, &[2, 4]);
 }
 
-/// Entry 7 has two events, and entry 6 made room for two and left no row: so it asks for none.
+/// Entry 7 has two events, and entry 6 made capacity for two and left no row: so it asks for none.
 #[test]
 fn pending_rows(rt: HostRuntime) {
     serve_each(&rt, rt.alloc(), Way::Applied, Rows::Pending, &[2, 4, 5, 6]);

@@ -1,4 +1,4 @@
-//! Each growth of a map is refused in turn.
+//! Each allocation of a map is refused in turn.
 use crate::refusing::comparing::holds;
 use avl_tree::AvlMap;
 use std::alloc::Global;
@@ -17,7 +17,7 @@ fn is_filled(map: &Map<'_>, last: u64) -> bool {
     map.len() as u64 == last
 }
 
-/// Makes room for a pair more; a refused call leaves the map, and the second one makes it. Says whether one was refused.
+/// Makes capacity for a pair more; a refused call leaves the map, and the second one makes it. Says whether one was refused.
 fn reserve(rt: &impl Abort, map: &mut Map<'_>, last: u64) -> bool {
     if map.reserve(1).is_ok() {
         return false;
@@ -32,7 +32,7 @@ fn reserve(rt: &impl Abort, map: &mut Map<'_>, last: u64) -> bool {
     true
 }
 
-/// Puts a key in that has room; says whether there was room, and no such key.
+/// Puts a key in that has capacity; says whether there was capacity, and no such key.
 fn put(map: &mut Map<'_>, key: u64) -> bool {
     let is_new = map.spare() > 0 && map.get(&key).is_none();
     if is_new {
@@ -60,7 +60,7 @@ fn take_two(rt: &impl Abort, map: &mut Map<'_>) {
     holds(rt, map.pop_first() == Some((1, 10)), "the first key", 1);
 }
 
-/// Fills a map with one growth refused: what was asked, and how often a call was refused.
+/// Fills a map with one allocation refused: what was asked, and how often a call was refused.
 fn fill_over(rt: &impl Abort, alloc: Global, refused_at: u64) -> (Tally, u32) {
     let heap = Refusing::new(alloc, refused_at);
     let mut map = AvlMap::new_in(&heap);
@@ -72,14 +72,14 @@ fn fill_over(rt: &impl Abort, alloc: Global, refused_at: u64) -> (Tally, u32) {
     (tally, refusals)
 }
 
-/// Fills a map with a growth refused: all blocks come back, and one call is refused.
+/// Fills a map with an allocation refused: all blocks come back, and one call is refused.
 fn refuse(rt: &impl Abort, alloc: Global, refused_at: u64) {
     let (tally, refusals) = fill_over(rt, alloc, refused_at);
     let one = tally.blocks == 0 && refusals == 1;
     holds(rt, one, "a growth is refused", refused_at);
 }
 
-/// With no growth refused, with the first, with the second and so on all blocks come back.
+/// With no allocation refused, with the first, with the second and so on all blocks come back.
 #[test]
 fn each_growth_of_a_map(rt: HostRuntime) {
     let (plain, refusals) = fill_over(&rt, rt.alloc(), 0);

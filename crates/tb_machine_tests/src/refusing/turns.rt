@@ -1,4 +1,4 @@
-//! The requests of worked rows, and the moments at which they come.
+//! The requests of worked examples, and the moments at which they come.
 use std::alloc::Global;
 use std::process::Abort;
 use tb_fixtures::{
@@ -12,7 +12,7 @@ const EARLY_NS: u64 = 10;
 /// A moment at which a pending transfer that came at the early one with a timeout of a second has expired.
 const LATE_NS: u64 = 2_000_000_000;
 
-/// The worked rows that are served.
+/// The worked examples that are served.
 #[derive(Clone, Copy)]
 pub(crate) enum Rows {
     /// From the first register to the transfer of 100.

@@ -18,10 +18,10 @@ fn expect_places(rt: &impl Abort, places: Option<Vec<u64>>, expected: &[u64]) {
     drop(places);
 }
 
-/// What is left of a run: the length of the history, and the places of all requests that were left out for want of time.
+/// What is left of a run: the length of the history, and the places of all requests that were left out since no time was left.
 type Left = (usize, &'static [u64]);
 
-/// These places were left out, and no others, for want of time.
+/// These places were left out, and no others, since no time was left.
 fn are_late(refused: &[(u64, TakeFault)], places: &[u64]) -> bool {
     if refused.len() != places.len() {
         return false;

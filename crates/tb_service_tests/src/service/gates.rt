@@ -10,7 +10,7 @@ use std::sync::atomic::{AtomicU64, Ordering};
 use tb_published::{Naming, Opening};
 use tb_service::{Gate, Moments, Port, service as serve};
 
-/// The place with which a gate was passed last, and how many moments were told before it was passed with theirs.
+/// The place with which a gate was passed last, and how many moments were given before it was passed with theirs.
 #[derive(Drop)]
 struct Order {
     passed: AtomicU64,
@@ -67,7 +67,7 @@ fn offer_three<R: Wait + Abort>(rt: &R, ports: &mut Vec<Port>) {
     drop(port.close(rt));
 }
 
-/// The gate is passed with each place before the moment of that place is told.
+/// The gate is passed with each place before the moment of that place is given.
 fn pass_three<J: Naming, R: Wait + Abort>(rt: &R, alloc: Global, opening: Opening)
     requires { opening ≡ J.opening }
 {

@@ -61,7 +61,7 @@ fn call_at_once<J: Naming, R: Wait + Abort>(rt: &R, port: &mut Port, seats: &mut
     drop(asked);
 }
 
-/// A call that never asks again: its request was handed over once.
+/// A call that never asks again: its request was sent once.
 fn call_once<J: Naming, R: Wait + Abort>(rt: &R, alloc: Global, opening: Opening)
     requires { opening ≡ J.opening }
 {

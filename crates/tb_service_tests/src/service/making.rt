@@ -86,7 +86,7 @@ pub(crate) fn opening(rt: &impl Abort) -> Opening {
     Opening::new(Profile::One, ClientsMax::new(2).expect(rt, "clients_max"))
 }
 
-/// A port that is sure to hand over a request that could be made.
+/// A port that is sure to send a request that could be made.
 pub(crate) fn offer<R: Wait + Abort>(rt: &R, port: &mut Port, request: Option<Request>)
     ensures { port.new.service ≡ port.old.service }
 {

@@ -1,4 +1,4 @@
-//! A register that one port hands over, and two seats that are asked for it.
+//! A register that one port sends, and two seats that are asked for it.
 ghost use Rattle.std.specs.Prelude.{◌≡◌};
 
 use crate::comparing::holds;

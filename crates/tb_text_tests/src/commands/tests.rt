@@ -248,7 +248,7 @@ fn served_to_the_end(rt: HostRuntime) -> Result<(), AllocError> {
 }
 
 /// An output that does not take what it was to be flushed to, or that fails at its flush alone: what stayed in the buffer is
-/// lost. That is told as Device, with status 1, and no other fault is told, nor is it done.
+/// lost. That is reported as Device, with status 1, and no other fault is reported, nor is it done.
 #[test]
 fn lost_output_is_a_device(rt: HostRuntime) -> Result<(), AllocError> {
     for failing in [Failing::Writes, Failing::Takes, Failing::Flush] {
@@ -267,7 +267,7 @@ fn lost_output_is_a_device(rt: HostRuntime) -> Result<(), AllocError> {
     expect_served(&rt, &["replay"], HEAD, flush, 1, "tbs: Device\n")
 }
 
-/// Words that cannot be had: out of memory is told as that, with status 1, and a word that is no text as Usage.
+/// Words that cannot be had: out of memory is reported as that, with status 1, and a word that is no text as Usage.
 #[test]
 fn words_that_cannot_be_had(rt: HostRuntime) {
     for (kind, status, name) in [

@@ -354,7 +354,7 @@ fn what_is_no_text(rt: HostRuntime) {
     }
 }
 
-/// Texts with words that statements do not have, and how the first line ends that is told of them: by the word that is one letter away,
+/// Texts with words that statements do not have, and how the first line ends that is reported of them: by the word that is one letter away,
 /// or two where it is longer than three letters, and by none where none is.
 const SUGGESTED: [(&str, &str); 21] = [
     (
@@ -437,7 +437,7 @@ const SUGGESTED: [(&str, &str); 21] = [
     ),
 ];
 
-/// What is told of a text that goes wrong.
+/// What is reported of a text that goes wrong.
 fn told(rt: &(impl Abort + AllocGlobal), text: &str) -> Vec<u8> {
     let reading = read_text(rt.alloc(), text.as_bytes()).expect(rt, "memory");
     let fault = reading.fault.expect(rt, "a fault");
@@ -597,7 +597,7 @@ fn parts_of_texts(rt: HostRuntime) {
     }
 }
 
-/// The names of the words that could stand behind a text; None where no text of statements begins so.
+/// The names of the words that could follow a text; None where no text of statements begins so.
 fn words_behind(rt: &(impl Abort + AllocGlobal), text: &str) -> Option<String> {
     let awaited = awaited_behind(rt.alloc(), text.as_bytes()).expect(rt, "memory")?;
     let mut names = String::new(rt.alloc());
@@ -608,7 +608,7 @@ fn words_behind(rt: &(impl Abort + AllocGlobal), text: &str) -> Option<String> {
     Some(names)
 }
 
-/// Texts, and the words that could stand behind them.
+/// Texts, and the words that could follow them.
 const BEHIND: [(&str, &str); 4] = [
     ("", "at client session request "),
     ("client=7 request=1 lookup_accounts id=1 # more\n,", "id "),

@@ -1,4 +1,4 @@
-//! Audits, compared whole: by which profile an entry is judged, when expiries are told and of which transfers, and how refused
+//! Audits, compared whole: by which profile an entry is judged, when expiries are reported and of which transfers, and how refused
 //! events are shown.
 use crate::text_commands::forms::{Row, leaves};
 use crate::text_commands::histories::{ACCOUNTS, Made, REGISTER, dump_of};
@@ -279,7 +279,7 @@ const AUDITS: [AuditRow; 9] = [
         entries: &[NO_ACCOUNT, SAME_ID],
         lines: &[BEGUN_BY_ONE, NO_ACCOUNT_LINE, MARKED, SAME_ID_MADE],
     },
-    // A timeout that runs out at an entry's time is told before that entry, and once; the entry a nanosecond before it has none.
+    // A timeout that runs out at an entry's time is reported before that entry, and once; the entry a nanosecond before it has none.
     AuditRow {
         words: &["audit", "--account", "1"],
         profile: 1,
@@ -334,7 +334,7 @@ const AUDITS: [AuditRow; 9] = [
             LATE_LOOKUP_LINE,
         ],
     },
-    // Expiries are told in the order of their times.
+    // Expiries are reported in the order of their times.
     AuditRow {
         words: &["audit"],
         profile: 1,

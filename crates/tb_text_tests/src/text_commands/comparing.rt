@@ -7,7 +7,7 @@ pub fn same(rt: &impl Abort, found: &[u8], wanted: &[u8]) {
     assert_eq!(rt; found, wanted);
 }
 
-/// It is so. What is asked, or the row that it is asked of, stands in the message.
+/// It is so. What is asked, or the row that it is asked of, is in the message.
 pub fn holds(rt: &impl Abort, is_so: bool, at: &impl Debug) {
     assert!(rt; is_so, "at {at:?}");
 }

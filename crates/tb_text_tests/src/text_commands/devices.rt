@@ -122,7 +122,7 @@ impl Write for Unflushed {
 }
 
 /// Says that words over an empty input and an output that loses what it is given end in status 1, and that Device is all
-/// that is told.
+/// that is reported.
 fn loses<W: Write + Drop>(rt: &(impl Abort + AllocGlobal), words: &[&str], talks: bool, output: W) {
     let owned = words_of(rt, words);
     let mut faults = Counting::new(Vec::new(rt.alloc()));
@@ -216,7 +216,7 @@ fn refuses(rt: &(impl Abort + AllocGlobal), kind: ErrorKind, status: u8, start: 
     holds(rt, left == status, &left);
 }
 
-/// Where there is no memory for the words, that is told; where one is no text, the page of usage is.
+/// Where there is no memory for the words, that is reported; where one is no text, the page of usage is.
 #[test]
 fn words_that_cannot_be_had(rt: HostRuntime) {
     refuses(&rt, ErrorKind::OutOfMemory, 1, "tbt: NoMemory\n");

@@ -98,7 +98,7 @@ const DUMPED: &str = r#"{"profile":1,"clients_max":2}
 {"commit":"3","time":"10","client":"7","session":"1","request":5,"operation":"lookup_transfers","events":[{"id":"11"}]}
 "#;
 
-/// What became of each event, real amounts, an expiry, and how account 1 stood; whole dumps, and entries that do not follow
+/// What became of each event, real amounts, an expiry, and how account 1 was; whole dumps, and entries that do not follow
 /// from those before them.
 const DUMPS: [DumpRow; 7] = [
     DumpRow {
@@ -166,7 +166,7 @@ const DUMPS: [DumpRow; 7] = [
     },
 ];
 
-/// What is told of dumps.
+/// What is reported of dumps.
 #[test]
 fn told_of_dumps(rt: HostRuntime) {
     for row in &DUMPS {
@@ -183,11 +183,11 @@ const NO_DUMP: Row<'static> = Row {
     line: "",
 };
 
-/// What is told of text in place of a script.
+/// What is reported of text in place of a script.
 const TEXT: &str =
     "pair 1, at byte 0: no operation has its number (UnknownOperation)\nIt looks like text: tbt script makes a script of statements.\n";
 
-/// What is told of other bytes.
+/// What is reported of other bytes.
 #[test]
 fn explained(rt: HostRuntime) {
     leaves(&rt, &NO_DUMP);
@@ -195,7 +195,7 @@ fn explained(rt: HostRuntime) {
     expect_left(&rt, left, 0, TEXT, "");
 }
 
-/// A script of two registers, as far as a place, and what is told of it.
+/// A script of two registers, as far as a place, and what is reported of it.
 const SCRIPTS: [(usize, &str); 3] = [
     (
         112,

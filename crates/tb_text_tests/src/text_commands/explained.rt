@@ -15,7 +15,7 @@ fn wanted_end(rt: &(impl Abort + AllocGlobal), name: Option<&str>) -> String {
     end.expect(rt, "memory")
 }
 
-/// Says that what is said of bytes ends with the name of the fault at which the server stops, or tells its end.
+/// Says that what is said of bytes ends with the name of the fault at which the server stops, or reports its end.
 fn explains(rt: &(impl Abort + AllocGlobal), bytes: &[u8], name: Option<&str>) {
     let told = done_by(rt, &["explain"], bytes);
     let end = wanted_end(rt, name);
@@ -78,7 +78,7 @@ fn script_of(rt: &(impl Abort + AllocGlobal), entries: &[Made]) -> Vec<u8> {
 /// Values that are put in place of a byte.
 const OTHERS: [u8; 4] = [0, 2, 129, 255];
 
-/// A copy of bytes in which another byte stands at a place.
+/// A copy of bytes in which another byte is at a place.
 fn with_byte(rt: &(impl Abort + AllocGlobal), bytes: &[u8], place: usize, byte: u8) -> Vec<u8> {
     let mut copy = Vec::new(rt.alloc());
     put(rt, &mut copy, bytes.get(..place).unwrap_or(&[]));
@@ -151,7 +151,7 @@ const MARKED: [(u8, Option<usize>, &str); 3] = [
     ),
 ];
 
-/// A mark stands at most once, and only under profile 1.
+/// There is at most one mark, and only under profile 1.
 #[test]
 fn marks(rt: HostRuntime) {
     for (profile, mark, output) in MARKED {

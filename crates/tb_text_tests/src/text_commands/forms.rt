@@ -24,7 +24,7 @@ pub fn words_of(rt: &(impl Abort + AllocGlobal), words: &[&str]) -> Vec<String> 
     owned
 }
 
-/// A clock that stands at a moment, or that cannot be read.
+/// A clock that is at a moment, or that cannot be read.
 #[derive(Clone, Copy)]
 pub struct Stopped {
     pub moment: Option<u64>,
@@ -97,7 +97,7 @@ pub fn left_by(rt: &(impl Abort + AllocGlobal), words: &[&str], input: &[u8]) ->
     left_where(rt, &first_moment(), words, false, input)
 }
 
-/// The output of words over an input that is done, of which no line is told.
+/// The output of words over an input that is done, of which no line is reported.
 pub fn done_by(rt: &(impl Abort + AllocGlobal), words: &[&str], input: &[u8]) -> Vec<u8> {
     let Left {
         status,

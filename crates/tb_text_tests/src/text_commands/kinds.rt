@@ -1,4 +1,4 @@
-//! Inputs of another kind than a form reads, between buffers: what is told of each.
+//! Inputs of another kind than a form reads, between buffers: what is reported of each.
 use crate::text_commands::comparing::{holds, same};
 use crate::text_commands::forms::{first_moment, words_of};
 use std::process::Abort;
@@ -19,7 +19,7 @@ const SCRIPT: &[u8] =
 const TEXT: &[u8] =
     b"at=10 client=7 register;\nat=10 client=7 session=1 request=1 lookup_accounts;\n";
 
-/// What is told of a ledger's file, of a dump, of a script and of a text behind the place or the name.
+/// What is reported of a ledger's file, of a dump, of a script and of a text behind the place or the name.
 const KINDS: [(&[u8], &str); 4] = [
     (
         LEDGER,
@@ -78,7 +78,7 @@ fn tells(rt: &(impl Abort + AllocGlobal), words: &[&str], input: &[u8], begins: 
     holds(rt, status == 2, &words);
 }
 
-/// Each form tells what an input of each other kind is.
+/// Each form reports what an input of each other kind is.
 #[test]
 fn other_kinds(rt: HostRuntime) {
     for (words, begins, own) in FORMS {

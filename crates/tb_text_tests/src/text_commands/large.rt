@@ -6,7 +6,7 @@ use std::process::Abort;
 /// The largest number of events in a statement.
 const EVENTS: usize = 8190;
 
-/// What stands before the events.
+/// What comes before the events.
 const HEAD: &[u8] =
     b"at=18446744073709551615 client=340282366920938463463374607431768211455 session=18446744073709551615 request=4294967295 create_accounts ";
 

@@ -41,7 +41,7 @@ fn record(rt: &(impl Abort + AllocGlobal), first: u8, flags: u16) -> Vec<u8> {
     bytes
 }
 
-/// Says that a reply is told by this line.
+/// Says that a reply is written as this line.
 fn tells_frame(rt: &(impl Abort + AllocGlobal), frame: &[u8], line: &str) {
     let row = Row {
         words: &["replies"],
@@ -53,7 +53,7 @@ fn tells_frame(rt: &(impl Abort + AllocGlobal), frame: &[u8], line: &str) {
     leaves(rt, &row);
 }
 
-/// Says that the reply of a body is told by this line.
+/// Says that the reply of a body is written as this line.
 fn tells(rt: &(impl Abort + AllocGlobal), operation: u8, body: &[u8], line: &str) {
     let frame = reply_frame(rt, operation, 0, 9, body);
     tells_frame(rt, frame.as_slice(), line);
@@ -160,7 +160,7 @@ const REFUSALS: [(u8, u8, &str); 7] = [
     ),
 ];
 
-/// Each status is told by its name.
+/// Each status is reported by its name.
 #[test]
 fn status_names(rt: HostRuntime) {
     for (status, operation, line) in REFUSALS {

@@ -206,7 +206,7 @@ fn places_behind_statements(rt: HostRuntime) {
 const REPLY: &[u8; 48] =
     b"\x07\0\0\0\0\0\0\0\0\0\0\0\0\0\0\0\x01\0\0\0\0\0\0\0\0\0\0\0\x02\0\0\0\0\0\0\0\x01\0\0\0\0\0\0\0\0\0\0\0";
 
-/// The same, cut short, and with a byte that must be 0.
+/// The same, truncated, and with a byte that must be 0.
 const REPLIES: [Row<'static>; 3] = [
     Row {
         words: &["replies"],

@@ -80,7 +80,7 @@ const SECOND_WRONG: &[u8] =
 const NOT_ZERO: &str =
     "tbt: line 2, column 15: client is not 0\n  at=10 client=0 register;\n                ^\n  expected a number from 1 to 2^128 - 1\n";
 
-/// Words in, answers out. A wrong statement is told by its line and column, what was right before it is served, and nothing
+/// Words in, answers out. A wrong statement is reported by its line and column, what was right before it is served, and nothing
 /// behind it. A client is not registered for a statement that is wrong.
 const TALKS: [Row<'static>; 11] = [
     Row {
@@ -177,7 +177,7 @@ fn wrong_statement(rt: HostRuntime) {
     drop(left);
 }
 
-/// Statements that leave out what is known, and the whole ones that they stand for, in a conversation: a first client, the
+/// Statements that leave out what is known, and the whole ones that they represent, in a conversation: a first client, the
 /// client named last, its session and its next number, a new client, a repeat, and a moment.
 const SHORT: &str = "create_accounts id=1 ledger=700 code=10, id=2 ledger=700 code=10;
 at=50 lookup_accounts id=1;
@@ -279,7 +279,7 @@ fn left_out_behind_an_eviction(rt: HostRuntime) {
     );
 }
 
-/// Statements for `script`, and the whole ones that they stand for.
+/// Statements for `script`, and the whole ones that they represent.
 const SCRIPTS: [(&str, &str); 5] = [
     (
         "client=7 session=3 request=5 lookup_accounts; client=8 session=4 request=1 lookup_accounts; lookup_accounts;",
@@ -303,7 +303,7 @@ const SCRIPTS: [(&str, &str); 5] = [
     ),
 ];
 
-/// What is left out is filled in as the statements before tell it.
+/// What is left out is filled in as the statements before give it.
 #[test]
 fn left_out_of_a_script(rt: HostRuntime) {
     for texts in SCRIPTS {

@@ -28,7 +28,7 @@ const REGISTERED: &str =
 const BOTH: &str =
     "{\"client\":\"7\",\"session\":\"1\",\"request\":0,\"operation\":\"register\",\"status\":\"reply\",\"commit\":\"1\",\"results\":[]}\n{\"client\":\"8\",\"session\":\"2\",\"request\":0,\"operation\":\"register\",\"status\":\"reply\",\"commit\":\"2\",\"results\":[]}\n";
 
-/// The next statement is read behind a wrong one, which is told when it comes: a wrong field, and a moment that leaves no time.
+/// The next statement is read behind a wrong one, which is reported when it comes: a wrong field, and a moment that leaves no time.
 /// A mistake is no failure of the program.
 #[test]
 fn typed_statements(rt: HostRuntime) {
@@ -84,8 +84,8 @@ fn talks_by_lines(rt: &(impl Abort + AllocGlobal), text: &[u8], output: &str, sh
     drop(wanted);
 }
 
-/// A prompt stands before each line, another where a statement goes on. A word that ends the conversation ends it where it
-/// stands, with a `;` or without; within a statement it is a mistake.
+/// A prompt comes before each line, another where a statement goes on. A word that ends the conversation ends it where it
+/// is, with a `;` or without; within a statement it is a mistake.
 #[test]
 fn lines(rt: HostRuntime) {
     talks_by_lines(
@@ -103,7 +103,7 @@ fn lines(rt: HostRuntime) {
     );
 }
 
-/// The end of the input ends the line of the prompt, and a statement that it cuts is told.
+/// The end of the input ends the line of the prompt, and a statement that it cuts is reported.
 #[test]
 fn ends(rt: HostRuntime) {
     talks_by_lines(&rt, b"", "", "> \n");
@@ -115,7 +115,7 @@ fn ends(rt: HostRuntime) {
     );
 }
 
-/// Behind a mistake all that may be written there is told: fields that are left, and operations that are made whole.
+/// Behind a mistake all that may be written there is reported: fields that are left, and operations that are made whole.
 const EXPECTED: [(&[u8], &str); 4] = [
     (
         b"lookup_acounts id=1;\n",

@@ -2,7 +2,7 @@
 
 package tbclient;
 
-/** Sizes, limits, and where each field stands. */
+/** Sizes, limits, and where each field is. */
 final class Layout {
     static final int HEADER_SIZE = 48;
     static final int RECORD_SIZE = 128;

@@ -46,7 +46,7 @@ one τ [] t = absurd t
 one τ (v ∷ []) t = (v, refl, t.0)
 one τ (v ∷ w ∷ vs) t = absurd t.1
 
--- a tree that was handed in and went into the map tells nothing of itself
+-- a tree that was passed in and went into the map says nothing of itself
 module _ (K V A : RattleType) (g : Allocator.Ghosts A.Denot) where
   abbrev Tr : RattleType
   Tr = Tree.the_row (copied 0 K) (param 1 V) (param 2 A) g

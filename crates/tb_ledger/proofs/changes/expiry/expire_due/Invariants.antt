@@ -1,6 +1,6 @@
 use Rattle.tb_ledger.proofs.Common.{◌≡◌, ◌≤◌, map, length, Each, Rising, account_row_key, HasSums, IsIndex}
 use Rattle.tb_ledger.proofs.Expiries.{WillBe}
-use Rattle.tb_ledger.proofs.changes.expiry.expire.Given as goal
+use Rattle.tb_ledger.proofs.changes.expiry.expire_due.Given as goal
 
 abbrev pub invariant-loop-due : goal.invariant-loop-due
 invariant-loop-due g l = record {
