@@ -46,9 +46,10 @@ HEADS = ("-- Cited by", "-- Public contracts reach it", "-- No contract cites it
 # script on several machines and causes of faults, 30 for flags by name, 445 for audits, snapshots
 # of a file that grows, salvage and backup, 210 for `explain` and what is typed on a terminal, 93
 # for inputs of another kind and the laws of `explain` of a dump), and of later crates
-# (tb_keep_commands: 212 for live files, salvage and backup).
+# (tb_keep_commands: 212 for live files, salvage and backup; tb_keep_log: 34 for the faults of a
+# dump and the end of the process).
 LINES_MAX = 5419
-LATER = {"tb_keep_commands": 702, "tb_log": 248, "tb_keep_log": 222}
+LATER = {"tb_keep_commands": 705, "tb_log": 248, "tb_keep_log": 256, "tb_keep_follow": 210}
 TOOLS = (
     "tb_uses",
     "tb_bench",

@@ -1,10 +1,10 @@
 #!/usr/bin/env python3
-"""Kills the built tb_keep_follow amid its work: a start wants the log from the right position, and
+"""Kills the built `tbd follow` amid its work: a start wants the log from the right position, and
 answers as a follower without a file that has read it all.
 
     checks/keep_follow.py [--kept PROGRAM] [--followed PROGRAM] [--kills N] [--entries N] [--seed N]
 
-Build both first, by `rt run` in crates/tb_keep_follow and crates/tb_follow. The log has as many
+Build both first, by `rt run` in crates/tbd and crates/tb_follow. The log has as many
 entries as asked for, each of some requests, repeats among them. Behind each kill the file is
 opened again, its position is asked for, and the log goes on behind it. Ends in 'N passed, M
 failed'.
@@ -143,7 +143,8 @@ def refused(options, folder, items):
     status, output, said = tried.ran([kept, "follow", path, CLIENTS], items[1])
     tried.case("an entry too early is refused", status == 2 and b"Gap at 2" in said, said)
     status, output, said = tried.ran([kept, "follow", path, CLIENTS], items[0])
-    tried.case("the first entry is taken", status == 0 and b"position 0" in said, said)
+    wanted = f"tbd: made {path}\ntbd: has the log up to position 0\n".encode()
+    tried.case("the first entry is taken", status == 0 and said == wanted, said)
     status, output, said = tried.ran([kept, "follow", path, "9"])
     tried.case("other rules are refused", status == 7 and b"OtherRules" in said, said)
     with open(path, "r+b") as file:
@@ -162,7 +163,7 @@ def refused(options, folder, items):
 def main():
     parser = tried.arguments(__doc__)
     out = "crates/{0}/out/{0}"
-    parser.add_argument("--kept", default=os.path.join(ROOT, out.format("tb_keep_follow")))
+    parser.add_argument("--kept", default=os.path.join(ROOT, out.format("tbd")))
     parser.add_argument("--followed", default=os.path.join(ROOT, out.format("tb_follow")))
     parser.add_argument("--kills", type=tried.count, default=20)
     parser.add_argument("--entries", type=tried.count, default=30)

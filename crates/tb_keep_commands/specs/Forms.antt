@@ -161,9 +161,13 @@ wrong_clients (word ∷ file ∷ clients ∷ profile ∷ last ∷ more ∷ rest)
 abbrev pub wrong_run : List (List ℕ) → Wrong
 wrong_run words = wrong_file words (wrong_clients words)
 
+-- words that begin with `follow`: tb_keep_follow has its forms
+unfoldable pub wrong_follow : List (List ℕ) → Wrong
+wrong_follow words = if nat_lt 4 (length words) then so_wrong (take 1 words) (codes "too many words") else wrong_run words
+
 -- what is wrong behind a word and its file
 abbrev pub wrong_behind : List ℕ → List ℕ
-wrong_behind word = if is_dump word then codes "only --after COMMIT and --follow may follow FILE" else codes "too many words"
+wrong_behind word = if is_dump word then codes "only --after COMMIT, --follow, or CLIENTS_MAX and PROFILE may follow FILE" else codes "too many words"
 
 -- words that begin with one that takes a file, of which the second may name one
 abbrev pub wrong_count : List (List ℕ) → Wrong
@@ -202,6 +206,7 @@ abbrev pub wrong : List (List ℕ) → Wrong
 wrong [] = so_wrong [] (codes "no words")
 wrong (word ∷ rest) =
     if pointwise nat_eq word (codes "run") then wrong_run (word ∷ rest)
+    else if pointwise nat_eq word (codes "follow") then wrong_follow (word ∷ rest)
     else if is_copy word then wrong_copy (word ∷ rest)
     else wrong_by (form_over word) word rest
 

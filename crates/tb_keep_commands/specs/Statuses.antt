@@ -1,5 +1,5 @@
 -- The exit status of each fault, and the line that names it.
--- Cited by public contracts of: commands, copies, faults, host, lines, openers.
+-- Cited by public contracts of: commands, copies, faults, host, lines, openers, serving.
 use Rattle.std.specs.Prelude.{ℕ, zero, suc, Bool, true, false, ◌≡◌, ◌==◌, ◌/◌, ◌&&◌, nat_le, nat_eq, ◌++◌, List, [], ◌∷◌, Option, Some, None, if◌then◌else◌, flat_map, codes, refl}
 use Rattle.std.specs.Fmt.{decimal, digits}
 use Rattle.std.specs.IoError.{error_kind}
@@ -220,7 +220,7 @@ fault_text (Making fault) path = opening_text fault path
 fault_text NoMemory path = codes "NoMemory"
 fault_text (Request fault) path = run_fault_name fault
 fault_text (NotAJournal kind) path = kind_text kind path
-fault_text NoHead path = codes "NotAJournal: the first record is no ledger's head"
+fault_text NoHead path = codes "NotAJournal: the first record is no ledger's head; tbd follow serves a log"
 fault_text (Damaged damage) path = codes "Damaged: " ++ damage_text damage
 fault_text (OtherRules numbers) path = mismatch_text numbers path
 fault_text Full path = codes "Full"

@@ -1,6 +1,6 @@
 //! What the words of the command line ask for, and what is wrong with words that ask for nothing.
 ghost use Rattle.std.specs.Prelude.{◌≡◌, map, take, string_bytes};
-ghost use Rattle.tb_keep_commands.specs.Forms.{form_alone, form_by, form_of, form_over, form_three, form_four, form_five, dump_from, dump_later, is_follow, run_form, run_four, run_five, file_word, new_word, copy_form, is_copy, wrong_new, wrong_copy, is_number, is_no_file, is_progress, wrong_last, wrong_five, wrong_clients, wrong_run, wrong_behind, wrong_count, wrong_over, wrong};
+ghost use Rattle.tb_keep_commands.specs.Forms.{form_alone, form_by, form_of, form_over, form_three, form_four, form_five, dump_from, dump_later, is_follow, run_form, run_four, run_five, file_word, new_word, copy_form, is_copy, wrong_new, wrong_copy, is_number, is_no_file, is_progress, wrong_last, wrong_five, wrong_clients, wrong_run, wrong_follow, wrong_behind, wrong_count, wrong_over, wrong};
 ghost use Rattle.tb_commands.specs.Forms.{clients_of};
 
 use tb_commands::{number, read_clients_max, read_profile};
@@ -221,7 +221,7 @@ fn is_number(word: &[u8]) -> bool
 }
 
 /// Says that a word names no file: it is a number, or begins with `-`.
-fn is_no_file(word: &str) -> bool
+pub fn is_no_file(word: &str) -> bool
     ensures { result ≡ is_no_file word.now }
 {
     match word.as_bytes() {
@@ -305,12 +305,24 @@ fn wrong_run(words: &[String]) -> (&[String], &'static str)
     wrong_clients(words)
 }
 
+/// What is wrong with words that begin with `follow`, and those of them that are shown before it.
+#[tactic(auto, unfolding(crate::specs::Forms::wrong_follow))]
+fn wrong_follow(words: &[String]) -> (&[String], &'static str)
+    ensures shown { map string_bytes result.0.now ≡ (wrong_follow (map string_bytes words.now)).shown }
+    ensures what { result.1.now ≡ (wrong_follow (map string_bytes words.now)).what }
+{
+    if words.len() > 4 {
+        return (&words[..1], "too many words");
+    }
+    wrong_run(words)
+}
+
 /// What is wrong with words behind a word and its file.
 fn wrong_behind(word: &str) -> &'static str
     ensures { result.now ≡ wrong_behind word.now }
 {
     if word == "dump" {
-        return "only --after COMMIT and --follow may follow FILE";
+        return "only --after COMMIT, --follow, or CLIENTS_MAX and PROFILE may follow FILE";
     }
     "too many words"
 }
@@ -383,6 +395,9 @@ pub fn wrong(words: &[String]) -> (&[String], &'static str)
     let word = first.as_str();
     if word == "run" {
         return wrong_run(words);
+    }
+    if word == "follow" {
+        return wrong_follow(words);
     }
     if is_copy(word) {
         return wrong_copy(words);

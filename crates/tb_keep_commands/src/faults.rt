@@ -118,7 +118,7 @@ fn refused_fault(why: Refusal) -> Fault
 }
 
 /// The fault of a journal that is not read or opened.
-pub(crate) fn opened_fault(fault: OpenFault) -> Fault
+pub fn opened_fault(fault: OpenFault) -> Fault
     ensures { result ≡ opened_fault fault }
 {
     match fault {

@@ -17,6 +17,11 @@ Keeps a ledger in a file: what was answered is in the file, whenever the program
                                   writes the history of FILE, as tbs dump does. With --after only
                                   entries above that commit number, without a head. With --follow
                                   it waits for more, until a write fails or SIGTERM comes
+  follow FILE CLIENTS_MAX [PROFILE]
+                                  serves a log of entries with positions as tb_follow does; each
+                                  reply goes out when its entry is on the disk. Its start says
+                                  up to which position FILE has the log
+  dump FILE CLIENTS_MAX [PROFILE] writes the history of such a FILE, without positions
   check FILE                      reads all of FILE and prints what is in it, or the damage
   salvage FILE NEW                copies what is whole before the first damage into NEW, and
                                   prints what is lost and where. NEW must not exist
@@ -24,8 +29,8 @@ Keeps a ledger in a file: what was answered is in the file, whenever the program
   --help, -h, --version
 
 CLIENTS_MAX is 1 to 64, PROFILE 1 or 2; a file keeps those that it was made with. FILE is no
-number and does not begin with -: the file 64 is ./64. So is NEW. One run serves a file at a time;
-the other forms only read it, also while it is served. The exit status is 0 where all is done; else
-a line of standard error names the fault: 1 Device or NoMemory, 2 Usage or a request that is none,
-4 Locked, 5 NotAJournal, 6 Damaged, 7 OtherRules, 8 Full, 9 SyncFailed.
+number and does not begin with -: the file 64 is ./64. So is NEW. One run or follow serves a file
+at a time; the other forms only read it, also while it is served. The exit status is 0 where all is
+done; else a line of standard error names the fault: 1 Device or NoMemory, 2 Usage or a request that
+is none, 4 Locked, 5 NotAJournal or Plain, 6 Damaged, 7 OtherRules, 8 Full, 9 SyncFailed.
 ";

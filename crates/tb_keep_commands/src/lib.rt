@@ -46,16 +46,19 @@ mod reports;
 mod serving;
 mod summaries;
 
-pub use arguments::{Form, file_word, new_word, read_form, wrong};
+pub use arguments::{Form, file_word, is_no_file, new_word, read_form, wrong};
 pub use commands::{Terminals, command};
 pub use copies::Copied;
-pub use faults::{Damage, Failed, Fault, Mismatch, Numbers, words_fault};
+pub use faults::{Damage, Failed, Fault, Mismatch, Numbers, disk_fault, opened_fault, words_fault};
 pub use help::{USAGE, VERSION};
 pub use host::{refuse, serve};
 pub use kinds::Kind;
-pub use lines::{tell, tell_usage};
+pub use lines::{
+    tell, tell_cut, tell_made, tell_named, tell_number, tell_place, tell_text, tell_usage,
+};
 pub use live::Live;
 pub use openers::{Opener, OpeningFault, opening_fault, unread_fault};
 pub use outlets::{Outgoing, Outlet};
 pub use reports::Reported;
+pub use serving::failed_pipe;
 pub use summaries::Summary;

@@ -283,7 +283,10 @@ fn put_fault<E: Sink>(faults: &mut E, fault: Fault, path: &str) -> Result<(), Fr
         Fault::NoMemory => put_all(faults, b"NoMemory"),
         Fault::Request(fault) => put_all(faults, fault.name().as_bytes()),
         Fault::NotAJournal(kind) => put_kind(faults, kind, path),
-        Fault::NoHead => put_all(faults, b"NotAJournal: the first record is no ledger's head"),
+        Fault::NoHead => put_all(
+            faults,
+            b"NotAJournal: the first record is no ledger's head; tbd follow serves a log",
+        ),
         Fault::Damaged(damage) => put_damaged(faults, "Damaged: ", damage),
         Fault::OtherRules(numbers) => put_mismatch(faults, numbers, path),
         Fault::Full => put_all(faults, b"Full"),
@@ -363,11 +366,68 @@ fn put_cut<E: Sink>(
     put_end(faults, second, at)
 }
 
+/// Writes a text, a path and a text, and the end of the line.
+#[tactic(auto, using(tb_records::proofs::Sendings::sent_rest, tb_records::proofs::Sendings::sent_few))]
+fn put_path<E: Sink>(faults: &mut E, first: &str, path: &str, last: &str) -> Result<(), FrameFault>
+    ensures { IsSent result ((first.now ++ (path.now ++ last.now)) ++ codes "\n") (E.output faults.old)
+        (E.output faults.new) }
+{
+    put_named(faults, first, path, last)?;
+    end_line(faults)
+}
+
+/// Writes a text, a number and what is wrong there, and the end of the line.
+#[tactic(auto, using(tb_records::proofs::Sendings::sent_rest, tb_records::proofs::Sendings::sent_few))]
+fn put_fault_at<E: Sink>(
+    faults: &mut E,
+    first: &str,
+    place: u64,
+    what: &str,
+) -> Result<(), FrameFault>
+    ensures { IsSent result
+        (((first.now ++ decimal place) ++ (codes ": " ++ what.now)) ++ codes "\n") (E.output faults.old)
+        (E.output faults.new) }
+{
+    put_place(faults, first, place, ": ", what)?;
+    end_line(faults)
+}
+
+/// Prints a path between two texts, in one line.
+pub fn tell_named<E: Sink>(first: &str, path: &str, last: &str, faults: &mut E)
+    ensures { SaysLine ((first.now ++ (path.now ++ last.now)) ++ codes "\n") (E.output faults.old)
+        (E.output faults.new) }
+{
+    let _ = put_path(faults, first, path, last);
+}
+
+/// Prints a number behind a text, in one line.
+pub fn tell_number<E: Sink>(first: &str, number: u64, faults: &mut E)
+    ensures { SaysLine ((first.now ++ decimal number) ++ codes "\n") (E.output faults.old)
+        (E.output faults.new) }
+{
+    let _ = put_end(faults, first, number);
+}
+
+/// Prints a number behind a text and what is wrong there, in one line.
+pub fn tell_place<E: Sink>(first: &str, place: u64, what: &str, faults: &mut E)
+    ensures { SaysLine (((first.now ++ decimal place) ++ (codes ": " ++ what.now)) ++ codes "\n")
+        (E.output faults.old) (E.output faults.new) }
+{
+    let _ = put_fault_at(faults, first, place, what);
+}
+
+/// Prints what is wrong behind a text, in one line.
+pub fn tell_text<E: Sink>(first: &str, what: &str, faults: &mut E)
+    ensures { SaysLine (first.now ++ (what.now ++ codes "\n")) (E.output faults.old) (E.output faults.new) }
+{
+    let _ = put_behind(faults, first, what);
+}
+
 /// What is between the two numbers.
 const BEHIND: &str = " bytes of a batch that was not committed, behind byte ";
 
 /// Prints how many bytes a start cut off behind the records, which end at this place; nothing where there were none.
-pub(crate) fn tell_cut<E: Sink>(bytes: u64, at: u64, faults: &mut E)
+pub fn tell_cut<E: Sink>(bytes: u64, at: u64, faults: &mut E)
     ensures { TellsCut bytes at (E.output faults.old) (E.output faults.new) }
 {
     if bytes != 0 {
@@ -451,7 +511,7 @@ fn put_page<E: Sink>(faults: &mut E, page: &str) -> Result<(), FrameFault>
 }
 
 /// Reports that a file of this path was made, where it had no bytes; nothing where it had so many.
-pub(crate) fn tell_made<E: Sink>(len: usize, path: &str, faults: &mut E)
+pub fn tell_made<E: Sink>(len: usize, path: &str, faults: &mut E)
     ensures { TellsMade len path.now (E.output faults.old) (E.output faults.new) }
 {
     if len == 0 {

@@ -1,5 +1,5 @@
 //! A file that reports how far it was read.
-ghost use Rattle.std.specs.Prelude.{◌≡◌, ℕ, List, IfOk, MatchResult};
+ghost use Rattle.std.specs.Prelude.{◌≡◌, ℕ, List, IfErr, IfOk, MatchResult};
 ghost use Rattle.tb_journal.specs.Device.{IsOfCall, IsLookedAt};
 
 use crate::lines::{MEGABYTE, tell_read};
@@ -34,6 +34,7 @@ impl<D: Device + Drop, E: Sink + Drop> Reported<D, E> {
         ensures same { (file : List ℕ) → D.holds device file
             → IfOk result (λ reported. ⟦<Reported<D, E> as Device>⟧.holds reported file) }
         ensures looks { D.tells → IfOk result (λ reported. IsLookedAt (D.disk device) (⟦<Reported<D, E> as Device>⟧.disk reported)) }
+        ensures named { IfErr result IsOfCall }
     {
         let mut device = device;
         let len = device.len()?;

@@ -33,7 +33,7 @@ fn refused<D: Device + Drop>(alloc: Global, failed: NotKept<D>, asked: Rules) ->
 }
 
 /// Which pipe failed if one did, of a reader that had so many errors before, and has so many now.
-fn failed_pipe(before: u64, now: u64) -> Failed
+pub fn failed_pipe(before: u64, now: u64) -> Failed
     ensures { result ≡ failed_pipe before now }
 {
     if before == now {

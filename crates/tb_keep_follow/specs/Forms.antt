@@ -1,10 +1,11 @@
--- What the words of the command line ask for.
--- Cited by private contracts alone, of: arguments.
-use Rattle.std.specs.Prelude.{ℕ, Bool, List, [], ◌∷◌, Option, Some, None, codes, nat_eq, if◌then◌else◌}
+-- Which words ask for a form over a log.
+-- Cited by public contracts of: arguments.
+use Rattle.std.specs.Prelude.{ℕ, Bool, ◌≡◌, List, [], ◌∷◌, Option, Some, None, codes, nat_eq, if◌then◌else◌, refl}
 use Rattle.std.specs.Cmp.Lexicographic.{pointwise}
 use Rattle.tb_records.specs.declared.limits.Profile.{Profile}
-use Rattle.tb_records.specs.declared.limits.Profile.TheVariants.{One}
+use Rattle.tb_records.specs.declared.limits.Profile.TheVariants.{One, Two}
 use Rattle.tb_commands.specs.Forms.{clients_of, profile_of}
+use Rattle.tb_keep_commands.specs.Forms.{file_word, is_no_file}
 use Rattle.tb_keep_follow.specs.declared.arguments.Form.{Form}
 use Rattle.tb_keep_follow.specs.declared.arguments.Form.TheVariants.{Follow, Dump}
 
@@ -29,15 +30,33 @@ form_with word clients profile =
     else if is_dump word then dump_by (clients_of clients) profile
     else None
 
-abbrev pub form_by : List ℕ → List ℕ → Option Profile → Option Form
-form_by word clients None = None
-form_by word clients (Some profile) = form_with word clients profile
+abbrev pub form_given : List ℕ → List ℕ → Option Profile → Option Form
+form_given word clients None = None
+form_given word clients (Some profile) = form_with word clients profile
 
 -- profile 1, or the one that a fourth word spells
+abbrev pub form_by : List (List ℕ) → Option Form
+form_by [] = None
+form_by (word ∷ []) = None
+form_by (word ∷ file ∷ []) = None
+form_by (word ∷ file ∷ clients ∷ []) = form_with word clients One
+form_by (word ∷ file ∷ clients ∷ profile ∷ []) = form_given word clients (profile_of profile)
+form_by (word ∷ file ∷ clients ∷ profile ∷ more ∷ rest) = None
+
+-- a word that is a number, or begins with `-`, names no file
 abbrev pub form_of : List (List ℕ) → Option Form
-form_of [] = None
-form_of (word ∷ []) = None
-form_of (word ∷ file ∷ []) = None
-form_of (word ∷ file ∷ clients ∷ []) = form_with word clients One
-form_of (word ∷ file ∷ clients ∷ profile ∷ []) = form_by word clients (profile_of profile)
-form_of (word ∷ file ∷ clients ∷ profile ∷ more ∷ rest) = None
+form_of words = if is_no_file (file_word words) then None else form_by words
+
+-- rows
+
+pub profile_one_is_the_default : form_of (codes "follow" ∷ codes "log" ∷ codes "64" ∷ []) ≡ Some (Follow 64 One)
+profile_one_is_the_default = refl
+
+pub a_dump_has_a_profile : form_of (codes "dump" ∷ codes "log" ∷ codes "8" ∷ codes "2" ∷ []) ≡ Some (Dump 8 Two)
+a_dump_has_a_profile = refl
+
+pub a_dump_without_clients_is_another : form_of (codes "dump" ∷ codes "log" ∷ []) ≡ None
+a_dump_without_clients_is_another = refl
+
+pub a_number_is_no_file : form_of (codes "follow" ∷ codes "64" ∷ codes "8" ∷ []) ≡ None
+a_number_is_no_file = refl

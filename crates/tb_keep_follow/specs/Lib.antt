@@ -1,2 +1,5 @@
+pub mod Exits
+pub mod Faults
 pub mod Forms
-pub mod Statuses
+pub mod Hosts
+pub mod Outcomes

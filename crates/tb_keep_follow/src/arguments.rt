@@ -1,16 +1,17 @@
 //! What the words of the command line ask for.
 ghost use Rattle.std.specs.Prelude.{◌≡◌, map, string_bytes};
-ghost use Rattle.tb_keep_follow.specs.Forms.{form_of, form_with};
+ghost use Rattle.tb_keep_follow.specs.Forms.{form_by, form_of, form_with};
 
 use tb_commands::{read_clients_max, read_profile};
+use tb_keep_commands::{file_word, is_no_file};
 use tb_records::{ClientsMax, Profile};
 
-/// What the program is asked to do, over the file that the second word names, for so many clients and by a profile.
+/// What the program is asked to do over a log, in the file that the second word names, for so many clients and by a profile.
 #[derive(Clone, Copy)]
 pub enum Form {
-    /// Follow a log.
+    /// Follow a log. The file is made where there is none.
     Follow(ClientsMax, Profile),
-    /// Write the history as a dump.
+    /// Write the history of a log as a dump.
     Dump(ClientsMax, Profile),
 }
 
@@ -26,9 +27,9 @@ fn form_with(word: &str, clients_max: &str, profile: Profile) -> Option<Form>
     }
 }
 
-/// What the words ask for: a form, a file, the number of clients, and the profile, 1 where it is left out.
-pub fn read_form(words: &[String]) -> Option<Form>
-    ensures { result ≡ form_of (map string_bytes words.now) }
+/// What the words ask for, whatever the word is that names the file: the profile is 1 where it is left out.
+fn form_by(words: &[String]) -> Option<Form>
+    ensures { result ≡ form_by (map string_bytes words.now) }
 {
     match words {
         [word, _, clients_max] => form_with(word.as_str(), clients_max.as_str(), Profile::One),
@@ -38,4 +39,15 @@ pub fn read_form(words: &[String]) -> Option<Form>
         }
         _ => None,
     }
+}
+
+/// What the words ask for, None where they are no form over a log. The second word is the file: it may be no number, and not begin
+/// with `-`.
+pub fn read_form(words: &[String]) -> Option<Form>
+    ensures { result ≡ form_of (map string_bytes words.now) }
+{
+    if is_no_file(file_word(words)) {
+        return None;
+    }
+    form_by(words)
 }

@@ -11,6 +11,7 @@ use Rattle.tb_journal.proofs.Moments.{started, then, weaker}
 use Rattle.tb_machine.proofs.CodesFit.{each_append}
 use Rattle.tb_machine.proofs.Legal.{fold_append}
 use Rattle.tb_machine.proofs.Running.{sends_none, sends_then}
+use Rattle.tb_keep.specs.Again.{IsAmid}
 use Rattle.tb_log.specs.declared.faults.LogFault.{LogFault}
 use Rattle.tb_log.specs.Following.{Following, begun, Item, with_item, after_items, bytes_of, item_bytes, given, given_to, AllAnswered}
 use Rattle.tb_log.specs.Follows.{ItemFits}
@@ -18,7 +19,7 @@ use Rattle.tb_keep_log.specs.declared.faults.KeepLogFault.{KeepLogFault}
 use Rattle.tb_keep_log.specs.declared.faults.KeepLogFault.TheVariants as keep
 use Rattle.tb_keep_log.specs.Keeping.{record_of, records_from, IsKept}
 use Rattle.tb_keep_log.specs.Serving.{Point, point, Turn, Turns, IsUncommitted, Halts, AreTooMany, Served}
-use Rattle.tb_keep_log.specs.Laws.{GoesOn, OpenedGoesOn, HasFirst, AnyCrash, WhileCommitting, TellsTheDone, WhileTelling}
+use Rattle.tb_keep_log.specs.Laws.{GoesOn, OpenedGoesOn, HasFirst, AfterKill, AnyCrash, WhileCommitting, TellsTheDone, WhileTelling}
 use Rattle.tb_keep_log.proofs.Leading.{records_join, answered_join, leads_then}
 
 -- going on
@@ -206,24 +207,41 @@ module _ (tells : Type 0) {D : Type 0} (disk : D → Disk) (profile : Profile) (
       });
     }
 
-    pub crash_leaves : (records : List (List ℕ)) (result : Result ℕ KeepLogFault) (first last : Point D) (file : List ℕ) → IsAtRest (disk first.journal.device) → seen_of first ≡ records
-        → IsKept profile clients_max records first.now → (served : Served tells disk profile clients_max result first last)
-        → (disk last.journal.device).left_since (disk first.journal.device).moment file
-        → (next : List Item) × (length next ≤ 1) × HasFirst profile clients_max records first.now (served.items ++ next) file
-    crash_leaves records result first last file rest is kept served left =
-        let turns = served.turns in
-        let behind = ended served.middle last (rest_behind t served.items first served.middle rest turns) result (length served.items) served.ended in
-        let leaves = all_leave served.items first served.middle last behind.next turns behind.leaves in
-        let fit = each_append ItemFits served.items behind.next (fit_turns served.items first served.middle turns) behind.fit in
-        let answered = answered_join first.now served.items behind.next (answered_turns served.items first served.middle turns)
-        (subst (λ (K : Following). AllAnswered K behind.next) (now_behind served.items first served.middle turns) behind.answered) in
-        (behind.next, behind.few, has_first records first.now (served.items ++ behind.next) (seen_of first) file is kept fit answered (leaves.each file left))
+    module _ (records : List (List ℕ)) (result : Result ℕ KeepLogFault) (first last : Point D) (rest : IsAtRest (disk first.journal.device)) (is : seen_of first ≡ records)
+        (kept : IsKept profile clients_max records first.now) (served : Served tells disk profile clients_max result first last) where
+      behind : Behind served.middle last
+      behind = ended served.middle last (rest_behind t served.items first served.middle rest served.turns) result (length served.items) served.ended
+
+      leaves : LeavesOnly (disk first.journal.device) (disk last.journal.device) (Front (seen_of first) first.now (served.items ++ behind.next))
+      leaves = all_leave served.items first served.middle last behind.next served.turns behind.leaves
+
+      left_first : (file : List ℕ) → (disk last.journal.device).left_since (disk first.journal.device).moment file
+          → (next : List Item) × (length next ≤ 1) × HasFirst profile clients_max records first.now (served.items ++ next) file
+      left_first file left =
+          let fit = each_append ItemFits served.items behind.next (fit_turns served.items first served.middle served.turns) behind.fit in
+          let answered = answered_join first.now served.items behind.next (answered_turns served.items first served.middle served.turns)
+          (subst (λ (K : Following). AllAnswered K behind.next) (now_behind served.items first served.middle served.turns) behind.answered) in
+          (behind.next, behind.few, has_first records first.now (served.items ++ behind.next) (seen_of first) file is kept fit answered (leaves.each file left))
 
 module _ (tells : Type 0) {D : Type 0} (disk : D → Disk) where
-  pub any_crash : ((d : D) (c : List ℕ) → (disk d).left_since (disk d).moment c → (disk d).may_leave c) → AnyCrash tells disk
-  any_crash only records result keeper after first last start written file t keeps served left =
-      crash_leaves tells disk keeper.rules.profile keeper.rules.clients_max t only records result (point keeper.now keeper.journal first start) (point after.now after.journal last written) file
-      keeps.ready.at_rest keeps.file keeps.kept served left
+  module _ (only : (d : D) (c : List ℕ) → (disk d).left_since (disk d).moment c → (disk d).may_leave c) where
+    pub any_crash : AnyCrash tells disk
+    any_crash records result keeper after first last start written file t keeps served left =
+        left_first tells disk keeper.rules.profile keeper.rules.clients_max t only records result (point keeper.now keeper.journal first start) (point after.now after.journal last written)
+        keeps.ready.at_rest keeps.file keeps.kept served file left
+
+    pub after_kill : ((d : D) (t : ℕ) (c : List ℕ) → t ≤ (disk d).moment → (disk d).may_leave c → (disk d).left_since t c) → ((d : D) → tells → (disk d).may_leave (disk d).seen) → AfterKill tells disk
+    after_kill counts stays records result keeper after first last start written amid t keeps served where_amid =
+        left_first tells disk keeper.rules.profile keeper.rules.clients_max t only records result (point keeper.now keeper.journal first start) (point after.now after.journal last written)
+        keeps.ready.at_rest keeps.file keeps.kept served (disk amid).seen (by where_amid)
+      where
+        by : (amid ≡ after.journal.device) ⊎ IsAmid tells disk (disk keeper.journal.device) (disk after.journal.device) (disk amid)
+            → (disk after.journal.device).left_since (disk keeper.journal.device).moment (disk amid).seen
+        by (inl same) = subst (λ (d : D). (disk after.journal.device).left_since (disk keeper.journal.device).moment (disk d).seen) (sym same)
+            (counts after.journal.device (disk keeper.journal.device).moment (disk after.journal.device).seen
+            (leaves tells disk keeper.rules.profile keeper.rules.clients_max t only records result (point keeper.now keeper.journal first start) (point after.now after.journal last written)
+            keeps.ready.at_rest keeps.file keeps.kept served).later (stays after.journal.device t))
+        by (inr during) = during (disk amid).seen (stays amid t)
 
   pub tells_the_done : TellsTheDone tells disk
   tells_the_done profile clients_max done first before turns = told_behind tells disk profile clients_max done first before turns

@@ -1,11 +1,12 @@
 -- What holds of every kept log: at each moment what was acknowledged is in the file, and what is opened goes on as if it had read all before.
 -- Cited by public contracts of: laws.
-use Rattle.std.specs.Prelude.{ℕ, ◌≡◌, ◌≤◌, List, [], ◌∷◌, ◌++◌, length, Result}
+use Rattle.std.specs.Prelude.{ℕ, ◌≡◌, ◌⊎◌, ◌≤◌, List, [], ◌∷◌, ◌++◌, length, Result}
 use Rattle.tb_records.specs.declared.limits.Profile.{Profile}
 use Rattle.tb_records.specs.Transport.{Input, Output, Sent}
 use Rattle.tb_journal.specs.Device.{Disk, LeavesOnly}
 use Rattle.tb_journal.specs.Contents.{Records, contents, recorded}
 use Rattle.tb_journal.specs.Steps.{IsBeforeOrAfter}
+use Rattle.tb_keep.specs.Again.{IsAmid}
 use Rattle.tb_keep.specs.Keeping.{head_record}
 use Rattle.tb_keep.specs.Rounds.{Commits}
 use Rattle.tb_log.specs.Following.{Following, begun, Item, after_items, bytes_of, given}
@@ -50,6 +51,14 @@ module _ (tells : Type 0) {D : Type 0} (disk : D → Disk) where
       → (served : Served tells disk keeper.rules.profile keeper.rules.clients_max result (point keeper.now keeper.journal first start) (point after.now after.journal last written))
       → (disk after.journal.device).left_since (disk keeper.journal.device).moment file
       → (next : List Item) × (length next ≤ 1) × HasFirst keeper.rules.profile keeper.rules.clients_max records keeper.now (served.items ++ next) file
+
+  -- the end of the process alone, at any moment of a run or behind it: what the next one reads is such a file too
+  abbrev pub AfterKill : Type 0
+  AfterKill = (records : List (List ℕ)) (result : Result ℕ KeepLogFault) (keeper after : Keeping D) (first last : Input) (start written : Output) (amid : D)
+      → tells → Keeps disk records keeper
+      → (served : Served tells disk keeper.rules.profile keeper.rules.clients_max result (point keeper.now keeper.journal first start) (point after.now after.journal last written))
+      → ((amid ≡ after.journal.device) ⊎ IsAmid tells disk (disk keeper.journal.device) (disk after.journal.device) (disk amid))
+      → (next : List Item) × (length next ≤ 1) × HasFirst keeper.rules.profile keeper.rules.clients_max records keeper.now (served.items ++ next) (disk amid).seen
 
   -- while the record of one more item is committed, be it done or not, a crash leaves the records of all items that were answered, and that
   -- one or not

@@ -5,8 +5,8 @@ ghost use Rattle.tb_log.specs.Format.{content_max};
 ghost use Rattle.tb_machine.specs.Runs.{is_new_in};
 ghost use Rattle.tb_keep.specs.Entering.{StaysKept};
 ghost use Rattle.tb_keep.specs.Opening.{IsUntouched};
-ghost use Rattle.tb_keep_log.specs.Dumping.{DumpsLog};
-ghost use Rattle.tb_keep_log.specs.DumpSteps.{DumpsPair, DumpsContent, DumpsRecord, DumpsNext, DumpsAll};
+ghost use Rattle.tb_keep_log.specs.Dumping.{DumpsLog, HasDumpCause, no_pair};
+ghost use Rattle.tb_keep_log.specs.DumpSteps.{DumpsPair, DumpsContent, DumpsRecord, DumpsNext, DumpsAll, ReadCause};
 
 use crate::faults::{DumpLogFault, LogStartFault};
 use crate::marks::{FIXED, check_mark};
@@ -17,7 +17,7 @@ use tb_keep::Rules;
 use tb_machine::{Machine, write_entry};
 use tb_records::dumps::send_head;
 use tb_records::streams::read_timed_from;
-use tb_records::{Counting, DumpHead, Request, Sink, put_all};
+use tb_records::{Counting, DumpHead, FrameFault, Request, Sink, put_all};
 use tb_sessions::Class;
 
 /// Writes the entry of a new pair, and enters it.
@@ -63,6 +63,16 @@ fn dump_pair<W: Sink>(
     }
 }
 
+/// The fault of what is no pair. Bytes in memory have no reader that fails.
+fn no_pair(cause: FrameFault) -> DumpLogFault
+    ensures { result ≡ no_pair cause }
+{
+    match cause {
+        FrameFault::Device | FrameFault::NoMemory => DumpLogFault::NoMemory,
+        _ => DumpLogFault::NoPairs,
+    }
+}
+
 /// Writes the entries of the pairs of a content.
 fn dump_content<W: Sink>(
     global: Global,
@@ -83,23 +93,25 @@ fn dump_content<W: Sink>(
                 Err(fault) => return Err(fault),
             },
             Ok(None) => return Ok(()),
-            Err(_) => return Err(DumpLogFault::NoPairs),
+            Err(cause) => return Err(no_pair(cause)),
         }
     }
     unreachable!()
 }
 
-/// Writes the entries of the pairs of a record.
+/// Writes the entries of the pairs of the record behind so many others.
 fn dump_record<W: Sink>(
     global: Global,
     rules: Rules,
     machine: &mut Machine<Global>,
+    last: u64,
     bytes: &[u8],
     writer: &mut W,
 ) -> Result<(), DumpLogFault>
-    ensures { DumpsRecord result machine.old machine.new bytes.now (W.output writer.old) (W.output writer.new) }
+    ensures { DumpsRecord result rules.profile rules.clients_max last machine.old machine.new bytes.now (W.output writer.old)
+        (W.output writer.new) }
 {
-    match check_mark(bytes, rules, 0) {
+    match check_mark(bytes, rules, last) {
         Ok(_) => dump_content(global, machine, &bytes[FIXED..], writer),
         Err(fault) => Err(DumpLogFault::Start(fault)),
     }
@@ -115,13 +127,16 @@ fn dump_next<D: Device, W: Sink>(
     writer: &mut W,
 ) -> Result<bool, DumpLogFault>
     ensures dumps { (file : List ℕ) (read : List (List ℕ)) → D.holds device.old file → HasRead read file scan.old
-        → DumpsNext result read file scan.new machine.old machine.new (W.output writer.old) (W.output writer.new) }
+        → DumpsNext result rules.profile rules.clients_max read file scan.new machine.old machine.new
+        (W.output writer.old) (W.output writer.new) }
     ensures same { (file : List ℕ) → D.holds device.old file → D.holds device.new file }
     ensures stays { D.tells → StaysKept (D.disk device.old) (D.disk device.new) }
+    ensures cause { D.tells → ReadCause result scan.old (D.disk device.old) (D.disk device.new) }
     ensures further { IfOk result (λ more. more ≡ true → GoesFurther scan.old scan.new) }
 {
+    let last = scan.extent().count as u64;
     match read_record(scan, device) {
-        Ok(true) => match dump_record(global, rules, machine, scan.record(), writer) {
+        Ok(true) => match dump_record(global, rules, machine, last, scan.record(), writer) {
             Ok(()) => Ok(true),
             Err(fault) => Err(fault),
         },
@@ -140,9 +155,11 @@ fn dump_all<D: Device, W: Sink>(
     writer: &mut W,
 ) -> Result<(), DumpLogFault>
     ensures dumps { (file : List ℕ) (read : List (List ℕ)) → D.holds device.old file → HasRead read file scan.old
-        → DumpsAll result read file machine.old (W.output writer.old) (W.output writer.new) }
+        → DumpsAll result rules.profile rules.clients_max read file machine.old (W.output writer.old)
+        (W.output writer.new) }
     ensures same { (file : List ℕ) → D.holds device.old file → D.holds device.new file }
     ensures stays { D.tells → StaysKept (D.disk device.old) (D.disk device.new) }
+    ensures cause { D.tells → ReadCause result scan.old (D.disk device.old) (D.disk device.new) }
 {
     loop {
         let same = rules;
@@ -166,6 +183,8 @@ fn dump_by<D: Device, W: Sink>(
         → DumpsLog result rules.profile rules.clients_max file (W.output writer.old) (W.output writer.new) }
     ensures same { (file : List ℕ) → D.holds device.old file → D.holds device.new file }
     ensures stays { D.tells → StaysKept (D.disk device.old) (D.disk device.new) }
+    ensures cause { D.tells → HasRead [] (D.disk device.old).seen scan.old
+        → HasDumpCause result (D.disk device.old) (D.disk device.new) }
 {
     let _clients = rules.clients_max.get();
     let Ok(mut machine) = Machine::new_in(global, global, rules.profile, rules.clients_max) else {
@@ -182,7 +201,8 @@ fn dump_by<D: Device, W: Sink>(
 }
 
 /// Writes the history of a kept log of these rules as a dump, which `replay` of tb_machine reads. It has no positions. The file is read,
-/// and nothing is written to it. After a fault a prefix went out.
+/// and nothing is written to it. Start where the file is not read to its end, NoPairs where a record has what is no pair, TimeExhausted
+/// where a new request has no time, Writer where the writer answers an error, or takes nothing of what is left: then a prefix went out.
 pub fn write_log_dump<D: Device, W: Sink>(
     global: Global,
     device: &mut D,
@@ -194,6 +214,7 @@ pub fn write_log_dump<D: Device, W: Sink>(
         → DumpsLog result rules.profile rules.clients_max file (W.output writer.old) (W.output writer.new) }
     ensures same { (file : List ℕ) → D.holds device.old file → D.holds device.new file }
     ensures untouched { D.tells → IsUntouched (D.disk device.old) (D.disk device.new) }
+    ensures cause { D.tells → HasDumpCause result (D.disk device.old) (D.disk device.new) }
 {
     match Scan::start(global, device) {
         Ok(mut scan) => dump_by(global, rules, &mut scan, device, writer),

@@ -1,6 +1,6 @@
 //! What holds of every kept log, over the definitions alone. A call does nothing; its promise is the law.
 ghost use Rattle.tb_keep_log.specs.Dumping.{PairsOfLog};
-ghost use Rattle.tb_keep_log.specs.Laws.{AnyCrash, GoesOn, OneLog, OpenedGoesOn, OtherFormat, TellsTheDone, WhileCommitting, WhileTelling};
+ghost use Rattle.tb_keep_log.specs.Laws.{AfterKill, AnyCrash, GoesOn, OneLog, OpenedGoesOn, OtherFormat, TellsTheDone, WhileCommitting, WhileTelling};
 
 use tb_journal::Device;
 
@@ -20,6 +20,12 @@ pub fn other_format()
 /// A crash at any moment of `keep_log` leaves a file that represents some first items of those that were read, and nothing else.
 pub fn any_crash<D: Device>()
     ensures { AnyCrash D.tells D.disk }
+{}
+
+/// Where the process alone ends, at any moment of `keep_log`, no power is lost, and the next one reads what was in the file: that is a file
+/// such as a crash leaves.
+pub fn after_kill<D: Device>()
+    ensures { AfterKill D.tells D.disk }
 {}
 
 /// Whatever was acknowledged is in the file: while an entry is committed only the answers to earlier ones were sent, and while its answers are sent

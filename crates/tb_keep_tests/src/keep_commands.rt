@@ -13,12 +13,12 @@
 //! - `words`: words that are no form, and faults of the system.
 //! - `outputs`: outputs and calls on the file that fail.
 mod copies;
-mod files;
+pub mod files;
 mod frames;
 mod growth;
-mod news;
+pub mod news;
 mod outcomes;
 mod outputs;
-mod pipes;
-mod rows;
+pub mod pipes;
+pub mod rows;
 mod words;

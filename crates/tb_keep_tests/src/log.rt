@@ -4,5 +4,7 @@
 //!
 //! - `logs`: logs by the bytes of the formats, and what follows them.
 //! - `followed`: logs that are followed, and logs that are refused.
+//! - `waiting`: logs that come in pieces.
 mod followed;
 mod logs;
+mod waiting;

@@ -51,9 +51,11 @@ pub record IsDamaged (fault : LogFault) (last : ℕ) (before after : Input) : Ty
   pub fault_is : fault ≡ Damaged (last + 1)
   pub counted : after.failed ≡ before.failed
 
--- the fault of what is no pair, in the entry at a position
+-- the fault of what is no pair, in the entry at a position: what is wrong with its bytes, or that there is no memory. The bytes
+-- are in memory when they are tested, so that no reader fails
 abbrev pub pair_fault : ℕ → FrameFault → LogFault
 pair_fault position frame.NoMemory = NoMemory
+pair_fault position frame.Device = NoMemory
 pair_fault position fault = BadEntry position fault
 
 -- the content begins with these pairs

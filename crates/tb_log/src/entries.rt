@@ -70,12 +70,12 @@ fn content_from<S: Source>(alloc: Global, source: &mut S, head: &Head) -> Result
     Ok(content)
 }
 
-/// The fault of what is no pair.
+/// The fault of what is no pair. Bytes in memory have no reader that fails.
 fn pair_fault(position: u64, fault: FrameFault) -> LogFault
     ensures { result ≡ pair_fault position fault }
 {
     match fault {
-        FrameFault::NoMemory => LogFault::NoMemory,
+        FrameFault::NoMemory | FrameFault::Device => LogFault::NoMemory,
         fault => LogFault::BadEntry(position, fault),
     }
 }

@@ -1,6 +1,6 @@
 //! Why a follower ends before its log does.
-ghost use Rattle.std.specs.Prelude.{◌≡◌};
-ghost use Rattle.tb_log.specs.Faults.{fault_name};
+ghost use Rattle.std.specs.Prelude.{◌≡◌, Some};
+ghost use Rattle.tb_log.specs.Faults.{fault_name, fault_text};
 
 use std::alloc::AllocError;
 use std::fmt;
@@ -66,20 +66,23 @@ impl From<AllocError> for LogFault {
 }
 
 impl fmt::Display for LogFault {
+    ghost output = { λ fault. Some (fault_text fault) };
+
     fn fmt<W: fmt::Write>(&self, f: &mut fmt::Formatter<W>) -> fmt::Result {
-        match self {
+        match *self {
             LogFault::UnknownKind(kind) => write!(f, "UnknownKind {kind}"),
-            LogFault::Gap(position)
-            | LogFault::Repeat(position)
-            | LogFault::TooLong(position)
-            | LogFault::Damaged(position)
-            | LogFault::TimeExhausted(position) => write!(f, "{} at {position}", self.name()),
-            LogFault::BadEntry(position, fault) => write!(
-                f,
-                "BadEntry at {position}: {}",
-                fault.name()
-            ),
-            fault => f.write_str(fault.name()),
+            LogFault::Gap(position) => write!(f, "Gap at {position}"),
+            LogFault::Repeat(position) => write!(f, "Repeat at {position}"),
+            LogFault::TooLong(position) => write!(f, "TooLong at {position}"),
+            LogFault::Damaged(position) => write!(f, "Damaged at {position}"),
+            LogFault::TimeExhausted(position) => write!(f, "TimeExhausted at {position}"),
+            LogFault::BadEntry(position, fault) => {
+                let name = fault.name();
+                write!(f, "BadEntry at {position}: {name}")
+            }
+            LogFault::Device | LogFault::NoMemory | LogFault::Short | LogFault::TooMany => {
+                f.write_str(self.name())
+            }
         }
     }
 }

@@ -1,6 +1,6 @@
 //! `tbd`: a ledger server whose history is in a file. It serves requests from standard input to standard output, each reply
-//! sent when the entry that it rests on is durable; writes the history of a file as a dump; and reports what is in a file.
-//! tb_keep_commands has what it does, over any files, reader and writer.
+//! sent when the entry that it rests on is durable; follows a log in the same way; writes the history of a file as a dump; and
+//! reports what is in a file. tb_keep_commands and tb_keep_follow have what it does, over any files, reader and writer.
 //!
 //! Module:
 //!
@@ -10,11 +10,34 @@
 mod files;
 
 use files::{SystemFiles, lines};
-use std::io::IsTerminal;
+use std::io::{BufWriter, IsTerminal, Stderr};
 use std::process::ExitCode;
 use tb_commands::words;
-use tb_keep_commands::{Form, Terminals, read_form, refuse, serve, words_fault};
+use tb_keep_commands::{Form, Terminals, file_word, read_form, refuse, serve, words_fault};
 use tb_records::Counting;
+
+/// Does what the words ask for, over a log or else over a ledger, and returns the exit status.
+fn serve_words(
+    rt: &HostRuntime,
+    words: &[String],
+    terminals: Terminals,
+    faults: &mut Counting<BufWriter<Stderr>>,
+) -> u8 {
+    let asked = tb_keep_follow::read_form(words);
+    let reports = matches!(read_form(words), Some(Form::Run(_, _, true)));
+    let mut files = SystemFiles {
+        rt,
+        reports: reports || terminals.faults,
+    };
+    let (alloc, input, output) = (rt.alloc(), rt.stdin(), rt.stdout());
+    match asked {
+        Some(form) => {
+            let path = file_word(words);
+            tb_keep_follow::serve(alloc, &mut files, form, path, input, output, faults)
+        }
+        None => serve(alloc, &mut files, words, terminals, input, output, faults),
+    }
+}
 
 fn main(rt: HostRuntime) -> ExitCode {
     let terminals = Terminals {
@@ -23,22 +46,7 @@ fn main(rt: HostRuntime) -> ExitCode {
     };
     let mut faults = Counting::new(lines(&rt));
     let status = match words(&rt) {
-        Ok(words) => {
-            let reports = matches!(read_form(words.as_slice()), Some(Form::Run(_, _, true)));
-            let mut files = SystemFiles {
-                rt: &rt,
-                reports: reports || terminals.faults,
-            };
-            serve(
-                rt.alloc(),
-                &mut files,
-                words.as_slice(),
-                terminals,
-                rt.stdin(),
-                rt.stdout(),
-                &mut faults,
-            )
-        }
+        Ok(words) => serve_words(&rt, words.as_slice(), terminals, &mut faults),
         Err(error) => refuse(words_fault(&error), &mut faults),
     };
     ExitCode::from(status)

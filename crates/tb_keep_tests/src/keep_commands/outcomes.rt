@@ -123,7 +123,8 @@ const A_SCRIPT: &str =
 
 const OTHERS: &str = "tbd: NotAJournal: ledger does not begin as a ledger's file\n";
 
-const NO_HEAD: &str = "tbd: NotAJournal: the first record is no ledger's head\n";
+const NO_HEAD: &str =
+    "tbd: NotAJournal: the first record is no ledger's head; tbd follow serves a log\n";
 
 const ROT: &str = "tbd: Damaged: at byte 94\n";
 

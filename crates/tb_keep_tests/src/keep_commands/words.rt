@@ -73,23 +73,23 @@ const WRONG: &[(&[&str], &str)] = &[
     (&["dump"], "tbd: Usage: dump: FILE is missing\n"),
     (
         &["dump", "ledger", "--after"],
-        "tbd: Usage: dump: only --after COMMIT and --follow may follow FILE\n",
+        "tbd: Usage: dump: only --after COMMIT, --follow, or CLIENTS_MAX and PROFILE may follow FILE\n",
     ),
     (
         &["dump", "ledger", "--after", "9223372036854775808"],
-        "tbd: Usage: dump: only --after COMMIT and --follow may follow FILE\n",
+        "tbd: Usage: dump: only --after COMMIT, --follow, or CLIENTS_MAX and PROFILE may follow FILE\n",
     ),
     (
         &["dump", "ledger", "--follow", "--after", "x"],
-        "tbd: Usage: dump: only --after COMMIT and --follow may follow FILE\n",
+        "tbd: Usage: dump: only --after COMMIT, --follow, or CLIENTS_MAX and PROFILE may follow FILE\n",
     ),
     (
         &["dump", "ledger", "--follow", "1", "--after"],
-        "tbd: Usage: dump: only --after COMMIT and --follow may follow FILE\n",
+        "tbd: Usage: dump: only --after COMMIT, --follow, or CLIENTS_MAX and PROFILE may follow FILE\n",
     ),
     (
         &["dump", "ledger", "--after", "--follow", "1"],
-        "tbd: Usage: dump: only --after COMMIT and --follow may follow FILE\n",
+        "tbd: Usage: dump: only --after COMMIT, --follow, or CLIENTS_MAX and PROFILE may follow FILE\n",
     ),
     (
         &["salvage"],

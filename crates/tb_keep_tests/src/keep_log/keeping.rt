@@ -13,7 +13,7 @@ use tb_machine::dump;
 use tb_records::{Counting, FrameFault};
 
 /// The records of the file of the whole log.
-fn whole_file(rt: &impl Abort, alloc: Global) -> Vec<u8> {
+pub fn whole_file(rt: &impl Abort, alloc: Global) -> Vec<u8> {
     let mut keeper = started(rt, alloc, &[]);
     let (answer, _) = kept(alloc, &mut keeper, &log(rt, alloc));
     expect(rt, answer == Ok(3));
@@ -175,7 +175,7 @@ fn other_formats(rt: HostRuntime) {
 const PAIRS: [(usize, usize); 3] = [(17, 385), (403, 587), (604, 860)];
 
 /// The dump that tb_machine makes of the pairs of the log.
-fn dump_of_pairs(rt: &impl Abort, alloc: Global) -> Vec<u8> {
+pub fn dump_of_pairs(rt: &impl Abort, alloc: Global) -> Vec<u8> {
     let log = log(rt, alloc);
     let mut script = Vec::new(alloc);
     for (begin, end) in PAIRS {

@@ -1,5 +1,5 @@
 use Rattle.std.proofs.Common.{arith}
-use Rattle.tb_keep_log.proofs.Dumped.{dumping_none, dumping_on, dumping_few, dumping_done}
+use Rattle.tb_keep_log.proofs.Dumped.{dumping_none, dumping_on, dumping_few, dumping_done, dumping_halts, dumping_not}
 use Rattle.tb_keep_log.proofs.dumps.dump_content.Goals as goal
 
 pub loop-index-init : goal.loop-index-init
@@ -15,3 +15,11 @@ loop-index-preserved g c =
 
 pub unreachable-requires : goal.unreachable-requires
 unreachable-requires g c = omega (arith, dumping_few _ _ _ _ _ _ _ c.loop-index.invariant)
+
+pub returns-in-Err-dump_pair : goal.returns-in-Err-dump_pair
+returns-in-Err-dump_pair g c =
+    dumping_halts c.loop-index.index _ _ _ (c.in-Ok-Some.moment, c.in-Ok-Some.request) _ _ _ _ _ _ c.loop-index.invariant
+    (rw c.in-Ok-Some.field-0-is at c.in-Ok-Some.ensures.answer) c.in-Err-dump_pair.fault c.in-Err-dump_pair.ensures
+
+pub returns-in-Err : goal.returns-in-Err
+returns-in-Err g c = dumping_not c.loop-index.index _ _ _ _ _ _ _ c.in-Err.cause c.no_pair.result c.no_pair.ensures c.loop-index.invariant c.in-Err.ensures.answer

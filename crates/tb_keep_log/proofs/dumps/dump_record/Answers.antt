@@ -1,12 +1,28 @@
-use Rattle.std.proofs.Common.{arith, ◌≡◌, ℕ, ◌-◌, List, length, take, drop, take_all, length-drop, subst}
+use Rattle.std.proofs.Common.{arith, ◌≡◌, ℕ, ◌-◌, List, length, take, drop, take_all, length-drop, subst, Result, Ok, Err}
 use Rattle.tb_keep_log.specs.Restoring.{fixed_bytes}
-use Rattle.tb_keep_log.specs.DumpSteps.{DumpsContent}
+use Rattle.tb_records.specs.declared.limits.Profile.{Profile}
+use Rattle.tb_records.specs.Transport.{Output}
+use Rattle.tb_machine.specs.Histories.{State}
+use Rattle.tb_keep_log.specs.declared.faults.DumpLogFault.{DumpLogFault}
+use Rattle.tb_keep_log.specs.DumpSteps.{DumpsContent, DumpsRecord}
+use Rattle.tb_keep_log.proofs.Dumped.{record_halts, record_refused}
 use Rattle.tb_keep_log.proofs.dumps.dump_record.Goals as goal
 
 whole : (bytes : List ℕ) → take (length bytes - 79) (drop 79 bytes) ≡ drop fixed_bytes bytes
 whole bytes = take_all (length bytes - 79) (drop 79 bytes) (omega (arith, length-drop 79 bytes))
 
+by : (profile : Profile) (clients_max last : ℕ) (S T : State) (bytes : List ℕ) (a b : Output) (result : Result (Unit {0}) DumpLogFault) → DumpsContent result S T (drop fixed_bytes bytes) a b
+    → DumpsRecord result profile clients_max last S T bytes a b
+by profile clients_max last S T bytes a b (Ok done) dumps = dumps
+by profile clients_max last S T bytes a b (Err fault) dumps = record_halts profile clients_max last S T bytes a b fault dumps
+
 pub returns-in-Ok : goal.returns-in-Ok
 returns-in-Ok g c =
-    subst (λ (bs : List ℕ). DumpsContent c.dump_content.result c.args.machine.now c.dump_content.new.machine bs (g.W.Sink.output c.args.writer.now) (g.W.Sink.output c.dump_content.new.writer))
-    (whole c.args.bytes.now) c.dump_content.ensures
+    by c.args.rules.profile c.args.rules.clients_max c.args.last c.args.machine.now c.dump_content.new.machine c.args.bytes.now (g.W.Sink.output c.args.writer.now) (g.W.Sink.output c.dump_content.new.writer)
+    c.dump_content.result
+    (subst (λ (bs : List ℕ). DumpsContent c.dump_content.result c.args.machine.now c.dump_content.new.machine bs (g.W.Sink.output c.args.writer.now) (g.W.Sink.output c.dump_content.new.writer))
+    (whole c.args.bytes.now) c.dump_content.ensures)
+
+pub returns-in-Err : goal.returns-in-Err
+returns-in-Err g c =
+    record_refused c.args.rules.profile c.args.rules.clients_max c.args.last c.args.machine.now c.args.machine.now c.args.bytes.now (g.W.Sink.output c.args.writer.now) c.in-Err.fault c.in-Err.ensures.refused

@@ -1,0 +1,26 @@
+use Rattle.std.proofs.Common.{Ok, Err, refl}
+use Rattle.tb_keep_follow.proofs.commands.command.Goals as goal
+
+pub returns-in-Ok : goal.returns-in-Ok
+returns-in-Ok g c = record {
+  performed = c.perform-done.result;
+  middle = _;
+  noted = _;
+  performs = c.perform-done.ensures;
+  outcome = Ok tt;
+  finishes = c.in-Ok.ensures;
+  status_is = refl;
+  line = refl;
+}
+
+pub returns-in-Err : goal.returns-in-Err
+returns-in-Err g c = record {
+  performed = c.perform-done.result;
+  middle = _;
+  noted = _;
+  performs = c.perform-done.ensures;
+  outcome = Err c.in-Err.fault;
+  finishes = c.in-Err.ensures;
+  status_is = c.status.ensures.value;
+  line = c.tell_fault.ensures;
+}

@@ -1,0 +1,23 @@
+use Rattle.std.proofs.Common.{Ok, Err, refl}
+use Rattle.tb_keep_follow.proofs.following.start.Goals as goal
+
+pub returns-in-Ok : goal.returns-in-Ok
+returns-in-Ok g c = record {
+  started = Ok c.in-Ok.keeper;
+  starts = λ t. record { answers = c.in-Ok.ensures.started t; cause = c.in-Ok.ensures.cause t; any_moment = c.in-Ok.ensures.any_moment t };
+  handed = c.in-Ok.ensures.handed;
+  follows = c.keep.ensures;
+}
+
+pub returns-in-Err : goal.returns-in-Err
+returns-in-Err g c = record {
+  started = Err c.in-Err.failed;
+  starts = λ t. record { answers = c.in-Err.ensures.refused t; cause = c.in-Err.ensures.cause t; any_moment = c.in-Err.ensures.any_moment t };
+  handed = c.in-Err.ensures.handed;
+  follows = record {
+    outcome_is = rw c.started_fault.ensures refl;
+    unread = refl;
+    unwritten = refl;
+    silent = refl;
+  };
+}

@@ -1,0 +1,50 @@
+-- How a form over a log ends: its outcome, exit status and line.
+-- Cited by public contracts of: commands.
+use Rattle.std.specs.Prelude.{ℕ, ◌≡◌, List, [], Ok, Err}
+use Rattle.tb_records.specs.Transport.{Input, Output, Sent, CutOff}
+use Rattle.tb_journal.specs.declared.devices.Device as devices
+use Rattle.tb_keep.specs.Reading.{rules_of}
+use Rattle.tb_keep_commands.specs.declared.faults.Failed.TheVariants as failed
+use Rattle.tb_keep_commands.specs.declared.faults.Fault.TheVariants.{Device}
+use Rattle.tb_keep_commands.specs.declared.openers.Opener as openers
+use Rattle.tb_keep_commands.specs.Statuses.{SaysLine}
+use Rattle.tb_keep_follow.specs.declared.arguments.Form.{Form}
+use Rattle.tb_keep_follow.specs.declared.arguments.Form.TheVariants as form
+use Rattle.tb_keep_follow.specs.declared.faults.FollowFault.TheVariants.{Kept}
+use Rattle.tb_keep_follow.specs.Faults.{follow_line, follow_status}
+use Rattle.tb_keep_follow.specs.Outcomes.{Outcome, FollowsOver, DumpsOver}
+
+-- what was held back went out where all was done; where it does not go out, that is the outcome
+abbrev pub Finishes : Type 0 → Outcome → Outcome → Output → Output → Type 0
+Finishes gone (Ok done) (Ok finished) middle written = gone × Sent [] middle written
+Finishes gone (Ok done) (Err fault) middle written = (fault ≡ Kept (Device failed.Output)) × CutOff [] middle written
+Finishes gone (Err fault) outcome middle written = (outcome ≡ Err fault) × (written ≡ middle)
+
+abbrev pub outcome_status : Outcome → ℕ
+outcome_status (Ok done) = 0
+outcome_status (Err fault) = follow_status fault
+
+-- nothing is told of a form that was done, and of a fault its line
+abbrev pub Tells : Outcome → List ℕ → Output → Output → Type 0
+Tells (Ok done) path before after = after ≡ before
+Tells (Err fault) path before after = SaysLine (follow_line fault path) before after
+
+module _ {D : Type 0} (file : devices.Ghosts D) {E : Type 0} (reading : devices.Ghosts E) {O : Type 0}
+    (opener : openers.Ghosts O D E) (before : O) (name : List ℕ) (left : O) where
+  -- what a form does over what opens devices: `follow` has the device of a name made where there is none, `dump` opens one that is there
+  abbrev pub Performs : Form → Outcome → Input → Input → Output → Output → Output → Output → Type 0
+  Performs (form.Follow clients_max profile) outcome first last start written quiet told =
+      FollowsOver file (opener.makes before name) left outcome (rules_of profile clients_max) name first last start written quiet told
+  Performs (form.Dump clients_max profile) outcome first last start written quiet told =
+      (last ≡ first) × (told ≡ quiet) × DumpsOver reading (opener.opens before name) left outcome (rules_of profile clients_max) start written
+
+  -- a form was done, or not to its end; what it wrote went out; and the exit status and the line are those of the outcome
+  pub record Exits (gone : Type 0) (form : Form) (status : ℕ) (first last : Input) (start written quiet told : Output) : Type 0 where
+    pub performed : Outcome
+    pub middle : Output
+    pub noted : Output
+    pub performs : Performs form performed first last start middle quiet noted
+    pub outcome : Outcome
+    pub finishes : Finishes gone performed outcome middle written
+    pub status_is : status ≡ outcome_status outcome
+    pub line : Tells outcome name noted told

@@ -1,0 +1,135 @@
+-- Why a form over a log ends, the exit status of each fault, and its line.
+-- Cited by public contracts of: faults.
+use Rattle.std.specs.Prelude.{ℕ, ◌≡◌, ◌++◌, List, [], codes, refl}
+use Rattle.std.specs.Fmt.{decimal, digits}
+use Rattle.tb_records.specs.Faults as frames
+use Rattle.tb_journal.specs.declared.opening.OpenFault.{OpenFault}
+use Rattle.tb_journal.specs.declared.opening.OpenFault.TheVariants as opened
+use Rattle.tb_journal.specs.declared.reading.Refusal.TheVariants as refusal
+use Rattle.tb_log.specs.Faults as logs
+use Rattle.tb_log.specs.declared.faults.LogFault.{LogFault}
+use Rattle.tb_log.specs.declared.faults.LogFault.TheVariants as log
+use Rattle.tb_keep_log.specs.Faults.{dump_fault_name}
+use Rattle.tb_keep_log.specs.declared.faults.DumpLogFault.{DumpLogFault}
+use Rattle.tb_keep_log.specs.declared.faults.DumpLogFault.TheVariants as dump
+use Rattle.tb_keep_log.specs.declared.faults.KeepLogFault.{KeepLogFault}
+use Rattle.tb_keep_log.specs.declared.faults.KeepLogFault.TheVariants as keep
+use Rattle.tb_keep_log.specs.declared.faults.LogStartFault.{LogStartFault}
+use Rattle.tb_keep_log.specs.declared.faults.LogStartFault.TheVariants as start
+use Rattle.tb_keep_commands.specs.declared.faults.Damage.TheVariants.{Torn}
+use Rattle.tb_keep_commands.specs.declared.faults.Failed.{Failed}
+use Rattle.tb_keep_commands.specs.declared.faults.Failed.TheVariants.{Output}
+use Rattle.tb_keep_commands.specs.declared.faults.Fault.{Fault}
+use Rattle.tb_keep_commands.specs.declared.faults.Fault.TheVariants.{Device, NoMemory, NotAJournal, Damaged, Full}
+use Rattle.tb_keep_commands.specs.declared.kinds.Kind.TheVariants as kind
+use Rattle.tb_keep_commands.specs.Statuses.{disk_fault, opened_fault, fault_status, fault_line}
+use Rattle.tb_keep_follow.specs.declared.faults.FollowFault.{FollowFault}
+use Rattle.tb_keep_follow.specs.declared.faults.FollowFault.TheVariants.{Kept, Plain, OtherRules, NoEntry, Entry, OtherHashes, Unwritten, Item}
+
+-- of a file that is no journal it is told that it does not begin as one
+abbrev pub journal_fault : OpenFault → Fault
+journal_fault (opened.Refused refusal.NotAJournal) = NotAJournal kind.Other
+journal_fault fault = opened_fault fault
+
+-- of a file that is not read or opened as a kept log
+abbrev pub started_fault : LogStartFault → FollowFault
+started_fault (start.Journal fault) = Kept (journal_fault fault)
+started_fault start.Plain = Plain
+started_fault start.OtherRules = OtherRules
+started_fault (start.NoEntry last) = NoEntry last
+started_fault (start.Entry fault) = Entry fault
+started_fault (start.OtherHashes position) = OtherHashes position
+started_fault start.NoMemory = Kept NoMemory
+started_fault (start.TornTooLong at bytes) = Kept (Damaged (Torn at bytes))
+
+-- of an item that is not served, where this pipe failed if one did
+abbrev pub item_fault : Failed → LogFault → FollowFault
+item_fault pipe log.Device = Kept (Device pipe)
+item_fault pipe log.NoMemory = Kept NoMemory
+item_fault pipe fault = Item fault
+
+abbrev pub kept_fault : Failed → KeepLogFault → FollowFault
+kept_fault pipe (keep.Log fault) = item_fault pipe fault
+kept_fault pipe (keep.Journal fault) = Kept (disk_fault fault)
+
+abbrev pub dumped_fault : DumpLogFault → FollowFault
+dumped_fault (dump.Start fault) = started_fault fault
+dumped_fault dump.NoMemory = Kept NoMemory
+dumped_fault dump.Writer = Kept (Device Output)
+dumped_fault fault = Unwritten fault
+
+-- the numbers of `tbd`: 2 an item is wrong, 5 a ledger without positions, 6 damaged, 7 other rules
+abbrev pub follow_status : FollowFault → ℕ
+follow_status (Kept fault) = fault_status fault
+follow_status (Item fault) = 2
+follow_status Plain = 5
+follow_status OtherRules = 7
+follow_status fault = 6
+
+-- lines: with a text, a number, a number and a text, a path
+abbrev pub text_line : List ℕ → List ℕ → List ℕ
+text_line first what = first ++ (what ++ codes "\n")
+
+abbrev pub number_line : List ℕ → ℕ → List ℕ
+number_line first number = (first ++ decimal number) ++ codes "\n"
+
+abbrev pub place_line : List ℕ → ℕ → List ℕ → List ℕ
+place_line first place what = ((first ++ decimal place) ++ (codes ": " ++ what)) ++ codes "\n"
+
+abbrev pub path_line : List ℕ → List ℕ → List ℕ → List ℕ
+path_line first path last = (first ++ (path ++ last)) ++ codes "\n"
+
+-- the position of a fault of an entry; 0 where it has none
+abbrev pub place_of : LogFault → ℕ
+place_of (log.Gap at) = at
+place_of (log.Repeat at) = at
+place_of (log.TooLong at) = at
+place_of (log.Damaged at) = at
+place_of (log.BadEntry at fault) = at
+place_of (log.TimeExhausted at) = at
+place_of fault = 0
+
+-- an item that is refused: what is wrong with it, and where
+abbrev pub item_line : LogFault → List ℕ
+item_line (log.UnknownKind kind) = number_line (codes "tbd: UnknownKind ") kind
+item_line (log.Gap at) = number_line (codes "tbd: Gap at ") at
+item_line (log.Repeat at) = number_line (codes "tbd: Repeat at ") at
+item_line (log.TooLong at) = number_line (codes "tbd: TooLong at ") at
+item_line (log.Damaged at) = number_line (codes "tbd: Damaged at ") at
+item_line (log.TimeExhausted at) = number_line (codes "tbd: TimeExhausted at ") at
+item_line (log.BadEntry at fault) = place_line (codes "tbd: BadEntry at ") at (frames.fault_name fault)
+item_line fault = text_line (codes "tbd: ") (logs.fault_name fault)
+
+-- the line of a fault over a file of this path
+abbrev pub follow_line : FollowFault → List ℕ → List ℕ
+follow_line (Kept fault) path = fault_line fault path
+follow_line Plain path = path_line (codes "tbd: Plain: ") path (codes " is a ledger without positions; tbd run serves it")
+follow_line OtherRules path = path_line (codes "tbd: OtherRules: ") path (codes " was made with another profile or number of clients")
+follow_line (NoEntry last) path = number_line (codes "tbd: Damaged: NoEntry behind position ") last
+follow_line (Entry fault) path = place_line (codes "tbd: Damaged: entry ") (place_of fault) (logs.fault_name fault)
+follow_line (OtherHashes position) path = number_line (codes "tbd: Damaged: OtherHashes at position ") position
+follow_line (Unwritten fault) path = text_line (codes "tbd: Damaged: ") (dump_fault_name fault)
+follow_line (Item fault) path = item_line fault
+
+-- what a start says that serves: the position of the last entry that the file has. The log is wanted behind it
+abbrev pub wanted_line : ℕ → List ℕ
+wanted_line position = number_line (codes "tbd: has the log up to position ") position
+
+-- rows
+
+pub line_of_a_gap : follow_line (Item (log.Gap 2)) [] ≡ codes "tbd: Gap at 2\n"
+unfolding digits
+line_of_a_gap = refl
+
+pub line_of_a_plain_ledger : follow_line Plain (codes "ledger") ≡ codes "tbd: Plain: ledger is a ledger without positions; tbd run serves it\n"
+line_of_a_plain_ledger = refl
+
+pub line_of_a_position : wanted_line 12 ≡ codes "tbd: has the log up to position 12\n"
+unfolding digits
+line_of_a_position = refl
+
+pub status_of_a_plain_ledger : follow_status Plain ≡ 5
+status_of_a_plain_ledger = refl
+
+pub status_of_a_full_disk : follow_status (Kept Full) ≡ 8
+status_of_a_full_disk = refl

@@ -1,0 +1,42 @@
+-- What a form over a log does between a std reader and a std writer, each behind a buffer.
+-- Cited by public contracts of: host.
+use Rattle.std.specs.Prelude.{ℕ, ◌≡◌, ◌^◌, List, []}
+use Rattle.std.specs.Io.Buffered.{reader_buffer, reader_capacity, reader_inner, writer_buffer, writer_inner}
+use Rattle.std.specs.declared.io.buffered.BufReader.{BufReader}
+use Rattle.std.specs.declared.io.buffered.BufWriter.{BufWriter}
+use Rattle.std.specs.declared.alloc.Global.{Global}
+use Rattle.std.specs.Prelude.{Option}
+use Rattle.tb_records.specs.Transport.{Output}
+use Rattle.tb_journal.specs.declared.devices.Device as devices
+use Rattle.tb_keep_commands.specs.declared.openers.Opener as openers
+use Rattle.tb_keep_commands.specs.Hosts.{input_of, output_of}
+use Rattle.tb_keep_commands.specs.Outlets.{Watched, outgoing}
+use Rattle.tb_keep_follow.specs.declared.arguments.Form.{Form}
+use Rattle.tb_keep_follow.specs.declared.arguments.Form.TheVariants as form
+use Rattle.tb_keep_follow.specs.Exits.{Exits}
+
+-- the bytes of input that a form holds at a time; a dump reads none
+abbrev pub input_size : Form → ℕ
+input_size (form.Follow clients_max profile) = 2 ^ 20
+input_size (form.Dump clients_max profile) = 0
+
+module _ {D : Type 0} (file : devices.Ghosts D) {E : Type 0} (reading : devices.Ghosts E) {O : Type 0}
+    (opener : openers.Ghosts O D E) (before left : O) {R W : Type 0} (remaining : R → Option (List ℕ)) (contents : W → Option (List ℕ)) where
+  -- a form was done, or not to its end; where it was done the buffer of the output is empty at its end
+  pub record Hosted (form : Form) (name : List ℕ) (status : ℕ) (input : BufReader R Global) (output : BufWriter W Global)
+      (quiet told : Output) : Type 0 where
+    pub last : Watched (BufReader R Global)
+    pub final : Watched (BufWriter W Global)
+    pub exits : Exits file reading opener before name left (writer_buffer final.inner ≡ []) form status
+        (input_of remaining (outgoing input)) (input_of remaining last) (output_of contents (outgoing output)) (output_of contents final) quiet told
+
+  -- over an input and an output, each behind a buffer with nothing in it
+  pub record Serves (form : Form) (name : List ℕ) (status : ℕ) (input : R) (output : W) (quiet told : Output) : Type 0 where
+    pub reader : BufReader R Global
+    pub of_input : reader_inner reader ≡ input
+    pub read_ahead : reader_buffer reader ≡ []
+    pub holds_input : reader_capacity reader ≡ input_size form
+    pub writer : BufWriter W Global
+    pub of_output : writer_inner writer ≡ output
+    pub held_back : writer_buffer writer ≡ []
+    pub hosted : Hosted form name status reader writer quiet told

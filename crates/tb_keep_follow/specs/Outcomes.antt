@@ -1,0 +1,144 @@
+-- What each form over a log does, and its outcome.
+-- Public contracts reach it through: Exits.
+use Rattle.std.specs.Prelude.{ℕ, true, ◌≡◌, ◌-◌, List, length, Result, Ok, Err, IfOk, MatchResult}
+use Rattle.tb_records.specs.Transport.{Input, Output}
+use Rattle.tb_journal.specs.declared.devices.Device as devices
+use Rattle.tb_journal.specs.declared.faults.Fault as journal
+use Rattle.tb_journal.specs.declared.reading.Extent.{Extent}
+use Rattle.tb_journal.specs.Device.{Looks, LeavesOnly}
+use Rattle.tb_log.specs.Following.{Following}
+use Rattle.tb_keep.specs.declared.heads.Rules.{Rules}
+use Rattle.tb_keep.specs.Opening.{IsUntouched}
+use Rattle.tb_keep_log.specs.declared.faults.DumpLogFault.{DumpLogFault}
+use Rattle.tb_keep_log.specs.declared.faults.KeepLogFault.{KeepLogFault}
+use Rattle.tb_keep_log.specs.declared.faults.LogStartFault.{LogStartFault}
+use Rattle.tb_keep_log.specs.declared.opening.NotStarted.{NotStarted}
+use Rattle.tb_keep_log.specs.Dumping.{DumpsLog}
+use Rattle.tb_keep_log.specs.Keeping.{Keeping}
+use Rattle.tb_keep_log.specs.Opening.{HasStartCause, IsRefused, IsStarted, MayBeStarted, StartsFile, device_left, why_left}
+use Rattle.tb_keep_log.specs.Restoring.{HasLogCause, IsRestored, StopsReading}
+use Rattle.tb_keep_log.specs.Serving.{Served, point}
+use Rattle.tb_keep_commands.specs.declared.faults.Failed.{Failed}
+use Rattle.tb_keep_commands.specs.declared.faults.Fault.TheVariants.{Opening}
+use Rattle.tb_keep_commands.specs.declared.openers.OpeningFault.{OpeningFault}
+use Rattle.tb_keep_commands.specs.Outcomes.{IsAsked}
+use Rattle.tb_keep_commands.specs.Statuses.{SaysLine, TellsCut, TellsMade, disk_fault, failed_pipe}
+use Rattle.tb_keep_follow.specs.declared.faults.FollowFault.{FollowFault}
+use Rattle.tb_keep_follow.specs.declared.faults.FollowFault.TheVariants.{Kept}
+use Rattle.tb_keep_follow.specs.Faults.{started_fault, kept_fault, dumped_fault, wanted_line}
+
+-- done, or not to its end
+abbrev pub Outcome : Type 0
+Outcome = Result (Unit {0}) FollowFault
+
+-- a log was followed to its end, or why not
+abbrev pub kept_outcome : Failed → Result ℕ KeepLogFault → Outcome
+kept_outcome pipe (Ok position) = Ok tt
+kept_outcome pipe (Err fault) = Err (kept_fault pipe fault)
+
+-- a dump was written, or why not
+abbrev pub dumped_outcome : Result (Unit {0}) DumpLogFault → Outcome
+dumped_outcome (Ok done) = Ok tt
+dumped_outcome (Err fault) = Err (dumped_fault fault)
+
+-- a file was read to its end, each record that of the next entry of one log of these rules; or why not
+abbrev pub ReadsLog : Result (Unit {0}) LogStartFault → Rules → List ℕ → Type 0
+ReadsLog (Ok done) rules file = (F : Following) × (extent : Extent) × IsRestored rules.profile rules.clients_max file F extent
+ReadsLog (Err fault) rules file = StopsReading fault rules.profile rules.clients_max file
+
+module _ {D : Type 0} (its : devices.Ghosts D) where
+  -- of the file that the reads of a device are of
+  abbrev pub OfFile : D → (List ℕ → Type 0) → Type 0
+  OfFile device Is = (file : List ℕ) → its.holds device file → Is file
+
+  -- a device was read to the end of its file, as one log, or it is told why not; the file stays
+  pub record IsReadWhole (read : Result (Unit {0}) LogStartFault) (rules : Rules) (device after : D) : Type 0 where
+    pub found : OfFile device (ReadsLog read rules)
+    pub same : OfFile device (its.holds after)
+    pub untouched : its.tells → IsUntouched (its.disk device) (its.disk after)
+    pub cause : its.tells → HasLogCause read (its.disk device) (its.disk after)
+
+  -- the dump of a log of these rules was written, or as much of it as the answer says; the file stays
+  pub record IsDumped (result : Result (Unit {0}) DumpLogFault) (rules : Rules) (device after : D) (start written : Output) : Type 0 where
+    pub dumps : OfFile device (λ file. DumpsLog result rules.profile rules.clients_max file start written)
+    pub same : OfFile device (its.holds after)
+    pub untouched : its.tells → IsUntouched (its.disk device) (its.disk after)
+
+  -- the dump of a file that was read was written, or why not
+  pub record DumpsRead (outcome : Outcome) (rules : Rules) (device after : D) (start written : Output) : Type 0 where
+    pub result : Result (Unit {0}) DumpLogFault
+    pub dumped : IsDumped result rules device after start written
+    pub outcome_is : outcome ≡ dumped_outcome result
+
+  -- a file was read to its end before a byte of its dump was written: of one that is refused nothing was
+  pub record DumpsFile (outcome : Outcome) (rules : Rules) (device after : D) (start written : Output) : Type 0 where
+    pub read : Result (Unit {0}) LogStartFault
+    pub between : D
+    pub whole : IsReadWhole read rules device between
+    pub dumps : MatchResult read (λ done. DumpsRead outcome rules between after start written)
+        (λ fault. (outcome ≡ Err (started_fault fault)) × (after ≡ between) × (written ≡ start))
+
+  -- that its start made a file where there were no bytes was told, and what it cut off behind the records of one of so many bytes, and from
+  -- which position the log is wanted; then a log was kept
+  pub record FollowsKept (outcome : Outcome) (keeper : Keeping D) (path : List ℕ) (len : ℕ) (first last : Input)
+      (start written quiet told : Output) : Type 0 where
+    pub noted : Output
+    pub made : TellsMade len path quiet noted
+    pub started : Output
+    pub cut : TellsCut keeper.cut (len - keeper.cut - 1) noted started
+    pub wanted : SaysLine (wanted_line keeper.now.position) started told
+    pub result : Result ℕ KeepLogFault
+    pub after : Keeping D
+    pub served : Served its.tells its.disk keeper.rules.profile keeper.rules.clients_max result (point keeper.now keeper.journal first start)
+        (point after.now after.journal last written)
+    pub outcome_is : outcome ≡ kept_outcome (failed_pipe first.failed last.failed) result
+
+  -- what a start over a device answers, of one that tells what its calls do; of a log that is kept, where no sync has failed before
+  pub record Starts (result : Result (Keeping D) (NotStarted D)) (rules : Rules) (device : D) : Type 0 where
+    pub answers : MatchResult result (λ keeper. (its.disk device).sound ≡ true → IsStarted its.disk (its.disk device).seen keeper)
+        (λ failed. IsRefused failed.fault rules.profile rules.clients_max (its.disk device) (its.disk failed.device))
+    pub cause : HasStartCause (why_left result) (its.disk device) (its.disk (device_left result))
+    -- a crash at any moment of it, where none has
+    pub any_moment : (its.disk device).sound ≡ true → LeavesOnly (its.disk device) (its.disk (device_left result)) (MayBeStarted (its.disk device))
+
+  -- a start was refused; nothing was read, written or told but why
+  pub record IsUnstarted (fault : LogStartFault) (outcome : Outcome) (first last : Input) (start written quiet told : Output) : Type 0 where
+    pub outcome_is : outcome ≡ Err (started_fault fault)
+    pub unread : last ≡ first
+    pub unwritten : written ≡ start
+    pub silent : told ≡ quiet
+
+  -- a log was started over a file of so many bytes; it was kept, or is refused
+  pub record FollowsLong (outcome : Outcome) (rules : Rules) (path : List ℕ) (len : ℕ) (device : D) (first last : Input)
+      (start written quiet told : Output) : Type 0 where
+    pub started : Result (Keeping D) (NotStarted D)
+    pub starts : its.tells → Starts started rules device
+    pub handed : OfFile device (StartsFile started rules.profile rules.clients_max)
+    pub follows : MatchResult started (λ keeper. FollowsKept outcome keeper path len first last start written quiet told)
+        (λ failed. IsUnstarted failed.fault outcome first last start written quiet told)
+
+  -- the length of the file of this path was asked for, and then a log of these rules was started over it, and kept
+  pub record FollowsFile (outcome : Outcome) (rules : Rules) (path : List ℕ) (device : D) (first last : Input)
+      (start written quiet told : Output) : Type 0 where
+    pub len : Result ℕ journal.Fault
+    pub between : D
+    pub asked : IsAsked its len device between
+    pub follows : MatchResult len (λ n. FollowsLong outcome rules path n between first last start written quiet told)
+        (λ fault. (outcome ≡ Err (Kept (disk_fault fault))) × (last ≡ first) × (written ≡ start) × (told ≡ quiet))
+
+-- an opening may answer so, and leave what opens like this: with a device that was done; at a fault nothing was
+pub record Opens {D O : Type 0} (may : Result D OpeningFault → O → Type 0) (left : O) (outcome : Outcome) (Nothing : Type 0)
+    (Does : D → Type 0) : Type 0 where
+  pub answer : Result D OpeningFault
+  pub answered : may answer left
+  pub done : MatchResult answer Does (λ fault. (outcome ≡ Err (Kept (Opening fault))) × Nothing)
+
+module _ {D : Type 0} (its : devices.Ghosts D) {O : Type 0} (may : Result D OpeningFault → O → Type 0) (left : O) where
+  abbrev pub FollowsOver : Outcome → Rules → List ℕ → Input → Input → Output → Output → Output → Output → Type 0
+  FollowsOver outcome rules path first last start written quiet told =
+      Opens may left outcome ((last ≡ first) × (written ≡ start) × (told ≡ quiet))
+      (λ device. FollowsFile its outcome rules path device first last start written quiet told)
+
+  abbrev pub DumpsOver : Outcome → Rules → Output → Output → Type 0
+  DumpsOver outcome rules start written =
+      Opens may left outcome (written ≡ start) (λ device. (after : D) × DumpsFile its outcome rules device after start written)

@@ -1,0 +1,126 @@
+//! The forms over a log, over what opens devices, any reader and any writer, and the exit status of each outcome.
+ghost use Rattle.std.specs.Prelude.{◌≡◌};
+ghost use Rattle.tb_keep_follow.specs.Exits.{Performs, Finishes, Exits};
+ghost use Rattle.tb_keep_follow.specs.Outcomes.{FollowsOver, DumpsOver};
+
+use crate::arguments::Form;
+use crate::dumping::dump;
+use crate::faults::FollowFault;
+use crate::following::follow;
+use crate::lines::tell_fault;
+use std::alloc::Global;
+use tb_keep::Rules;
+use tb_keep_commands::{Failed, Fault, Opener, Outlet};
+use tb_records::{Sink, Source};
+
+/// Follows a log over the device of a path, which is made where there is none.
+fn follow_over<O: Opener, R: Source, W: Sink, E: Sink>(
+    alloc: Global,
+    opener: &mut O,
+    rules: Rules,
+    path: &str,
+    reader: &mut R,
+    writer: &mut W,
+    faults: &mut E,
+) -> Result<(), FollowFault>
+    ensures { FollowsOver O.File.Device (O.makes opener.old path.now) opener.new result rules path.now
+        (R.input reader.old) (R.input reader.new) (W.output writer.old) (W.output writer.new)
+        (E.output faults.old) (E.output faults.new) }
+{
+    match opener.make(path) {
+        Ok(device) => follow(alloc, rules, device, path, reader, writer, faults),
+        Err(fault) => Err(FollowFault::Kept(Fault::Opening(fault))),
+    }
+}
+
+/// Writes the dump of the device of a path.
+fn dump_over<O: Opener, W: Sink>(
+    alloc: Global,
+    opener: &mut O,
+    rules: Rules,
+    path: &str,
+    writer: &mut W,
+) -> Result<(), FollowFault>
+    ensures { DumpsOver O.Reading.Device (O.opens opener.old path.now) opener.new result rules
+        (W.output writer.old) (W.output writer.new) }
+{
+    match opener.open(path) {
+        Ok(device) => {
+            let mut device = device;
+            let dumped = dump(alloc, rules, &mut device, writer);
+            drop(device);
+            dumped
+        }
+        Err(fault) => Err(FollowFault::Kept(Fault::Opening(fault))),
+    }
+}
+
+/// Does what the form asks for, over the device of a path.
+fn perform<O: Opener, R: Source, W: Sink, E: Sink>(
+    alloc: Global,
+    opener: &mut O,
+    form: Form,
+    path: &str,
+    reader: &mut R,
+    writer: &mut W,
+    faults: &mut E,
+) -> Result<(), FollowFault>
+    ensures { Performs O.File.Device O.Reading.Device O.Opener opener.old path.now opener.new form result
+        (R.input reader.old) (R.input reader.new) (W.output writer.old) (W.output writer.new)
+        (E.output faults.old) (E.output faults.new) }
+{
+    match form {
+        Form::Follow(clients_max, profile) => {
+            let rules = Rules {
+                profile,
+                clients_max,
+            };
+            follow_over(alloc, opener, rules, path, reader, writer, faults)
+        }
+        Form::Dump(clients_max, profile) => {
+            let rules = Rules {
+                profile,
+                clients_max,
+            };
+            dump_over(alloc, opener, rules, path, writer)
+        }
+    }
+}
+
+/// Sends what a writer holds back where all was done.
+fn finish<W: Outlet>(done: Result<(), FollowFault>, writer: &mut W) -> Result<(), FollowFault>
+    ensures { Finishes (W.gone writer.new) done result (W.output writer.old) (W.output writer.new) }
+{
+    match done {
+        Ok(()) => match writer.finish() {
+            Ok(()) => Ok(()),
+            Err(_) => Err(FollowFault::Kept(Fault::Device(Failed::Output))),
+        },
+        Err(fault) => Err(fault),
+    }
+}
+
+/// Does what the form asks for over the device of a path, and returns the exit status: 0 done, else that of the fault, whose line goes to
+/// `faults`. There a start of `follow` says first what it made of the file, and from which position the log is wanted.
+pub fn command<O: Opener, R: Source, W: Outlet, E: Sink>(
+    alloc: Global,
+    opener: &mut O,
+    form: Form,
+    path: &str,
+    reader: &mut R,
+    writer: &mut W,
+    faults: &mut E,
+) -> u8
+    ensures { Exits O.File.Device O.Reading.Device O.Opener opener.old path.now opener.new (W.gone writer.new) form
+        result (R.input reader.old) (R.input reader.new) (W.output writer.old) (W.output writer.new)
+        (E.output faults.old) (E.output faults.new) }
+{
+    let done = perform(alloc, opener, form, path, reader, writer, faults);
+    match finish(done, writer) {
+        Ok(()) => 0,
+        Err(fault) => {
+            tell_fault(fault, path, faults);
+            fault.status()
+        }
+    }
+}

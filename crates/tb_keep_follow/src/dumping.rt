@@ -1,0 +1,66 @@
+//! The history of a log as a dump.
+ghost use Rattle.std.specs.Prelude.{◌≡◌, ℕ, List};
+ghost use Rattle.tb_keep.specs.Opening.{IsUntouched};
+ghost use Rattle.tb_keep_log.specs.Restoring.{HasLogCause};
+ghost use Rattle.tb_keep_follow.specs.Outcomes.{ReadsLog, DumpsRead, DumpsFile, dumped_outcome};
+
+use crate::faults::{FollowFault, dumped_fault, started_fault};
+use std::alloc::Global;
+use tb_journal::Device;
+use tb_keep::Rules;
+use tb_keep_log::{DumpLogFault, LogStartFault, read_log, write_log_dump};
+use tb_records::Sink;
+
+/// Reads a whole file, whose records are the entries of one log.
+fn read_whole<D: Device>(alloc: Global, rules: Rules, device: &mut D) -> Result<(), LogStartFault>
+    ensures found { (file : List ℕ) → D.holds device.old file → ReadsLog result rules file }
+    ensures same { (file : List ℕ) → D.holds device.old file → D.holds device.new file }
+    ensures untouched { D.tells → IsUntouched (D.disk device.old) (D.disk device.new) }
+    ensures cause { D.tells → HasLogCause result (D.disk device.old) (D.disk device.new) }
+{
+    match read_log(alloc, alloc, rules, device) {
+        Ok((follower, _)) => {
+            drop(follower);
+            Ok(())
+        }
+        Err(fault) => Err(fault),
+    }
+}
+
+/// What becomes of a dump.
+fn dumped_outcome(dumped: Result<(), DumpLogFault>) -> Result<(), FollowFault>
+    ensures { result ≡ dumped_outcome dumped }
+{
+    match dumped {
+        Ok(()) => Ok(()),
+        Err(fault) => Err(dumped_fault(fault)),
+    }
+}
+
+/// Writes the dump of a file that was read.
+fn dump_read<D: Device, W: Sink>(
+    alloc: Global,
+    rules: Rules,
+    device: &mut D,
+    writer: &mut W,
+) -> Result<(), FollowFault>
+    ensures { DumpsRead D.Device result rules device.old device.new (W.output writer.old) (W.output writer.new) }
+{
+    dumped_outcome(write_log_dump(alloc, device, rules, writer))
+}
+
+/// Writes the history of a log as a dump, without positions. The file is read twice: before anything is written all of it was read.
+pub(crate) fn dump<D: Device, W: Sink>(
+    alloc: Global,
+    rules: Rules,
+    device: &mut D,
+    writer: &mut W,
+) -> Result<(), FollowFault>
+    ensures { DumpsFile D.Device result rules device.old device.new (W.output writer.old) (W.output writer.new) }
+{
+    let same = rules;
+    match read_whole(alloc, same, device) {
+        Ok(()) => dump_read(alloc, rules, device, writer),
+        Err(fault) => Err(started_fault(fault)),
+    }
+}

@@ -1,0 +1,106 @@
+//! Why a form over a log ends with a status other than 0.
+ghost use Rattle.std.specs.Prelude.{◌≡◌, ◌<◌};
+ghost use Rattle.tb_keep_follow.specs.Faults.{journal_fault, started_fault, item_fault, kept_fault, dumped_fault, follow_status};
+
+use tb_journal::{OpenFault, Refusal};
+use tb_keep_commands::{Damage, Failed, Fault, Kind, disk_fault, opened_fault};
+use tb_keep_log::{DumpLogFault, KeepLogFault, LogStartFault};
+use tb_log::LogFault;
+
+/// Why a form over a log ends with a status other than 0.
+#[derive(Clone, Copy, Debug, PartialEq, Eq)]
+pub enum FollowFault {
+    /// A fault that the forms over a ledger have too.
+    Kept(Fault),
+    /// The file is a ledger without positions.
+    Plain,
+    /// The file was made with another profile, or for another number of clients.
+    OtherRules,
+    /// The record behind the entry of this position is that of no entry.
+    NoEntry(u64),
+    /// The entry of a record cannot be served.
+    Entry(LogFault),
+    /// The record of the entry at this position has another position or other hashes than that entry leaves behind.
+    OtherHashes(u64),
+    /// A record of a file that was read has no pairs now, or no time is left for them.
+    Unwritten(DumpLogFault),
+    /// The next item is none, or is not the next one.
+    Item(LogFault),
+}
+
+/// The fault of a journal that is not read or opened.
+fn journal_fault(fault: OpenFault) -> Fault
+    ensures { result ≡ journal_fault fault }
+{
+    match fault {
+        OpenFault::Refused(Refusal::NotAJournal) => Fault::NotAJournal(Kind::Other),
+        fault => opened_fault(fault),
+    }
+}
+
+/// The fault of a file that is not read or opened as a kept log.
+pub(crate) fn started_fault(fault: LogStartFault) -> FollowFault
+    ensures { result ≡ started_fault fault }
+{
+    match fault {
+        LogStartFault::Journal(fault) => FollowFault::Kept(journal_fault(fault)),
+        LogStartFault::Plain => FollowFault::Plain,
+        LogStartFault::OtherRules => FollowFault::OtherRules,
+        LogStartFault::NoEntry(last) => FollowFault::NoEntry(last),
+        LogStartFault::Entry(fault) => FollowFault::Entry(fault),
+        LogStartFault::OtherHashes(position) => FollowFault::OtherHashes(position),
+        LogStartFault::NoMemory => FollowFault::Kept(Fault::NoMemory),
+        LogStartFault::TornTooLong { at, bytes } => {
+            FollowFault::Kept(Fault::Damaged(Damage::Torn { at, bytes }))
+        }
+    }
+}
+
+/// The fault of an item that is not served, or of its answer, where this pipe failed if one did.
+fn item_fault(fault: LogFault, pipe: Failed) -> FollowFault
+    ensures { result ≡ item_fault pipe fault }
+{
+    match fault {
+        LogFault::Device => FollowFault::Kept(Fault::Device(pipe)),
+        LogFault::NoMemory => FollowFault::Kept(Fault::NoMemory),
+        fault => FollowFault::Item(fault),
+    }
+}
+
+/// The fault that a log ends with, where this pipe failed if one did.
+pub(crate) fn kept_fault(fault: KeepLogFault, pipe: Failed) -> FollowFault
+    ensures { result ≡ kept_fault pipe fault }
+{
+    match fault {
+        KeepLogFault::Log(fault) => item_fault(fault, pipe),
+        KeepLogFault::Journal(fault) => FollowFault::Kept(disk_fault(fault)),
+    }
+}
+
+/// The fault of a dump that is not written.
+pub(crate) fn dumped_fault(fault: DumpLogFault) -> FollowFault
+    ensures { result ≡ dumped_fault fault }
+{
+    match fault {
+        DumpLogFault::Start(fault) => started_fault(fault),
+        DumpLogFault::NoMemory => FollowFault::Kept(Fault::NoMemory),
+        DumpLogFault::Writer => FollowFault::Kept(Fault::Device(Failed::Output)),
+        fault => FollowFault::Unwritten(fault),
+    }
+}
+
+impl FollowFault {
+    /// The exit status.
+    pub fn status(self) -> u8
+        ensures failing { 0 < result }
+        ensures value { result ≡ follow_status self }
+    {
+        match self {
+            FollowFault::Kept(fault) => fault.status(),
+            FollowFault::Item(_) => 2,
+            FollowFault::Plain => 5,
+            FollowFault::OtherRules => 7,
+            _ => 6,
+        }
+    }
+}

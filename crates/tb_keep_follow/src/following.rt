@@ -1,0 +1,112 @@
+//! A log followed over a device.
+ghost use Rattle.std.specs.Prelude.{◌≡◌, true};
+ghost use Rattle.tb_journal.specs.Ready.{IsReady};
+ghost use Rattle.tb_keep_commands.specs.Statuses.{failed_pipe};
+ghost use Rattle.tb_keep_log.specs.Keeping.{IsUsable};
+ghost use Rattle.tb_keep_follow.specs.Outcomes.{FollowsKept, FollowsLong, FollowsFile, kept_outcome};
+
+use crate::faults::{FollowFault, kept_fault, started_fault};
+use crate::lines::tell_wanted;
+use bumpalo::Bump;
+use std::alloc::{Allocator, Global};
+use tb_journal::Device;
+use tb_keep::Rules;
+use tb_keep_commands::{Failed, disk_fault, failed_pipe, tell_cut, tell_made};
+use tb_keep_log::{KeepLogFault, LogKeeper, keep_log};
+use tb_records::{Sink, Source};
+
+/// What is told of a log that ended so.
+fn kept_outcome(kept: Result<u64, KeepLogFault>, pipe: Failed) -> Result<(), FollowFault>
+    ensures { result ≡ kept_outcome pipe kept }
+{
+    match kept {
+        Ok(_) => Ok(()),
+        Err(fault) => Err(kept_fault(fault, pipe)),
+    }
+}
+
+/// Follows a log until it ends. What its start made of the file of this path is told first: where it had no bytes it was made, and else
+/// what was cut off behind the records; and then from which position the log is wanted.
+fn keep<D: Device + Drop, A: Allocator + Clone, R: Source, W: Sink, E: Sink>(
+    alloc: Global,
+    keeper: LogKeeper<D, A>,
+    path: &str,
+    len: usize,
+    reader: &mut R,
+    writer: &mut W,
+    faults: &mut E,
+) -> Result<(), FollowFault>
+    requires usable { IsUsable keeper }
+    requires ready { D.tells → IsReady D.disk keeper.journal }
+    ensures { FollowsKept D.Device result keeper path.now len (R.input reader.old) (R.input reader.new)
+        (W.output writer.old) (W.output writer.new) (E.output faults.old) (E.output faults.new) }
+{
+    let mut keeper = keeper;
+    let cut = keeper.cut_bytes();
+    let at = (len as u64).saturating_sub(cut).saturating_sub(1);
+    tell_made(len, path, faults);
+    tell_cut(cut, at, faults);
+    tell_wanted(keeper.position(), faults);
+    let failures = reader.failures();
+    let kept = keep_log(alloc, &mut keeper, reader, writer);
+    drop(keeper);
+    kept_outcome(kept, failed_pipe(failures, reader.failures()))
+}
+
+/// Opens a log over a device, or creates one, and follows it until it ends. The machine's records take their memory of the pool. So many
+/// bytes were in the file before.
+fn start<D: Device + Drop, A: Allocator + Copy, R: Source, W: Sink, E: Sink>(
+    alloc: Global,
+    pool: A,
+    path: &str,
+    len: usize,
+    device: D,
+    rules: Rules,
+    reader: &mut R,
+    writer: &mut W,
+    faults: &mut E,
+) -> Result<(), FollowFault>
+    requires { D.tells → (D.disk device).sound ≡ true }
+    ensures { FollowsLong D.Device result rules path.now len device (R.input reader.old) (R.input reader.new)
+        (W.output writer.old) (W.output writer.new) (E.output faults.old) (E.output faults.new) }
+{
+    match LogKeeper::start(alloc, pool, device, rules) {
+        Ok(keeper) => keep(alloc, keeper, path, len, reader, writer, faults),
+        Err(failed) => {
+            let fault = failed.fault;
+            drop(failed);
+            Err(started_fault(fault))
+        }
+    }
+}
+
+/// Follows a log over the device of a path, whose length is asked for first. The machine has its records in a pool.
+pub(crate) fn follow<D: Device + Drop, R: Source, W: Sink, E: Sink>(
+    alloc: Global,
+    rules: Rules,
+    device: D,
+    path: &str,
+    reader: &mut R,
+    writer: &mut W,
+    faults: &mut E,
+) -> Result<(), FollowFault>
+    requires { D.tells → (D.disk device).sound ≡ true }
+    ensures { FollowsFile D.Device result rules path.now device (R.input reader.old) (R.input reader.new)
+        (W.output writer.old) (W.output writer.new) (E.output faults.old) (E.output faults.new) }
+{
+    let mut device = device;
+    match device.len() {
+        Ok(len) => {
+            let pool = Bump::new(alloc);
+            let followed = start(
+                alloc, &pool, path, len, device, rules, reader, writer, faults,
+            );
+            drop(pool);
+            followed
+        }
+        Err(fault) => {
+            drop(device);
+            Err(FollowFault::Kept(disk_fault(fault)))
+        }
+    }
+}

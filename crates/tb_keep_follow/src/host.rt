@@ -1,0 +1,69 @@
+//! The way from a program's arguments, input and output to its commands.
+ghost use Rattle.std.specs.Prelude.{◌≡◌, ◌⊎◌};
+ghost use Rattle.tb_keep_commands.specs.Hosts.{WantsMemory};
+ghost use Rattle.tb_keep_follow.specs.Hosts.{input_size, Hosted, Serves};
+
+use crate::arguments::Form;
+use crate::commands::command;
+use std::alloc::Global;
+use std::io::{BufReader, BufWriter, Read, Write};
+use tb_keep_commands::{Fault, Opener, Outgoing, refuse};
+use tb_records::{Buffered, Sink};
+
+/// The bytes of input that `follow` holds at a time.
+const INPUT: usize = 1 << 20;
+
+/// The bytes of output that `dump` holds at a time.
+const OUTPUT: usize = 1 << 16;
+
+/// The bytes that a form's reader and writer hold. Replies are written at once.
+fn capacities(form: &Form) -> (usize, usize)
+    ensures { result.0 ≡ input_size form.now }
+{
+    match form {
+        Form::Follow(_, _) => (INPUT, 0),
+        Form::Dump(_, _) => (0, OUTPUT),
+    }
+}
+
+/// Serves a form between a reader and a writer with a buffer each.
+fn between<O: Opener, R: Read + Drop, W: Write + Drop, E: Sink>(
+    alloc: Global,
+    opener: &mut O,
+    form: Form,
+    path: &str,
+    input: BufReader<R>,
+    output: BufWriter<W>,
+    faults: &mut E,
+) -> u8
+    ensures { Hosted O.File.Device O.Reading.Device O.Opener opener.old opener.new R.remaining W.contents
+        form path.now result input output (E.output faults.old) (E.output faults.new) }
+{
+    let mut reader = Buffered::new(input);
+    let mut writer = Outgoing::new(output);
+    command(alloc, opener, form, path, &mut reader, &mut writer, faults)
+}
+
+/// Serves a form over the file of a path, between an input and an output, both buffered, and returns the exit status.
+pub fn serve<O: Opener, R: Read + Drop, W: Write + Drop, E: Sink>(
+    alloc: Global,
+    opener: &mut O,
+    form: Form,
+    path: &str,
+    input: R,
+    output: W,
+    faults: &mut E,
+) -> u8
+    ensures { Serves O.File.Device O.Reading.Device O.Opener opener.old opener.new R.remaining W.contents
+        form path.now result input output (E.output faults.old) (E.output faults.new)
+        ⊎ WantsMemory opener.old opener.new result (E.output faults.old) (E.output faults.new) }
+{
+    let (held_in, held_out) = capacities(&form);
+    let Ok(input) = BufReader::with_capacity(alloc, held_in, input) else {
+        return refuse(Fault::NoMemory, faults);
+    };
+    let Ok(output) = BufWriter::with_capacity(alloc, held_out, output) else {
+        return refuse(Fault::NoMemory, faults);
+    };
+    between(alloc, opener, form, path, input, output, faults)
+}

@@ -1,0 +1,80 @@
+//! The lines of standard error.
+ghost use Rattle.std.specs.Prelude.{◌≡◌, codes};
+ghost use Rattle.tb_keep_commands.specs.Statuses.{SaysLine};
+ghost use Rattle.tb_keep_follow.specs.Faults.{place_of, item_line, follow_line, wanted_line};
+
+use crate::faults::FollowFault;
+use tb_keep_commands::{tell, tell_named, tell_number, tell_place, tell_text};
+use tb_log::LogFault;
+use tb_records::Sink;
+
+/// The position of a fault of an entry; 0 where it has none.
+fn place_of(fault: LogFault) -> u64
+    ensures { result ≡ place_of fault }
+{
+    match fault {
+        LogFault::Gap(at)
+        | LogFault::Repeat(at)
+        | LogFault::TooLong(at)
+        | LogFault::Damaged(at)
+        | LogFault::BadEntry(at, _)
+        | LogFault::TimeExhausted(at) => at,
+        _ => 0,
+    }
+}
+
+/// Tells what is wrong with an item, and where.
+fn tell_item<E: Sink>(fault: LogFault, faults: &mut E)
+    ensures { SaysLine (item_line fault) (E.output faults.old) (E.output faults.new) }
+{
+    match fault {
+        LogFault::UnknownKind(kind) => tell_number("tbd: UnknownKind ", kind as u64, faults),
+        LogFault::Gap(at) => tell_number("tbd: Gap at ", at, faults),
+        LogFault::Repeat(at) => tell_number("tbd: Repeat at ", at, faults),
+        LogFault::TooLong(at) => tell_number("tbd: TooLong at ", at, faults),
+        LogFault::Damaged(at) => tell_number("tbd: Damaged at ", at, faults),
+        LogFault::TimeExhausted(at) => tell_number("tbd: TimeExhausted at ", at, faults),
+        LogFault::BadEntry(at, fault) => {
+            tell_place("tbd: BadEntry at ", at, fault.name(), faults)
+        }
+        fault => tell_text("tbd: ", fault.name(), faults),
+    }
+}
+
+/// What is told of a file that has no positions, behind its path.
+const PLAIN: &str = " is a ledger without positions; tbd run serves it";
+
+/// What is told of a file of other rules, behind its path.
+const OTHER: &str = " was made with another profile or number of clients";
+
+/// Tells a fault over a file of this path, in one line. A failure to write it changes no status.
+pub(crate) fn tell_fault<E: Sink>(fault: FollowFault, path: &str, faults: &mut E)
+    ensures { SaysLine (follow_line fault path.now) (E.output faults.old) (E.output faults.new) }
+{
+    match fault {
+        FollowFault::Kept(fault) => tell(fault, path, faults),
+        FollowFault::Plain => tell_named("tbd: Plain: ", path, PLAIN, faults),
+        FollowFault::OtherRules => tell_named("tbd: OtherRules: ", path, OTHER, faults),
+        FollowFault::NoEntry(last) => {
+            tell_number("tbd: Damaged: NoEntry behind position ", last, faults)
+        }
+        FollowFault::Entry(fault) => tell_place(
+            "tbd: Damaged: entry ",
+            place_of(fault),
+            fault.name(),
+            faults,
+        ),
+        FollowFault::OtherHashes(position) => {
+            tell_number("tbd: Damaged: OtherHashes at position ", position, faults)
+        }
+        FollowFault::Unwritten(fault) => tell_text("tbd: Damaged: ", fault.name(), faults),
+        FollowFault::Item(fault) => tell_item(fault, faults),
+    }
+}
+
+/// Tells the position of the last entry that a file has: the log is wanted behind it.
+pub(crate) fn tell_wanted<E: Sink>(position: u64, faults: &mut E)
+    ensures { SaysLine (wanted_line position) (E.output faults.old) (E.output faults.new) }
+{
+    tell_number("tbd: has the log up to position ", position, faults);
+}
