@@ -99,8 +99,8 @@ file = open(path, "a+b")
 file.seek(0)
 kept, place = file.read(), 0
 if kept[:1] == b"!":
-    print("tbd: Damaged: the block at 0", file=sys.stderr)
-    sys.exit(6)
+    print("tbd: Fault: " + path, file=sys.stderr)
+    sys.exit(int(kept[1:]))
 while place < len(kept):
     length = struct.unpack_from("<I", kept, place)[0]
     enter(kept[place + 4 : place + 4 + length])
@@ -731,13 +731,14 @@ class Kept(OverALog):
         self.log.start = self.log.more = 3
         self.assertEqual(await self.begins(self.made()), "Trimmed")
 
-    async def test_damaged_files(self):
-        with open(self.path, "wb") as file:
-            file.write(b"!")
-        await self.began()
-        self.assertEqual(await self.ended(), "Damaged")
-        self.copy.close()
-        self.copy.file = os.open(os.devnull, os.O_RDONLY)
+    async def test_refused_files(self):
+        for status, name in ((b"6", "Damaged"), (b"7", "OtherRules"), (b"5", "tbd")):
+            with open(self.path, "wb") as file:
+                file.write(b"!" + status)
+            await self.began()
+            self.assertEqual(await self.ended(), name)
+            self.copy.close()
+            self.copy.file = os.open(os.devnull, os.O_RDONLY)
         backlog.put_checkpoint(self.folder, b"00000000 {}")
         with self.assertRaises(Fault) as found:
             self.made()
