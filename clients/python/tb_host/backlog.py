@@ -3,7 +3,7 @@ server has not answered yet, in memory, and a checkpoint.
 
 The file `checkpoint` has a position that the server had answered, and so has in its file; with its
 place in the log, the hash of the log there, the last moment, and the last number of each writer. A
-start reads the log from there on. It is written anew, synced, and then takes the old one's place.
+start reads the log from there on. A new one is written, synced, and then takes the old one's place.
 """
 from __future__ import annotations
 
