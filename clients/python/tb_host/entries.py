@@ -10,7 +10,7 @@ from __future__ import annotations
 import dataclasses
 import hashlib
 import struct
-from typing import Iterator, List, Tuple
+from typing import Iterable, Iterator, List, Tuple
 
 from tb_client.frames import asker, request_fault
 from tb_client.layout import HEADER
@@ -33,6 +33,13 @@ def chained(before: bytes, more: bytes) -> bytes:
     found = hashlib.sha256(before)
     found.update(more)
     return found.digest()
+
+
+def chained_all(before: bytes, items: Iterable[bytes]) -> bytes:
+    """The hash of a list, from the hash of what came before its last items."""
+    for it in items:
+        before = chained(before, it)
+    return before
 
 
 @dataclasses.dataclass(frozen=True)
