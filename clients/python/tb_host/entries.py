@@ -7,10 +7,9 @@ So each reader finds within one entry that it and the writer do not have the sam
 """
 from __future__ import annotations
 
-import dataclasses
 import hashlib
 import struct
-from typing import Iterable, Iterator, List, Tuple
+from typing import Iterable, Iterator, List, NamedTuple, Tuple
 
 from tb_client.frames import asker, request_fault
 from tb_client.layout import HEADER
@@ -42,16 +41,14 @@ def chained_all(before: bytes, items: Iterable[bytes]) -> bytes:
     return before
 
 
-@dataclasses.dataclass(frozen=True)
-class Claim:
+class Claim(NamedTuple):
     """What a writer had: the hash of a list up to a position."""
 
     position: int
     digest: bytes
 
 
-@dataclasses.dataclass(frozen=True)
-class Entry:
+class Entry(NamedTuple):
     """An entry of the log."""
 
     writer: bytes

@@ -4,6 +4,7 @@ from __future__ import annotations
 import asyncio
 import collections
 import contextlib
+import functools
 import re
 import struct
 import time
@@ -16,7 +17,7 @@ from .checksums import crc32c
 from .entries import NOTHING, chained_all
 from .faults import Fault
 from .lines import Ended, say
-from .pipes import READ, Outgoing, Process
+from .pipes import Outgoing, Process
 from .process import ServerProcess, kill
 from .taken import KEPT, Item, Taken
 
@@ -28,6 +29,10 @@ HASHES = struct.Struct("<Q32s32s")
 STARTS = re.compile(r"[\w./-]+: (?:made |reading |cut |ready$|has the log up to position )")
 NAMED = {6: "Damaged", 7: "OtherRules"}  # its statuses that are faults of a replica too
 LOCKED = 4  # its status where another process has the file: that of a replica that was killed ends
+
+
+def _dropped(data: bytes) -> None:
+    """What comes is of no use any more."""
 
 
 def _failed(task: asyncio.Future[None]) -> bool:
@@ -67,7 +72,10 @@ class Follower(ServerProcess):
         self.last = NOTHING  # of all replies of this process
         self.digest = NOTHING  # of those up to the position that is answered
         self.known = copy.position  # up to which replies were tested when they came first
+        self.awaited = 0.0  # the position with which `moved` comes once it is answered
         self.moved = asyncio.Event()
+        self.rest = b""  # what came of a reply that is not whole
+        self.fault: Optional[Exception] = None  # what was wrong about what came
 
     # pairs
 
@@ -121,29 +129,37 @@ class Follower(ServerProcess):
         self, process: Process, stdout: asyncio.StreamReader
     ) -> None:
         self.forget()
+        self.rest, self.fault = b"", None
         feeding = asyncio.ensure_future(self._feed(process.stdin))
         feeding.add_done_callback(lambda it: kill(process) if _failed(it) else None)
-        data = b""
+        process.output.take = functools.partial(self._come, process)
         try:
-            while more := await stdout.read(READ):
-                data = data + more if data else more
-                data = data[self._take(process, data) :]
+            await stdout.read()  # its end
         except asyncio.CancelledError:
             pass
         finally:
             feeding.cancel()
+            process.output.take = _dropped
+        if self.fault is not None:
+            raise self.fault
         if _failed(feeding):
             feeding.result()
 
-    def _take(self, process: Process, data: bytes) -> int:
+    def _come(self, process: Process, data: bytes) -> None:
+        """Takes what the process wrote. It is killed where that is wrong."""
+        data = self.rest + data if self.rest else data
+        try:
+            self.rest = data[self._take(data) :]
+        except Exception as error:
+            self.fault, process.output.take = error, _dropped
+            kill(process)
+
+    def _take(self, data: bytes) -> int:
         """Takes what is whole of these bytes. Answers how many bytes it has."""
         at = 0
         try:
             while (end := self.taken(data, at)) > at:
                 at = end
-        except Ended:
-            kill(process)
-            raise
         finally:
             if self.fed:
                 self._tell(self.fed[0])
@@ -208,7 +224,8 @@ class Follower(ServerProcess):
         self.answered = position
         self.known = max(self.known, position)
         self.copy.settle(position)
-        self.moved.set()
+        if position >= self.awaited:
+            self.moved.set()
 
     def state(self) -> Tuple[int, bytes]:
         """The position up to which replies are there, and their hash."""

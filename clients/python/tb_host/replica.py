@@ -7,6 +7,7 @@ import asyncio
 import collections
 import contextlib
 import json
+import math
 import os
 import time
 from typing import Any, Deque, Dict, List, Optional, Set, Tuple
@@ -372,6 +373,7 @@ class Replica:
     def _compare_replies(self, replies: Claim, writer: bytes) -> None:
         mine = self.follower.hashes.get(replies.position)
         if mine is None and replies.position > self.follower.answered:
+            self.follower.awaited = min(self.follower.awaited, replies.position)
             self.claims.setdefault(replies.position, set()).add((replies.digest, writer))
         elif mine is not None and mine != replies.digest:
             said = f"has replies with the hash {replies.digest.hex()}, here it is {mine.hex()}"
@@ -392,6 +394,8 @@ class Replica:
                 position = min(self.claims)
                 for digest, writer in self.claims.pop(position):
                     self._compare_replies(Claim(position, digest), writer)
+            if self.served.is_set():
+                self.follower.awaited = min(self.claims, default=math.inf)
 
     # reports
 
