@@ -12,7 +12,6 @@ import struct
 from typing import Iterable, Iterator, List, NamedTuple, Tuple
 
 from tb_client.frames import asker, request_fault
-from tb_client.layout import HEADER
 
 from .faults import Fault
 
@@ -20,6 +19,7 @@ HEAD = struct.Struct("<8s16sQQ32sQ32s")
 MAGIC = b"TBENTRY1"
 PAIRS_MAX = 1 << 20  # bytes of pairs in an entry: the longest request fits
 MOMENT = struct.Struct("<Q")
+PAIR = struct.Struct("<Q32xI12x")  # its moment, and how many bytes lie behind its header
 MOMENT_MAX = 1 << 62  # nanoseconds since 1970: the year 2116; so that time remains for all
 SMALL = 4096  # bytes that are copied rather than hashed by two calls
 NOTHING = bytes(32)  # the hash of an empty log, and of no replies
@@ -76,11 +76,13 @@ def cut(pairs: bytes) -> Iterator[Tuple[int, bytes]]:
     whole."""
     at, end = 0, len(pairs)
     while at < end:
-        header = pairs[at + 8 : at + 8 + HEADER]
-        after = at + 8 + HEADER + int.from_bytes(header[32:36], "little")
-        if len(header) < HEADER or after > end:
+        if at + PAIR.size > end:
             raise ValueError("its last pair is not whole")
-        yield MOMENT.unpack_from(pairs, at)[0], header
+        moment, length = PAIR.unpack_from(pairs, at)
+        after = at + PAIR.size + length
+        if after > end:
+            raise ValueError("its last pair is not whole")
+        yield moment, pairs[at + MOMENT.size : at + PAIR.size]
         at = after
 
 

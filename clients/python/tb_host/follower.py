@@ -25,6 +25,9 @@ from .taken import KEPT, Item, Taken
 ENTRY, QUESTION = b"\1", b"\2"
 NUMBERS, REPLIED = struct.Struct("<QI"), struct.Struct("<QI")
 HASHES = struct.Struct("<Q32s32s")
+# of a reply: its session, status, zeros, length, commit, zeros; and its length alone
+SAID, LENGTH = struct.Struct("<Q5xBHIQI"), struct.Struct("<I")
+ASKER = 29  # bytes that a reply repeats of its request, but for a register's
 # what a server that keeps its ledger in a file tells at its start, besides faults
 STARTS = re.compile(r"[\w./-]+: (?:made |reading |cut |ready$|has the log up to position )")
 NAMED = {6: "Damaged", 7: "OtherRules"}  # its statuses that are faults of a replica too
@@ -49,6 +52,9 @@ class Fed:
         self.position, self.wanted = position, wanted
         self.replies: List[bytes] = []
         self.told = 0
+
+
+NONE = Fed(0, [])  # where there is no entry
 
 
 class Follower(ServerProcess):
@@ -171,26 +177,32 @@ class Follower(ServerProcess):
 
     def take_reply(self, data: bytes, at: int) -> int:
         """Takes the reply at this place. Answers where it ends, 0 where it is not whole."""
-        header = data[at : at + HEADER]
-        if len(header) < HEADER:
+        if len(data) - at < HEADER:
             return 0
-        end = at + HEADER + int.from_bytes(header[32:36], "little")
-        if not self._is_next(header):
+        it = self.fed[0] if self.fed else NONE
+        count = len(it.replies)
+        if count == len(it.wanted) or not self._is_reply(data, at, it.position, it.wanted[count]):
             raise Ended(f"{self.words[0]} wrote what is no reply to the next pair", 1)
+        end = at + HEADER + int(LENGTH.unpack_from(data, at + 32)[0])
         if end > len(data):
             return 0
-        it = self.fed[0]
         it.replies.append(data[at:end])
-        if len(it.replies) == len(it.wanted):
+        if count + 1 == len(it.wanted):
             self.pass_empty()
         return end
 
-    def _is_next(self, header: bytes) -> bool:
-        it = self.fed[0] if self.fed else None
-        if it is None or len(it.replies) == len(it.wanted):
-            return False
-        is_asked = it.wanted[len(it.replies)] == asker(header)
-        return is_asked and (it.position <= self.known or not reply_fault(header))
+    def _is_reply(self, data: bytes, at: int, position: int, wanted: bytes) -> bool:
+        """Whether the header of a reply to a request, which had no fault, stands at this place."""
+        session, status, zeros, length, commit, more = SAID.unpack_from(data, at + 16)
+        if (  # as nearly always: a reply without results to what is no register
+            len(wanted) == ASKER
+            and data.startswith(wanted, at)
+            and not (status or zeros or length or more)
+            and 0 < session < commit
+        ):
+            return True
+        header = data[at : at + HEADER]
+        return asker(header) == wanted and (position <= self.known or not reply_fault(header))
 
     def _tell(self, it: Fed) -> None:
         """Tells the replies that came since it was called last."""
@@ -268,7 +280,7 @@ class PositionFollower(Follower):
 
     def take_hashes(self, position: int, log: bytes, replies: bytes) -> None:
         """Takes the hashes behind an entry."""
-        it = self.fed.popleft() if self.fed else Fed(0, [])
+        it = self.fed.popleft() if self.fed else NONE
         self.pass_on(it)
         if (it.position, len(it.replies)) != (position, len(it.wanted)):
             raise Ended(f"{self.words[0]} wrote hashes that were not asked for", 1)
