@@ -209,9 +209,11 @@ class Command(ServerProcess):
     def _ask(self, process: Process, frame: bytes, answered: Answered) -> None:
         is_idle = not self.waiting
         self.waiting.append((asker(frame), answered))
-        process.stdin.write(MOMENT.pack(self.moments.next()) + frame)
+        pair = MOMENT.pack(self.moments.next()) + frame
         if is_idle:  # the server waits for it
-            process.stdin.leave()
+            process.stdin.send(pair)
+        else:
+            process.stdin.write(pair)
 
     async def _ask_later(self, frame: bytes, answered: Answered) -> None:
         try:

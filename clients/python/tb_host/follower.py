@@ -97,15 +97,15 @@ class Follower(ServerProcess):
             while True:
                 await self.copy.reach(self.given + 1)
                 for item in self.copy.items(self.offset):
-                    self._write(stdin, item)
+                    for part in self.parts(item.position, item.pairs):
+                        stdin.write(part)
+                    self._has_given(item)
                     await stdin.drain()
                     if self.given != item.position:  # another one was given meanwhile
                         break
 
-    def _write(self, stdin: Outgoing, item: Item) -> None:
+    def _has_given(self, item: Item) -> None:
         self.fed.append(Fed(item.position, item.wanted))
-        for part in self.parts(item.position, item.pairs):
-            stdin.write(part)
         self.given, self.offset = item.position, item.end
         self.pass_empty()
 
@@ -115,8 +115,8 @@ class Follower(ServerProcess):
         stdin = self.stdin
         if stdin is None or self.given != item.position - 1 or not stdin.has_room.is_set():
             return False
-        self._write(stdin, item)
-        stdin.leave()
+        stdin.send(*self.parts(item.position, item.pairs))
+        self._has_given(item)
         return True
 
     def parts(self, position: int, pairs: bytes) -> Sequence[bytes]:

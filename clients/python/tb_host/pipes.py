@@ -94,15 +94,24 @@ class Outgoing(End):
 
     def write(self, data: bytes) -> None:
         """Takes bytes, which leave soon. Those for a pipe that broke or is closed are dropped."""
+        self._hold(data)
+        if self.parts and not self.is_due and not self.is_watched:
+            self.is_due = True
+            self.loop.call_soon(self._leave)
+
+    def send(self, *parts: bytes) -> None:
+        """The same, and lets them leave at once, as far as the pipe takes them."""
+        for it in parts:
+            self._hold(it)
+        self.leave()
+
+    def _hold(self, data: bytes) -> None:
         if self.file < 0 or self.is_closing:
             return
         self.parts.append(data)
         self.held += len(data)
         if self.held > HELD:
             self.has_room.clear()
-        if not self.is_due and not self.is_watched:
-            self.is_due = True
-            self.loop.call_soon(self._leave)
 
     def _leave(self) -> None:
         self.is_due = False
