@@ -184,13 +184,16 @@ class EtcdLog:
             self.looking = asyncio.ensure_future(self._write_to_leader())
 
     async def _write_to_leader(self) -> None:
-        count = len(self.addresses)
+        """Writes to the address of whom the one that is written to, or else the next, has for the
+        leader."""
+        leader, count = 0, len(self.addresses)
         for at in [(self.writing + it) % count for it in range(count)]:
             it = self.addresses[at]
             with contextlib.suppress(grpc.aio.AioRpcError):
                 given = await it.metadata()
                 said = await it.care.Status(rpc.StatusRequest(), timeout=TRY, metadata=given)
-                if said.leader == said.header.member_id:
+                leader = leader or said.leader
+                if leader and said.header.member_id == leader:
                     self.writing = at
                     return
 
