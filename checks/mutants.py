@@ -60,8 +60,13 @@ SCRIPTS = {
     "keep.py": (["--kills", "3", "--flips", "20", "--cuts", "20"], {"tbd", "tbs"}),
 }
 
-# What a script waits for, in seconds, where the programs are slow.
-SLOW = {"KEEP_SECONDS": "60"}
+# Where the programs are slow: what a script waits for, in seconds, and the megabytes of a file that
+# it calls long.
+SLOW = {"KEEP_SECONDS": "60", "KEEP_STEP": "1"}
+
+# The programs' constant for these megabytes: its file, its text, and what stands there instead. The
+# tests are built before, with the text as it is.
+STEP = ("crates/tb_keep_commands/src/reports.rt", "usize = 64 * MEGABYTE;", "usize = MEGABYTE;")
 
 # Cases that fail with no bug on: a program of `rt try` has AddressSanitizer, which maps terabytes.
 ANYWAY = {"a register in 64 MiB"}
@@ -239,6 +244,16 @@ def plant(room, mutants):
     write(f"{room}/crates/tb_mutant/c/mutant.c", SWITCH_IN_C)
 
 
+def make_smaller(room):
+    """Puts the smaller constant into a copy."""
+    path, old, new = STEP
+    with open(f"{room}/{path}", encoding="utf-8") as file:
+        text = file.read()
+    if text.count(old) != 1:
+        sys.exit(f"{path}: '{old}' is not there once")
+    write(f"{room}/{path}", text.replace(old, new))
+
+
 def join_tests(room, crates):
     """Makes one crate of the tests of several: each becomes a module."""
     lines, root = repository.crates(room), "#![tactic(auto)]\n\n"
@@ -403,6 +418,7 @@ class Catchers:
         self.tests = build(room, ALL_TESTS, False) if tests else None
         self.names = self.listed() if tests else []
         self.seconds = {}
+        make_smaller(room)
         for program in programs:
             out = f"{room}/crates/{program}/out"
             os.makedirs(out, exist_ok=True)
