@@ -321,7 +321,8 @@ def build(room, crate, is_program):
     with tempfile.TemporaryDirectory(prefix="try-", dir=f"{room}/kept") as folder:
         with open(f"{room}/kept/{crate}.log", "wb") as log:
             if not os.path.isfile(kept):
-                print(f"building {crate}", flush=True)
+                print(f"building {crate}: ", end="", flush=True)
+                began = time.monotonic()
                 tried = subprocess.Popen(
                     words,
                     cwd=f"{room}/crates/{crate}",
@@ -332,6 +333,7 @@ def build(room, crate, is_program):
                     start_new_session=True,
                 )
                 keep_built(tried, folder, kept)
+                print(f"{time.monotonic() - began:.0f} s", flush=True)
     if not os.path.isfile(kept):
         with open(f"{room}/kept/{crate}.log", encoding="utf-8", errors="replace") as log:
             sys.exit(f"{crate} was not built:\n{log.read()[-3000:]}")
@@ -468,18 +470,23 @@ class Catchers:
                 return f"checks/{name}: {case}"
         return None
 
-    def wrong_without(self, mutants):
+    def timed(self, name):
+        """Whether a test fails with no bug on, and how long it takes."""
+        began = time.monotonic()
+        fails = self.fails(0, name)
+        self.seconds[name] = time.monotonic() - began
+        return fails
+
+    def wrong_without(self, mutants, pool):
         """The tests and scripts that these bugs may show in, and that fail with no bug on."""
-        wrong = []
-        for name in sorted({it for mutant in mutants for it in self.tests_of(mutant)}):
-            began = time.monotonic()
-            if self.fails(0, name):
-                wrong.append(name)
-            self.seconds[name] = time.monotonic() - began
-        for name in self.scripts:
-            case = self.script_fails(0, name)
-            if case:
-                wrong.append(f"checks/{name}: {case}")
+        began = time.monotonic()
+        names = sorted({it for mutant in mutants for it in self.tests_of(mutant)})
+        cases = [pool.submit(self.script_fails, 0, name) for name in self.scripts]
+        wrong = [name for name, fails in zip(names, pool.map(self.timed, names)) if fails]
+        told = {name: case.result() for name, case in zip(self.scripts, cases)}
+        wrong += [f"checks/{name}: {case}" for name, case in told.items() if case]
+        seconds = time.monotonic() - began
+        print(f"no bug: {len(names)} tests, {len(told)} scripts, {seconds:.0f} s", flush=True)
         return wrong
 
 
@@ -591,13 +598,13 @@ def try_mutants(mutants, words, room):
     """Tries the chosen bugs, and prints what catches each; the exit status."""
     tried = commit()
     catchers = prepared(room, mutants, words.tests_only)
-    without = catchers.wrong_without(mutants)
-    if without:
-        print("these fail with no bug on: " + ", ".join(without))
-        print(f"0 passed, {len(mutants)} failed")
-        return 1
     caught = {}
     with concurrent.futures.ThreadPoolExecutor(words.jobs) as pool:
+        without = catchers.wrong_without(mutants, pool)
+        if without:
+            print("these fail with no bug on: " + ", ".join(without))
+            print(f"0 passed, {len(mutants)} failed")
+            return 1
         for mutant, by in zip(mutants, pool.map(catchers.catch, mutants)):
             caught[mutant.name] = by or ""
             print(f"{mutant.crate} {mutant.name}: {by or 'NOTHING'}", flush=True)
