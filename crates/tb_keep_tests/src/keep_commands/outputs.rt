@@ -2,8 +2,6 @@
 use crate::keep_commands::files::Has;
 use crate::keep_commands::pipes::{NoInput, Pipe};
 use crate::keep_commands::rows::{Out, Row, WELL, run, run_with};
-use std::alloc::Global;
-use std::process::Abort;
 use tb_journal::{Device, Memory};
 use tb_keep_commands::Reported;
 use tb_records::Counting;
@@ -223,29 +221,19 @@ fn an_input_fails(rt: HostRuntime) {
     run_with(&rt, rt.alloc(), row, NoInput {});
 }
 
-/// What is reported of reads at these offsets, where reports are wanted or not.
-fn told_of_reads(rt: &impl Abort, alloc: Global, reports: bool, told: &[u8]) {
-    let mut pipe = Pipe::new(alloc, 4096, true);
-    let memory = Memory::new(alloc, Vec::new(alloc)).expect(rt, "memory");
-    let lines = Counting::new(&mut pipe);
-    let mut file = Reported::new(alloc, memory, "ledger", lines, reports).expect(rt, "no fault");
-    for at in [0, 63_999_999, 64_000_000, 127_999_999, 200_000_000] {
-        let read = file.read_at(at, &mut [0; 8]);
-        assert!(rt; read == Ok(0));
-    }
-    drop(file);
-    assert!(rt; pipe.bytes() == told);
-}
-
-/// Reads at these offsets are reported each 64 MB, and no others.
+/// Reads at these offsets are reported each 64 MB, and no others; none where nobody asked.
 #[test]
 fn a_long_read_is_reported(rt: HostRuntime) {
+    let alloc = rt.alloc();
+    let mut pipe = Pipe::new(alloc, 4096, true);
+    for reports in [false, true] {
+        let memory = Memory::new(alloc, Vec::new(alloc)).expect(&rt, "memory");
+        let file = Reported::new(alloc, memory, "ledger", Counting::new(&mut pipe), reports);
+        let mut file = file.expect(&rt, "no fault");
+        for at in [0, 63_999_999, 64_000_000, 127_999_999, 200_000_000] {
+            assert!(rt; file.read_at(at, &mut [0; 8]) == Ok(0));
+        }
+    }
     let told: &[u8] = b"tbd: reading ledger, 64 of 0 MB\ntbd: reading ledger, 200 of 0 MB\n";
-    told_of_reads(&rt, rt.alloc(), true, told);
-}
-
-/// Where nobody asked, none is.
-#[test]
-fn no_read_is_reported_unasked(rt: HostRuntime) {
-    told_of_reads(&rt, rt.alloc(), false, b"");
+    assert!(rt; pipe.bytes() == told);
 }
