@@ -39,7 +39,7 @@ CHECKS = {
     "wrappers": ["checks/embed/wrappers.py"],
     "scenarios": ["clients/conformance/make_scenarios.py"],
     "kit": ["clients/conformance/kit.py", "--", sys.executable, "-B", RUNNER],
-    "refusals": ["checks/refusals.py", "--every", "25"],
+    "refusals": ["checks/refusals.py", "--every", "10"],
 }
 PROGRAMS = ("tbs", "tbd", "tb_refusals")
 

@@ -11,7 +11,7 @@ looks at what they answer. First build them:
 What is right comes from the frames of this file, from examples/first.replies, and from `tbs` when
 nothing is refused. All memory has to be given back after each run, whatever was refused. A loop
 that refuses nothing shows nothing: each case counts its refusals and has a least number of them.
-With --every the first call is refused, and each N-th behind it: `--every 25` is the quick form, of
+With --every the first call is refused, and each N-th behind it: `--every 10` is the quick form, of
 which one refusal for each case is asked. Prints a line for each case, and 'N passed, M failed'.
 checks/refusals/refuse.c, which the programs are run over, needs cc and Linux.
 """
@@ -224,8 +224,8 @@ def each_growth(refuser, name, form, clients, script, judge, least, wanted):
         if ran.refused:
             counts[refusal_of(ran)] += 1
     calls = sum(count for it, count in counts.items() if it not in OWN)
-    missing = [it for it in wanted if not counts[it] and refuser.every == 1]
-    if calls < refuser.least(least) or missing:
+    missing = [it for it in wanted if not counts[it]]
+    if not counts or refuser.every == 1 and (calls < least or missing):
         whys.append(f"only {calls} refusals of calls, none of {missing}")
     case(name, "; ".join(whys[:3]), f"{sum(counts.values())} allocations refused: {told(counts)}")
 
@@ -593,7 +593,7 @@ def each_growth_of_tbd(refuser, words, script, judge, new, least):
         counts["NoMemory" if ran.status else "made up for"] += ran.refused
         with contextlib.suppress(FileNotFoundError):
             os.unlink(new)
-    if counts["NoMemory"] < refuser.least(least):
+    if not sum(counts.values()) or refuser.every == 1 and counts["NoMemory"] < least:
         whys.append(f"only {counts['NoMemory']} refusals were reported")
     case(f"tbd {words[0]}", "; ".join(whys[:3]), f"allocations refused: {told(counts)}")
 
