@@ -449,7 +449,7 @@ class Catchers:
 
     def fails(self, number, name):
         """Whether a test fails; 'no end' where it takes far longer than without a bug."""
-        limit = SECONDS + SLOWER * self.seconds.get(name, SECONDS)
+        limit = SECONDS + SLOWER * self.seconds.get(name, BUILD_SECONDS)
         status = status_of([self.tests, name], number, limit)
         return "no end" if status is None else status != 0
 
