@@ -3,6 +3,7 @@
 import argparse
 import asyncio
 import contextlib
+import importlib.util
 import io
 import json
 import os
@@ -14,17 +15,20 @@ import sys
 import tempfile
 import time
 import unittest
+from unittest import mock
 
-from tb_client.frames import request_frame
+from tb_client.frames import asker, reply_fault, request_frame
 from tb_client.names import Operation
 from tb_host import backlog, checksums, faults, listen, log, machines
 from tb_host.backlog import Backlog, Checkpoint
 from tb_host.entries import MOMENT_MAX, NOTHING, Claim, Entry, askers, chained, test_pairs
 from tb_host.faults import Fault
+from tb_host.follower import Follower
 from tb_host.lines import Ended, Told
 from tb_host.local_copy import Copy, copied, kept
-from tb_host.log import LogFull, LogGone, NoLog, Report, Written
+from tb_host.log import Access, LogFull, LogGone, NoLog, Report, Written
 from tb_host.replica import Replica, head_of
+from tb_host.taken import Taken
 
 HERE = os.path.dirname(os.path.abspath(__file__))
 
@@ -317,6 +321,63 @@ class Copies(unittest.TestCase):
         self.assertEqual(kept(other, "head", b"another"), b"the log")
         with self.assertRaises(Ended):
             copied(self.folder, other)
+
+
+class Replies(unittest.IsolatedAsyncioTestCase):
+    async def test_the_short_test_of_a_reply_is_the_long_one(self):
+        """For replies with each of their bytes as another one."""
+        it = Follower(COMMAND, 1.0, Taken(""), lambda *_: None)
+        transfer = request_frame(7, 5, 3, Operation.create_transfers, bytes(128))
+        found = []
+        for frame, more in (
+            (transfer, struct.pack("<3xIQ4x", 0, 9)),
+            (transfer, struct.pack("<3xIQ4xII", 8, 9, 0, 1)),
+            (transfer, struct.pack("<3xIQ4x", 0, 5)),
+            (request_frame(7, 0, 3, Operation.create_transfers), struct.pack("<3xIQ4x", 0, 9)),
+            (register(7), struct.pack("<3xIQ4x", 0, 9)),
+        ):
+            wanted = asker(frame)
+            session = struct.pack("<Q", 9) if len(wanted) == 21 else frame[16:24]
+            reply = frame[:16] + session + frame[24:29] + more
+            for at in range(len(reply)):
+                for byte in (reply[at], 0, 1, 2, 255):
+                    other = reply[:at] + bytes([byte]) + reply[at + 1 :]
+                    is_right = asker(other) == wanted and not reply_fault(other)
+                    self.assertEqual(it._is_reply(b"x" + other, 1, 1, wanted), is_right, other)
+                    found.append(is_right)
+        self.assertTrue(any(found) and not all(found))
+
+
+@unittest.skipUnless(importlib.util.find_spec("etcd3"), "python3-etcd3 is not there")
+class Etcd(unittest.IsolatedAsyncioTestCase):
+    def test_a_request_that_is_made_once(self):
+        from tb_host.etcd import Put, rpc
+
+        made = Put()
+        for key, value in ((b"k", b"v" * 300), (b"kk", b""), (b"a", b"b")):
+            kinds = {"result": rpc.Compare.EQUAL, "target": rpc.Compare.CREATE}
+            wanted = rpc.TxnRequest(
+                compare=[rpc.Compare(key=key, create_revision=0, **kinds)],
+                success=[rpc.RequestOp(request_put=rpc.PutRequest(key=key, value=value))],
+                failure=[rpc.RequestOp(request_range=rpc.RangeRequest(key=key))],
+            )
+            self.assertEqual(made.of(key, value), wanted)
+
+    async def test_the_leader_is_written_to(self):
+        """The one that is written to says who leads; where it says nothing, the next one does. One
+        that takes itself for the leader is not asked."""
+        from tb_host.etcd import EtcdLog, rpc
+
+        it = EtcdLog([("127.0.0.1", 1)] * 3, "bank", Access())
+        for leaders, start, at in (((3, 3, 3), 0, 2), ((0, 2, 2), 0, 1), ((1, 2, 2), 1, 1)):
+            for number, (address, leader) in enumerate(zip(it.addresses, leaders), 1):
+                said = rpc.StatusResponse(leader=leader)
+                said.header.member_id = number
+                address.care = mock.Mock(Status=mock.AsyncMock(return_value=said))
+            it.writing = start
+            await it._write_to_leader()
+            self.assertEqual(it.writing, at)
+        await it.close()
 
 
 class OverALog(unittest.IsolatedAsyncioTestCase):

@@ -62,6 +62,20 @@ class Pipes(unittest.IsolatedAsyncioTestCase):
         await process.exited(it)
         it.close()
 
+    async def test_what_is_sent_leaves_at_once(self):
+        it = pipes.started(["sleep", "60"])
+        with unittest.mock.patch.object(os, "write", wraps=os.write) as write:
+            it.stdin.write(b"a")
+            it.stdin.send(b"b", b"c")
+            self.assertEqual([call.args[1] for call in write.call_args_list], [b"abc"])
+            it.stdin.send(bytes(2 * pipes.PIPE))
+            self.assertFalse(it.stdin.has_room.is_set())
+            await asyncio.sleep(0.05)
+            self.assertGreater(it.stdin.held, 0)
+        process.kill(it)
+        await process.exited(it)
+        it.close()
+
     async def test_what_nobody_reads_waits_in_the_pipe(self):
         """Memory does not grow with what a process writes."""
         it = pipes.started([sys.executable, "-SEc", "import os\nos.write(1, bytes(1 << 23))"])
