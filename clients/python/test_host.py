@@ -457,6 +457,17 @@ class Replicas(OverALog):
         self.assertIn("is started again", self.told.getvalue())
         await self.closed(it)
 
+    async def test_a_server_that_writes_unasked(self):
+        """Also where what it started keeps its output open."""
+        start = "import os, subprocess, time\n"
+        sleeps = "subprocess.Popen(['sleep', '9'], start_new_session=True)\n"
+        for more in ("", sleeps):
+            code = f"{start}{more}os.write(1, bytes(48))\ntime.sleep(60)"
+            await self.began(command=[sys.executable, "-SEc", code, "run", "64"])
+            self.assertIn("wrote what is no reply to the next pair", await self.ended())
+            self.copy.close()
+            self.copy.file = os.open(os.devnull, os.O_RDONLY)
+
     async def test_what_is_in_the_log_twice_is_taken_once(self):
         data = entry(A, 1, pair(1, register(5))).to_bytes()
         self.log.put(data)

@@ -125,6 +125,14 @@ class Follower(ServerProcess):
 
     # replies
 
+    def began(self) -> None:
+        """What the process writes is taken from the first byte on."""
+        assert self.process is not None
+        self.forget()
+        self.rest, self.fault = b"", None
+        self.process.output.take = functools.partial(self._come, self.process)
+        super().began()
+
     def forget(self) -> None:
         """Begins with a new process."""
         self.fed.clear()
@@ -134,13 +142,10 @@ class Follower(ServerProcess):
     async def read_replies(
         self, process: Process, stdout: asyncio.StreamReader
     ) -> None:
-        self.forget()
-        self.rest, self.fault = b"", None
         feeding = asyncio.ensure_future(self._feed(process.stdin))
         feeding.add_done_callback(lambda it: kill(process) if _failed(it) else None)
-        process.output.take = functools.partial(self._come, process)
         try:
-            await stdout.read()  # its end
+            await stdout.read()  # its end: what comes before that is taken by `_come`
         except asyncio.CancelledError:
             pass
         finally:
@@ -157,8 +162,9 @@ class Follower(ServerProcess):
         try:
             self.rest = data[self._take(data) :]
         except Exception as error:
-            self.fault, process.output.take = error, _dropped
+            self.fault = error
             kill(process)
+            process.output.close()
 
     def _take(self, data: bytes) -> int:
         """Takes what is whole of these bytes. Answers how many bytes it has."""
