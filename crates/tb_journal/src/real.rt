@@ -2,7 +2,7 @@
 ghost use Rattle.tb_journal.specs.Real.{untold};
 
 use crate::faults::Fault;
-use crate::posix::{Posix, sync_fault_of};
+use crate::posix::Posix;
 use crate::systems::System;
 use std::fs::{File, Files, OpenFile, TryLockError};
 use std::io::ErrorKind;
@@ -195,7 +195,7 @@ pub fn sync_folder<R: Files + Alloc>(rt: &R, path: &str) -> Result<(), FileFault
 
 // What a sync answered.
 fn synced(answer: io::Result<()>) -> Result<(), FileFault> {
-    answer.map_err(|error| FileFault::Sync(sync_fault_of(error.kind())))
+    answer.map_err(|_| FileFault::Sync(Fault::SyncFailed))
 }
 
 // The folder that a path names a file in.
