@@ -6,6 +6,8 @@ import contextlib
 import io
 import json
 import os
+import re
+import shlex
 import struct
 import subprocess
 import sys
@@ -15,7 +17,7 @@ import unittest
 
 from tb_client.frames import request_frame
 from tb_client.names import Operation
-from tb_host import backlog, checksums, faults, log, machines
+from tb_host import backlog, checksums, faults, listen, log, machines
 from tb_host.backlog import Backlog, Checkpoint
 from tb_host.entries import MOMENT_MAX, NOTHING, Claim, Entry, askers, chained, test_pairs
 from tb_host.faults import Fault
@@ -800,6 +802,18 @@ class Words(unittest.TestCase):
             status, line = self.ended(*given)
             self.assertEqual(status, 2)
             self.assertIn(said, line)
+
+    def test_the_words_of_units(self):
+        taken = {"tb_host.machines": machines._run_words, "tb_host.listen": listen.words}
+        folder = os.path.join(HERE, "systemd")
+        units = [it for it in sorted(os.listdir(folder)) if it.endswith(".service")]
+        self.assertEqual(len(units), 3)
+        for name in units:
+            with self.subTest(name), open(os.path.join(folder, name), encoding="utf-8") as file:
+                text = file.read().replace("\\\n", " ")
+                start = re.search(r"^ExecStart=\S+ -m (\S+) (.*)$", text, re.M)
+                found = taken[start[1]](shlex.split(start[2]))
+                self.assertTrue(found.log_json and found.status)
 
     def test_a_copy_of_nothing(self):
         with tempfile.TemporaryDirectory() as folder:

@@ -74,6 +74,11 @@ def add_places(parser: argparse.ArgumentParser) -> None:
     )
 
 
+def add_lines(parser: argparse.ArgumentParser) -> None:
+    """Adds the option of what lines on standard error are."""
+    parser.add_argument("--log-json", action="store_true", help="lines as JSON, with time and peer")
+
+
 def add_times(parser: argparse.ArgumentParser) -> None:
     """Adds the options of how long a client may take."""
     parser.add_argument(

@@ -31,7 +31,7 @@ import sys
 from typing import Sequence
 
 from .access import add_access
-from .arguments import add_command, add_places, add_times, ahead, settle_places
+from .arguments import add_command, add_lines, add_places, add_times, ahead, settle_places
 from .command import Command
 from .evictions import clients_max_of
 from .lines import Ended, say, speak_json
@@ -69,7 +69,7 @@ def words(given: Sequence[str]) -> argparse.Namespace:
     add_access(parser)
     add_reports(parser)
     add_times(parser)
-    parser.add_argument("--log-json", action="store_true", help="lines as JSON, with time and peer")
+    add_lines(parser)
     may_lie = (
         "how far the ledger's last time may lie ahead of the clock "
         "when the command is started first (0)"

@@ -28,9 +28,18 @@ import sys
 from typing import Any, List, Sequence
 
 from .access import add_access
-from .arguments import add_command, add_places, add_times, ahead, path, seconds, settle_places
+from .arguments import (
+    add_command,
+    add_lines,
+    add_places,
+    add_times,
+    ahead,
+    path,
+    seconds,
+    settle_places,
+)
 from .backlog import Backlog, copied_checkpoint
-from .lines import Ended, say, speak_as
+from .lines import Ended, say, speak_as, speak_json
 from .local_copy import Copy, copied, kept
 from .log import Access, Log, opened, parts
 from .loops import fill_standard_files, run as run_loop
@@ -131,6 +140,7 @@ def _run_words(given: Sequence[str]) -> argparse.Namespace:
     add_access(parser)
     add_reports(parser)
     add_times(parser)
+    add_lines(parser)
     patience = "how long a request may wait for the log until its client is told NoLog (10)"
     parser.add_argument("--patience", metavar="SECONDS", type=seconds, default=10.0, help=patience)
     far = "how far this clock may be ahead of the others', and the log ahead of this clock (60)"
@@ -220,6 +230,8 @@ def run(part: str, rest: List[str]) -> int:
     if part == "trim":
         return int(asyncio.run(_with_log(_trim_words(rest), trim)))
     given = _run_words(rest)
+    if given.log_json:
+        speak_json()
     make_room(given.connections)
     run_loop(_with_log(given, serve))
     return 0
