@@ -490,7 +490,7 @@ def refused_files(cluster):
 def part_rates(given):
     """Rates next to the listener over tbd, and how long a restart takes. A machine that does
     something else meanwhile has other rates: compare the ratios."""
-    with cluster_of(given, is_linked=False) as cluster:
+    with cluster_of(given, is_linked=False, keeps_replies=False) as cluster:
         rates.compared(cluster, 10, 3)
     if given.kept:
         print("  with ledgers in files:")

@@ -33,6 +33,7 @@ from tb_client import HEADER, Account, Operation, Reply, Status, Transfer, reply
 CLIENTS = 24
 SECONDS = int(os.environ.get("KEEP_SECONDS", "20"))  # a reply, an end and a check that take longer are missing
 CASH, SALES = 1, 2
+STEP = int(os.environ.get("KEEP_STEP", "64"))  # the megabytes of a file that are read between two reports
 EINTR, EIO, ENOSPC = 4, 5, 28
 
 
@@ -639,9 +640,9 @@ def reported(tbd, folder):
 
 
 def long_starts(tbd, folder):
-    """A start over more than 64 MB: its progress is reported where that is asked for, and else nothing."""
+    """A start over more than so many megabytes: its progress is reported where that is asked for, and else nothing."""
     wrong = Transfer(1, CASH, SALES, 1, ledger=700, code=10).to_bytes() * 8190
-    frames = [request_frame(7, 1, number, Operation.create_transfers, wrong) for number in range(1, 64)]
+    frames = [request_frame(7, 1, number, Operation.create_transfers, wrong) for number in range(1, STEP + 1)]
     script = pair_of_a_register() + b"".join(struct.pack("<Q", 5) + it for it in frames)
     path = os.path.join(folder, "long.tbk")
     told = []
@@ -649,9 +650,10 @@ def long_starts(tbd, folder):
         words = [tbd, "run", "long.tbk", "3", *words]
         ran = subprocess.run(words, cwd=folder, input=data, stdout=subprocess.DEVNULL, stderr=subprocess.PIPE, timeout=10 * SECONDS, check=False)
         told.append((ran.returncode, ran.stderr.decode()))
-    size = os.path.getsize(path) // 10**6
-    case("a file of more than 64 MB", told[0] == (0, "tbd: made long.tbk\n") and size > 64, (told[0], size))
-    lines = rf"tbd: reading long.tbk, 0 of {size} MB\ntbd: reading long.tbk, 6[45] of {size} MB\ntbd: ready\n"
+    length = os.path.getsize(path)
+    size = length // 10**6
+    case(f"a file of more than {STEP} MB", told[0] == (0, "tbd: made long.tbk\n") and length > STEP * 10**6, (told[0], length))
+    lines = rf"tbd: reading long.tbk, 0 of {size} MB\ntbd: reading long.tbk, ({STEP}|{STEP + 1}) of {size} MB\ntbd: ready\n"
     case("a long start that is reported", told[1][0] == 0 and re.fullmatch(lines, told[1][1]), told[1])
     case("a long start that is not", told[2] == (0, ""), told[2])
     os.unlink(path)

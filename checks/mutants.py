@@ -60,8 +60,13 @@ SCRIPTS = {
     "keep.py": (["--kills", "3", "--flips", "20", "--cuts", "20"], {"tbd", "tbs"}),
 }
 
-# What a script waits for, in seconds, where the programs are slow.
-SLOW = {"KEEP_SECONDS": "60"}
+# Where the programs are slow: what a script waits for, in seconds, and the megabytes of a file that
+# it calls long.
+SLOW = {"KEEP_SECONDS": "60", "KEEP_STEP": "1"}
+
+# The programs' constant for these megabytes: its file, its text, and what stands there instead. The
+# tests are built before, with the text as it is.
+STEP = ("crates/tb_keep_commands/src/reports.rt", "usize = 64 * MEGABYTE;", "usize = MEGABYTE;")
 
 # Cases that fail with no bug on: a program of `rt try` has AddressSanitizer, which maps terabytes.
 ANYWAY = {"a register in 64 MiB"}
@@ -239,6 +244,16 @@ def plant(room, mutants):
     write(f"{room}/crates/tb_mutant/c/mutant.c", SWITCH_IN_C)
 
 
+def make_smaller(room):
+    """Puts the smaller constant into a copy."""
+    path, old, new = STEP
+    with open(f"{room}/{path}", encoding="utf-8") as file:
+        text = file.read()
+    if text.count(old) != 1:
+        sys.exit(f"{path}: '{old}' is not there once")
+    write(f"{room}/{path}", text.replace(old, new))
+
+
 def join_tests(room, crates):
     """Makes one crate of the tests of several: each becomes a module."""
     lines, root = repository.crates(room), "#![tactic(auto)]\n\n"
@@ -306,7 +321,8 @@ def build(room, crate, is_program):
     with tempfile.TemporaryDirectory(prefix="try-", dir=f"{room}/kept") as folder:
         with open(f"{room}/kept/{crate}.log", "wb") as log:
             if not os.path.isfile(kept):
-                print(f"building {crate}", flush=True)
+                print(f"building {crate}: ", end="", flush=True)
+                began = time.monotonic()
                 tried = subprocess.Popen(
                     words,
                     cwd=f"{room}/crates/{crate}",
@@ -317,6 +333,7 @@ def build(room, crate, is_program):
                     start_new_session=True,
                 )
                 keep_built(tried, folder, kept)
+                print(f"{time.monotonic() - began:.0f} s", flush=True)
     if not os.path.isfile(kept):
         with open(f"{room}/kept/{crate}.log", encoding="utf-8", errors="replace") as log:
             sys.exit(f"{crate} was not built:\n{log.read()[-3000:]}")
@@ -403,6 +420,7 @@ class Catchers:
         self.tests = build(room, ALL_TESTS, False) if tests else None
         self.names = self.listed() if tests else []
         self.seconds = {}
+        make_smaller(room)
         for program in programs:
             out = f"{room}/crates/{program}/out"
             os.makedirs(out, exist_ok=True)
@@ -431,7 +449,7 @@ class Catchers:
 
     def fails(self, number, name):
         """Whether a test fails; 'no end' where it takes far longer than without a bug."""
-        limit = SECONDS + SLOWER * self.seconds.get(name, SECONDS)
+        limit = SECONDS + SLOWER * self.seconds.get(name, BUILD_SECONDS)
         status = status_of([self.tests, name], number, limit)
         return "no end" if status is None else status != 0
 
@@ -452,18 +470,23 @@ class Catchers:
                 return f"checks/{name}: {case}"
         return None
 
-    def wrong_without(self, mutants):
+    def timed(self, name):
+        """Whether a test fails with no bug on, and how long it takes."""
+        began = time.monotonic()
+        fails = self.fails(0, name)
+        self.seconds[name] = time.monotonic() - began
+        return fails
+
+    def wrong_without(self, mutants, pool):
         """The tests and scripts that these bugs may show in, and that fail with no bug on."""
-        wrong = []
-        for name in sorted({it for mutant in mutants for it in self.tests_of(mutant)}):
-            began = time.monotonic()
-            if self.fails(0, name):
-                wrong.append(name)
-            self.seconds[name] = time.monotonic() - began
-        for name in self.scripts:
-            case = self.script_fails(0, name)
-            if case:
-                wrong.append(f"checks/{name}: {case}")
+        began = time.monotonic()
+        names = sorted({it for mutant in mutants for it in self.tests_of(mutant)})
+        cases = [pool.submit(self.script_fails, 0, name) for name in self.scripts]
+        wrong = [name for name, fails in zip(names, pool.map(self.timed, names)) if fails]
+        told = {name: case.result() for name, case in zip(self.scripts, cases)}
+        wrong += [f"checks/{name}: {case}" for name, case in told.items() if case]
+        seconds = time.monotonic() - began
+        print(f"no bug: {len(names)} tests, {len(told)} scripts, {seconds:.0f} s", flush=True)
         return wrong
 
 
@@ -575,13 +598,13 @@ def try_mutants(mutants, words, room):
     """Tries the chosen bugs, and prints what catches each; the exit status."""
     tried = commit()
     catchers = prepared(room, mutants, words.tests_only)
-    without = catchers.wrong_without(mutants)
-    if without:
-        print("these fail with no bug on: " + ", ".join(without))
-        print(f"0 passed, {len(mutants)} failed")
-        return 1
     caught = {}
     with concurrent.futures.ThreadPoolExecutor(words.jobs) as pool:
+        without = catchers.wrong_without(mutants, pool)
+        if without:
+            print("these fail with no bug on: " + ", ".join(without))
+            print(f"0 passed, {len(mutants)} failed")
+            return 1
         for mutant, by in zip(mutants, pool.map(catchers.catch, mutants)):
             caught[mutant.name] = by or ""
             print(f"{mutant.crate} {mutant.name}: {by or 'NOTHING'}", flush=True)

@@ -1,11 +1,11 @@
 #!/usr/bin/env python3
-"""Runs the checks that need no prover and no built program, side by side: what to run before a
-push.
+"""Runs the checks that need no prover, side by side: what to run before a push.
 
     checks/quick.py [SCRIPT ..]     all of them, or those that are named
 
 Each has two minutes. Prints a line for each, and what a failed one printed; ends in 'N passed, 0
-failed'. flake8 is left out, with a word, where it is not installed.
+failed'. flake8 is left out, with a word, where it is not installed; and so is `refusals`, the quick
+form of checks/refusals.py, where a program of its is not built or is older than its sources.
 """
 import concurrent.futures
 import pathlib
@@ -14,6 +14,7 @@ import subprocess
 import sys
 import time
 
+import repository
 import tried
 
 ROOT = pathlib.Path(__file__).resolve().parent.parent
@@ -38,7 +39,9 @@ CHECKS = {
     "wrappers": ["checks/embed/wrappers.py"],
     "scenarios": ["clients/conformance/make_scenarios.py"],
     "kit": ["clients/conformance/kit.py", "--", sys.executable, "-B", RUNNER],
+    "refusals": ["checks/refusals.py", "--every", "10"],
 }
+PROGRAMS = ("tbs", "tbd", "tb_refusals")
 
 
 def run(words: list[str]) -> tuple[int, float, str]:
@@ -50,6 +53,14 @@ def run(words: list[str]) -> tuple[int, float, str]:
     except subprocess.TimeoutExpired:
         status, said = 1, f"no end after {SECONDS_MAX} seconds"
     return status, time.monotonic() - began, said.strip()
+
+
+def is_fresh(program: str) -> bool:
+    """Whether a program is built, and no source of it is newer."""
+    built = ROOT / "crates" / program / "out" / program
+    names = [program, *repository.below([program])]
+    sources = [it for name in names for it in (ROOT / "crates" / name / "src").rglob("*.rt")]
+    return built.is_file() and all(it.stat().st_mtime < built.stat().st_mtime for it in sources)
 
 
 def main() -> int:
@@ -64,6 +75,9 @@ def main() -> int:
         commands["flake8"] = ["flake8"]
     elif "flake8" in chosen:
         print("passed over: flake8 is not installed")
+    stale = [it for it in PROGRAMS if not is_fresh(it)]
+    if stale and commands.pop("refusals", None):
+        print(f"passed over: refusals, since {', '.join(stale)}: not built, or older than a source")
     with concurrent.futures.ThreadPoolExecutor() as pool:
         for name, (status, seconds, said) in zip(commands, pool.map(run, commands.values())):
             last = said.splitlines()[-1] if said else ""

@@ -5,12 +5,14 @@ looks at what they answer. First build them:
     (cd crates/tbs && rt run -- run 2) < examples/first.script > /dev/null
     (cd crates/tb_refusals && rt run -- take 2) < examples/first.script > /dev/null
     (cd crates/tbd && rt run -- --version)
-    checks/refusals.py
+    checks/refusals.py [--every N]
 
 `tb_refusals` serves a script by each call that may want memory, and makes what was refused again.
 What is right comes from the frames of this file, from examples/first.replies, and from `tbs` when
-nothing is refused. A loop that refuses nothing shows nothing: each case counts its refusals and has
-a least number of them. Prints a line for each case, and 'N passed, M failed'.
+nothing is refused. All memory has to be given back after each run, whatever was refused. A loop
+that refuses nothing shows nothing: each case counts its refusals and has a least number of them.
+With --every the first call is refused, and each N-th behind it: `--every 10` is the quick form, of
+which one refusal for each case is asked. Prints a line for each case, and 'N passed, M failed'.
 checks/refusals/refuse.c, which the programs are run over, needs cc and Linux.
 """
 import collections
@@ -153,10 +155,11 @@ def plain(program, words, script):
 
 
 class Refuser:
-    """Runs programs over refuse.c."""
+    """Runs programs over refuse.c, and refuses the first call and every so many-th."""
 
-    def __init__(self, folder):
+    def __init__(self, folder, every):
         self.shared, self.report = f"{folder}/refuse.so", f"{folder}/report"
+        self.every = every
         source = f"{TOP}/checks/refusals/refuse.c"
         subprocess.run(
             ["cc", "-Wall", "-Wextra", "-shared", "-fPIC", "-O2", source, "-o", self.shared],
@@ -174,15 +177,19 @@ class Refuser:
         return run(program, words, script, environment)
 
     def in_turn(self, program, words, script, kind="growth", **most):
-        """The run with the first call of this kind refused, with the second, and so on, up to
-        the first that refuses none."""
-        at = 0
+        """The run with the first call of this kind refused, with the second (or, where few are,
+        with one further on), and so on, up to the first that refuses none."""
+        at = 1
         while True:
-            at += 1
             ran = self.run(program, words, script, kind, at, **most)
             yield at, ran
             if not ran.refused:
                 return
+            at += self.every
+
+    def least(self, count):
+        """How many refusals have to be met where each call is refused once, or where few are."""
+        return count if self.every == 1 else 1
 
 
 def right(words, script):
@@ -207,9 +214,8 @@ def each_growth(refuser, name, form, clients, script, judge, least, wanted):
     all memory given back, and at least so many refusals of calls, each of the wanted kinds among
     them.
     """
-    counts, whys, runs = collections.Counter(), [], 0
+    counts, whys = collections.Counter(), []
     for at, ran in refuser.in_turn(AGAIN, [form, clients], script):
-        runs = at
         why = judge(ran)
         if ran.blocks:
             why = why or f"{ran.blocks} blocks were not given back"
@@ -219,9 +225,9 @@ def each_growth(refuser, name, form, clients, script, judge, least, wanted):
             counts[refusal_of(ran)] += 1
     calls = sum(count for it, count in counts.items() if it not in OWN)
     missing = [it for it in wanted if not counts[it]]
-    if calls < least or missing:
+    if not counts or refuser.every == 1 and (calls < least or missing):
         whys.append(f"only {calls} refusals of calls, none of {missing}")
-    case(name, "; ".join(whys[:3]), f"{runs - 1} allocations refused: {told(counts)}")
+    case(name, "; ".join(whys[:3]), f"{sum(counts.values())} allocations refused: {told(counts)}")
 
 
 def refusal_of(ran):
@@ -433,7 +439,7 @@ def storms(refuser):
                 "blocks left"
             )
         counts[how or "wrong"] += ran.refused
-    if sum(counts.values()) < 400:
+    if sum(counts.values()) < refuser.least(400):
         whys.append("too few allocations were refused")
     case(
         "storm 2 3",
@@ -501,7 +507,7 @@ def each_read(refuser, name, words, script, written, starts):
                 f"read {at}: status {ran.status}, {len(ran.output)} bytes for {len(wanted)}, "
                 f"{ran.lines}, {ran.blocks} blocks left"
             )
-    if count < len(script) // MOST:
+    if count < refuser.least(len(script) // MOST):
         whys.append(f"only {count} reads were refused")
     case(name, "; ".join(whys[:3]), f"{count} reads refused")
 
@@ -517,7 +523,7 @@ def each_write(refuser, name, words, script, kind, wanted, **most):
             again += ran.refused
             continue
         whys += stopped_wrongly(f"{kind} {at}", ran, wanted)
-    if count < len(wanted) // MOST:
+    if count < refuser.least(len(wanted) // MOST):
         whys.append(f"only {count} writes were refused")
     case(name, "; ".join(whys[:3]), f"{count} writes refused, {again} of them offered again")
 
@@ -532,7 +538,7 @@ def writes_stop(refuser, name, words, script, kind, wanted, **most):
             whys += stopped_wrongly(f"{kind} {at} and on", ran, wanted)
         elif (ran.status, ran.output, ran.lines, ran.blocks) != (0, wanted, [], 0):
             whys.append(f"status {ran.status} with no write refused")
-    if count < len(wanted) // MOST:
+    if count < refuser.least(len(wanted) // MOST):
         whys.append(f"only {count} runs met a refusal")
     case(name, "; ".join(whys[:3]), f"{count} runs that stopped")
 
@@ -587,7 +593,7 @@ def each_growth_of_tbd(refuser, words, script, judge, new, least):
         counts["NoMemory" if ran.status else "made up for"] += ran.refused
         with contextlib.suppress(FileNotFoundError):
             os.unlink(new)
-    if counts["NoMemory"] < least:
+    if not sum(counts.values()) or refuser.every == 1 and counts["NoMemory"] < least:
         whys.append(f"only {counts['NoMemory']} refusals were reported")
     case(f"tbd {words[0]}", "; ".join(whys[:3]), f"allocations refused: {told(counts)}")
 
@@ -677,10 +683,12 @@ def devices(refuser):
 
 
 def main():
-    tried.arguments(__doc__).parse_args()
+    parser = tried.arguments(__doc__)
+    parser.add_argument("--every", metavar="N", type=tried.count, default=1)
+    every = parser.parse_args().every
     tried.built(PROGRAM, AGAIN, KEEPER)
     with tempfile.TemporaryDirectory() as folder:
-        refuser = Refuser(folder)
+        refuser = Refuser(folder, every)
         growths(refuser)
         storms(refuser)
         ledgers(refuser, folder)

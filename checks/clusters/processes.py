@@ -15,7 +15,7 @@ CLIENT = f"{TOP}/clients/python"
 PYTHON = "/usr/bin/python3"  # Debian's, which sees its packages
 PROGRAM = os.environ.get("PROGRAM", f"{TOP}/crates/tb_script/out/tb_script")
 # The server with its replies kept in a file: those of its last start. A status above 128 is that
-# of a signal.
+# of a signal. Where rates count and no reply is compared, the server runs as it is.
 KEEPING = 'set -o pipefail; program=$1 out=$2; shift 2; "$program" "$@" | tee "$out"'
 
 
@@ -127,8 +127,9 @@ class Machines:
     follows = None  # tb_follow, where that is the server
     keeps = None  # a server that keeps its ledger in a file, where that is it
 
-    def __init__(self, folder, clients_max, replica, count):
+    def __init__(self, folder, clients_max, replica, count, keeps_replies=True):
         self.folder, self.count, self.clients_max = folder, count, clients_max
+        self.keeps_replies = keeps_replies
         self.tcp = free_ports(count)
         words = replica or ["-m", "tb_host.machines"]
         self.replicas = [
@@ -148,8 +149,10 @@ class Machines:
         """The server of a replica, and its words."""
         if self.keeps:
             return [self.keeps, "follow", self.file(at), str(self.clients_max)]
-        words = ["bash", "-c", KEEPING, "bash", self.follows or PROGRAM, self.out(at)]
-        return [*words, *([] if self.follows else ["run"]), str(self.clients_max)]
+        program = [self.follows or PROGRAM]
+        if self.keeps_replies:
+            program = ["bash", "-c", KEEPING, "bash", *program, self.out(at)]
+        return [*program, *([] if self.follows else ["run"]), str(self.clients_max)]
 
     def replica_words(self, at, words, more=()):
         given = ["--log", self.log(at), "--copy", self.copy(at), "--name", f"r{at}", *more]
@@ -195,7 +198,16 @@ class Cluster(Machines):
     """Three nodes of etcd and three replicas, with a link between each replica and each node, and
     one to each node for the others; or without links, where nothing is cut and rates count."""
 
-    def __init__(self, folder, quota=0, clients_max=64, replica=None, count=3, is_linked=True):
+    def __init__(
+        self,
+        folder,
+        quota=0,
+        clients_max=64,
+        replica=None,
+        count=3,
+        is_linked=True,
+        keeps_replies=True,
+    ):
         self.quota = quota
         take = iter(free_ports(3 * count + count * count)).__next__
         self.serves, self.peers = [[take() for _ in range(count)] for _ in range(2)]
@@ -203,7 +215,7 @@ class Cluster(Machines):
         self.ways = [[take() for _ in range(count)] for _ in range(count)]
         if not is_linked:
             self.peer_links, self.ways = self.peers, [self.serves] * count
-        super().__init__(folder, clients_max, replica, count)
+        super().__init__(folder, clients_max, replica, count, keeps_replies)
         pairs = list(zip(self.peer_links, self.peers))
         pairs += [(it, self.serves[at]) for way in self.ways for at, it in enumerate(way)]
         self.links = Links(pairs if is_linked else [])

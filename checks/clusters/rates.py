@@ -13,12 +13,17 @@ TBD = os.environ.get("TBD", f"{TOP}/crates/tbd/out/tbd")
 LOADS = (("24 clients with single transfers", 24, 1), ("1 client with batches of 8190", 1, 8190))
 
 
+# The clients/python of another commit, whose listener takes its turns too: for instance that with
+# which a bound was set.
+EARLIER = os.environ.get("EARLIER")
+
+
 @contextlib.contextmanager
-def listener():
-    """The port of a listener over tbd."""
+def listener(at=CLIENT):
+    """The port of a listener over tbd, by the Python of a folder."""
     with tempfile.TemporaryDirectory(prefix="listener-") as folder:
         (port,) = free_ports(1)
-        words = [PYTHON, "-B", "tb_listen.py", "--tcp", f"127.0.0.1:{port}", "--"]
+        words = [PYTHON, "-B", f"{at}/tb_listen.py", "--tcp", f"127.0.0.1:{port}", "--"]
         it = Process("listener", [*words, TBD, "run", f"{folder}/ledger.tbk", "64"], folder)
         it.start()
         try:
@@ -37,20 +42,20 @@ def rate(port, clients, batch, seconds):
 
 
 def compared(cluster, seconds, turns):
-    """Prints the rates of both, taken in turns, and their ratio."""
+    """Prints the rates of a replica and of each listener, taken in turns, and their ratios."""
+    kinds = {"the listener over tbd": CLIENT, **({"the earlier one": EARLIER} if EARLIER else {})}
     for name, clients, batch in LOADS:
-        found = {"replica": [], "listener": []}
-        with listener() as port:
+        with contextlib.ExitStack() as stack:
+            ports = {it: stack.enter_context(listener(at)) for it, at in kinds.items()}
+            ports["a replica"] = cluster.tcp[0]
+            found = {it: [] for it in ports}
             for _ in range(turns):
-                found["listener"].append(rate(port, clients, batch, seconds))
-                found["replica"].append(rate(cluster.tcp[0], clients, batch, seconds))
-        middle = {kind: statistics.median(it) for kind, it in found.items()}
-        print(
-            f"  {name}: {middle['replica']:.0f} transfers/s through a replica, "
-            f"{middle['listener']:.0f} by the listener over tbd, "
-            f"ratio {middle['replica'] / middle['listener']:.2f}",
-            flush=True,
-        )
+                for it, port in ports.items():
+                    found[it].append(rate(port, clients, batch, seconds))
+        middle = {it: statistics.median(rates) for it, rates in found.items()}
+        mine = middle.pop("a replica")
+        beside = (f"{other:.0f} by {it}, ratio {mine / other:.2f}" for it, other in middle.items())
+        print(f"  {name}: {mine:.0f} transfers/s, {'; '.join(beside)}", flush=True)
 
 
 def restart(cluster, at):

@@ -6,7 +6,7 @@ import asyncio
 import contextlib
 import math
 import time
-from typing import Any, Callable, List, Optional, Protocol, Set
+from typing import Any, Callable, List, Optional, Protocol, Set, Tuple
 
 from tb_client.frames import request_fault
 from tb_client.layout import HEADER, REPLY
@@ -138,15 +138,16 @@ class Connection(asyncio.Protocol):
 
     def _begin(self, data: bytes) -> None:
         """Takes the header of a request. Raises `Told` where it has a fault or is not allowed."""
-        listener, header = self.listener, data[:HEADER]
+        listener = self.listener
         assert self.peer is not None
-        fault = request_fault(header)
+        fault = request_fault(data)
         if fault:
             raise Told(fault, self.peer.shown)
         if not listener.counts.has_begun:
             raise Told("Starting", self.peer.shown)
-        listener.access.test(self.peer, u128_at(header, 0))
-        self.phase, self.need = BODY, HEADER + int.from_bytes(header[32:36], "little")
+        if listener.access.ranges is not None:
+            listener.access.test(self.peer, u128_at(data, 0))
+        self.phase, self.need = BODY, HEADER + int.from_bytes(data[32:36], "little")
         if self.have < self.need:
             self.due = time.monotonic() + listener.given.slow
 
@@ -161,7 +162,7 @@ class Connection(asyncio.Protocol):
         """Passes the reply on, or tells why there is none."""
         if reply:
             now = time.monotonic()
-            self.listener.count(reply, now - self.began)
+            self.listener.count_later(reply, now - self.began)
             if not self.is_lost and not self.transport.is_closing():
                 self._pass_on(reply, now)
                 return
@@ -250,6 +251,7 @@ class Listener:
         self.none_is_open = asyncio.Event()
         self.none_is_open.set()
         self.why = ""  # why no more requests are taken
+        self.uncounted: List[Tuple[bytes, float]] = []  # replies with the seconds that they took
 
     def enter(self, it: Connection) -> bool:
         """Takes a connection. Says whether it is served: there may be too many."""
@@ -278,11 +280,22 @@ class Listener:
         if not self.open:
             self.none_is_open.set()
 
+    def count_later(self, reply: bytes, seconds: float) -> None:
+        """Counts a reply once those that came with it have left."""
+        if not self.uncounted:
+            asyncio.get_running_loop().call_soon(self._count)
+        self.uncounted.append((reply, seconds))
+
+    def _count(self) -> None:
+        counted, self.uncounted = self.uncounted, []
+        for reply, seconds in counted:
+            self.count(reply, seconds)
+
     def count(self, reply: bytes, seconds: float) -> None:
         """Counts a reply, and follows the sessions."""
         _, _, operation, status, _, commit = REPLY.unpack_from(reply, 16)
         self.counts.answered(operation, status, seconds)
-        if status == 0:
+        if status == 0 and self.evictions.clients_max is not None:
             client = u128_at(reply, 0)
             evicted = self.evictions.learn(client, operation == Operation.register, commit)
             if evicted is not None:

@@ -7,10 +7,9 @@ So each reader finds within one entry that it and the writer do not have the sam
 """
 from __future__ import annotations
 
-import dataclasses
 import hashlib
 import struct
-from typing import Iterator, List, Tuple
+from typing import Iterable, Iterator, List, NamedTuple, Tuple
 
 from tb_client.frames import asker, request_fault
 from tb_client.layout import HEADER
@@ -35,16 +34,21 @@ def chained(before: bytes, more: bytes) -> bytes:
     return found.digest()
 
 
-@dataclasses.dataclass(frozen=True)
-class Claim:
+def chained_all(before: bytes, items: Iterable[bytes]) -> bytes:
+    """The hash of a list, from the hash of what came before its last items."""
+    for it in items:
+        before = chained(before, it)
+    return before
+
+
+class Claim(NamedTuple):
     """What a writer had: the hash of a list up to a position."""
 
     position: int
     digest: bytes
 
 
-@dataclasses.dataclass(frozen=True)
-class Entry:
+class Entry(NamedTuple):
     """An entry of the log."""
 
     writer: bytes

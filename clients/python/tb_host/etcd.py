@@ -20,6 +20,7 @@ from .log import Access, LogFull, LogGone, NoLog, Report, Written
 TRY = 2.0  # seconds for which one address is waited for
 ALL = 10.0  # seconds after which no address is tried any more
 AGAIN = 0.1  # seconds before all addresses are tried again
+LEADER = 5.0  # seconds after which it is looked again which address is the leader's
 PAGE = 64  # keys that are listed at a time
 OPTIONS = (
     ("grpc.max_receive_message_length", -1),
@@ -55,7 +56,7 @@ class Address:
         self.channel = self._channel()
         self.keys, self.watches = rpc.KVStub(self.channel), rpc.WatchStub(self.channel)
         self.care, self.auth = rpc.MaintenanceStub(self.channel), rpc.AuthStub(self.channel)
-        self.token: Optional[str] = None
+        self.given: List[Tuple[str, str]] = []  # what goes with each call, made once for a token
 
     def _channel(self) -> Any:
         access = self.access
@@ -72,15 +73,19 @@ class Address:
     async def metadata(self) -> Sequence[Tuple[str, str]]:
         """What goes with each call: a token, where there is a user; and that a member without a
         leader is to refuse."""
-        given: List[Tuple[str, str]] = [("hasleader", "true")]
-        if self.access.user is not None:
-            if self.token is None:
+        if not self.given:
+            given = [("hasleader", "true")]
+            if self.access.user is not None:
                 asked = rpc.AuthenticateRequest(
                     name=self.access.user, password=self.access.password() or ""
                 )
-                self.token = (await self.auth.Authenticate(asked, timeout=TRY)).token
-            given.append(("token", self.token))
-        return given
+                given.append(("token", (await self.auth.Authenticate(asked, timeout=TRY)).token))
+            self.given = given
+        return self.given
+
+    def forget_token(self) -> None:
+        """It may have run out: the next call asks for another."""
+        self.given = []
 
 
 def _read(path: Optional[str]) -> Optional[bytes]:
@@ -88,6 +93,24 @@ def _read(path: Optional[str]) -> Optional[bytes]:
         return None
     with open(path, "rb") as file:
         return file.read()
+
+
+class Put:
+    """A transaction that puts a key where it is not there, and else answers it. It is made once,
+    and has another key and value each time: a part that is set in place is copied once."""
+
+    def __init__(self) -> None:
+        self.request = rpc.TxnRequest()
+        self.compare = self.request.compare.add()
+        self.compare.result, self.compare.target = rpc.Compare.EQUAL, rpc.Compare.CREATE
+        self.compare.create_revision = 0
+        self.put = self.request.success.add().request_put
+        self.get = self.request.failure.add().request_range
+
+    def of(self, key: bytes, value: bytes) -> Any:
+        self.compare.key = self.put.key = self.get.key = key
+        self.put.value = value
+        return self.request
 
 
 class EtcdLog:
@@ -98,6 +121,9 @@ class EtcdLog:
         self.prefix = name.rstrip("/").encode() + b"/"
         self.writing = self.reading = 0  # which address
         self.watch: Any = None
+        self.entry = Put()  # one append is under way at a time
+        self.looking: Optional[asyncio.Future[None]] = None  # for the leader
+        self.looked = -LEADER
         # the revision up to which all was read, and the place of the last entry up to there
         self.cursor = self.place = 0
         self.is_moving = False
@@ -124,17 +150,6 @@ class EtcdLog:
             if tried % len(self.addresses) == 0:
                 await asyncio.sleep(AGAIN)
 
-    async def _put_once(self, key: bytes, value: bytes, seconds: float = ALL) -> Any:
-        """Puts a key that is not there. Answers the key as it is then."""
-        is_new = rpc.Compare(
-            result=rpc.Compare.EQUAL, target=rpc.Compare.CREATE, key=key, create_revision=0
-        )
-        get = rpc.RequestOp(request_range=rpc.RangeRequest(key=key))
-        request = rpc.TxnRequest(compare=[is_new], failure=[get])
-        put = request.success.add().request_put  # set in place, since each message copies its parts
-        put.key, put.value = key, value
-        return await self._call("keys", "Txn", request, seconds)
-
     async def _get(self, key: bytes) -> Optional[bytes]:
         found = await self._call("keys", "Range", rpc.RangeRequest(key=key))
         return found.kvs[0].value if found.kvs else None
@@ -145,7 +160,7 @@ class EtcdLog:
         found = await self._get(self.prefix + b"head")
         if found is not None:  # so that a replica starts where etcd is full
             return found
-        made = await self._put_once(self.prefix + b"head", wanted)
+        made = await self._call("keys", "Txn", Put().of(self.prefix + b"head", wanted))
         return wanted if made.succeeded else bytes(made.responses[0].response_range.kvs[0].value)
 
     async def last(self) -> int:
@@ -154,10 +169,30 @@ class EtcdLog:
 
     async def append(self, writer: bytes, number: int, data: bytes) -> int:
         key = self.prefix + b"log/%s/%020d" % (writer.hex().encode(), number)
-        made = await self._put_once(key, data, TRY)
+        made = await self._call("keys", "Txn", self.entry.of(key, data), TRY)
+        self._look_for_leader()
         if made.succeeded:
             return int(made.header.revision)
         return int(made.responses[0].response_range.kvs[0].create_revision)
+
+    def _look_for_leader(self) -> None:
+        """Sees to it now and then that entries go to the leader: from another member an entry has
+        one way more to go, and its answer two."""
+        now = asyncio.get_running_loop().time()
+        if now >= self.looked + LEADER and (self.looking is None or self.looking.done()):
+            self.looked = now
+            self.looking = asyncio.ensure_future(self._write_to_leader())
+
+    async def _write_to_leader(self) -> None:
+        count = len(self.addresses)
+        for at in [(self.writing + it) % count for it in range(count)]:
+            it = self.addresses[at]
+            with contextlib.suppress(grpc.aio.AioRpcError):
+                given = await it.metadata()
+                said = await it.care.Status(rpc.StatusRequest(), timeout=TRY, metadata=given)
+                if said.leader == said.header.member_id:
+                    self.writing = at
+                    return
 
     def is_next(self, place: int) -> bool:
         """Each change is a revision more than the one before it. So nothing lies between an own
@@ -202,7 +237,7 @@ class EtcdLog:
                 if said.compact_revision:
                     raise LogGone(f"it was trimmed up to revision {said.compact_revision}")
                 if said.canceled:
-                    it.token = None  # it may have run out
+                    it.forget_token()
                     return
                 for event in said.events:
                     if event.kv.mod_revision > self.cursor:
@@ -352,6 +387,8 @@ class EtcdLog:
         return "etcd has the alarm NOSPACE" if await self._alarms() else ""
 
     async def close(self) -> None:
+        if self.looking is not None:
+            self.looking.cancel()
         for it in self.addresses:
             with contextlib.suppress(Exception):
                 await it.channel.close()
@@ -363,7 +400,7 @@ def _test(it: Address, error: Any) -> None:
     if error.code() == grpc.StatusCode.RESOURCE_EXHAUSTED and FULL in said:
         raise LogFull(said) from None
     if any(text in said for text in NO_TOKEN):
-        it.token = None  # it has run out: the next call asks for another
+        it.forget_token()
     elif error.code() in (grpc.StatusCode.PERMISSION_DENIED, grpc.StatusCode.INVALID_ARGUMENT):
         raise Ended(f"{it.place}: {said}", 1) from None
     elif "required revision has been compacted" in said:

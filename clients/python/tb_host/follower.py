@@ -4,6 +4,7 @@ from __future__ import annotations
 import asyncio
 import collections
 import contextlib
+import functools
 import re
 import struct
 import time
@@ -13,10 +14,10 @@ from tb_client.frames import asker, reply_fault
 from tb_client.layout import HEADER
 
 from .checksums import crc32c
-from .entries import NOTHING, chained
+from .entries import NOTHING, chained_all
 from .faults import Fault
 from .lines import Ended, say
-from .pipes import READ, Outgoing, Process
+from .pipes import Outgoing, Process
 from .process import ServerProcess, kill
 from .taken import KEPT, Item, Taken
 
@@ -30,18 +31,24 @@ NAMED = {6: "Damaged", 7: "OtherRules"}  # its statuses that are faults of a rep
 LOCKED = 4  # its status where another process has the file: that of a replica that was killed ends
 
 
+def _dropped(data: bytes) -> None:
+    """What comes is of no use any more."""
+
+
 def _failed(task: asyncio.Future[None]) -> bool:
     return task.done() and not task.cancelled() and task.exception() is not None
 
 
 class Fed:
-    """An entry that the process was given: what each reply has to repeat, and the replies."""
+    """An entry that the process was given: what each reply has to repeat, and the replies that
+    came, the first of which were told."""
 
-    __slots__ = ("position", "wanted", "count")
+    __slots__ = ("position", "wanted", "replies", "told")
 
     def __init__(self, position: int, wanted: List[bytes]) -> None:
         self.position, self.wanted = position, wanted
-        self.count = 0  # replies that came
+        self.replies: List[bytes] = []
+        self.told = 0
 
 
 class Follower(ServerProcess):
@@ -53,7 +60,7 @@ class Follower(ServerProcess):
         words: Sequence[str],
         patience: float,
         copy: Taken,
-        tell: Callable[[int, int, bytes], None],
+        tell: Callable[[int, int, List[bytes]], None],
     ) -> None:
         super().__init__(words, patience, True)
         self.copy, self.tell = copy, tell
@@ -65,7 +72,10 @@ class Follower(ServerProcess):
         self.last = NOTHING  # of all replies of this process
         self.digest = NOTHING  # of those up to the position that is answered
         self.known = copy.position  # up to which replies were tested when they came first
+        self.awaited = 0.0  # the position with which `moved` comes once it is answered
         self.moved = asyncio.Event()
+        self.rest = b""  # what came of a reply that is not whole
+        self.fault: Optional[Exception] = None  # what was wrong about what came
 
     # pairs
 
@@ -119,29 +129,40 @@ class Follower(ServerProcess):
         self, process: Process, stdout: asyncio.StreamReader
     ) -> None:
         self.forget()
+        self.rest, self.fault = b"", None
         feeding = asyncio.ensure_future(self._feed(process.stdin))
         feeding.add_done_callback(lambda it: kill(process) if _failed(it) else None)
-        data = b""
+        process.output.take = functools.partial(self._come, process)
         try:
-            while more := await stdout.read(READ):
-                data = data + more if data else more
-                data = data[self._take(process, data) :]
+            await stdout.read()  # its end
         except asyncio.CancelledError:
             pass
         finally:
             feeding.cancel()
+            process.output.take = _dropped
+        if self.fault is not None:
+            raise self.fault
         if _failed(feeding):
             feeding.result()
 
-    def _take(self, process: Process, data: bytes) -> int:
+    def _come(self, process: Process, data: bytes) -> None:
+        """Takes what the process wrote. It is killed where that is wrong."""
+        data = self.rest + data if self.rest else data
+        try:
+            self.rest = data[self._take(data) :]
+        except Exception as error:
+            self.fault, process.output.take = error, _dropped
+            kill(process)
+
+    def _take(self, data: bytes) -> int:
         """Takes what is whole of these bytes. Answers how many bytes it has."""
         at = 0
         try:
             while (end := self.taken(data, at)) > at:
                 at = end
-        except Ended:
-            kill(process)
-            raise
+        finally:
+            if self.fed:
+                self._tell(self.fed[0])
         return at
 
     def taken(self, data: bytes, at: int) -> int:
@@ -158,27 +179,36 @@ class Follower(ServerProcess):
             raise Ended(f"{self.words[0]} wrote what is no reply to the next pair", 1)
         if end > len(data):
             return 0
-        self._answer(data[at:end])
+        it = self.fed[0]
+        it.replies.append(data[at:end])
+        if len(it.replies) == len(it.wanted):
+            self.pass_empty()
         return end
 
     def _is_next(self, header: bytes) -> bool:
-        if not self.fed or self.fed[0].count == len(self.fed[0].wanted):
+        it = self.fed[0] if self.fed else None
+        if it is None or len(it.replies) == len(it.wanted):
             return False
-        it = self.fed[0]
-        is_asked = it.wanted[it.count] == asker(header)
+        is_asked = it.wanted[len(it.replies)] == asker(header)
         return is_asked and (it.position <= self.known or not reply_fault(header))
 
-    def _answer(self, reply: bytes) -> None:
-        it = self.fed[0]
-        it.count += 1
-        self.tell(it.position, it.count - 1, reply)
-        self.last = chained(self.last, reply)
-        self.pass_empty()
+    def _tell(self, it: Fed) -> None:
+        """Tells the replies that came since it was called last."""
+        if it.told < len(it.replies):
+            told, it.told = it.told, len(it.replies)
+            self.tell(it.position, told, it.replies[told:])
 
     def pass_empty(self) -> None:
         """Finishes what has all its replies; an entry without pairs when those before it have."""
-        while self.fed and self.fed[0].count == len(self.fed[0].wanted):
-            self.finish(self.fed.popleft())
+        while self.fed and len(self.fed[0].replies) == len(self.fed[0].wanted):
+            it = self.fed.popleft()
+            self.pass_on(it)
+            self.finish(it)
+
+    def pass_on(self, it: Fed) -> None:
+        """Tells the replies to an entry, and then hashes them."""
+        self._tell(it)
+        self.last = chained_all(self.last, it.replies)
 
     def finish(self, it: Fed) -> None:
         before = self.hashes.get(it.position)
@@ -194,7 +224,8 @@ class Follower(ServerProcess):
         self.answered = position
         self.known = max(self.known, position)
         self.copy.settle(position)
-        self.moved.set()
+        if position >= self.awaited:
+            self.moved.set()
 
     def state(self) -> Tuple[int, bytes]:
         """The position up to which replies are there, and their hash."""
@@ -224,7 +255,7 @@ class PositionFollower(Follower):
         if len(data) - at < 1 + REPLIED.size:
             return at
         position, index = REPLIED.unpack_from(data, at + 1)
-        place = (self.fed[0].position, self.fed[0].count) if self.fed else None
+        place = (self.fed[0].position, len(self.fed[0].replies)) if self.fed else None
         if data[at : at + 1] != ENTRY or place != (position, index):
             raise Ended(f"{self.words[0]} wrote what has no place in the log", 1)
         return self.take_reply(data, at + 1 + REPLIED.size) or at
@@ -238,7 +269,8 @@ class PositionFollower(Follower):
     def take_hashes(self, position: int, log: bytes, replies: bytes) -> None:
         """Takes the hashes behind an entry."""
         it = self.fed.popleft() if self.fed else Fed(0, [])
-        if (it.position, it.count) != (position, len(it.wanted)):
+        self.pass_on(it)
+        if (it.position, len(it.replies)) != (position, len(it.wanted)):
             raise Ended(f"{self.words[0]} wrote hashes that were not asked for", 1)
         if replies != self.last or log != self.copy.hashes.get(position, log):
             raise Fault("Diverged", f"{self.words[0]} has another hash at position {position}")
@@ -255,7 +287,7 @@ class KeptFollower(PositionFollower):
         words: Sequence[str],
         patience: float,
         copy: Taken,
-        tell: Callable[[int, int, bytes], None],
+        tell: Callable[[int, int, List[bytes]], None],
         missed: Callable[[int], None],
     ) -> None:
         super().__init__(words, patience, copy, tell)

@@ -3,7 +3,7 @@ from __future__ import annotations
 
 import dataclasses
 import re
-from typing import AsyncIterator, Dict, List, Optional, Protocol, Tuple, Union
+from typing import AsyncIterator, Dict, List, NamedTuple, Optional, Protocol, Tuple, Union
 
 from .lines import Ended
 
@@ -29,16 +29,14 @@ class Access:
             raise Ended(f"{self.password_file}: {error}", 1) from None
 
 
-@dataclasses.dataclass(frozen=True)
-class Written:
+class Written(NamedTuple):
     """An entry as the log has it, and its place there: a number of the engine's, which grows."""
 
     place: int
     data: bytes
 
 
-@dataclasses.dataclass(frozen=True)
-class Report:
+class Report(NamedTuple):
     """What a replica last said of itself."""
 
     name: str

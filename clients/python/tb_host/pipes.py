@@ -33,12 +33,14 @@ class End:
 
 
 class Incoming(End):
-    """The reading end of a pipe. What comes is given to `stream`, which says when to wait."""
+    """The reading end of a pipe. What comes is given to `stream`, which says when to wait, or to
+    `take` where that was set. The end is told to `stream`."""
 
     def __init__(self, pipe: Optional[IO[bytes]]) -> None:
         super().__init__(pipe)
         self.count = 0  # bytes that were read
         self.stream = asyncio.StreamReader(limit=READ)
+        self.take: Callable[[bytes], None] = self.stream.feed_data
         transport: Any = self  # of which a stream uses these two calls
         self.stream.set_transport(transport)
         self.resume_reading()
@@ -52,7 +54,7 @@ class Incoming(End):
             data = b""
         if data:
             self.count += len(data)
-            self.stream.feed_data(data)
+            self.take(data)
         else:
             self.close()
 

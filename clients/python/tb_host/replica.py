@@ -7,6 +7,7 @@ import asyncio
 import collections
 import contextlib
 import json
+import math
 import os
 import time
 from typing import Any, Deque, Dict, List, Optional, Set, Tuple
@@ -85,14 +86,17 @@ class Pair:
 class Sent:
     """An own entry that was not read yet, with the pairs that wait for it."""
 
-    __slots__ = ("entry", "data", "pairs")
+    __slots__ = ("entry", "data", "pairs", "askers")
 
     def __init__(self, entry: Entry, pairs: List[Pair]) -> None:
         self.entry, self.data, self.pairs = entry, entry.to_bytes(), pairs
+        self.askers: Optional[List[bytes]] = None
 
     def wanted(self) -> List[bytes]:
         """What the reply to each pair repeats of it: each was tested when it came."""
-        return [asker(it.frame) for it in self.pairs]
+        if self.askers is None:
+            self.askers = [asker(it.frame) for it in self.pairs]
+        return self.askers
 
 
 class Replica:
@@ -105,8 +109,8 @@ class Replica:
         self.moments = Moments()
         self.stopping = self.follower.stopping
         self.queue: Deque[Pair] = collections.deque()
-        self.queued = asyncio.Event()  # enough requests wait for the next entry
-        self.expected = 1  # requests that are enough
+        self.enough: Optional[asyncio.Future[None]] = None  # comes when requests are enough
+        self.expected = 1  # those that are
         self.number = 0
         self.sent: Dict[int, Sent] = {}  # own entries that were not read yet, by their number
         self.own: Dict[int, List[Pair]] = {}  # those that were read, by their position
@@ -141,7 +145,7 @@ class Replica:
         else:
             self.queue.append(Pair(frame, answered))
             if len(self.queue) >= self.expected:
-                self.queued.set()
+                self._go_on()
 
     async def ask(self, frame: bytes) -> bytes:
         """The reply to a request. Raises `Told` where there is none."""
@@ -161,7 +165,7 @@ class Replica:
         for pair in reversed([it for it in missed if not it.is_done]):
             pair.since = time.monotonic()
             self.queue.appendleft(pair)
-        self.queued.set()
+        self._go_on()
 
     async def begun(self) -> None:
         """Comes when the server has answered what the copy had at the start. Until then a client is
@@ -177,13 +181,15 @@ class Replica:
     def lag(self) -> float:
         return self.moments.lag()
 
-    def tell(self, position: int, index: int, reply: bytes) -> None:
-        """Brings the reply to the pair of this position and index to who asked, if it is one of
-        ours."""
+    def tell(self, position: int, index: int, replies: List[bytes]) -> None:
+        """Brings the replies to the pairs of this position, from this index on, to who asked, if
+        they are ours."""
         pairs = self.own.get(position)
         if pairs is not None:
-            pairs[index].tell(reply)
-            if index + 1 == len(pairs):
+            end = index + len(replies)
+            for pair, reply in zip(pairs[index:end], replies):
+                pair.tell(reply)
+            if end == len(pairs):
                 del self.own[position]
 
     async def _watch_the_wait(self) -> None:
@@ -200,14 +206,16 @@ class Replica:
     # the log
 
     def _next_entry(self) -> Optional[bytes]:
-        """The next entry, of the pairs that wait. None where no one waits any more."""
+        """The next entry, of the pairs that wait, with one moment for all. None where no one waits
+        any more."""
+        moment = MOMENT.pack(self.moments.next())
         taken: List[Pair] = []
         pairs, length = [], 0
         while self.queue and length + len(self.queue[0].frame) + MOMENT.size <= PAIRS_MAX:
             pair = self.queue.popleft()
             if not pair.is_done:
                 taken.append(pair)
-                pairs += [MOMENT.pack(self.moments.next()), pair.frame]
+                pairs += [moment, pair.frame]
                 length += len(pair.frame) + MOMENT.size
         return self._sent(taken, b"".join(pairs)) if taken else None
 
@@ -224,13 +232,13 @@ class Replica:
         """Appends what waits, one entry after another."""
         if self.copy.position < self.start:
             await self._append(self.number + 1, self._sent([], b""))
+        loop = asyncio.get_running_loop()
         while True:
-            await self.queued.wait()
-            self.queued.clear()
-            self.expected = 1
+            await self._until_queued(1)
             while self.queue:
                 data = self._next_entry()
                 if data is not None:
+                    loop.call_soon(self.sent[self.number].wanted)  # once it is on its way
                     await self._append(self.number, data)
                     await self._gather()
 
@@ -238,12 +246,28 @@ class Replica:
         """Waits as long as those come who are answered now: one entry for all takes less than one
         for the first of them and one for the others."""
         count = len(self.queue) + len(self.own.get(self.copy.position, ()))
-        self.expected, before, end = count, -1, time.monotonic() + GATHER
+        before, end = -1, time.monotonic() + GATHER
         while count > 1 and before < len(self.queue) < count and time.monotonic() < end:
-            self.queued.clear()
             before = len(self.queue)
-            await came(self.queued, COME)
-        self.expected = 1
+            await self._until_queued(count, COME)
+
+    async def _until_queued(self, count: int, seconds: Optional[float] = None) -> None:
+        """Waits until so many requests wait for the next entry, or for so many seconds."""
+        if len(self.queue) < count:
+            loop = asyncio.get_running_loop()
+            self.expected, self.enough = count, loop.create_future()
+            timer = None if seconds is None else loop.call_later(seconds, self._go_on)
+            try:
+                await self.enough
+            finally:
+                self.enough = None
+                if timer is not None:
+                    timer.cancel()
+
+    def _go_on(self) -> None:
+        """Ends the wait for more requests."""
+        if self.enough is not None and not self.enough.done():
+            self.enough.set_result(None)
 
     async def _append(self, number: int, data: bytes) -> None:
         """Appends an entry once: by the same name until it is in the log."""
@@ -349,6 +373,7 @@ class Replica:
     def _compare_replies(self, replies: Claim, writer: bytes) -> None:
         mine = self.follower.hashes.get(replies.position)
         if mine is None and replies.position > self.follower.answered:
+            self.follower.awaited = min(self.follower.awaited, replies.position)
             self.claims.setdefault(replies.position, set()).add((replies.digest, writer))
         elif mine is not None and mine != replies.digest:
             said = f"has replies with the hash {replies.digest.hex()}, here it is {mine.hex()}"
@@ -369,6 +394,8 @@ class Replica:
                 position = min(self.claims)
                 for digest, writer in self.claims.pop(position):
                     self._compare_replies(Claim(position, digest), writer)
+            if self.served.is_set():
+                self.follower.awaited = min(self.claims, default=math.inf)
 
     # reports
 

@@ -2,16 +2,14 @@
 from __future__ import annotations
 
 import asyncio
-import dataclasses
-from typing import Any, Dict, Iterator, List, Optional, Tuple
+from typing import Any, Dict, Iterator, List, NamedTuple, Optional, Tuple
 
 from .entries import MOMENT, NOTHING, Entry, chained
 
 KEPT = 100_000  # positions of which the hashes are kept, to be compared with a writer's
 
 
-@dataclasses.dataclass(frozen=True)
-class Item:
+class Item(NamedTuple):
     """An entry as the server is given it: its pairs, and what the reply to each repeats. `end` is
     where its bytes end, among those of all entries."""
 

@@ -73,7 +73,7 @@ def transport_of(given: argparse.Namespace) -> Transport:
     if os.path.basename(program) == "tbd":
         sys.exit(
             "tb-repl: tbd keeps its ledger in a file: let tb_listen.py serve it, and --connect to "
-            "that (docs/use/TBD.md, Sockets)"
+            "that (docs/use/CLIENTS.md, Sockets)"
         )
     return Program(program, given.clients_max, given.profile)
 

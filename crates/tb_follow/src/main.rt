@@ -51,16 +51,36 @@ fn status_of(fault: LogFault) -> u8
 /// Does what the words ask for, and returns the exit status.
 fn command(rt: &HostRuntime, words: &[String]) -> u8 {
     let Some(form) = read_form(words) else {
-        let _ = usage(rt);
-        return 2;
+        return refuse_usage(rt);
     };
     match follow_input(rt, form) {
         Ok(_) => 0,
-        Err(fault) => {
-            let _ = tell(rt, fault);
-            status_of(fault)
-        }
+        Err(fault) => refuse(rt, fault),
     }
+}
+
+/// Tells why the words cannot be had, and returns the exit status: a word is no text, or there is no memory for them.
+fn refuse_words(rt: &HostRuntime, error: &io::Error) -> u8 {
+    match error.kind() {
+        io::ErrorKind::OutOfMemory => refuse(rt, LogFault::NoMemory),
+        _ => refuse_usage(rt),
+    }
+}
+
+/// Prints a fault, and returns its exit status.
+fn refuse(rt: &HostRuntime, fault: LogFault) -> u8
+    ensures { result ≡ fault_status fault }
+{
+    let _ = tell(rt, fault);
+    status_of(fault)
+}
+
+/// Prints how the program is called, and returns the exit status.
+fn refuse_usage(rt: &HostRuntime) -> u8
+    ensures { result ≡ 2 }
+{
+    let _ = usage(rt);
+    2
 }
 
 /// Prints a fault, in one line.
@@ -78,10 +98,7 @@ fn usage(rt: &HostRuntime) -> io::Result<()> {
 fn main(rt: HostRuntime) -> ExitCode {
     let status = match words(&rt) {
         Ok(words) => command(&rt, words.as_slice()),
-        Err(_) => {
-            let _ = usage(&rt);
-            2
-        }
+        Err(error) => refuse_words(&rt, &error),
     };
     ExitCode::from(status)
 }
