@@ -46,12 +46,12 @@ COLUMNS = (
     ">=40 lines",
     "casts",
 )
-CLAUSES_OVER_100 = 0.204  # wanted: 0.10
+CLAUSES_OVER_100 = 0.203  # wanted: 0.10
 # Each figure with a bound: what it has today, and what is wanted.
 BOUNDS = {
-    "lines": (114915, 74500),
-    "imports": (11620, 4700),
-    ">160": (129, 0),
+    "lines": (115130, 74500),
+    "imports": (11633, 4700),
+    ">160": (127, 0),
     "ghost >160": (8, 0),
     ">8 clauses": (12, 0),
     ">=40 lines": (1, 0),
