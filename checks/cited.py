@@ -47,9 +47,9 @@ HEADS = ("-- Cited by", "-- Public contracts reach it", "-- No contract cites it
 # of a file that grows, salvage and backup, 210 for `explain` and what is typed on a terminal, 93
 # for inputs of another kind and the laws of `explain` of a dump), and of later crates
 # (tb_keep_commands: 212 for live files, salvage and backup; tb_keep_log: 34 for the faults of a
-# dump and the end of the process).
+# dump and the end of the process; tb_log: 16 for an input that ends within an item).
 LINES_MAX = 5419
-LATER = {"tb_keep_commands": 705, "tb_log": 258, "tb_keep_log": 256, "tb_keep_follow": 215}
+LATER = {"tb_keep_commands": 718, "tb_log": 274, "tb_keep_log": 262, "tb_keep_follow": 227}
 TOOLS = (
     "tb_uses",
     "tb_bench",

@@ -112,21 +112,28 @@ def first_reply() -> str:
 
 
 def crates() -> str:
-    """The CPU minutes of each crate, on both machines."""
-    minutes: dict[str, dict[str, str]] = collections.defaultdict(dict)
-    for row in of_kind("crate"):
-        minutes[row["subject"]][row["machine"]] = row["value"]
-    fast = sorted(minutes, key=lambda it: -float(minutes[it].get("fast", "0")))
-    lines = [
-        f"| {it} | {minutes[it].get('slow', '')} | {minutes[it].get('fast', '')} |"
-        for it in fast[:12]
+    """The CPU minutes of each crate by its passes, on the slow machine."""
+    rows = [(row["subject"], passes(row)) for row in of_kind("crate")]
+    rows.sort(key=lambda it: -sum(it[1]))
+    groups = [(name, [those]) for name, those in rows[:12]]
+    groups += [
+        (f"the other {len(rows) - 12}", [those for _, those in rows[12:]]),
+        ("all", [those for _, those in rows]),
     ]
-    for name, those in ((f"the other {len(fast) - 12}", fast[12:]), ("all", fast)):
-        total = [
-            sum(float(minutes[it].get(machine, 0)) for it in those) for machine in ("slow", "fast")
-        ]
-        lines.append(f"| {name} | {total[0]:.1f} | {total[1]:.1f} |")
-    return table("| Crate | slow machine | fast machine |", lines)
+    lines = []
+    for name, those in groups:
+        sums = [sum(it) for it in zip(*those)]
+        cells = [f"{it:.1f}" if it else "" for it in (*sums, sum(sums))]
+        lines.append(f"| {name} | {' | '.join(cells)} |")
+    heads = "| Crate | proof | tests | proof under edits | edits | all |"
+    return f"Commit {of_kind('crate')[0]['commit']}:\n\n{table(heads, lines)}"
+
+
+def passes(row: dict[str, str]) -> list[float]:
+    """The CPU minutes of a crate's proof, of that with its tests, of that under its edits, and of
+    the edits."""
+    found = dict(re.findall(r"(\w+) ([0-9.]+)", row["note"]))
+    return [float(found.get(it, 0)) for it in ("proof", "tests", "base", "edits")]
 
 
 def edits() -> str:

@@ -615,10 +615,13 @@ def names(tbd, folder):
         told = told_of(tbd, folder, form)
         case(f"a link to nothing: {form[0]}", told == (1, b"", "tbd: Device: link.tbk is a link to nothing\n"), told)
     case("no file is made through a link to nothing", not os.path.exists(os.path.join(folder, "nowhere.tbk")))
-    for name in ("pipe.tbk", "folder.tbk"):
-        for form in (["check", name], ["dump", name]):
+    for name in ("pipe.tbk", "folder.tbk", "/dev/null"):
+        for form in (["check", name], ["dump", name], ["run", name, "3"]):
             told = told_of(tbd, folder, form)
             case(f"no regular file: {' '.join(form)}", told == (1, b"", f"tbd: Device: {name} is no regular file\n"), told)
+    for word in ("run", "follow"):
+        told = told_of(tbd, folder, [word, "folder.tbk", "3"])
+        case(f"a folder is not served: {word}", told == (1, b"", "tbd: Device: folder.tbk is no regular file\n"), told)
     os.symlink(os.path.join(folder, "words.tbk"), os.path.join(folder, "good.tbk"))
     told = told_of(tbd, folder, ["check", "good.tbk"])
     case("a link to a file", told[0] == 0, told)

@@ -47,6 +47,7 @@ BLOCK = re.compile(r"(<!-- mutants -->\n)(.*?)(<!-- end of mutants -->)", re.S)
 SWITCH = "TB_MUTANT"
 ALL_TESTS = "tb_mutant_tests"
 NO_TEST = "no_test_has_this_name"
+NO_END = " (no end)"
 # A run with a bug may take so many seconds, and so many times as long as without one.
 SECONDS, SLOWER = 60, 4
 SCRIPT_SECONDS = 1800
@@ -437,7 +438,7 @@ class Catchers:
         """The tests that a bug may show in: the one that caught it last, then the quickest."""
         crates = [it for it in self.below if mutant.crate in {it} | self.below[it]]
         names = [it for it in self.names if it.split("::")[0] in crates]
-        last = self.rows.get(mutant.name)
+        last = self.rows.get(mutant.name, "").removesuffix(NO_END)
         return sorted(names, key=lambda it: (test_row(it) != last, self.seconds.get(it, 0)))
 
     def scripts_of(self, crate):
@@ -463,7 +464,7 @@ class Catchers:
         for name in self.tests_of(mutant):
             how = self.fails(mutant.number, name)
             if how:
-                return test_row(name) + (" (no end)" if how == "no end" else "")
+                return test_row(name) + (NO_END if how == "no end" else "")
         for name in self.scripts_of(mutant.crate):
             case = self.script_fails(mutant.number, name)
             if case:

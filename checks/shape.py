@@ -46,12 +46,12 @@ COLUMNS = (
     ">=40 lines",
     "casts",
 )
-CLAUSES_OVER_100 = 0.205  # wanted: 0.10
+CLAUSES_OVER_100 = 0.203  # wanted: 0.10
 # Each figure with a bound: what it has today, and what is wanted.
 BOUNDS = {
-    "lines": (114834, 74500),
-    "imports": (11619, 4700),
-    ">160": (142, 0),
+    "lines": (115130, 74500),
+    "imports": (11633, 4700),
+    ">160": (127, 0),
     "ghost >160": (8, 0),
     ">8 clauses": (12, 0),
     ">=40 lines": (1, 0),

@@ -4,9 +4,9 @@
     wrong_replica.py KIND WORD ..
 
 executes_early: a request is executed before the log has it. replies_early: a transfer is answered
-before the log has it. skips_at_restart: the first entry that is read after a restart is left out.
-takes_twice_at_restart: it is taken twice. clock_ahead: its clock is an hour ahead (it is a right
-replica: it has to end itself).
+before the log has it, and appended a little later, so that a kill finds some. skips_at_restart: the
+first entry that is read after a restart is left out. takes_twice_at_restart: it is taken twice.
+clock_ahead: its clock is an hour ahead (it is a right replica: it has to end itself).
 """
 import asyncio
 import os
@@ -21,6 +21,7 @@ from tb_host import machines, replica  # noqa: E402
 from tb_host.entries import Entry  # noqa: E402
 from tb_host.log import Written  # noqa: E402
 
+LATE = 0.05  # seconds
 take, append, ask = replica.Replica.take, replica.Replica._append, replica.Replica.ask_soon
 
 
@@ -44,7 +45,12 @@ def replies_early():
         place = struct.pack("<BHIQI", 0, 0, 0, session + 1 + self.copy.position, 0)
         asyncio.get_running_loop().call_soon(answered, frame[:29] + place, "")
 
+    async def late(self, number, data):
+        await asyncio.sleep(LATE)
+        await append(self, number, data)
+
     replica.Replica.ask_soon = early
+    replica.Replica._append = late
 
 
 def tests_nothing():

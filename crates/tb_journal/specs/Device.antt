@@ -72,11 +72,11 @@ Rises before after = (before < after) ⊎ (2 ^ 64 - 1 ≤ after)
 abbrev pub FailsNone : Disk → Disk → Type 0
 FailsNone before after = (fault : Fault) → after.failures fault ≡ before.failures fault
 
--- the faults that a sync has
+-- the fault that a sync has, whatever failed
 abbrev pub IsOfSync : Fault → Type 0
-IsOfSync fault = (fault ≡ Memory) ⊎ (fault ≡ SyncFailed)
+IsOfSync fault = fault ≡ SyncFailed
 
--- and those that any other call on a device has
+-- and the faults that any other call on a device has
 abbrev pub IsOfCall : Fault → Type 0
 IsOfCall fault = (fault ≡ Memory) ⊎ (fault ≡ Failed) ⊎ (fault ≡ Full)
 

@@ -1,8 +1,8 @@
 -- A journal that may be written to.
 -- Cited by public contracts of: creating, journals, opening.
-use Rattle.std.specs.Prelude.{◌≡◌, ℕ, Bool, List, length}
+use Rattle.std.specs.Prelude.{◌≡◌, ℕ, ◌+◌, Bool, List, length}
 use Rattle.tb_journal.specs.Device.{Disk}
-use Rattle.tb_journal.specs.Contents.{recorded, records_end}
+use Rattle.tb_journal.specs.Contents.{at_rest, recorded, records_end}
 use Rattle.tb_journal.specs.Steps.{IsWhole, IsAtRest}
 
 -- a device with a journal's file, where the records in it end and how many they are, the records that wait, and whether no commit
@@ -13,6 +13,10 @@ pub record Kept (D : Type 0) : Type 0 where
   pub count : ℕ
   pub waiting : List (List ℕ)
   pub usable : Bool
+
+-- the bytes of the file with all that wait and one more record
+abbrev pub grown : {D : Type 0} → Kept D → List ℕ → ℕ
+grown journal bytes = journal.end + length (at_rest journal.waiting) + 8 + length bytes
 
 -- the file is whole, and the journal's numbers are those of its records
 pub record IsWritable {D : Type 0} (disk : D → Disk) (journal : Kept D) : Type 0 where

@@ -16,10 +16,9 @@ fault_of kinds.QuotaExceeded = faults.Full
 fault_of kinds.FileTooLarge = faults.Full
 fault_of _ = faults.Failed
 
--- the fault of a sync that answered so: behind any but out of memory nothing is known of the file
-unfoldable pub sync_fault_of : ErrorKind → Fault
-sync_fault_of kinds.OutOfMemory = faults.Memory
-sync_fault_of _ = faults.SyncFailed
+-- the fault of a sync, whatever it answered: behind it nothing is known of the file
+abbrev pub sync_fault_of : ErrorKind → Fault
+sync_fault_of kind = faults.SyncFailed
 
 -- an error is a failure, under the name of its fault; an interruption is none
 pub record Counts {T : Type 0} (fault : ErrorKind → Fault) (result : Result T ErrorKind) (before after : Disk) : Type 0 where
@@ -118,6 +117,5 @@ a_short_read = record {
   counts = record { ok = λ fault. refl; interrupted = λ is fault. refl; failed = tt };
 }
 
-pub a_sync_without_space_has_failed : sync_fault_of kinds.StorageFull ≡ faults.SyncFailed
-unfolding sync_fault_of
-a_sync_without_space_has_failed = refl
+pub a_sync_without_memory_has_failed : sync_fault_of kinds.OutOfMemory ≡ faults.SyncFailed
+a_sync_without_memory_has_failed = refl

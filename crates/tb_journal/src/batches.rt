@@ -62,6 +62,7 @@ impl Batch {
     pub fn add_written<W: Written>(&mut self, content: &W, room: usize) -> Result<(), Fault>
         ensures ok { OnOk result (self.new ≡ self.old ++ W.bytes content.now ∷ []) }
         ensures known { OnOk result (W.known content.now) }
+        ensures short { OnOk result (length (W.bytes content.now) < 2 ^ 24) }
         ensures room { OnOk result (8 + length (W.bytes content.now) ≤ room) }
         ensures err { OnErr result (self.new ≡ self.old) }
         ensures why { IfErr result (λ fault. IsUnwritten fault room (length (W.bytes content.now))) }

@@ -3,7 +3,7 @@ ghost use Rattle.std.specs.Prelude.{◌≡◌, ◌↔◌, ◌≤◌, ◌<◌, �
 ghost use Rattle.tb_journal.specs.Device.{LeavesOnly, HasCause};
 ghost use Rattle.tb_journal.specs.Contents.{at_rest, recorded};
 ghost use Rattle.tb_journal.specs.Steps.{IsBeforeOrAfter};
-ghost use Rattle.tb_journal.specs.Ready.{Kept, IsWritable, IsReady};
+ghost use Rattle.tb_journal.specs.Ready.{Kept, IsWritable, IsReady, grown};
 
 use crate::batches::Batch;
 use crate::calls::publish;
@@ -46,7 +46,7 @@ impl<D: Device> Journal<D> {
         ensures err { OnErr result (self.new ≡ self.old) }
         ensures long { IsErrOf result Fault.TooLong ↔ (2 ^ 24 ≤ length content.now) }
         ensures full { IsErrOf result Fault.Full
-            → 2 ^ 62 < self.old.end + length (at_rest self.old.waiting) + 8 + length content.now }
+            ↔ (length content.now < 2 ^ 24) × (2 ^ 62 < grown self.old content.now) }
         ensures failed { IsErrOf result Fault.Failed → ⊥ }
         ensures not_empty { IsErrOf result Fault.NotEmpty → ⊥ }
         ensures synced { IsErrOf result Fault.SyncFailed → ⊥ }
@@ -72,7 +72,10 @@ impl<D: Device> Journal<D> {
         ensures err { OnErr result (self.new ≡ self.old) }
         ensures long { IsErrOf result Fault.TooLong → 2 ^ 24 ≤ length (W.bytes content.now) }
         ensures full { IsErrOf result Fault.Full
-            → 2 ^ 62 < self.old.end + length (at_rest self.old.waiting) + 8 + length (W.bytes content.now) }
+            → 2 ^ 62 < grown self.old (W.bytes content.now) }
+        // Of a record that is too long or does not fit, memory may be missing first.
+        ensures short { OnOk result (length (W.bytes content.now) < 2 ^ 24) }
+        ensures fits { OnOk result (grown self.old (W.bytes content.now) ≤ 2 ^ 62) }
         ensures failed { IsErrOf result Fault.Failed → ⊥ }
         ensures not_empty { IsErrOf result Fault.NotEmpty → ⊥ }
         ensures synced { IsErrOf result Fault.SyncFailed → ⊥ }

@@ -1,7 +1,7 @@
 //! A file in memory that reports what a crash may leave of it, and can fail.
 ghost use Rattle.std.specs.Prelude.{◌≡◌, ◌≤◌, ◌⊎◌, ◌++◌, ◌∷◌, true, [], Vec, ℕ, ◌-◌, ◌==◌, length, reverse, IfOk, OnOk, OnErr};
 ghost use Rattle.tb_journal.specs.declared.memory.Call.TheVariants as variants;
-ghost use Rattle.tb_journal.specs.Device.{Torn, ReadsAt, Rises, IsOfCall, IsOfSync, overwritten};
+ghost use Rattle.tb_journal.specs.Device.{Torn, ReadsAt, Rises, IsOfCall, overwritten};
 ghost use Rattle.tb_journal.specs.Torn.{Adds, shown_after};
 
 use crate::devices::Device;
@@ -134,7 +134,7 @@ impl Memory {
         self.fail_with(number, Fault::Failed);
     }
 
-    /// The same, with the fault that is named: Memory, or Full where the call is no sync.
+    /// The same, with the fault that is named, Memory or Full, where the call is no sync.
     pub fn fail_with(&mut self, number: u64, fault: Fault)
         ensures bytes { memory_bytes self.new ≡ memory_bytes self.old }
         ensures moments { moments_of self.new ≡ moments_of self.old }
@@ -252,7 +252,7 @@ impl Device for Memory {
     fn sync(&mut self) -> Result<(), Fault> {
         if trips(&mut self.fuse) {
             self.sound = false;
-            return Err(self.failures.count(of_sync(self.why)));
+            return Err(self.failures.count(Fault::SyncFailed));
         }
         if !self.sound {
             return Ok(());
@@ -261,7 +261,7 @@ impl Device for Memory {
             Ok(()) => Ok(()),
             Err(_) => {
                 self.sound = false;
-                Err(self.failures.count(Fault::Memory))
+                Err(self.failures.count(Fault::SyncFailed))
             }
         }
     }
@@ -288,16 +288,6 @@ fn of_call(fault: Fault) -> Fault
     match fault {
         Fault::Memory | Fault::Full => fault,
         _ => Fault::Failed,
-    }
-}
-
-// The fault of a sync.
-fn of_sync(fault: Fault) -> Fault
-    ensures { IsOfSync result }
-{
-    match fault {
-        Fault::Memory => fault,
-        _ => Fault::SyncFailed,
     }
 }
 

@@ -1,7 +1,7 @@
 //! A file of a system as a device: whole reads and writes, of calls that take a part, are interrupted or fail.
 ghost use Rattle.std.specs.Prelude.{◌≡◌, ◌+◌, ◌^◌, ◌<◌, ◌≤◌, length, Ok, IfOk, IfErr, refl};
 ghost use Rattle.tb_journal.specs.Device.{Cuts, Syncs, IsOfCall, IsOfSync};
-ghost use Rattle.tb_journal.specs.System.{fault_of, sync_fault_of};
+ghost use Rattle.tb_journal.specs.System.{fault_of};
 ghost use Rattle.tb_journal.specs.Posix.{ReadsSome, WritesSome};
 
 use crate::devices::Device;
@@ -187,7 +187,7 @@ fn sync_once<S: System>(system: &mut S) -> Result<(), Fault>
             Ok(()) => return Ok(()),
             Err(kind) => match kind {
                 ErrorKind::Interrupted => {}
-                _ => return Err(sync_fault_of(kind)),
+                _ => return Err(Fault::SyncFailed),
             },
         }
     }
@@ -204,17 +204,5 @@ fn fault_of(kind: ErrorKind) -> Fault
         ErrorKind::OutOfMemory => Fault::Memory,
         ErrorKind::StorageFull | ErrorKind::QuotaExceeded | ErrorKind::FileTooLarge => Fault::Full,
         _ => Fault::Failed,
-    }
-}
-
-// The fault of a sync that answered so.
-#[tactic(auto, unfolding(crate::specs::System::sync_fault_of))]
-pub(crate) fn sync_fault_of(kind: ErrorKind) -> Fault
-    ensures is { result ≡ sync_fault_of kind }
-    ensures names { IsOfSync result }
-{
-    match kind {
-        ErrorKind::OutOfMemory => Fault::Memory,
-        _ => Fault::SyncFailed,
     }
 }

@@ -2,7 +2,7 @@
 ghost use Rattle.tb_journal.specs.Real.{untold};
 
 use crate::faults::Fault;
-use crate::posix::{Posix, sync_fault_of};
+use crate::posix::Posix;
 use crate::systems::System;
 use std::fs::{File, Files, OpenFile, TryLockError};
 use std::io::ErrorKind;
@@ -93,13 +93,13 @@ impl System for HostFile {
 pub type Real = Posix<HostFile>;
 
 impl Posix<HostFile> {
-    /// Opens a file that is there.
+    /// Opens a regular file that is there.
     pub fn open<R: Files<File = File>>(rt: &R, path: &str) -> Result<Real, FileFault> {
-        locked(File::options().read(true).write(true).open(rt, path)?)
+        locked(there(rt, path)?)
     }
 
-    /// Opens a file, and makes it where it is not there, for its owner alone; then its name is durable. A symbolic link
-    /// to nothing is refused.
+    /// Opens a file, and makes it where it is not there, for its owner alone; then its name is durable. What is no regular
+    /// file is refused, and a symbolic link to nothing.
     pub fn make<R: Files<File = File> + Alloc>(rt: &R, path: &str) -> Result<Real, FileFault> {
         match opened_or_made(rt, path) {
             Ok(file) => {
@@ -126,18 +126,8 @@ impl Posix<HostFile> {
     /// Opens a file that is there for reading alone: it needs no write permission and takes no lock, so another process may
     /// append to it meanwhile. A write or a cut of it fails. A symbolic link to nothing is reported as such.
     pub fn look<R: Files<File = File>>(rt: &R, path: &str) -> Result<Real, FileFault> {
-        let found = match fs::metadata(rt, path) {
-            Ok(found) => found,
-            Err(error) => return Err(of_link(rt, path, error)),
-        };
-        // A FIFO is not opened: that would wait for a writer.
-        if !found.is_file() {
-            return Err(FileFault::NotAFile);
-        }
-        let file = File::open(rt, path)?;
-        if !file.metadata()?.is_file() {
-            return Err(FileFault::NotAFile);
-        }
+        find_regular(rt, path)?;
+        let file = regular(File::open(rt, path)?)?;
         Ok(Posix::new(HostFile { file }))
     }
 }
@@ -145,12 +135,35 @@ impl Posix<HostFile> {
 // A file that is there, or one that is made. Between the two looks another process may make it.
 fn opened_or_made<R: Files<File = File>>(rt: &R, path: &str) -> Result<File, FileFault> {
     match made(rt, path) {
-        Err(FileFault::Exists) => match File::options().read(true).write(true).open(rt, path) {
-            Ok(file) => Ok(file),
-            Err(error) => Err(of_link(rt, path, error)),
-        },
+        Err(FileFault::Exists) => there(rt, path),
         answer => answer,
     }
+}
+
+// A regular file that is there, to be read and written.
+fn there<R: Files<File = File>>(rt: &R, path: &str) -> Result<File, FileFault> {
+    find_regular(rt, path)?;
+    regular(File::options().read(true).write(true).open(rt, path)?)
+}
+
+// Refuses a name of which there is no regular file. A FIFO is not opened: that would wait for a writer.
+fn find_regular<R: Files<File = File>>(rt: &R, path: &str) -> Result<(), FileFault> {
+    let found = match fs::metadata(rt, path) {
+        Ok(found) => found,
+        Err(error) => return Err(of_link(rt, path, error)),
+    };
+    if !found.is_file() {
+        return Err(FileFault::NotAFile);
+    }
+    Ok(())
+}
+
+// The same of an open file: its name may be that of another since.
+fn regular(file: File) -> Result<File, FileFault> {
+    if !file.metadata()?.is_file() {
+        return Err(FileFault::NotAFile);
+    }
+    Ok(file)
 }
 
 // A file that was not there, which its owner alone may read and write.
@@ -195,7 +208,7 @@ pub fn sync_folder<R: Files + Alloc>(rt: &R, path: &str) -> Result<(), FileFault
 
 // What a sync answered.
 fn synced(answer: io::Result<()>) -> Result<(), FileFault> {
-    answer.map_err(|error| FileFault::Sync(sync_fault_of(error.kind())))
+    answer.map_err(|_| FileFault::Sync(Fault::SyncFailed))
 }
 
 // The folder that a path names a file in.

@@ -281,9 +281,9 @@ module _ (rules : Rules) (some_client : 0 < rules.clients_max) (clients : rules.
     all_moments t before to blank made leaves =
         moments_of_all rules some_client clients records after.state leading reads begins before (disk created.journal.device) to blank made (between t to leaves)
 
-  pub salvaged_all : (extent : Extent) (stop : Option StartFault) → TakesRest disk tells holds (Ok (extent, stop)) first created last
+  pub salvaged_all : last.usable ≡ true → last.cut ≡ 0 → (extent : Extent) (stop : Option StartFault) → TakesRest disk tells holds (Ok (extent, stop)) first created last
       → IsSalvaged tells disk reads (record { keeper = last; end = extent.end; stop = stop })
-  salvaged_all extent stop (records, here, taken, none_waits, end, stops) =
+  salvaged_all usable uncut extent stop (records, here, taken, none_waits, end, stops) =
       let leads = leading records here last taken in
       let history = told rules some_client clients records last.state leads in
       let spelled = told_spelled rules some_client clients records last.state leads in
@@ -302,7 +302,8 @@ module _ (rules : Rules) (some_client : 0 < rules.clients_max) (clients : rules.
             state = leads.state;
             keepable = told_keepable rules some_client clients records last.state leads;
           };
-          usable = taken.usable;
+          usable = record { kept = usable; journal = taken.usable };
+          uncut = uncut;
         };
         taken = λ file of.
             let at = taken.read file (top ∷ []) of.0 of.1 in

@@ -1,6 +1,7 @@
 -- At each moment, whatever was acknowledged is in the file.
 -- Cited by public contracts of: laws.
 use Rattle.std.specs.Prelude.{ℕ, ◌≡◌, ◌++◌, List}
+use Rattle.tb_records.specs.Transport.{Sent}
 use Rattle.tb_journal.specs.Device.{Disk, LeavesOnly}
 use Rattle.tb_journal.specs.Contents.{Records, contents, recorded}
 use Rattle.tb_journal.specs.Steps.{IsAtRest, IsBeforeOrAfter}
@@ -40,6 +41,11 @@ module _ (tells : Type 0) {D : Type 0} (disk : D → Disk) where
       → (disk after).may_leave file
       → told_from before.state ps ≡ some ++ rest
       → Backs first (pairs_of done ++ ps) file (told_from first.state (pairs_of done) ++ some)
+
+  -- what was sent until then are the replies to the pairs of these rounds
+  abbrev pub TellsTheDone : Type 0
+  TellsTheDone = (done : List (List Pair)) (first before : Standing D) → Rounds tells disk done first before
+      → Sent (told_from first.state (pairs_of done)) first.output before.output
 
   -- such a file represents a history that may be kept: that of the file at first, and the entries of those pairs
   abbrev pub Lasts : Type 0

@@ -99,6 +99,10 @@ pub record HasEitherCause {T : Type 0} (result : Result T StartFault) (before af
   pub ok : OnOk result (FailsNone before after)
   pub cause : IfErr result (IsEitherCause before after)
 
+-- where no sync has failed before, a crash at any moment leaves such a file
+abbrev pub LeavesWhereSound : Disk → Disk → (Disk → List ℕ → Type 0) → Type 0
+LeavesWhereSound before after May = before.sound ≡ true → LeavesOnly before after (May before)
+
 module _ (profile : Profile) (clients_max : ℕ) where
   -- no record, or a head and nothing behind it
   abbrev pub HasNoEntry : List ℕ → Type 0

@@ -1,6 +1,6 @@
 -- What is read of a kept file, without a write.
--- Cited by public contracts of: dumps, laws, worked_rows.
-use Rattle.std.specs.Prelude.{ℕ, ◌≡◌, ◌⊎◌, ◌<◌, ◌≤◌, List, [], ◌∷◌, ◌++◌, Result, Ok, Err, OnOk, IfErr, None}
+-- Cited by public contracts of: dumps, heads, laws, worked_rows.
+use Rattle.std.specs.Prelude.{ℕ, ◌≡◌, ◌⊎◌, ◌<◌, ◌≤◌, List, [], ◌∷◌, ◌++◌, Option, None, Some, Result, Ok, Err, OnOk, IfErr}
 use Rattle.tb_records.specs.declared.faults.FrameFault.TheVariants.{Device}
 use Rattle.tb_records.specs.declared.limits.Profile.{Profile}
 use Rattle.tb_records.specs.declared.limits.TheConstants.{CLIENTS_MAX}
@@ -11,7 +11,7 @@ use Rattle.tb_journal.specs.Device.{Disk, FailsNone}
 use Rattle.tb_journal.specs.Contents.{Records, contents, recorded}
 use Rattle.tb_journal.specs.Opening.{IsOpenCause, RefusesFile}
 use Rattle.tb_journal.specs.Reading.{extent_of}
-use Rattle.tb_journal.specs.Scans.{BeginsWith}
+use Rattle.tb_journal.specs.Scans.{BeginsWith, HasRead, Place}
 use Rattle.tb_machine.specs.Histories.{State}
 use Rattle.tb_machine.specs.Dumps.{DumpSpells}
 use Rattle.tb_keep.specs.declared.faults.DumpFault.{DumpFault}
@@ -29,6 +29,15 @@ rules_of profile clients_max = record { profile = profile; clients_max = clients
 abbrev pub IsNoHead : List ℕ → Type 0
 IsNoHead head =
     (profile : Profile) (clients_max : ℕ) → 0 < clients_max → clients_max ≤ CLIENTS_MAX → head ≡ head_record profile clients_max → ⊥
+
+-- the rules that a record names which is a head, or it is none
+abbrev pub NamesRules : Option (Profile × ℕ) → List ℕ → Type 0
+NamesRules (Some rules) head = head ≡ head_record rules.0 rules.1
+NamesRules None head = IsNoHead head
+
+-- of each file that the reads are of, and of which some records were read
+abbrev pub OfRead : (List ℕ → Type 0) → Place → (List (List ℕ) → List ℕ → Type 0) → Type 0
+OfRead holds scan Says = (file : List ℕ) (read : List (List ℕ)) → holds file → HasRead read file scan → Says read file
 
 -- the first record of a file is the head of a ledger of these rules
 abbrev pub HasRules : Rules → List ℕ → Type 0

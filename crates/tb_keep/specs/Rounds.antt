@@ -1,5 +1,5 @@
 -- How pairs are served in rounds: their entries are committed, and then their replies are sent.
--- Cited by public contracts of: laws, serving.
+-- Cited by public contracts of: serving.
 use Rattle.std.specs.Prelude.{ℕ, Bool, true, false, ◌≡◌, ◌⊎◌, ◌+◌, ◌-◌, ◌^◌, ◌<◌, ◌≤◌, List, [], ◌∷◌, ◌++◌, length, map, flat_map, fold, Option, None, Result, Ok, Err, if◌then◌else◌, IsTrue}
 use Rattle.tb_records.specs.declared.faults.FrameFault.{FrameFault}
 use Rattle.tb_records.specs.declared.faults.FrameFault.TheVariants.{Device}

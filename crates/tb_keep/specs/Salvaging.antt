@@ -17,7 +17,7 @@ use Rattle.tb_keep.specs.declared.faults.StartFault.{StartFault}
 use Rattle.tb_keep.specs.declared.faults.StartFault.TheVariants as start
 use Rattle.tb_keep.specs.declared.salvaging.NotSalvaged.{NotSalvaged}
 use Rattle.tb_keep.specs.declared.salvaging.Salvaged.{Salvaged}
-use Rattle.tb_keep.specs.Keeping.{History, state_of, records_of, Keeping, Keeps, IsKeepable, IsLedger}
+use Rattle.tb_keep.specs.Keeping.{History, state_of, records_of, Keeping, Keeps, IsUsable, IsKeepable, IsLedger}
 use Rattle.tb_keep.specs.Opening.{IsUntouched}
 use Rattle.tb_keep.specs.Reading.{HasNoHead, IsNoHistory}
 use Rattle.tb_keep.specs.Restoration.{StopsAt, IsTornTooLong, torn_bytes}
@@ -66,12 +66,13 @@ pub record IsTaken (h : History) (end : ℕ) (stop : Option StartFault) (file : 
   pub end_is : end ≡ records_end (records_of h)
   pub stops : StopsBehind stop (records_of h) (state_of h) file
 
--- a history that a keeper of the new file keeps
+-- a history that a keeper of the new file keeps, which may serve
 pub record IsNewKeeper (tells : Type 0) {N : Type 0} (disk : N → Disk) (h : History) (keeper : Keeping N) : Type 0 where
   pub keepable : IsKeepable h
   pub state : keeper.state ≡ state_of h
   pub kept : tells → Keeps disk h keeper
-  pub usable : keeper.journal.usable ≡ true
+  pub usable : IsUsable keeper
+  pub uncut : keeper.cut ≡ 0
 
 -- the new file has the history that was taken of the one that is read
 pub record IsSalvaged (tells : Type 0) {N : Type 0} (disk : N → Disk) (holds : List ℕ → Type 0) (salvaged : Salvaged N) : Type 0 where

@@ -76,6 +76,10 @@ StopsBy (Err other) (Err fault) holds extent = (other ≡ fault) × (stop_of fau
 abbrev pub IsBetween : List (List ℕ) → List (List ℕ) → List ℕ → Type 0
 IsBetween least all c = (some : List (List ℕ)) × (rest : List (List ℕ)) × (contents c ≡ Records (least ++ some)) × (all ≡ (least ++ some) ++ rest)
 
+-- of a keeper that takes records over two things stay: whether a call has failed, and what a start cut off
+abbrev pub StaysUsed : {N : Type 0} → Keeping N → Keeping N → Type 0
+StaysUsed before after = (after.usable ≡ before.usable) × (after.cut ≡ before.cut)
+
 module _ {N : Type 0} (disk : N → Disk) where
   -- the records of a journal: those in its file, and those that wait
   abbrev pub line : Kept N → List (List ℕ)

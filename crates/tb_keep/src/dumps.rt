@@ -6,7 +6,7 @@ ghost use Rattle.tb_keep.specs.Keeping.{head_record};
 ghost use Rattle.tb_keep.specs.Entering.{StaysKept, FindsRules};
 ghost use Rattle.tb_keep.specs.Opening.{IsUntouched};
 ghost use Rattle.tb_keep.specs.Restoration.{HasStartCause};
-ghost use Rattle.tb_keep.specs.Reading.{RulesAnswer, RulesIn, FindsHistory, Dumps, HasDumpCause, joined};
+ghost use Rattle.tb_keep.specs.Reading.{RulesAnswer, RulesIn, FindsHistory, Dumps, HasDumpCause, OfRead, joined};
 ghost use Rattle.tb_keep.specs.Following.{HasLaterCause, WritesEntries};
 ghost use Rattle.tb_keep.specs.Salvaging.{IsUnsalvaged};
 ghost use Rattle.tb_keep.specs.Sending.{SendsNext, SendsAll};
@@ -146,8 +146,8 @@ fn send_next<D: Device, W: Sink>(
     after: u64,
     writer: &mut W,
 ) -> Result<bool, DumpFault>
-    ensures sends { (file : List ℕ) (read : List (List ℕ)) → D.holds device.old file → HasRead read file scan.old
-        → SendsNext result after read file scan.new (W.output writer.old) (W.output writer.new) }
+    ensures sends { OfRead (D.holds device.old) scan.old
+        (λ read file. SendsNext result after read file scan.new (W.output writer.old) (W.output writer.new)) }
     ensures same { (file : List ℕ) → D.holds device.old file → D.holds device.new file }
     ensures stays { D.tells → StaysKept (D.disk device.old) (D.disk device.new) }
     ensures cause { D.tells → HasLaterCause result scan.old (D.disk device.old) (D.disk device.new) }
@@ -171,8 +171,8 @@ fn send_records<D: Device, W: Sink>(
     after: u64,
     writer: &mut W,
 ) -> Result<(), DumpFault>
-    ensures sends { (file : List ℕ) (read : List (List ℕ)) → D.holds device.old file → HasRead read file scan.old
-        → SendsAll result after read file scan.new (W.output writer.old) (W.output writer.new) }
+    ensures sends { OfRead (D.holds device.old) scan.old
+        (λ read file. SendsAll result after read file scan.new (W.output writer.old) (W.output writer.new)) }
     ensures same { (file : List ℕ) → D.holds device.old file → D.holds device.new file }
     ensures stays { D.tells → StaysKept (D.disk device.old) (D.disk device.new) }
     ensures cause { D.tells → HasLaterCause result scan.old (D.disk device.old) (D.disk device.new) }
@@ -200,8 +200,8 @@ pub fn write_entries<D: Device, W: Sink>(
     after: u64,
 ) -> Result<u64, DumpFault>
     // Of any device, by the file that its reads are of.
-    ensures writes { (file : List ℕ) (read : List (List ℕ)) → D.holds device.old file → HasRead read file scan.old
-        → WritesEntries result after read file scan.new (W.output writer.old) (W.output writer.new) }
+    ensures writes { OfRead (D.holds device.old) scan.old
+        (λ read file. WritesEntries result after read file scan.new (W.output writer.old) (W.output writer.new)) }
     ensures same { (file : List ℕ) → D.holds device.old file → D.holds device.new file }
     ensures untouched { D.tells → IsUntouched (D.disk device.old) (D.disk device.new) }
     ensures cause { D.tells → HasLaterCause result scan.old (D.disk device.old) (D.disk device.new) }

@@ -1,8 +1,7 @@
 //! The head of a kept file: record 0 of its journal.
-ghost use Rattle.std.specs.Prelude.{◌≡◌, MatchOption, ℕ, ◌<◌, ◌≤◌};
-ghost use Rattle.tb_records.specs.declared.limits.Profile.{Profile};
-ghost use Rattle.tb_records.specs.declared.limits.TheConstants.{CLIENTS_MAX};
+ghost use Rattle.std.specs.Prelude.{◌≡◌};
 ghost use Rattle.tb_keep.specs.Keeping.{head_record};
+ghost use Rattle.tb_keep.specs.Reading.{NamesRules};
 ghost use Rattle.tb_keep.specs.Restoration.{HeadAnswers};
 
 use crate::faults::StartFault;
@@ -21,10 +20,7 @@ pub fn write_head(profile: Profile, clients_max: ClientsMax) -> [u8; 6]
 
 /// The rules that a record names which is a head. None of any other record.
 pub fn read_head(bytes: &[u8]) -> Option<(Profile, ClientsMax)>
-    ensures { MatchOption result
-        ((profile : Profile) (clients_max : ℕ) → 0 < clients_max → clients_max ≤ CLIENTS_MAX
-        → bytes.now ≡ head_record profile clients_max → ⊥)
-        (λ rules. bytes.now ≡ head_record rules.0 rules.1) }
+    ensures { NamesRules result bytes.now }
 {
     let [84, 66, 75, 49, number, clients_max] = bytes else {
         return None;

@@ -1,14 +1,10 @@
 //! What holds of every kept ledger.
-ghost use Rattle.std.specs.Prelude.{List};
-ghost use Rattle.tb_machine.specs.Scripts.{Pair};
-ghost use Rattle.tb_records.specs.Transport.{Sent};
 ghost use Rattle.tb_keep.specs.Again.{OneHistory, OneLedger, GoesOnAfter, AnyCrash, AfterKill};
 ghost use Rattle.tb_keep.specs.Following.{EntriesAreAbove, EntriesOnce};
 ghost use Rattle.tb_keep.specs.Reading.{DumpIsOfHistory, WholeRules, WholeNoHead, WholeDumps};
 ghost use Rattle.tb_keep.specs.Restoration.{OnlyMemory, FileOnlyMemory, WholeStops};
 ghost use Rattle.tb_keep.specs.Salvaging.{IsLongest};
-ghost use Rattle.tb_keep.specs.Moments.{WhileCommitting, WhileTelling, Lasts, RoundsAreServed};
-ghost use Rattle.tb_keep.specs.Rounds.{Standing, Rounds, pairs_of, told_from};
+ghost use Rattle.tb_keep.specs.Moments.{WhileCommitting, WhileTelling, TellsTheDone, Lasts, RoundsAreServed};
 
 use tb_journal::Device;
 
@@ -17,8 +13,7 @@ use tb_journal::Device;
 pub fn told_stands<D: Device>()
     ensures committing { WhileCommitting D.tells D.disk }
     ensures telling { WhileTelling D.tells D.disk }
-    ensures told { (done : List (List Pair)) (first before : Standing D) → Rounds D.tells D.disk done first before
-        → Sent (told_from first.state (pairs_of done)) first.output before.output }
+    ensures told { TellsTheDone D.tells D.disk }
 {}
 
 /// Such a file represents a history that may be kept: `open` reads it, and the entries of the acknowledged pairs are in it.

@@ -8,7 +8,7 @@ ghost use Rattle.tb_journal.specs.Creating.{is_blank};
 ghost use Rattle.tb_machine.specs.Histories.{start};
 ghost use Rattle.tb_keep.specs.Keeping.{Keeps, IsFresh, IsUsable};
 ghost use Rattle.tb_keep.specs.Restoration.{IsRestoredFrom, IsNotOfFile, HasStartCause, torn_bytes};
-ghost use Rattle.tb_keep.specs.Opening.{OpensFile, CreatesIn, StartsFile, IsOpened, IsStarted, HasNoEntry, MayBeOpened, MayBeCreated, MayBeStarted, IsRefused, IsCreateRefused, IsStartRefused, HasCreateStartCause, HasEitherCause, IsUntouched, history_of, device_left, why_left};
+ghost use Rattle.tb_keep.specs.Opening.{OpensFile, CreatesIn, StartsFile, IsOpened, IsStarted, HasNoEntry, MayBeOpened, MayBeCreated, MayBeStarted, IsRefused, IsCreateRefused, IsStartRefused, HasCreateStartCause, HasEitherCause, IsUntouched, LeavesWhereSound, history_of, device_left, why_left};
 ghost use Rattle.tb_keep.specs.Entering.{StaysKept};
 ghost use Rattle.tb_keep.specs.Headed.{HasHead, HasRecords, IsOfDevice, HasDeviceCause, OpensOnly, journal_left};
 
@@ -94,9 +94,8 @@ fn create_headed<D: Device>(
     ensures head { D.tells → (D.disk device).sound ≡ true
         → IfOk result (HasHead D.disk rules.profile rules.clients_max) }
     ensures blank { D.tells → IfOk result (λ _. is_blank (D.disk device).seen ≡ true) }
-    ensures any_moment { D.tells → (D.disk device).sound ≡ true
-        → LeavesOnly (D.disk device) (D.disk (journal_left result))
-        (MayBeCreated rules.profile rules.clients_max (D.disk device)) }
+    ensures any_moment { D.tells
+        → LeavesWhereSound (D.disk device) (D.disk (journal_left result)) (MayBeCreated rules.profile rules.clients_max) }
     ensures refused { D.tells
         → IfErr result (λ failed. IsCreateRefused failed.fault (D.disk device) (D.disk failed.device)) }
     ensures cause { D.tells → HasCreateStartCause (why_left result) (D.disk device) (D.disk (journal_left result)) }
@@ -125,9 +124,8 @@ pub fn create<D: Device, A: Allocator + Clone>(
     ensures fresh { D.tells → (D.disk device).sound ≡ true → IfOk result (IsFresh D.disk) }
     ensures blank { D.tells → IfOk result (λ _. is_blank (D.disk device).seen ≡ true) }
     // A crash at any moment of the call leaves the file as it was, or no entry in it.
-    ensures any_moment { D.tells → (D.disk device).sound ≡ true
-        → LeavesOnly (D.disk device) (D.disk (device_left result))
-        (MayBeCreated rules.profile rules.clients_max (D.disk device)) }
+    ensures any_moment { D.tells
+        → LeavesWhereSound (D.disk device) (D.disk (device_left result)) (MayBeCreated rules.profile rules.clients_max) }
     ensures refused { D.tells
         → IfErr result (λ failed. IsCreateRefused failed.fault (D.disk device) (D.disk failed.device)) }
     ensures cause { D.tells → HasCreateStartCause (why_left result) (D.disk device) (D.disk (device_left result)) }
@@ -247,9 +245,8 @@ fn open_short<D: Device, A: Allocator + Clone>(
     ensures opened { D.tells → (D.disk device).sound ≡ true
         → IfOk result (IsOpened D.disk rules.profile rules.clients_max (D.disk device).seen) }
     ensures fresh { D.tells → (D.disk device).sound ≡ true → IfOk result (IsFresh D.disk) }
-    ensures any_moment { D.tells → (D.disk device).sound ≡ true
-        → LeavesOnly (D.disk device) (D.disk (device_left result))
-        (MayBeOpened rules.profile rules.clients_max (D.disk device)) }
+    ensures any_moment { D.tells
+        → LeavesWhereSound (D.disk device) (D.disk (device_left result)) (MayBeOpened rules.profile rules.clients_max) }
     ensures refused { D.tells
         → IfErr result
         (λ failed.
@@ -296,9 +293,8 @@ impl<D: Device, A: Allocator + Copy> Keeper<D, A> {
         ensures fresh { D.tells → (D.disk device).sound ≡ true → IfOk result (IsFresh D.disk) }
         ensures usable { IfOk result IsUsable }
         // A crash at any moment of the call leaves the history that was there, so that the call may be made again.
-        ensures any_moment { D.tells → (D.disk device).sound ≡ true
-            → LeavesOnly (D.disk device) (D.disk (device_left result))
-            (MayBeOpened rules.profile rules.clients_max (D.disk device)) }
+        ensures any_moment { D.tells
+            → LeavesWhereSound (D.disk device) (D.disk (device_left result)) (MayBeOpened rules.profile rules.clients_max) }
         // A file that is refused stays as it was.
         ensures refused { D.tells
             → IfErr result
@@ -329,9 +325,8 @@ impl<D: Device, A: Allocator + Copy> Keeper<D, A> {
             → IfOk result (IsStarted D.disk rules.profile rules.clients_max (D.disk device).seen) }
         ensures fresh { D.tells → (D.disk device).sound ≡ true → IfOk result (IsFresh D.disk) }
         ensures usable { IfOk result IsUsable }
-        ensures any_moment { D.tells → (D.disk device).sound ≡ true
-            → LeavesOnly (D.disk device) (D.disk (device_left result))
-            (MayBeStarted rules.profile rules.clients_max (D.disk device)) }
+        ensures any_moment { D.tells
+            → LeavesWhereSound (D.disk device) (D.disk (device_left result)) (MayBeStarted rules.profile rules.clients_max) }
         ensures refused { D.tells
             → IfErr result
             (λ failed.

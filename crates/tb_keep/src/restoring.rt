@@ -9,6 +9,7 @@ ghost use Rattle.tb_machine.specs.Recording.{IsRecord};
 ghost use Rattle.tb_keep.specs.Keeping.{head_record};
 ghost use Rattle.tb_keep.specs.Restoration.{ReadsRecord, RestoresRecord, Restores, HasStartCause};
 ghost use Rattle.tb_keep.specs.Opening.{IsUntouched};
+ghost use Rattle.tb_keep.specs.Reading.{OfRead};
 ghost use Rattle.tb_keep.specs.Sources.{IsNext};
 ghost use Rattle.tb_keep.specs.Entering.{StaysKept, ReadCause, ReadsHead, EntersNext, EntersAll, FindsBehind};
 
@@ -69,8 +70,8 @@ pub(crate) fn restore_record<A: Allocator + Clone>(
 
 /// Reads the next record, and answers whether there is one.
 pub(crate) fn read_record<D: Device>(scan: &mut Scan, device: &mut D) -> Result<bool, OpenFault>
-    ensures reads { (file : List ℕ) (read : List (List ℕ))
-        → D.holds device.old file → HasRead read file scan.old → IsNext result read file scan.new }
+    ensures reads { OfRead (D.holds device.old) scan.old
+        (λ read file. IsNext result read file scan.new) }
     ensures same { (file : List ℕ) → D.holds device.old file → D.holds device.new file }
     ensures stays { D.tells → StaysKept (D.disk device.old) (D.disk device.new) }
     ensures cause { D.tells → (read : List (List ℕ)) → HasRead read (D.disk device.old).seen scan.old
@@ -107,8 +108,8 @@ fn enter_next<D: Device, A: Allocator + Clone>(
     scan: &mut Scan,
     device: &mut D,
 ) -> Result<bool, StartFault>
-    ensures enters { (file : List ℕ) (read : List (List ℕ)) → D.holds device.old file → HasRead read file scan.old
-        → EntersNext result read file scan.new machine.old machine.new }
+    ensures enters { OfRead (D.holds device.old) scan.old
+        (λ read file. EntersNext result read file scan.new machine.old machine.new) }
     ensures same { (file : List ℕ) → D.holds device.old file → D.holds device.new file }
     ensures stays { D.tells → StaysKept (D.disk device.old) (D.disk device.new) }
     ensures cause { D.tells → ReadCause result scan.old (D.disk device.old) (D.disk device.new) }
@@ -132,8 +133,8 @@ fn enter_all<D: Device, A: Allocator + Clone>(
     scan: &mut Scan,
     device: &mut D,
 ) -> Result<(), StartFault>
-    ensures enters { (file : List ℕ) (read : List (List ℕ)) → D.holds device.old file → HasRead read file scan.old
-        → EntersAll result read file scan.new machine.old machine.new }
+    ensures enters { OfRead (D.holds device.old) scan.old
+        (λ read file. EntersAll result read file scan.new machine.old machine.new) }
     ensures same { (file : List ℕ) → D.holds device.old file → D.holds device.new file }
     ensures stays { D.tells → StaysKept (D.disk device.old) (D.disk device.new) }
     ensures cause { D.tells → ReadCause result scan.old (D.disk device.old) (D.disk device.new) }

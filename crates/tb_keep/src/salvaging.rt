@@ -1,6 +1,6 @@
 //! The entries of a file taken over into a new one: of a file that is damaged, and of one that is whole.
-ghost use Rattle.std.specs.Prelude.{◌≡◌, ◌<◌, ◌^◌, ℕ, true, List, [], ◌∷◌, length, Ok, IfOk, IfErr, OnOk, OnErr};
-ghost use Rattle.tb_journal.specs.Contents.{contents};
+ghost use Rattle.std.specs.Prelude.{◌≡◌, ◌+◌, ◌<◌, ◌≤◌, ◌^◌, ℕ, true, List, [], ◌∷◌, length, Ok, IfOk, IfErr, OnOk, OnErr};
+ghost use Rattle.tb_journal.specs.Contents.{at_rest, contents};
 ghost use Rattle.tb_journal.specs.Device.{LeavesOnly};
 ghost use Rattle.tb_journal.specs.Ready.{IsReady};
 ghost use Rattle.tb_journal.specs.Reading.{extent_of};
@@ -10,7 +10,8 @@ ghost use Rattle.tb_keep.specs.Entering.{StaysKept, ReadCause};
 ghost use Rattle.tb_keep.specs.Opening.{IsUntouched};
 ghost use Rattle.tb_keep.specs.Restoration.{HasStartCause};
 ghost use Rattle.tb_keep.specs.Salvaging.{IsSalvaged, IsUnsalvaged, IsBackedUp, IsNotBackedUp, MayBeSalvaged, HasNewCause, salvaged_device, backup_device, why_old, why_new};
-ghost use Rattle.tb_keep.specs.Taking.{HoldsRead, HeadRead, IsOldDevice, IsTornStop, StopsBy, Puts, TakesRecord, TakesNext, TakesAll, CommitsTaken, TakesRest, of_old, stop_of};
+ghost use Rattle.tb_keep.specs.Steps.{block_bytes_max};
+ghost use Rattle.tb_keep.specs.Taking.{HoldsRead, HeadRead, IsOldDevice, IsTornStop, StaysUsed, StopsBy, Puts, TakesRecord, TakesNext, TakesAll, CommitsTaken, TakesRest, of_old, stop_of};
 
 use crate::dumps::first_rules;
 use crate::faults::{SalvageFault, StartFault};
@@ -52,7 +53,8 @@ fn new_fault(fault: Fault) -> SalvageFault
 fn make_room<N: Device>(journal: &mut Journal<N>) -> Result<(), Fault>
     requires usable { journal.old.usable ≡ true }
     requires ready { N.tells → IsReady N.disk journal.old }
-    ensures { Puts N.disk N.tells result [] journal.old journal.new }
+    ensures puts { Puts N.disk N.tells result [] journal.old journal.new }
+    ensures short { OnOk result (length (at_rest journal.new.waiting) + block_bytes_max ≤ 2 ^ 22) }
 {
     if journal.waiting_bytes() <= BATCH_BYTES_MAX - BLOCK_BYTES_MAX {
         return Ok(());
@@ -94,7 +96,8 @@ fn take_record<N: Device>(
 ) -> Result<(), SalvageFault>
     requires usable { keeper.old.journal.usable ≡ true }
     requires ready { N.tells → IsReady N.disk keeper.old.journal }
-    ensures { TakesRecord N.disk N.tells result bytes.now keeper.old keeper.new }
+    ensures takes { TakesRecord N.disk N.tells result bytes.now keeper.old keeper.new }
+    ensures stays_used { StaysUsed keeper.old keeper.new }
 {
     match restore_record(global, &mut keeper.machine, bytes) {
         Ok(()) => match append_short(&mut keeper.journal, bytes) {
@@ -115,6 +118,7 @@ fn take_next<D: Device, N: Device>(
     requires usable { keeper.old.journal.usable ≡ true }
     requires ready { N.tells → IsReady N.disk keeper.old.journal }
     ensures takes { TakesNext N.disk N.tells (D.holds from.old) result scan.old scan.new keeper.old keeper.new }
+    ensures stays_used { StaysUsed keeper.old keeper.new }
     ensures same { (file : List ℕ) → D.holds from.old file → D.holds from.new file }
     ensures stays { D.tells → StaysKept (D.disk from.old) (D.disk from.new) }
     ensures cause { D.tells → ReadCause (of_old result) scan.old (D.disk from.old) (D.disk from.new) }
@@ -141,6 +145,7 @@ fn take_all<D: Device, N: Device>(
     requires usable { keeper.old.journal.usable ≡ true }
     requires ready { N.tells → IsReady N.disk keeper.old.journal }
     ensures takes { TakesAll N.disk N.tells (D.holds from.old) result.0 result.1 scan.old keeper.old keeper.new }
+    ensures stays_used { StaysUsed keeper.old keeper.new }
     ensures same { (file : List ℕ) → D.holds from.old file → D.holds from.new file }
     ensures stays { D.tells → StaysKept (D.disk from.old) (D.disk from.new) }
     ensures cause { D.tells → ReadCause (of_old result.1) scan.old (D.disk from.old) (D.disk from.new) }
@@ -210,7 +215,8 @@ fn commit_waiting<N: Device>(journal: &mut Journal<N>) -> Result<(), Fault>
 fn commit_taken<N: Device>(keeper: &mut Keeper<N>) -> Result<(), SalvageFault>
     requires usable { keeper.old.journal.usable ≡ true }
     requires ready { N.tells → IsReady N.disk keeper.old.journal }
-    ensures { CommitsTaken N.disk N.tells result keeper.old keeper.new }
+    ensures commits { CommitsTaken N.disk N.tells result keeper.old keeper.new }
+    ensures stays_used { StaysUsed keeper.old keeper.new }
 {
     match commit_waiting(&mut keeper.journal) {
         Ok(()) => Ok(()),
@@ -249,6 +255,7 @@ fn take_behind<D: Device, N: Device>(
     requires usable { keeper.old.journal.usable ≡ true }
     requires ready { N.tells → IsReady N.disk keeper.old.journal }
     ensures takes { TakesRest N.disk N.tells (D.holds from.old) result scan.old keeper.old keeper.new }
+    ensures stays_used { StaysUsed keeper.old keeper.new }
     ensures same { (file : List ℕ) → D.holds from.old file → D.holds from.new file }
     ensures stays { D.tells → StaysKept (D.disk from.old) (D.disk from.new) }
     ensures cause { D.tells → ReadCause (of_old result) scan.old (D.disk from.old) (D.disk from.new) }

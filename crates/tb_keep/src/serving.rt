@@ -63,7 +63,8 @@ fn append_new<D: Device, A: Allocator + Clone>(
 ) -> Result<Request, KeepFault>
     requires new { is_new_in keeper.old.state (moment, request) ≡ true }
     requires usable { keeper.old.journal.usable ≡ true }
-    ensures { Appends result (moment, request) keeper.old keeper.new }
+    ensures appends { Appends result (moment, request) keeper.old keeper.new }
+    ensures cut { keeper.new.cut ≡ keeper.old.cut }
 {
     let Some(entry) = keeper.machine.next_entry(request, moment) else {
         return Err(KeepFault::Serving(RunFault::TimeExhausted));
@@ -99,8 +100,9 @@ fn keep_pair<D: Device, A: Allocator + Clone>(
     request: Request,
 ) -> Result<(), KeepFault>
     requires { keeper.old.journal.usable ≡ true }
-    ensures { KeepsPair result (moment, request) keeper.old keeper.new replies.old.bytes.items
+    ensures keeps { KeepsPair result (moment, request) keeper.old keeper.new replies.old.bytes.items
         replies.new.bytes.items }
+    ensures cut { keeper.new.cut ≡ keeper.old.cut }
 {
     match keeper.machine.class(&request) {
         Class::New => match append_new(keeper, moment, request) {
@@ -132,8 +134,9 @@ fn tell<D: Device, A: Allocator + Clone, W: Sink>(
 ) -> Result<(), KeepFault>
     requires usable { keeper.old.journal.usable ≡ true }
     requires ready { D.tells → IsReady D.disk keeper.old.journal }
-    ensures { Tells D.tells D.disk result keeper.old keeper.new replies.old.bytes.items
+    ensures tells { Tells D.tells D.disk result keeper.old keeper.new replies.old.bytes.items
         replies.new.bytes.items (W.output writer.old) (W.output writer.new) }
+    ensures cut { keeper.new.cut ≡ keeper.old.cut }
 {
     keeper.journal.commit()?;
     hand_out(replies, writer)
@@ -149,8 +152,9 @@ fn tell_before_waiting<D: Device, A: Allocator + Clone, R: Source, W: Sink>(
 ) -> Result<(), KeepFault>
     requires usable { keeper.old.journal.usable ≡ true }
     requires ready { D.tells → IsReady D.disk keeper.old.journal }
-    ensures { MayTell D.tells D.disk (R.input reader.now).at_hand result keeper.old keeper.new
+    ensures may { MayTell D.tells D.disk (R.input reader.now).at_hand result keeper.old keeper.new
         replies.old.bytes.items replies.new.bytes.items (W.output writer.old) (W.output writer.new) }
+    ensures cut { keeper.new.cut ≡ keeper.old.cut }
 {
     if holds_pair(reader.at_hand())
         && replies.len() < HELD_BYTES_MAX
@@ -177,8 +181,9 @@ fn tell_and_stop<D: Device, A: Allocator + Clone, W: Sink>(
 ) -> KeepFault
     requires usable { keeper.old.journal.usable ≡ true }
     requires ready { D.tells → IsReady D.disk keeper.old.journal }
-    ensures { EndsTold D.tells D.disk stop result keeper.old keeper.new replies.old.bytes.items
+    ensures ends { EndsTold D.tells D.disk stop result keeper.old keeper.new replies.old.bytes.items
         replies.new.bytes.items (W.output writer.old) (W.output writer.new) }
+    ensures cut { keeper.new.cut ≡ keeper.old.cut }
 {
     match tell(keeper, replies, writer) {
         Ok(()) => stop,
@@ -197,8 +202,9 @@ fn keep_next<D: Device, A: Allocator + Clone, R: Source, W: Sink>(
 ) -> Result<bool, KeepFault>
     requires usable { keeper.old.journal.usable ≡ true }
     requires ready { D.tells → IsReady D.disk keeper.old.journal }
-    ensures { KeepsNext D.tells D.disk result keeper.old keeper.new (R.input reader.old) (R.input reader.new)
+    ensures keeps { KeepsNext D.tells D.disk result keeper.old keeper.new (R.input reader.old) (R.input reader.new)
         replies.old.bytes.items replies.new.bytes.items (W.output writer.old) (W.output writer.new) }
+    ensures cut { keeper.new.cut ≡ keeper.old.cut }
 {
     match read_timed_from(alloc, reader) {
         Ok(Some((moment, request))) => match keep_pair(keeper, replies, moment, request) {
@@ -231,6 +237,7 @@ fn keep_all<D: Device, A: Allocator + Clone, R: Source, W: Sink>(
         (R.input reader.new) (W.output writer.old) (W.output writer.new) }
     ensures fresh { D.tells → OnOk result (IsFresh D.disk keeper.new) }
     ensures usable { OnOk result ((keeper.new.usable ≡ keeper.old.usable) × (keeper.new.journal.usable ≡ true)) }
+    ensures cut { keeper.new.cut ≡ keeper.old.cut }
 {
     let mut replies = Replies::new(alloc);
     for k in 0..u64::MAX {
@@ -261,6 +268,7 @@ pub fn keep<D: Device, A: Allocator + Clone, R: Source, W: Sink>(
     ensures fresh { D.tells → OnOk result (IsFresh D.disk keeper.new) }
     ensures usable { OnOk result (IsUsable keeper.new) }
     ensures ended { OnErr result (keeper.new.usable ≡ false) }
+    ensures cut { keeper.new.cut ≡ keeper.old.cut }
 {
     match keep_all(alloc, keeper, reader, writer) {
         Ok(count) => Ok(count),

@@ -1,6 +1,7 @@
 -- Words that are so many.
 use Rattle.std.proofs.Common.{◌≡◌, ℕ, None, ◌<◌, ◌≤◌, ◌-◌, List, [], ◌∷◌, ◌++◌, length, take, drop, get_or, map, codes, refl, arith}
 use Rattle.std.proofs.lemmas.List.{take_all}
+use Rattle.tb_keep_commands.specs.declared.help.TheConstants.{USAGE}
 use Rattle.tb_keep_commands.specs.Forms.{form_by, wrong_clients, so_wrong, wrong}
 use Rattle.tb_keep_commands.specs.Statuses.{shown_words, usage_lines, wrong_line}
 
@@ -41,6 +42,11 @@ module _ {X : Type 0} (bytes : X → List ℕ) where
   shown_front (x ∷ xs) word d some same =
       let all : take (length (x ∷ xs) - 1) xs ≡ xs = take_all _ xs (omega arith) in
       rw (same, all) refl
+
+  -- without words it is the page of usage
+  pub usage_page : (words : List X) → length words < 1 → usage_lines (map bytes words) ≡ USAGE.now
+  usage_page [] none = refl
+  usage_page (x ∷ xs) none = absurd (omega (arith, none))
 
   -- words that are some are reported with what is wrong with them
   pub usage_is : (words : List X) → 1 ≤ length words → usage_lines (map bytes words) ≡ wrong_line (wrong (map bytes words))

@@ -4,20 +4,22 @@ use Rattle.tb_records.specs.declared.faults.FrameFault.{FrameFault}
 use Rattle.tb_records.specs.Transport.{Output, Sent, CutOff, IsSent}
 use Rattle.tb_records.proofs.Sendings.{sent_rest}
 use Rattle.tb_keep_commands.specs.Forms.{Wrong}
-use Rattle.tb_keep_commands.specs.Statuses.{said_text, wrong_line, cut_line, SaysLine, TellsCut}
+use Rattle.tb_keep_commands.specs.Statuses.{said_text, wrong_line, cut_line, Passes, SaysLine, TellsCut}
 
-pub sent_passed : (xs : List ℕ) (old mid new : Output) → Sent xs old mid → Sent [] mid new → Sent xs old new
+sent_passed : (xs : List ℕ) (old mid new : Output) → Sent xs old mid → Sent [] mid new → Sent xs old new
 sent_passed xs old mid new one two = sent_rest xs [] old mid new xs (append-nil xs) one (Ok tt) two
 
--- bytes that are sent are reported as a line
-pub told_as : (xs line : List ℕ) (r : Result (Unit {0}) FrameFault) (old new : Output) → line ≡ xs → IsSent r xs old new → SaysLine line old new
-told_as xs line (Ok done) old new same sent = inl (subst (λ (l : List ℕ). Sent l old new) (sym same) sent)
-told_as xs line (Err fault) old new same sent = inr (subst (λ (l : List ℕ). CutOff l old new) (sym same) sent.1)
+-- bytes that are sent and passed on are reported as a line
+pub said : (xs line : List ℕ) (r : Result (Unit {0}) FrameFault) (old mid new : Output) → line ≡ xs → IsSent r xs old mid → Passes r mid new → SaysLine line old new
+said xs line (Ok done) old mid new same sent passed = inl (subst (λ (l : List ℕ). Sent l old new) (sym same) (sent_passed xs old mid new sent passed.0), passed.1)
+said xs line (Err fault) old mid new same sent passed =
+    inr (subst (λ (o : Output). CutOff line old o) (sym passed) (subst (λ (l : List ℕ). CutOff l old mid) (sym same) sent.1))
 
 -- bytes that were cut off are some
-pub cut_told : (bytes at : ℕ) (r : Result (Unit {0}) FrameFault) (before after : Output) → 0 < bytes → IsSent r (cut_line bytes at) before after → TellsCut bytes at before after
-cut_told zero at r before after some sent = absurd (omega (arith, some))
-cut_told (suc more) at r before after some sent = told_as _ _ r before after refl sent
+pub cut_told : (bytes at : ℕ) (r : Result (Unit {0}) FrameFault) (before mid after : Output) → 0 < bytes → IsSent r (cut_line bytes at) before mid → Passes r mid after
+    → TellsCut bytes at before after
+cut_told zero at r before mid after some sent passed = absurd (omega (arith, some))
+cut_told (suc more) at r before mid after some sent passed = said _ _ r before mid after refl sent passed
 
 -- words and what is wrong with them
 pub wrong_sent : (said : Wrong) (shown : List (List ℕ)) (what : List ℕ) (r : Result (Unit {0}) FrameFault) (old new : Output) → shown ≡ said.shown → what ≡ said.what

@@ -1,7 +1,7 @@
 -- What a command does between a std reader and a std writer, each behind a buffer.
 -- Cited by public contracts of: host.
 use Rattle.std.specs.Prelude.{ℕ, ◌≡◌, ◌^◌, List, [], Option, Some, None}
-use Rattle.std.specs.Io.Buffered.{reader_buffer, reader_capacity, reader_inner, reader_remaining, writer_buffer, writer_contents, writer_inner}
+use Rattle.std.specs.Io.Buffered.{reader_buffer, reader_capacity, reader_inner, reader_remaining, writer_buffer, writer_capacity, writer_contents, writer_inner}
 use Rattle.std.specs.declared.io.buffered.BufReader.{BufReader}
 use Rattle.std.specs.declared.io.buffered.BufWriter.{BufWriter}
 use Rattle.std.specs.declared.alloc.Global.{Global}
@@ -21,6 +21,11 @@ use Rattle.tb_keep_commands.specs.Statuses.{SaysLine, fault_line, usage_lines}
 abbrev pub input_size : Option Form → ℕ
 input_size (Some (form.Run clients_max profile reports)) = 2 ^ 20
 input_size asked = 0
+
+-- the bytes of output that a form holds at a time: none but of a dump, so that each reply goes out when it is written
+abbrev pub output_size : Option Form → ℕ
+output_size (Some (form.Dump from follows)) = 2 ^ 16
+output_size asked = 0
 
 abbrev pub input_of : {R : Type 0} → (R → Option (List ℕ)) → Watched (BufReader R Global) → Input
 input_of remaining r = record { left = reader_remaining remaining r.inner; failed = r.failures; halted = r.halted; at_hand = reader_buffer r.inner }
@@ -54,4 +59,5 @@ module _ {D : Type 0} (file : devices.Ghosts D) {E : Type 0} (reading : devices.
     pub writer : BufWriter W Global
     pub of_output : writer_inner writer ≡ output
     pub held_back : writer_buffer writer ≡ []
+    pub holds_output : writer_capacity writer ≡ output_size (form_of words)
     pub commands : Commands (form_of words) words status reader writer quiet told

@@ -1,6 +1,6 @@
 -- The exit status of each fault, and the line that names it.
--- Cited by public contracts of: commands, copies, faults, host, lines, openers, serving.
-use Rattle.std.specs.Prelude.{ℕ, zero, suc, Bool, true, false, ◌≡◌, ◌==◌, ◌/◌, ◌&&◌, nat_le, nat_eq, ◌++◌, List, [], ◌∷◌, Option, Some, None, if◌then◌else◌, flat_map, codes, refl}
+-- Cited by public contracts of: commands, copies, faults, host, lines, openers, reports, serving.
+use Rattle.std.specs.Prelude.{ℕ, zero, suc, Bool, true, false, ◌≡◌, ◌⊎◌, ◌==◌, ◌+◌, ◌-◌, ◌/◌, ◌^◌, ◌&&◌, min, nat_le, nat_eq, ◌++◌, List, [], ◌∷◌, Option, Some, None, Result, Ok, Err, if◌then◌else◌, flat_map, codes, string_bytes, refl}
 use Rattle.std.specs.Fmt.{decimal, digits}
 use Rattle.std.specs.IoError.{error_kind}
 use Rattle.std.specs.declared.io.Error.{Error}
@@ -9,8 +9,9 @@ use Rattle.std.specs.declared.io.ErrorKind.TheVariants as kinds
 use Rattle.tb_records.specs.declared.faults.FrameFault.TheVariants as frame
 use Rattle.tb_records.specs.DumpBytes.{profile_number}
 use Rattle.tb_records.specs.Faults.{fault_name}
-use Rattle.tb_records.specs.Transport.{Output}
-use Rattle.tb_commands.specs.Statuses as commands
+use Rattle.tb_records.specs.declared.faults.FrameFault.{FrameFault}
+use Rattle.tb_records.specs.Transport.{Output, Sent, CutOff}
+use Rattle.tb_records.specs.declared.devices.Sink as sinks
 use Rattle.tb_journal.specs.declared.faults.Fault as journal
 use Rattle.tb_journal.specs.declared.faults.Fault.TheVariants as disk
 use Rattle.tb_journal.specs.declared.real.FileFault.{FileFault}
@@ -43,6 +44,7 @@ use Rattle.tb_keep_commands.specs.declared.kinds.Kind.TheVariants as kind
 use Rattle.tb_keep_commands.specs.declared.help.TheConstants.{USAGE}
 use Rattle.tb_keep_commands.specs.declared.openers.OpeningFault.{OpeningFault}
 use Rattle.tb_keep_commands.specs.declared.openers.OpeningFault.TheVariants as opening
+use Rattle.tb_keep_commands.specs.declared.reports.Reported.{Reported}
 use Rattle.tb_keep_commands.specs.Forms.{Wrong, wrong}
 
 -- what the faults of the system and of the libraries are here
@@ -50,6 +52,7 @@ use Rattle.tb_keep_commands.specs.Forms.{Wrong, wrong}
 abbrev pub opening_fault_of : ErrorKind → OpeningFault
 opening_fault_of kinds.NotFound = opening.Missing
 opening_fault_of kinds.PermissionDenied = opening.Forbidden
+opening_fault_of kinds.IsADirectory = opening.NotAFile
 opening_fault_of kinds.OutOfMemory = opening.NoMemory
 opening_fault_of kind = opening.Unopened
 
@@ -226,9 +229,9 @@ fault_text (OtherRules numbers) path = mismatch_text numbers path
 fault_text Full path = codes "Full"
 fault_text SyncFailed path = sync_text
 
--- a line went out, or a prefix of it, where the writer failed or took nothing
+-- a line went out, and is not held back; or a prefix of it did, where the writer failed or took nothing
 abbrev pub SaysLine : List ℕ → Output → Output → Type 0
-SaysLine line before after = commands.TellsLine line before after
+SaysLine line before after = (Sent line before after × (after.held ≡ false)) ⊎ CutOff line before after
 
 abbrev pub fault_line : Fault → List ℕ → List ℕ
 fault_line fault path = codes "tbd: " ++ (fault_text fault path ++ codes "\n")
@@ -264,6 +267,18 @@ abbrev pub TellsReading : Bool → List ℕ → ℕ → Output → Output → Ty
 TellsReading reports path bytes before after =
     TellsWhere (reports && nat_le 1000000 bytes) (reading_line path 0 (bytes / 1000000)) before after
 
+-- from which offset on it is first reported how far a file was read: of no file where that is not wanted
+abbrev pub first_due : Bool → ℕ
+first_due reports = if reports then 64000000 else 2 ^ 64 - 1
+
+-- a read at an offset was reported where that was due, and the next report is due 64 MB behind it
+abbrev pub Reports : {D E : Type 0} → sinks.Ghosts E → ℕ → Reported D E → Reported D E → Type 0
+Reports lines at before after =
+    (after.path ≡ before.path) × (after.len ≡ before.len)
+    × (after.due ≡ (if nat_le before.due at then min (at + 64000000) (2 ^ 64 - 1) else before.due))
+    × TellsWhere (nat_le before.due at) (reading_line (string_bytes before.path) (at / 1000000) (before.len / 1000000))
+    (lines.output before.lines) (lines.output after.lines)
+
 -- of a start that is reported: that requests are served from here on
 abbrev pub ready_line : List ℕ
 ready_line = codes "tbd: ready\n"
@@ -282,6 +297,11 @@ TellsFrames talks before after = TellsWhere talks frames_line before after
 abbrev pub TellsCut : ℕ → ℕ → Output → Output → Type 0
 TellsCut zero at before after = after ≡ before
 TellsCut (suc more) at before after = SaysLine (cut_line (suc more) at) before after
+
+-- what was sent is passed on, where all was
+abbrev pub Passes : Result (Unit {0}) FrameFault → Output → Output → Type 0
+Passes (Ok done) before after = Sent [] before after × (after.held ≡ false)
+Passes (Err fault) before after = after ≡ before
 
 -- words, a space before each
 abbrev pub shown_words : List (List ℕ) → List ℕ

@@ -1,7 +1,7 @@
 //! The way from a program's arguments, input and output to its commands.
 ghost use Rattle.std.specs.Prelude.{◌≡◌, ◌⊎◌, [], map, string_bytes};
 ghost use Rattle.tb_keep_commands.specs.Forms.{form_of};
-ghost use Rattle.tb_keep_commands.specs.Hosts.{input_size, Commands, Serves, WantsMemory};
+ghost use Rattle.tb_keep_commands.specs.Hosts.{input_size, output_size, Commands, Serves, WantsMemory};
 ghost use Rattle.tb_keep_commands.specs.Statuses.{SaysLine, fault_status, fault_line};
 
 use crate::arguments::{Form, read_form};
@@ -23,7 +23,8 @@ const OUTPUT: usize = 65536;
 /// The bytes that a form's reader and writer hold. Replies are written at once, each time all that are buffered; and a form that
 /// writes once needs no buffer.
 fn capacities(form: Option<Form>) -> (usize, usize)
-    ensures { result.0 ≡ input_size form }
+    ensures input { result.0 ≡ input_size form }
+    ensures output { result.1 ≡ output_size form }
 {
     match form {
         Some(Form::Run(_, _, _)) => (INPUT, 0),

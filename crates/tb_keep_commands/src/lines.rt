@@ -2,7 +2,7 @@
 ghost use Rattle.std.specs.Prelude.{◌≡◌, ◌++◌, Some, codes, map, string_bytes};
 ghost use Rattle.std.specs.Fmt.{decimal};
 ghost use Rattle.tb_records.specs.Transport.{IsSent};
-ghost use Rattle.tb_keep_commands.specs.Statuses.{damage_text, opening_text, failed_text, kind_text, numbers_text, both_text, mismatch_text, fault_text, fault_line, read_text, reading_line, shown_words, said_text, wrong_line, usage_lines, SaysLine, TellsMade, TellsCut, TellsReading, TellsReady, TellsFrames};
+ghost use Rattle.tb_keep_commands.specs.Statuses.{damage_text, opening_text, failed_text, kind_text, numbers_text, both_text, mismatch_text, fault_text, fault_line, read_text, reading_line, shown_words, said_text, wrong_line, usage_lines, Passes, SaysLine, TellsMade, TellsCut, TellsReading, TellsReady, TellsFrames};
 ghost use Rattle.tb_keep_commands.specs.Forms.{wrong};
 
 use crate::arguments::wrong;
@@ -297,14 +297,13 @@ fn put_fault<E: Sink>(faults: &mut E, fault: Fault, path: &str) -> Result<(), Fr
     }
 }
 
-/// Writes the end of a line, and passes the line on.
-#[tactic(auto, using(crate::proofs::Passing::sent_passed))]
-fn end_line<E: Sink>(faults: &mut E) -> Result<(), FrameFault>
-    ensures { IsSent result (codes "\n") (E.output faults.old) (E.output faults.new) }
+/// Passes on what was sent.
+fn pass<E: Sink>(sent: Result<(), FrameFault>, faults: &mut E)
+    ensures { Passes sent (E.output faults.old) (E.output faults.new) }
 {
-    put_all(faults, b"\n")?;
-    faults.pass_on();
-    Ok(())
+    if sent.is_ok() {
+        faults.pass_on();
+    }
 }
 
 /// Writes a fault and the end of its line.
@@ -314,7 +313,7 @@ fn put_rest<E: Sink>(faults: &mut E, fault: Fault, path: &str) -> Result<(), Fra
         (E.output faults.new) }
 {
     put_fault(faults, fault, path)?;
-    end_line(faults)
+    put_all(faults, b"\n")
 }
 
 /// Writes a text and the line of a fault behind it.
@@ -333,10 +332,11 @@ fn put_line<E: Sink>(
 }
 
 /// Prints a fault over a file of this path, in one line. A failure to write it changes no status.
+#[tactic(auto, using(crate::proofs::Passing::said))]
 pub fn tell<E: Sink>(fault: Fault, path: &str, faults: &mut E)
     ensures { SaysLine (fault_line fault path.now) (E.output faults.old) (E.output faults.new) }
 {
-    let _ = put_line(faults, "tbd: ", fault, path);
+    pass(put_line(faults, "tbd: ", fault, path), faults);
 }
 
 /// Writes a number behind a text, and the end of the line.
@@ -346,7 +346,7 @@ fn put_end<E: Sink>(faults: &mut E, first: &str, at: u64) -> Result<(), FrameFau
         (E.output faults.new) }
 {
     put_number(faults, first, at)?;
-    end_line(faults)
+    put_all(faults, b"\n")
 }
 
 /// Writes two numbers, each behind a text, and the end of the line.
@@ -373,7 +373,7 @@ fn put_path<E: Sink>(faults: &mut E, first: &str, path: &str, last: &str) -> Res
         (E.output faults.new) }
 {
     put_named(faults, first, path, last)?;
-    end_line(faults)
+    put_all(faults, b"\n")
 }
 
 /// Writes a text, a number and what is wrong there, and the end of the line.
@@ -389,49 +389,54 @@ fn put_fault_at<E: Sink>(
         (E.output faults.new) }
 {
     put_place(faults, first, place, ": ", what)?;
-    end_line(faults)
+    put_all(faults, b"\n")
 }
 
 /// Prints a path between two texts, in one line.
+#[tactic(auto, using(crate::proofs::Passing::said))]
 pub fn tell_named<E: Sink>(first: &str, path: &str, last: &str, faults: &mut E)
     ensures { SaysLine ((first.now ++ (path.now ++ last.now)) ++ codes "\n") (E.output faults.old)
         (E.output faults.new) }
 {
-    let _ = put_path(faults, first, path, last);
+    pass(put_path(faults, first, path, last), faults);
 }
 
 /// Prints a number behind a text, in one line.
+#[tactic(auto, using(crate::proofs::Passing::said))]
 pub fn tell_number<E: Sink>(first: &str, number: u64, faults: &mut E)
     ensures { SaysLine ((first.now ++ decimal number) ++ codes "\n") (E.output faults.old)
         (E.output faults.new) }
 {
-    let _ = put_end(faults, first, number);
+    pass(put_end(faults, first, number), faults);
 }
 
 /// Prints a number behind a text and what is wrong there, in one line.
+#[tactic(auto, using(crate::proofs::Passing::said))]
 pub fn tell_place<E: Sink>(first: &str, place: u64, what: &str, faults: &mut E)
     ensures { SaysLine (((first.now ++ decimal place) ++ (codes ": " ++ what.now)) ++ codes "\n")
         (E.output faults.old) (E.output faults.new) }
 {
-    let _ = put_fault_at(faults, first, place, what);
+    pass(put_fault_at(faults, first, place, what), faults);
 }
 
 /// Prints what is wrong behind a text, in one line.
+#[tactic(auto, using(crate::proofs::Passing::said))]
 pub fn tell_text<E: Sink>(first: &str, what: &str, faults: &mut E)
     ensures { SaysLine (first.now ++ (what.now ++ codes "\n")) (E.output faults.old) (E.output faults.new) }
 {
-    let _ = put_behind(faults, first, what);
+    pass(put_behind(faults, first, what), faults);
 }
 
 /// What is between the two numbers.
 const BEHIND: &str = " bytes of a batch that was not committed, behind byte ";
 
 /// Prints how many bytes a start cut off behind the records, which end at this place; nothing where there were none.
+#[tactic(auto, using(crate::proofs::Passing::said))]
 pub fn tell_cut<E: Sink>(bytes: u64, at: u64, faults: &mut E)
     ensures { TellsCut bytes at (E.output faults.old) (E.output faults.new) }
 {
     if bytes != 0 {
-        let _ = put_cut(faults, "tbd: cut ", bytes, BEHIND, at);
+        pass(put_cut(faults, "tbd: cut ", bytes, BEHIND, at), faults);
     }
 }
 
@@ -455,7 +460,7 @@ fn put_what<E: Sink>(faults: &mut E, what: &str) -> Result<(), FrameFault>
     ensures { IsSent result (what.now ++ codes "\n") (E.output faults.old) (E.output faults.new) }
 {
     put_all(faults, what.as_bytes())?;
-    end_line(faults)
+    put_all(faults, b"\n")
 }
 
 /// Writes a text and what is wrong behind it.
@@ -500,22 +505,13 @@ fn put_wrong<E: Sink>(
     put_said(faults, shown, ": ", what)
 }
 
-/// Writes a page, and passes it on.
-#[tactic(auto, using(crate::proofs::Passing::sent_passed))]
-fn put_page<E: Sink>(faults: &mut E, page: &str) -> Result<(), FrameFault>
-    ensures { IsSent result page.now (E.output faults.old) (E.output faults.new) }
-{
-    put_all(faults, page.as_bytes())?;
-    faults.pass_on();
-    Ok(())
-}
-
 /// Reports that a file of this path was made, where it had no bytes; nothing where it had so many.
+#[tactic(auto, using(crate::proofs::Passing::said))]
 pub fn tell_made<E: Sink>(len: usize, path: &str, faults: &mut E)
     ensures { TellsMade len path.now (E.output faults.old) (E.output faults.new) }
 {
     if len == 0 {
-        let _ = put_behind(faults, "tbd: made ", path);
+        pass(put_behind(faults, "tbd: made ", path), faults);
     }
 }
 
@@ -527,7 +523,7 @@ fn put_read<E: Sink>(faults: &mut E, read: u64, all: u64) -> Result<(), FrameFau
         (E.output faults.new) }
 {
     put_torn(faults, read, " of ", all, " MB")?;
-    end_line(faults)
+    put_all(faults, b"\n")
 }
 
 /// Writes a path between two texts, and how much of how much was read, and the end of the line.
@@ -552,13 +548,18 @@ fn put_reading<E: Sink>(
 pub(crate) const MEGABYTE: usize = 1_000_000;
 
 /// Reports how much of a file of this path was read, of how much, in millions of bytes.
+#[tactic(auto, using(crate::proofs::Passing::said))]
 pub(crate) fn tell_read<E: Sink>(path: &str, read: u64, all: u64, faults: &mut E)
     ensures { SaysLine (reading_line path.now read all) (E.output faults.old) (E.output faults.new) }
 {
-    let _ = put_reading(faults, "tbd: reading ", path, ", ", read, all);
+    pass(
+        put_reading(faults, "tbd: reading ", path, ", ", read, all),
+        faults,
+    );
 }
 
 /// Reports that a start begins to read a file of this path and so many bytes, where starts are reported and the file is long.
+#[tactic(auto, using(crate::proofs::Passing::said))]
 pub(crate) fn tell_reading<E: Sink>(reports: bool, path: &str, len: usize, faults: &mut E)
     ensures { TellsReading reports path.now len (E.output faults.old) (E.output faults.new) }
 {
@@ -568,11 +569,12 @@ pub(crate) fn tell_reading<E: Sink>(reports: bool, path: &str, len: usize, fault
 }
 
 /// Reports that a start is done, where starts are reported.
+#[tactic(auto, using(crate::proofs::Passing::said))]
 pub(crate) fn tell_ready<E: Sink>(reports: bool, faults: &mut E)
     ensures { TellsReady reports (E.output faults.old) (E.output faults.new) }
 {
     if reports {
-        let _ = put_what(faults, "tbd: ready");
+        pass(put_what(faults, "tbd: ready"), faults);
     }
 }
 
@@ -581,11 +583,12 @@ const FRAMES: &str =
     "tbd: standard input is a terminal, and run reads request frames there; tb-repl and tbt script take words";
 
 /// Says where words are read, where requests would come from a terminal.
+#[tactic(auto, using(crate::proofs::Passing::said))]
 pub(crate) fn tell_frames<E: Sink>(talks: bool, faults: &mut E)
     ensures { TellsFrames talks (E.output faults.old) (E.output faults.new) }
 {
     if talks {
-        let _ = put_what(faults, FRAMES);
+        pass(put_what(faults, FRAMES), faults);
     }
 }
 
@@ -600,12 +603,13 @@ fn put_usage<E: Sink>(faults: &mut E, words: &[String]) -> Result<(), FrameFault
 
 /// Prints what is wrong with words that are none of the program's forms: without words, the page of usage. A failure to write
 /// it changes no status.
+#[tactic(auto, using(crate::proofs::Passing::said))]
 pub fn tell_usage<E: Sink>(words: &[String], faults: &mut E)
     ensures { SaysLine (usage_lines (map string_bytes words.now)) (E.output faults.old)
         (E.output faults.new) }
 {
-    let _ = match words {
-        [] => put_page(faults, USAGE),
-        _ => put_usage(faults, words),
-    };
+    match words {
+        [] => pass(put_all(faults, USAGE.as_bytes()), faults),
+        _ => pass(put_usage(faults, words), faults),
+    }
 }

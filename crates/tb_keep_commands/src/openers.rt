@@ -46,6 +46,7 @@ pub fn opening_fault(fault: &FileFault) -> OpeningFault
         FileFault::System(error) => match error.kind() {
             ErrorKind::NotFound => OpeningFault::Missing,
             ErrorKind::PermissionDenied => OpeningFault::Forbidden,
+            ErrorKind::IsADirectory => OpeningFault::NotAFile,
             ErrorKind::OutOfMemory => OpeningFault::NoMemory,
             _ => OpeningFault::Unopened,
         },

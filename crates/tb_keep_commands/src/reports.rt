@@ -1,6 +1,7 @@
 //! A file that reports how far it was read.
-ghost use Rattle.std.specs.Prelude.{◌≡◌, ℕ, List, IfErr, IfOk, MatchResult};
-ghost use Rattle.tb_journal.specs.Device.{IsOfCall, IsLookedAt};
+ghost use Rattle.std.specs.Prelude.{◌≡◌, ◌≤◌, ℕ, List, length, IfErr, IfOk, MatchResult, string_bytes};
+ghost use Rattle.tb_journal.specs.Device.{IsOfCall, IsLookedAt, Looks, ReadsAt};
+ghost use Rattle.tb_keep_commands.specs.Statuses.{first_due, Reports};
 
 use crate::lines::{MEGABYTE, tell_read};
 use std::alloc::Global;
@@ -35,6 +36,10 @@ impl<D: Device + Drop, E: Sink + Drop> Reported<D, E> {
             → IfOk result (λ reported. ⟦<Reported<D, E> as Device>⟧.holds reported file) }
         ensures looks { D.tells → IfOk result (λ reported. IsLookedAt (D.disk device) (⟦<Reported<D, E> as Device>⟧.disk reported)) }
         ensures named { IfErr result IsOfCall }
+        ensures path { IfOk result (λ reported. string_bytes reported.path ≡ path.now) }
+        ensures len { (file : List ℕ) → D.holds device file → IfOk result (λ reported. reported.len ≡ length file) }
+        ensures due { IfOk result (λ reported. reported.due ≡ first_due reports) }
+        ensures silent { IfOk result (λ reported. reported.lines ≡ lines) }
     {
         let mut device = device;
         let len = device.len()?;
@@ -50,7 +55,8 @@ impl<D: Device + Drop, E: Sink + Drop> Reported<D, E> {
 
     /// Reports how far the file was read, where that is due.
     fn report(&mut self, at: usize)
-        ensures { self.new.device ≡ self.old.device }
+        ensures same { self.new.device ≡ self.old.device }
+        ensures reports { Reports E.Sink at self.old self.new }
     {
         if at >= self.due {
             let (read, all) = ((at / MEGABYTE) as u64, (self.len / MEGABYTE) as u64);
@@ -75,7 +81,14 @@ impl<D: Device + Drop, E: Sink + Drop> Device for Reported<D, E> {
 
     ghost only_now = { λ s. D.only_now s.device };
 
-    fn read_at(&mut self, at: usize, into: &mut [u8]) -> Result<usize, Fault> {
+    fn read_at(&mut self, at: usize, into: &mut [u8]) -> Result<usize, Fault>
+        ensures within { IfOk result (λ count. count ≤ length into.new) }
+        ensures bytes { (file : List ℕ) → D.holds self.old.device file → IfOk result (λ count. ReadsAt count at file into.new) }
+        ensures same { (file : List ℕ) → D.holds self.old.device file → D.holds self.new.device file }
+        ensures names { IfErr result IsOfCall }
+        ensures looks { D.tells → Looks result (D.disk self.old.device) (D.disk self.new.device) }
+        ensures reports { Reports E.Sink at self.old self.new }
+    {
         self.report(at);
         self.device.read_at(at, into)
     }

@@ -1,14 +1,17 @@
 -- What a form over a log does between a std reader and a std writer, each behind a buffer.
 -- Cited by public contracts of: host.
-use Rattle.std.specs.Prelude.{ℕ, ◌≡◌, ◌^◌, List, [], Option}
-use Rattle.std.specs.Io.Buffered.{reader_buffer, reader_capacity, reader_inner, writer_buffer, writer_inner}
+use Rattle.std.specs.Prelude.{ℕ, ◌≡◌, ◌⊎◌, ◌^◌, List, [], Option, Some, None}
+use Rattle.std.specs.Io.Buffered.{reader_buffer, reader_capacity, reader_inner, writer_buffer, writer_capacity, writer_inner}
 use Rattle.std.specs.declared.io.buffered.BufReader.{BufReader}
 use Rattle.std.specs.declared.io.buffered.BufWriter.{BufWriter}
 use Rattle.std.specs.declared.alloc.Global.{Global}
 use Rattle.tb_records.specs.Transport.{Output}
 use Rattle.tb_journal.specs.declared.devices.Device as devices
+use Rattle.tb_keep_commands.specs.declared.commands.Terminals.{Terminals}
 use Rattle.tb_keep_commands.specs.declared.openers.Opener as openers
-use Rattle.tb_keep_commands.specs.Hosts.{input_of, output_of}
+use Rattle.tb_keep_commands.specs.Forms.{file_word}
+use Rattle.tb_keep_commands.specs.Hosts as commands
+use Rattle.tb_keep_commands.specs.Hosts.{WantsMemory, input_of, output_of}
 use Rattle.tb_keep_commands.specs.Outlets.{Watched, outgoing}
 use Rattle.tb_keep_follow.specs.declared.arguments.Form.{Form}
 use Rattle.tb_keep_follow.specs.declared.arguments.Form.TheVariants as form
@@ -18,6 +21,11 @@ use Rattle.tb_keep_follow.specs.Exits.{Exits}
 abbrev pub input_size : Form → ℕ
 input_size (form.Follow clients_max profile) = 2 ^ 20
 input_size (form.Dump clients_max profile) = 0
+
+-- the bytes of output that a form holds at a time; of replies none, so that each goes out when it is written
+abbrev pub output_size : Form → ℕ
+output_size (form.Follow clients_max profile) = 0
+output_size (form.Dump clients_max profile) = 2 ^ 16
 
 module _ {D : Type 0} (file : devices.Ghosts D) {E : Type 0} (reading : devices.Ghosts E) {O : Type 0}
     (opener : openers.Ghosts O D E) (before left : O) {R W : Type 0} (remaining : R → Option (List ℕ)) (contents : W → Option (List ℕ)) where
@@ -38,4 +46,17 @@ module _ {D : Type 0} (file : devices.Ghosts D) {E : Type 0} (reading : devices.
     pub writer : BufWriter W Global
     pub of_output : writer_inner writer ≡ output
     pub held_back : writer_buffer writer ≡ []
+    pub holds_output : writer_capacity writer ≡ output_size form
     pub hosted : Hosted form name status reader writer quiet told
+
+module _ {D : Type 0} (file : devices.Ghosts D) {E : Type 0} (reading : devices.Ghosts E) (whole : E → List ℕ → Type 0) {O : Type 0}
+    (opener : openers.Ghosts O D E) (ends : Terminals) (before left : O) {R W : Type 0} (remaining : R → Option (List ℕ)) (contents : W → Option (List ℕ)) where
+  -- the form over a log that words ask for was done, or not to its end; or, where they ask for none, what they ask for over a ledger; or there
+  -- is no memory for the buffers
+  abbrev pub ServesWords : Option Form → List (List ℕ) → ℕ → R → W → Output → Output → Type 0
+  ServesWords (Some form) words status input output quiet told =
+      Serves file reading opener before left remaining contents form (file_word words) status input output quiet told
+      ⊎ WantsMemory before left status quiet told
+  ServesWords None words status input output quiet told =
+      commands.Serves file reading whole opener ends before left remaining contents words status input output quiet told
+      ⊎ WantsMemory before left status quiet told

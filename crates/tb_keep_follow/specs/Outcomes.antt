@@ -2,6 +2,8 @@
 -- Public contracts reach it through: Exits.
 use Rattle.std.specs.Prelude.{ℕ, true, ◌≡◌, ◌-◌, List, Result, Ok, Err, MatchResult}
 use Rattle.tb_records.specs.Transport.{Input, Output}
+use Rattle.tb_records.specs.declared.devices.Sink as sinks
+use Rattle.tb_records.specs.declared.devices.Source as sources
 use Rattle.tb_journal.specs.declared.devices.Device as devices
 use Rattle.tb_journal.specs.declared.faults.Fault as journal
 use Rattle.tb_journal.specs.declared.reading.Extent.{Extent}
@@ -13,7 +15,7 @@ use Rattle.tb_keep_log.specs.declared.faults.DumpLogFault.{DumpLogFault}
 use Rattle.tb_keep_log.specs.declared.faults.KeepLogFault.{KeepLogFault}
 use Rattle.tb_keep_log.specs.declared.faults.LogStartFault.{LogStartFault}
 use Rattle.tb_keep_log.specs.declared.opening.NotStarted.{NotStarted}
-use Rattle.tb_keep_log.specs.Dumping.{DumpsLog}
+use Rattle.tb_keep_log.specs.Dumping.{DumpsLog, HasDumpCause}
 use Rattle.tb_keep_log.specs.Keeping.{Keeping}
 use Rattle.tb_keep_log.specs.Opening.{HasStartCause, IsRefused, IsStarted, MayBeStarted, StartsFile, device_left, why_left}
 use Rattle.tb_keep_log.specs.Restoring.{HasLogCause, IsRestored, StopsReading}
@@ -63,6 +65,7 @@ module _ {D : Type 0} (its : devices.Ghosts D) where
     pub dumps : OfFile device (λ file. DumpsLog result rules.profile rules.clients_max file start written)
     pub same : OfFile device (its.holds after)
     pub untouched : its.tells → IsUntouched (its.disk device) (its.disk after)
+    pub cause : its.tells → HasDumpCause result (its.disk device) (its.disk after)
 
   -- the dump of a file that was read was written, or why not
   pub record DumpsRead (outcome : Outcome) (rules : Rules) (device after : D) (start written : Output) : Type 0 where
@@ -125,6 +128,12 @@ module _ {D : Type 0} (its : devices.Ghosts D) where
     pub asked : IsAsked its len device between
     pub follows : MatchResult len (λ n. FollowsLong outcome rules path n between first last start written quiet told)
         (λ fault. (outcome ≡ Err (Kept (disk_fault fault))) × (last ≡ first) × (written ≡ start) × (told ≡ quiet))
+
+-- of what a reader gave, and a writer and a writer of lines took, before and after a call
+abbrev pub On : {R W E : Type 0} → sources.Ghosts R → sinks.Ghosts W → sinks.Ghosts E
+    → (Input → Input → Output → Output → Output → Output → Type 0) → R → R → W → W → E → E → Type 0
+On source sink lines Does first last start written quiet told =
+    Does (source.input first) (source.input last) (sink.output start) (sink.output written) (lines.output quiet) (lines.output told)
 
 -- an opening may answer so, and leave what opens like this: with a device that was done; at a fault nothing was
 pub record Opens {D O : Type 0} (may : Result D OpeningFault → O → Type 0) (left : O) (outcome : Outcome) (Nothing : Type 0)

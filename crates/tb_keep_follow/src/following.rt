@@ -2,7 +2,7 @@
 ghost use Rattle.std.specs.Prelude.{◌≡◌, true};
 ghost use Rattle.tb_journal.specs.Ready.{IsReady};
 ghost use Rattle.tb_keep_log.specs.Keeping.{IsUsable};
-ghost use Rattle.tb_keep_follow.specs.Outcomes.{FollowsKept, FollowsLong, FollowsFile, kept_outcome};
+ghost use Rattle.tb_keep_follow.specs.Outcomes.{FollowsKept, FollowsLong, FollowsFile, On, kept_outcome};
 
 use crate::faults::{FollowFault, kept_fault, started_fault};
 use crate::lines::tell_wanted;
@@ -37,8 +37,8 @@ fn keep<D: Device + Drop, A: Allocator + Clone, R: Source, W: Sink, E: Sink>(
 ) -> Result<(), FollowFault>
     requires usable { IsUsable keeper }
     requires ready { D.tells → IsReady D.disk keeper.journal }
-    ensures { FollowsKept D.Device result keeper path.now len (R.input reader.old) (R.input reader.new)
-        (W.output writer.old) (W.output writer.new) (E.output faults.old) (E.output faults.new) }
+    ensures { On R.Source W.Sink E.Sink (FollowsKept D.Device result keeper path.now len)
+        reader.old reader.new writer.old writer.new faults.old faults.new }
 {
     let mut keeper = keeper;
     let cut = keeper.cut_bytes();
@@ -66,8 +66,8 @@ fn start<D: Device + Drop, A: Allocator + Copy, R: Source, W: Sink, E: Sink>(
     faults: &mut E,
 ) -> Result<(), FollowFault>
     requires { D.tells → (D.disk device).sound ≡ true }
-    ensures { FollowsLong D.Device result rules path.now len device (R.input reader.old) (R.input reader.new)
-        (W.output writer.old) (W.output writer.new) (E.output faults.old) (E.output faults.new) }
+    ensures { On R.Source W.Sink E.Sink (FollowsLong D.Device result rules path.now len device)
+        reader.old reader.new writer.old writer.new faults.old faults.new }
 {
     match LogKeeper::start(alloc, pool, device, rules) {
         Ok(keeper) => keep(alloc, keeper, path, len, reader, writer, faults),
@@ -90,8 +90,8 @@ pub(crate) fn follow<D: Device + Drop, R: Source, W: Sink, E: Sink>(
     faults: &mut E,
 ) -> Result<(), FollowFault>
     requires { D.tells → (D.disk device).sound ≡ true }
-    ensures { FollowsFile D.Device result rules path.now device (R.input reader.old) (R.input reader.new)
-        (W.output writer.old) (W.output writer.new) (E.output faults.old) (E.output faults.new) }
+    ensures { On R.Source W.Sink E.Sink (FollowsFile D.Device result rules path.now device)
+        reader.old reader.new writer.old writer.new faults.old faults.new }
 {
     let mut device = device;
     match device.len() {

@@ -1,13 +1,14 @@
 //! The way from a program's arguments, input and output to its commands.
-ghost use Rattle.std.specs.Prelude.{◌≡◌, ◌⊎◌};
+ghost use Rattle.std.specs.Prelude.{◌≡◌, ◌⊎◌, map, string_bytes};
 ghost use Rattle.tb_keep_commands.specs.Hosts.{WantsMemory};
-ghost use Rattle.tb_keep_follow.specs.Hosts.{input_size, Hosted, Serves};
+ghost use Rattle.tb_keep_follow.specs.Hosts.{input_size, output_size, Hosted, Serves, ServesWords};
+ghost use Rattle.tb_keep_follow.specs.Forms.{form_of};
 
-use crate::arguments::Form;
+use crate::arguments::{Form, read_form};
 use crate::commands::command;
 use std::alloc::Global;
 use std::io::{BufReader, BufWriter, Read, Write};
-use tb_keep_commands::{Fault, Opener, Outgoing, refuse};
+use tb_keep_commands::{Fault, Opener, Outgoing, Terminals, file_word, refuse};
 use tb_records::{Buffered, Sink};
 
 /// The bytes of input that `follow` holds at a time.
@@ -18,7 +19,8 @@ const OUTPUT: usize = 1 << 16;
 
 /// The bytes that a form's reader and writer hold. Replies are written at once.
 fn capacities(form: &Form) -> (usize, usize)
-    ensures { result.0 ≡ input_size form.now }
+    ensures input { result.0 ≡ input_size form.now }
+    ensures output { result.1 ≡ output_size form.now }
 {
     match form {
         Form::Follow(_, _) => (INPUT, 0),
@@ -66,4 +68,28 @@ pub fn serve<O: Opener, R: Read + Drop, W: Write + Drop, E: Sink>(
         return refuse(Fault::NoMemory, faults);
     };
     between(alloc, opener, form, path, input, output, faults)
+}
+
+/// Serves the form over a log that the words ask for, or else what they ask for over a ledger, and returns the exit status.
+pub fn serve_words<O: Opener, R: Read + Drop, W: Write + Drop, E: Sink>(
+    alloc: Global,
+    opener: &mut O,
+    words: &[String],
+    terminals: Terminals,
+    input: R,
+    output: W,
+    faults: &mut E,
+) -> u8
+    ensures { let said = map string_bytes words.now in
+        ServesWords O.File.Device O.Reading.Device O.Reading.whole
+        O.Opener terminals opener.old opener.new R.remaining W.contents (form_of said) said
+        result input output (E.output faults.old) (E.output faults.new) }
+{
+    match read_form(words) {
+        Some(form) => {
+            let path = file_word(words);
+            serve(alloc, opener, form, path, input, output, faults)
+        }
+        None => tb_keep_commands::serve(alloc, opener, words, terminals, input, output, faults),
+    }
 }

@@ -10,7 +10,7 @@
 //! - `dumping`: `dump`, a file read to its end and then written as a dump.
 //! - `following`: `follow`, a log kept over a file.
 //! - `commands`: `command`, each form, and the exit status of each outcome.
-//! - `host`: `serve`, from a program's input and output to `command`.
+//! - `host`: `serve`, from a program's input and output to `command`, and `serve_words`, which has the forms over a ledger too.
 //!
 //! specs/Forms is which words ask for what, specs/Outcomes what each form does, specs/Exits how it ends, specs/Faults the exit status and
 //! the line of each fault, specs/Hosts what `serve` does.
@@ -27,4 +27,4 @@ mod lines;
 pub use arguments::{Form, read_form};
 pub use commands::command;
 pub use faults::FollowFault;
-pub use host::serve;
+pub use host::{serve, serve_words};

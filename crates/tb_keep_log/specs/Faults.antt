@@ -24,6 +24,11 @@ abbrev pub keep_fault_name : KeepLogFault → List ℕ
 keep_fault_name (keep.Log fault) = log_faults.fault_name fault
 keep_fault_name (keep.Journal fault) = journal_faults.fault_name fault
 
+-- its line: of a fault of the log the byte or the position too
+abbrev pub keep_fault_text : KeepLogFault → List ℕ
+keep_fault_text (keep.Log fault) = log_faults.fault_text fault
+keep_fault_text (keep.Journal fault) = journal_faults.fault_name fault
+
 abbrev pub dump_fault_name : DumpLogFault → List ℕ
 dump_fault_name (dump.Start fault) = start_fault_name fault
 dump_fault_name dump.NoPairs = codes "NoPairs"

@@ -12,7 +12,7 @@ use Rattle.tb_keep.specs.Rounds.{Commits}
 use Rattle.tb_log.specs.Following.{Following, begun, Item, after_items, bytes_of, given}
 use Rattle.tb_keep_log.specs.declared.faults.KeepLogFault.{KeepLogFault}
 use Rattle.tb_keep_log.specs.Keeping.{record_bytes, record_of, records_from, IsKept, Keeping, Keeps}
-use Rattle.tb_keep_log.specs.Serving.{Point, point, Turns, Served}
+use Rattle.tb_keep_log.specs.Serving.{Point, Turns, KeepsLog}
 
 -- a follower that has read some items is answered further on as one that reads them all from the beginning
 abbrev pub GoesOn : Type 0
@@ -48,7 +48,7 @@ module _ (tells : Type 0) {D : Type 0} (disk : D → Disk) where
   abbrev pub AnyCrash : Type 0
   AnyCrash = (records : List (List ℕ)) (result : Result ℕ KeepLogFault) (keeper after : Keeping D) (first last : Input) (start written : Output) (file : List ℕ)
       → tells → Keeps disk records keeper
-      → (served : Served tells disk keeper.rules.profile keeper.rules.clients_max result (point keeper.now keeper.journal first start) (point after.now after.journal last written))
+      → (served : KeepsLog tells disk result keeper after first last start written)
       → (disk after.journal.device).left_since (disk keeper.journal.device).moment file
       → (next : List Item) × (length next ≤ 1) × HasFirst keeper.rules.profile keeper.rules.clients_max records keeper.now (served.items ++ next) file
 
@@ -56,7 +56,7 @@ module _ (tells : Type 0) {D : Type 0} (disk : D → Disk) where
   abbrev pub AfterKill : Type 0
   AfterKill = (records : List (List ℕ)) (result : Result ℕ KeepLogFault) (keeper after : Keeping D) (first last : Input) (start written : Output) (amid : D)
       → tells → Keeps disk records keeper
-      → (served : Served tells disk keeper.rules.profile keeper.rules.clients_max result (point keeper.now keeper.journal first start) (point after.now after.journal last written))
+      → (served : KeepsLog tells disk result keeper after first last start written)
       → ((amid ≡ after.journal.device) ⊎ IsAmid tells disk (disk keeper.journal.device) (disk after.journal.device) (disk amid))
       → (next : List Item) × (length next ≤ 1) × HasFirst keeper.rules.profile keeper.rules.clients_max records keeper.now (served.items ++ next) (disk amid).seen
 

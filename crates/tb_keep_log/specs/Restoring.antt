@@ -34,6 +34,10 @@ pub record EntersRecord (profile : Profile) (clients_max : ℕ) (bytes : List �
 abbrev pub fixed_bytes : ℕ
 fixed_bytes = 79
 
+-- a record begins neither as the head of a ledger without positions nor as that of an entry of any rules
+abbrev pub HasNoMark : List ℕ → Type 0
+HasNoMark bytes = (starts_with nat_eq bytes (codes "TBK1") ≡ false) × (starts_with nat_eq bytes (codes "TBF1") ≡ false)
+
 -- why a record behind the entry of a position is refused by its first bytes or its length: it is the head of a ledger without positions,
 -- it names other rules, or it is that of no entry
 abbrev pub RefusesMark : LogStartFault → Profile → ℕ → ℕ → List ℕ → Type 0
@@ -42,7 +46,7 @@ RefusesMark start.OtherRules profile clients_max last bytes =
     (starts_with nat_eq bytes (codes "TBF1") ≡ true) × (starts_with nat_eq bytes (mark profile clients_max) ≡ false)
 RefusesMark (start.NoEntry at) profile clients_max last bytes =
     (at ≡ last)
-    × ((starts_with nat_eq bytes (mark profile clients_max) ≡ false) ⊎ (length bytes < fixed_bytes) ⊎ (fixed_bytes + content_max < length bytes) ⊎ (2 ^ 64 ≤ last + 1))
+    × (HasNoMark bytes ⊎ (length bytes < fixed_bytes) ⊎ (fixed_bytes + content_max < length bytes) ⊎ (2 ^ 64 ≤ last + 1))
 RefusesMark fault profile clients_max last bytes = ⊥
 
 -- a pair of an entry, which is new, has no time

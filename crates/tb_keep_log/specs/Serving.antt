@@ -18,7 +18,7 @@ use Rattle.tb_log.specs.Steps.{Takes}
 use Rattle.tb_keep.specs.Rounds.{Commits, RefusesRecord}
 use Rattle.tb_keep_log.specs.declared.faults.KeepLogFault.{KeepLogFault}
 use Rattle.tb_keep_log.specs.declared.faults.KeepLogFault.TheVariants as keep
-use Rattle.tb_keep_log.specs.Keeping.{record_of}
+use Rattle.tb_keep_log.specs.Keeping.{Keeping, record_of}
 
 -- a follower, the journal on a device, what is left to read, and what was written
 pub record Point (D : Type 0) : Type 0 where
@@ -103,3 +103,8 @@ module _ (tells : Type 0) {D : Type 0} (disk : D → Disk) (profile : Profile) (
     pub middle : Point D
     pub turns : Turns items before middle
     pub ended : Halts result middle after ⊎ AreTooMany result (length items) middle after
+
+-- a whole run of a keeper, by its rules
+abbrev pub KeepsLog : Type 0 → {D : Type 0} → (D → Disk) → Result ℕ KeepLogFault → Keeping D → Keeping D → Input → Input → Output → Output → Type 0
+KeepsLog tells disk result before after first last start written =
+    Served tells disk before.rules.profile before.rules.clients_max result (point before.now before.journal first start) (point after.now after.journal last written)

@@ -81,6 +81,11 @@ impl KeepLogFault {
 }
 
 impl fmt::Display for KeepLogFault {
+    ghost use Rattle.std.specs.Prelude.{Some};
+    ghost use Rattle.tb_keep_log.specs.Faults.{keep_fault_text};
+
+    ghost output = { λ fault. Some (keep_fault_text fault) };
+
     fn fmt<W: fmt::Write>(&self, f: &mut fmt::Formatter<W>) -> fmt::Result {
         match self {
             KeepLogFault::Log(fault) => write!(f, "{fault}"),

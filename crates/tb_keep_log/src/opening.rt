@@ -112,6 +112,7 @@ fn open_short<D: Device, A: Allocator + Clone>(
         IsRefused failed.fault rules.profile rules.clients_max (D.disk device) (D.disk failed.device)) }
     ensures cause { D.tells → HasLogCause (why_left result) (D.disk device) (D.disk (device_left result)) }
     ensures usable { IfOk result IsUsable }
+    ensures rules { IfOk result (λ keeper. keeper.rules ≡ rules) }
     ensures handed { (file : List ℕ) → D.holds device file
         → IsRestored rules.profile rules.clients_max file follower extent
         → OpensFile result rules.profile rules.clients_max file }
@@ -149,6 +150,7 @@ impl<D: Device, A: Allocator + Copy> LogKeeper<D, A> {
             → IfOk result (IsOpened D.disk (D.disk device).seen) }
         // So `keep_log` may serve.
         ensures usable { IfOk result IsUsable }
+        ensures rules { IfOk result (λ keeper. keeper.rules ≡ rules) }
         ensures ready { D.tells → (D.disk device).sound ≡ true
             → IfOk result (λ keeper. IsReady D.disk keeper.journal) }
         // A crash at any moment of the call leaves the records that were there, so that the call may be made again.
@@ -183,6 +185,7 @@ impl<D: Device, A: Allocator + Copy> LogKeeper<D, A> {
         ensures created { D.tells → (D.disk device).sound ≡ true
             → IfOk result (IsCreated D.disk (D.disk device).seen) }
         ensures usable { IfOk result IsUsable }
+        ensures rules { IfOk result (λ keeper. keeper.rules ≡ rules) }
         ensures ready { D.tells → (D.disk device).sound ≡ true
             → IfOk result (λ keeper. IsReady D.disk keeper.journal) }
         ensures any_moment { D.tells → (D.disk device).sound ≡ true
@@ -217,6 +220,7 @@ impl<D: Device, A: Allocator + Copy> LogKeeper<D, A> {
         ensures started { D.tells → (D.disk device).sound ≡ true
             → IfOk result (IsStarted D.disk (D.disk device).seen) }
         ensures usable { IfOk result IsUsable }
+        ensures rules { IfOk result (λ keeper. keeper.rules ≡ rules) }
         ensures ready { D.tells → (D.disk device).sound ≡ true
             → IfOk result (λ keeper. IsReady D.disk keeper.journal) }
         ensures any_moment { D.tells → (D.disk device).sound ≡ true

@@ -2,7 +2,7 @@
 ghost use Rattle.std.specs.Prelude.{◌≡◌, true, false, [], IfOk, IfErr, OnOk, OnErr};
 ghost use Rattle.tb_journal.specs.Ready.{IsReady};
 ghost use Rattle.tb_keep_log.specs.Keeping.{IsUsable};
-ghost use Rattle.tb_keep_log.specs.Serving.{Served, point};
+ghost use Rattle.tb_keep_log.specs.Serving.{KeepsLog, Served, point};
 ghost use Rattle.tb_keep_log.specs.Steps.{TakesEntry, MissesEntry, TellsBytes, Answers, Puts, PutsAndTells, EntersEntry, Next};
 
 use crate::entries::serve_entry;
@@ -201,13 +201,13 @@ pub fn keep_log<D: Device, A: Allocator + Clone, R: Source, W: Sink>(
     // Of any device.
     requires usable { IsUsable keeper.old }
     requires ready { D.tells → IsReady D.disk keeper.old.journal }
-    ensures served { Served D.tells D.disk keeper.old.rules.profile keeper.old.rules.clients_max result
-        (point keeper.old.now keeper.old.journal (R.input reader.old) (W.output writer.old))
-        (point keeper.new.now keeper.new.journal (R.input reader.new) (W.output writer.new)) }
+    ensures served { KeepsLog D.tells D.disk result keeper.old keeper.new (R.input reader.old)
+        (R.input reader.new) (W.output writer.old) (W.output writer.new) }
     ensures ready { D.tells → OnOk result (IsReady D.disk keeper.new.journal) }
     ensures usable { OnOk result (IsUsable keeper.new) }
     ensures ended { OnErr result (keeper.new.usable ≡ false) }
     ensures rules { keeper.new.rules ≡ keeper.old.rules }
+    ensures cut { keeper.new.cut ≡ keeper.old.cut }
 {
     let rules = keeper.rules;
     match keep_all(

@@ -1,15 +1,17 @@
 -- What is read in parts, and an entry behind its numbers.
-use Rattle.std.proofs.Common.{◌≡◌, ◌⊎◌, inl, inr, ℕ, ◌+◌, ◌≤◌, List, [], ◌∷◌, ◌++◌, length, slice_index, Option, Some, None, Result, Ok, Err, MatchOption, refl, sym, ap, subst, ◌∙◌, arith, take_all, append_assoc}
+use Rattle.std.proofs.Common.{◌≡◌, ◌⊎◌, inl, inr, ℕ, ◌+◌, ◌≤◌, ◌<◌, List, [], ◌∷◌, ◌++◌, length, length-append, length-take, take, slice_index, Option, Some, None, Result, Ok, Err, MatchOption, refl, sym, ap, subst, ◌∙◌, arith, take_all, append_assoc}
 use Rattle.std.specs.Io.KnownBytes.{Consumes}
 use Rattle.std.proofs.KnownBytes.{Consumes-trans}
 use Rattle.std.proofs.lemmas.Bool.Decides.{nat_tests}
+use Rattle.tb_records.specs.Numbers.{le_bytes}
+use Rattle.tb_records.specs.Sizes.{length-le_bytes}
 use Rattle.tb_records.specs.Transport.{Input, risen}
 use Rattle.tb_log.specs.declared.faults.LogFault.{LogFault}
 use Rattle.tb_log.specs.declared.faults.LogFault.TheVariants.{Device, NoMemory, Short, Damaged}
 use Rattle.tb_log.specs.declared.entries.Head.{Head}
 use Rattle.tb_log.specs.Format.{content_max, numbers, checksum_of, summed, number_bytes}
-use Rattle.tb_log.specs.Entries.{Breaks, head_fault, ReadsEntry, IsDamaged, IsNoPairs, RefusesEntry}
-use Rattle.tb_log.specs.Steps.{Filled, Takes, head_bytes, ReadsContent, MissesContent}
+use Rattle.tb_log.specs.Entries.{Breaks, head_fault, ReadsEntry, IsShort, IsDamaged, IsNoPairs, RefusesEntry}
+use Rattle.tb_log.specs.Steps.{Filled, Takes, EndsWithin, Misses, head_bytes, ReadsContent, MissesContent}
 
 -- a buffer that was filled whole
 pub all_filled : (n : ℕ) (buffer : List ℕ) (before after : Input) → length buffer ≤ n → Filled n buffer before after → Takes buffer before after
@@ -39,12 +41,61 @@ takes_then xs ys a b c one two = record {
 
 -- a fault behind what was read
 pub breaks_since : (fault : LogFault) (a b c : Input) → b.failed ≡ a.failed → Breaks fault b c → Breaks fault a c
-breaks_since Short a b c counted breaks = (breaks.0, breaks.1 ∙ counted)
 breaks_since Device a b c counted breaks = record { rose = breaks.rose ∙ ap risen counted; last = breaks.last }
 breaks_since NoMemory a b c counted breaks = breaks ∙ counted
 breaks_since fault a b c counted breaks = absurd breaks
 
+-- the end of the input behind what was read
+ends_since : (n m : ℕ) (xs : List ℕ) (fault : LogFault) (a b c : Input) → Takes xs a b → length xs + n ≤ m → EndsWithin n fault b c → EndsWithin m fault a c
+ends_since n m xs fault a b c one le ends = record {
+  bytes = xs ++ ends.bytes;
+  few = omega (arith, ends.few, le, length-append xs ends.bytes);
+  cut = record {
+    read = Consumes-trans a.left b.left c.left xs ends.bytes one.consumed ends.cut.read;
+    end = ends.cut.end;
+    fault_is = ends.cut.fault_is;
+    counted = ends.cut.counted ∙ one.counted;
+  };
+}
+
+-- bytes that were missed behind others are missed of both
+missed_since : (n m : ℕ) (xs : List ℕ) (fault : LogFault) (a b c : Input) → Takes xs a b → length xs + n ≤ m → Misses n fault b c → Misses m fault a c
+missed_since n m xs fault a b c one le (inl breaks) = inl (breaks_since fault a b c one.counted breaks)
+missed_since n m xs fault a b c one le (inr ends) = inr (ends_since n m xs fault a b c one le ends)
+
+pub missed_whole : (n m : ℕ) (fault : LogFault) (a b : Input) → n ≡ m → Misses n fault a b → Misses m fault a b
+missed_whole n m fault a b same misses = subst (λ (k : ℕ). Misses k fault a b) same misses
+
+pub misses_by : (n : ℕ) (fault : LogFault) (a b : Input) → Breaks fault a b → Misses n fault a b
+misses_by n fault a b breaks = inl breaks
+
+-- a buffer that was not filled whole
+pub cut_short : (n : ℕ) (buffer : List ℕ) (a b : Input) → n < length buffer → Filled n buffer a b → Misses (length buffer) Short a b
+cut_short n buffer a b short filled = inr (record {
+  bytes = take n buffer;
+  few = omega (arith, short, length-take n buffer);
+  cut = record { read = filled.bytes; end = filled.end short; fault_is = refl; counted = filled.counted };
+})
+
 -- the numbers of an entry
+
+number_long : (n x : ℕ) → length (number_bytes n x) ≡ n
+unfolding number_bytes le_bytes
+number_long n x = length-le_bytes n x
+
+pub position_missed : (fault : LogFault) (a b : Input) → Misses 8 fault a b → Misses 16 fault a b
+position_missed fault a b (inl breaks) = inl breaks
+position_missed fault a b (inr ends) = inr (record { bytes = ends.bytes; few = omega (arith, ends.few); cut = ends.cut })
+
+pub length_missed : (position : ℕ) (fault : LogFault) (a b c : Input) → Takes (number_bytes 8 position) a b → Misses 4 fault b c → Misses 16 fault a c
+length_missed position fault a b c one misses =
+    missed_since 4 16 (number_bytes 8 position) fault a b c one (omega (arith, number_long 8 position)) misses
+
+pub sum_missed : (position long : ℕ) (fault : LogFault) (a b c d : Input) → Takes (number_bytes 8 position) a b → Takes (number_bytes 4 long) b c → Misses 4 fault c d → Misses 16 fault a d
+sum_missed position long fault a b c d one two misses =
+    missed_since 4 16 (numbers position long) fault a c d (takes_then (number_bytes 8 position) (number_bytes 4 long) a b c one two)
+    (omega (arith, length-append (number_bytes 8 position) (number_bytes 4 long), number_long 8 position, number_long 4 long)) misses
+
 pub takes_head : (head : Head) (a b c d : Input) → Takes (number_bytes 8 head.position) a b → Takes (number_bytes 4 head.length) b c → Takes (number_bytes 4 head.checksum) c d → Takes (head_bytes head) a d
 takes_head head a b c d position long sum =
     takes_then (numbers head.position head.length) (number_bytes 4 head.checksum) a c d
@@ -97,16 +148,44 @@ module _ (head : Head) (last : ℕ) (a b c : Input) (numbered : Takes (head_byte
     counted = is.read.counted ∙ numbered.counted;
   }
 
-  pub entry_lost : (fault : LogFault) → Breaks fault b c ⊎ MissesContent head fault b c → RefusesEntry fault last a c
-  entry_lost fault (inl breaks) = inl (breaks_since fault a b c numbered.counted breaks)
+  -- the input ended within the content
+  cut_off : (fault : LogFault) → EndsWithin head.length fault b c → IsShort fault last a c
+  unfolding number_bytes
+  cut_off fault ends = record {
+    bytes = head_bytes head ++ ends.bytes;
+    cut = record {
+      read = Consumes-trans a.left b.left c.left (head_bytes head) ends.bytes numbered.consumed ends.cut.read;
+      end = ends.cut.end;
+      fault_is = ends.cut.fault_is;
+      counted = ends.cut.counted ∙ numbered.counted;
+    };
+    part = inr (record {
+      long = head.length;
+      sum = head.checksum;
+      part = ends.bytes;
+      spelled = append_assoc (numbers head.position head.length) (number_bytes 4 head.checksum) ends.bytes
+          ∙ ap (λ (p : ℕ). numbers p head.length ++ number_bytes 4 head.checksum ++ ends.bytes) next.next;
+      few = ends.few;
+      fits = next.few;
+    });
+  }
+
+  pub entry_lost : (fault : LogFault) → Misses head.length fault b c ⊎ MissesContent head fault b c → RefusesEntry fault last a c
+  entry_lost fault (inl (inl breaks)) = inl (breaks_since fault a b c numbered.counted breaks)
+  entry_lost fault (inl (inr ends)) = inr (inr (inr (inr (cut_off fault ends))))
   entry_lost fault (inr misses) = inr (inr (inl (damaged fault misses)))
 
 pub entry_bad : (fault : LogFault) (position last : ℕ) (content : List ℕ) (a b : Input) → (position ≡ last + 1) × ReadsEntry content last a b → IsNoPairs fault position content → RefusesEntry fault last a b
-entry_bad fault position last content a b read bad = inr (inr (inr (record {
+entry_bad fault position last content a b read bad = inr (inr (inr (inl (record {
   content = content;
   entry = read.1;
   bad = subst (λ (p : ℕ). IsNoPairs fault p content) read.0 bad;
-})))
+}))))
+
+-- the input ended within the numbers of an entry, or they were not read
+pub head_lost : (fault : LogFault) (last : ℕ) (a b : Input) → Misses 16 fault a b → RefusesEntry fault last a b
+head_lost fault last a b (inl breaks) = inl breaks
+head_lost fault last a b (inr ends) = inr (inr (inr (inr (record { bytes = ends.bytes; cut = ends.cut; part = inl ends.few }))))
 
 pub entry_wrong : (head : Head) (fault : LogFault) (last : ℕ) (a b : Input) → Takes (head_bytes head) a b → head_fault last head.position head.length ≡ Some fault → RefusesEntry fault last a b
 entry_wrong head fault last a b numbered is = inr (inl (record {

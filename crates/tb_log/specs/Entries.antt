@@ -1,6 +1,6 @@
 -- What is read of an entry behind its kind, and why it is refused.
 -- Cited by public contracts of: entries.
-use Rattle.std.specs.Prelude.{ℕ, ◌≡◌, ◌≢◌, ◌⊎◌, ◌+◌, ◌≤◌, nat_le, nat_lt, List, [], ◌++◌, length, Option, Some, None, if◌then◌else◌, Err}
+use Rattle.std.specs.Prelude.{ℕ, ◌≡◌, ◌≢◌, ◌⊎◌, ◌+◌, ◌≤◌, ◌<◌, nat_le, nat_lt, List, [], ◌++◌, length, Option, Some, None, if◌then◌else◌, Err}
 use Rattle.std.specs.Io.KnownBytes.{Consumes, IsAtEnd}
 use Rattle.tb_records.specs.declared.faults.FrameFault.{FrameFault}
 use Rattle.tb_records.specs.declared.faults.FrameFault.TheVariants as frame
@@ -12,12 +12,33 @@ use Rattle.tb_log.specs.declared.faults.LogFault.{LogFault}
 use Rattle.tb_log.specs.declared.faults.LogFault.TheVariants.{Device, NoMemory, Short, Gap, Repeat, TooLong, Damaged, BadEntry}
 use Rattle.tb_log.specs.Format.{content_max, content_of, numbers, checksum_of, summed, number_bytes}
 
--- the input ended within an item, or its reader failed, or there was no memory
+-- the reader failed, or there was no memory
 abbrev pub Breaks : LogFault → Input → Input → Type 0
-Breaks Short before after = IsAtEnd after.left × (after.failed ≡ before.failed)
 Breaks Device before after = Fails before after
 Breaks NoMemory before after = after.failed ≡ before.failed
 Breaks fault before after = ⊥
+
+-- the input ended within what was asked for: all that was left are these bytes
+pub record IsCutShort (fault : LogFault) (bytes : List ℕ) (before after : Input) : Type 0 where
+  pub read : Consumes before.left after.left bytes
+  pub end : IsAtEnd after.left
+  pub fault_is : fault ≡ Short
+  pub counted : after.failed ≡ before.failed
+
+-- the numbers of the entry behind the last position, and fewer bytes of its content than they say
+pub record HasPart (last : ℕ) (bytes : List ℕ) : Type 0 where
+  pub long : ℕ
+  pub sum : ℕ
+  pub part : List ℕ
+  pub spelled : bytes ≡ numbers (last + 1) long ++ number_bytes 4 sum ++ part
+  pub few : length part < long
+  pub fits : long ≤ content_max
+
+-- the input ended within an entry: within its numbers, or within its content
+pub record IsShort (fault : LogFault) (last : ℕ) (before after : Input) : Type 0 where
+  pub bytes : List ℕ
+  pub cut : IsCutShort fault bytes before after
+  pub part : (length bytes < 16) ⊎ HasPart last bytes
 
 -- what is wrong with an entry's numbers behind the last position; the first test that holds decides
 abbrev pub head_fault : ℕ → ℕ → ℕ → Option LogFault
@@ -83,4 +104,5 @@ pub record IsBad (fault : LogFault) (last : ℕ) (before after : Input) : Type 0
   pub bad : IsNoPairs fault (last + 1) content
 
 abbrev pub RefusesEntry : LogFault → ℕ → Input → Input → Type 0
-RefusesEntry fault last before after = Breaks fault before after ⊎ IsWrong fault last before after ⊎ IsDamaged fault last before after ⊎ IsBad fault last before after
+RefusesEntry fault last before after =
+    Breaks fault before after ⊎ IsWrong fault last before after ⊎ IsDamaged fault last before after ⊎ IsBad fault last before after ⊎ IsShort fault last before after

@@ -14,7 +14,7 @@ use Rattle.tb_log.specs.declared.faults.LogFault.TheVariants.{Device, NoMemory, 
 use Rattle.tb_log.specs.declared.entries.Head.{Head}
 use Rattle.tb_log.specs.Format.{content_of, numbers, checksum_of, standing_item, number_bytes}
 use Rattle.tb_log.specs.Following.{Following, with_content, Item, Entry, with_item, item_bytes, given_to, IsAnswered}
-use Rattle.tb_log.specs.Entries.{Breaks, IsPairs, ReadsEntry, RefusesEntry}
+use Rattle.tb_log.specs.Entries.{Breaks, IsCutShort, IsPairs, ReadsEntry, RefusesEntry}
 use Rattle.tb_log.specs.Follows.{IsUntimely, Serves, Stops, ItemFits, Refuses}
 
 -- reading
@@ -31,9 +31,19 @@ pub record Takes (bytes : List ℕ) (before after : Input) : Type 0 where
   pub consumed : Consumes before.left after.left bytes
   pub counted : after.failed ≡ before.failed
 
--- a value's bytes were read
-abbrev pub Reads : {X : Type 0} → (X → List ℕ) → Result X LogFault → Input → Input → Type 0
-Reads bytes_of result before after = MatchResult result (λ x. Takes (bytes_of x) before after) (λ fault. Breaks fault before after)
+-- the input ended within n bytes
+pub record EndsWithin (n : ℕ) (fault : LogFault) (before after : Input) : Type 0 where
+  pub bytes : List ℕ
+  pub few : length bytes < n
+  pub cut : IsCutShort fault bytes before after
+
+-- so many bytes were not read: the input ended within them, or the reader failed, or there was no memory
+abbrev pub Misses : ℕ → LogFault → Input → Input → Type 0
+Misses n fault before after = Breaks fault before after ⊎ EndsWithin n fault before after
+
+-- the n bytes of a value were read
+abbrev pub Reads : {X : Type 0} → ℕ → (X → List ℕ) → Result X LogFault → Input → Input → Type 0
+Reads n bytes_of result before after = MatchResult result (λ x. Takes (bytes_of x) before after) (λ fault. Misses n fault before after)
 
 -- the first byte of an item was read, or there is none
 abbrev pub Begins : Result (Option ℕ) LogFault → Input → Input → Type 0
@@ -58,7 +68,7 @@ pub record MissesContent (head : Head) (fault : LogFault) (before after : Input)
   pub fault_is : fault ≡ Damaged head.position
 
 abbrev pub Loses : Head → LogFault → Input → Input → Type 0
-Loses head fault before after = Breaks fault before after ⊎ MissesContent head fault before after
+Loses head fault before after = Misses head.length fault before after ⊎ MissesContent head fault before after
 
 -- answering
 

@@ -23,9 +23,9 @@ pub(crate) struct Head {
 }
 
 /// Reads the numbers of an entry.
-#[tactic(auto, using(crate::proofs::Taking::takes_head, crate::proofs::Taking::breaks_since))]
+#[tactic(auto, using(crate::proofs::Taking::takes_head, crate::proofs::Taking::position_missed, crate::proofs::Taking::length_missed, crate::proofs::Taking::sum_missed))]
 fn head_from<S: Source>(source: &mut S) -> Result<Head, LogFault>
-    ensures { Reads head_bytes result (S.input source.old) (S.input source.new) }
+    ensures { Reads 16 head_bytes result (S.input source.old) (S.input source.new) }
 {
     let position = u64_from(source)?;
     let length = u32_from(source)?;
@@ -98,7 +98,7 @@ pub fn check_pairs(global: Global, position: u64, content: &[u8]) -> Result<(), 
 }
 
 /// Reads the entry behind the last position: its position and its content, which is pairs.
-#[tactic(auto, using(crate::proofs::Taking::entry_read, crate::proofs::Taking::entry_lost, crate::proofs::Taking::entry_wrong))]
+#[tactic(auto, using(crate::proofs::Taking::entry_read, crate::proofs::Taking::entry_lost, crate::proofs::Taking::entry_wrong, crate::proofs::Taking::head_lost))]
 pub fn entry_from<S: Source>(
     alloc: Global,
     source: &mut S,

@@ -1,5 +1,5 @@
 //! Bytes and numbers from a reader.
-ghost use Rattle.std.specs.Prelude.{◌≡◌, vec_len, IfOk, IfErr};
+ghost use Rattle.std.specs.Prelude.{◌≡◌, length, vec_len, IfOk, IfErr};
 ghost use Rattle.tb_log.specs.Entries.{Breaks};
 ghost use Rattle.tb_log.specs.Format.{number_bytes};
 ghost use Rattle.tb_log.specs.Steps.{Filled, Reads, Begins};
@@ -27,9 +27,9 @@ fn fill<S: Source>(source: &mut S, buffer: &mut [u8]) -> Result<usize, LogFault>
 }
 
 /// Fills the buffer. Short where the input ends before.
-#[tactic(auto, using(crate::proofs::Taking::all_filled))]
+#[tactic(auto, using(crate::proofs::Taking::all_filled, crate::proofs::Taking::cut_short, crate::proofs::Taking::misses_by))]
 fn fill_all<S: Source>(source: &mut S, buffer: &mut [u8]) -> Result<(), LogFault>
-    ensures { Reads (λ _. buffer.new) result (S.input source.old) (S.input source.new) }
+    ensures { Reads (length buffer.new) (λ _. buffer.new) result (S.input source.old) (S.input source.new) }
 {
     if fill(source, buffer)? < buffer.len() {
         return Err(LogFault::Short);
@@ -51,9 +51,9 @@ pub fn kind_from<S: Source>(source: &mut S) -> Result<Option<u8>, LogFault>
 }
 
 /// A number of 8 bytes.
-#[tactic(auto, using(crate::proofs::Numbers::eight_bytes))]
+#[tactic(auto, using(crate::proofs::Numbers::eight_bytes, crate::proofs::Taking::missed_whole))]
 pub(crate) fn u64_from<S: Source>(source: &mut S) -> Result<u64, LogFault>
-    ensures { Reads (number_bytes 8) result (S.input source.old) (S.input source.new) }
+    ensures { Reads 8 (number_bytes 8) result (S.input source.old) (S.input source.new) }
 {
     let mut bytes = [0; 8];
     let bytes: &mut [u8] = &mut bytes;
@@ -62,9 +62,9 @@ pub(crate) fn u64_from<S: Source>(source: &mut S) -> Result<u64, LogFault>
 }
 
 /// A number of 4 bytes.
-#[tactic(auto, using(crate::proofs::Numbers::four_bytes))]
+#[tactic(auto, using(crate::proofs::Numbers::four_bytes, crate::proofs::Taking::missed_whole))]
 pub(crate) fn u32_from<S: Source>(source: &mut S) -> Result<u32, LogFault>
-    ensures { Reads (number_bytes 4) result (S.input source.old) (S.input source.new) }
+    ensures { Reads 4 (number_bytes 4) result (S.input source.old) (S.input source.new) }
 {
     let mut bytes = [0; 4];
     let bytes: &mut [u8] = &mut bytes;
@@ -73,12 +73,13 @@ pub(crate) fn u32_from<S: Source>(source: &mut S) -> Result<u32, LogFault>
 }
 
 /// So many bytes. The memory for them is taken before the first is read.
+#[tactic(auto, using(crate::proofs::Taking::missed_whole))]
 pub(crate) fn bytes_from<S: Source>(
     alloc: Global,
     source: &mut S,
     count: usize,
 ) -> Result<Vec<u8>, LogFault>
-    ensures read { Reads (λ bytes. bytes.items) result (S.input source.old) (S.input source.new) }
+    ensures read { Reads count (λ bytes. bytes.items) result (S.input source.old) (S.input source.new) }
     ensures count { IfOk result (λ bytes. vec_len bytes ≡ count) }
 {
     let mut bytes = vec![in alloc; 0u8; count]?;

@@ -13,42 +13,31 @@ use files::{SystemFiles, lines};
 use std::io::{BufWriter, IsTerminal, Stderr};
 use std::process::ExitCode;
 use tb_commands::words;
-use tb_keep_commands::{Form, Terminals, file_word, read_form, refuse, serve, words_fault};
+use tb_keep_commands::{Form, Terminals, read_form, refuse, words_fault};
+use tb_keep_follow::serve_words;
 use tb_records::Counting;
 
-/// Does what the words ask for, over a log or else over a ledger, and returns the exit status.
-fn serve_words(
+/// Does what the words ask for over the files of the system, and returns the exit status.
+fn run(
     rt: &HostRuntime,
     words: &[String],
     terminals: Terminals,
     faults: &mut Counting<BufWriter<Stderr>>,
 ) -> u8 {
-    let asked = tb_keep_follow::read_form(words);
     let reports = matches!(read_form(words), Some(Form::Run(_, _, true)));
     let mut files = SystemFiles {
         rt,
         reports: reports || terminals.faults,
     };
-    match asked {
-        Some(form) => tb_keep_follow::serve(
-            rt.alloc(),
-            &mut files,
-            form,
-            file_word(words),
-            rt.stdin(),
-            rt.stdout(),
-            faults,
-        ),
-        None => serve(
-            rt.alloc(),
-            &mut files,
-            words,
-            terminals,
-            rt.stdin(),
-            rt.stdout(),
-            faults,
-        ),
-    }
+    serve_words(
+        rt.alloc(),
+        &mut files,
+        words,
+        terminals,
+        rt.stdin(),
+        rt.stdout(),
+        faults,
+    )
 }
 
 fn main(rt: HostRuntime) -> ExitCode {
@@ -58,7 +47,7 @@ fn main(rt: HostRuntime) -> ExitCode {
     };
     let mut faults = Counting::new(lines(&rt));
     let status = match words(&rt) {
-        Ok(words) => serve_words(&rt, words.as_slice(), terminals, &mut faults),
+        Ok(words) => run(&rt, words.as_slice(), terminals, &mut faults),
         Err(error) => refuse(words_fault(&error), &mut faults),
     };
     ExitCode::from(status)

@@ -52,24 +52,15 @@ fn end_at(rt: &impl Abort, alloc: Global, number: u64, why: Fault) -> (End, Memo
     }
 }
 
-/// What a sync answers that fails so.
-fn of_sync(why: Fault) -> Fault {
-    if why == Fault::Memory {
-        why
-    } else {
-        Fault::SyncFailed
-    }
-}
-
 /// How the run ends whose call of this number fails.
 fn want_at(number: u64, why: Fault) -> End {
     match number {
         // To open a journal takes a sync, two looks, a cut, a sync, a write and a sync.
-        1 | 5 | 7 => End::Opening(of_sync(why)),
+        1 | 5 | 7 => End::Opening(Fault::SyncFailed),
         2..=4 | 6 => End::Opening(why),
         // A commit takes a write, a sync, a write and a sync.
         8 | 10 => End::Committing(why),
-        9 | 11 => End::Committing(of_sync(why)),
+        9 | 11 => End::Committing(Fault::SyncFailed),
         _ => End::Nowhere,
     }
 }

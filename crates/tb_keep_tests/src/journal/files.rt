@@ -80,6 +80,8 @@ fn a_call_fails_with_the_fault_that_is_named(rt: HostRuntime) {
     expect(&rt, file.len() == Err(Fault::Memory));
     file.fail_with(1, Fault::NotEmpty);
     expect(&rt, file.len() == Err(Fault::Failed));
+    file.fail_with(1, Fault::Memory);
+    expect(&rt, file.sync() == Err(Fault::SyncFailed));
     expect_bytes(&rt, file.bytes(), &SIX);
 }
 

@@ -104,8 +104,8 @@ fn calls_that_fail(rt: HostRuntime) {
 
 #[test]
 fn syncs_that_fail(rt: HostRuntime) {
-    expect_fault(&rt, rt.alloc(), 2, ErrorKind::OutOfMemory, Fault::Memory);
     for kind in [
+        ErrorKind::OutOfMemory,
         ErrorKind::Uncategorized,
         ErrorKind::StorageFull,
         ErrorKind::QuotaExceeded,
@@ -116,14 +116,14 @@ fn syncs_that_fail(rt: HostRuntime) {
 
 #[test]
 fn a_sync_that_fails_at_the_opening(rt: HostRuntime) {
-    for (kind, want) in [
-        (ErrorKind::OutOfMemory, Fault::Memory),
-        (ErrorKind::Uncategorized, Fault::SyncFailed),
-        (ErrorKind::StorageFull, Fault::SyncFailed),
+    for kind in [
+        ErrorKind::OutOfMemory,
+        ErrorKind::Uncategorized,
+        ErrorKind::StorageFull,
     ] {
         let mut odd = Odd::empty(rt.alloc());
         odd.fails = Some((Call::Sync, kind));
-        expect(&rt, Posix::synced(odd).err() == Some(want));
+        expect(&rt, Posix::synced(odd).err() == Some(Fault::SyncFailed));
     }
     let mut odd = odd_of(&rt, rt.alloc(), b"abc", 5, 2);
     odd.fails = Some((Call::Write, ErrorKind::StorageFull));

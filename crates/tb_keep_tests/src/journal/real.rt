@@ -146,8 +146,16 @@ fn a_file_is_looked_at_while_it_is_written(rt: HostRuntime) {
         &rt,
         matches!(Real::look(&rt, path), Err(FileFault::System(_))),
     );
-    expect(
-        &rt,
-        matches!(Real::look(&rt, "."), Err(FileFault::NotAFile)),
-    );
+}
+
+#[test]
+fn no_regular_files(rt: HostRuntime) {
+    for name in [".", "/dev/null"] {
+        let looked = Real::look(&rt, name);
+        expect(&rt, matches!(looked, Err(FileFault::NotAFile)));
+        let opened = Real::open(&rt, name);
+        expect(&rt, matches!(opened, Err(FileFault::NotAFile)));
+        let made = Real::make(&rt, name);
+        expect(&rt, matches!(made, Err(FileFault::NotAFile)));
+    }
 }

@@ -231,7 +231,8 @@ fn a_fault_of_the_system_is_told_as_what_it_is(rt: HostRuntime) {
     assert!(rt; found(ErrorKind::NotFound) == OpeningFault::Missing);
     assert!(rt; found(ErrorKind::PermissionDenied) == OpeningFault::Forbidden);
     assert!(rt; found(ErrorKind::OutOfMemory) == OpeningFault::NoMemory);
-    assert!(rt; found(ErrorKind::IsADirectory) == OpeningFault::Unopened);
+    assert!(rt; found(ErrorKind::NotADirectory) == OpeningFault::Unopened);
+    assert!(rt; found(ErrorKind::IsADirectory) == OpeningFault::NotAFile);
     assert!(rt; words_fault(&io::Error::from(ErrorKind::OutOfMemory)) == Fault::NoMemory);
     assert!(rt; words_fault(&io::Error::from(ErrorKind::InvalidData)) == Fault::Usage);
 }

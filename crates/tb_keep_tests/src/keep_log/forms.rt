@@ -11,8 +11,8 @@ use crate::keep_log::logs::{answers, expect, log, part, same, sure};
 use std::alloc::Global;
 use std::process::Abort;
 use tb_journal::Memory;
-use tb_keep_commands::{Opener, OpeningFault, file_word};
-use tb_keep_follow::{read_form, serve};
+use tb_keep_commands::{Opener, OpeningFault};
+use tb_keep_follow::serve_words;
 use tb_records::Counting;
 
 /// One file, or none: the next process finds what the last one left.
@@ -101,21 +101,8 @@ fn served(
 ) -> u8 {
     let alloc = file.alloc;
     let words = words_of(rt, alloc, words);
-    let status = match read_form(words.as_slice()) {
-        Some(form) => {
-            let path = file_word(words.as_slice());
-            serve(alloc, file, form, path, input, pipe, lines)
-        }
-        None => tb_keep_commands::serve(
-            alloc,
-            file,
-            words.as_slice(),
-            NO_TERMINALS,
-            input,
-            pipe,
-            lines,
-        ),
-    };
+    let words = words.as_slice();
+    let status = serve_words(alloc, file, words, NO_TERMINALS, input, pipe, lines);
     file.settle();
     status
 }
@@ -199,6 +186,17 @@ fn plain_ledgers_and_logs(rt: HostRuntime) {
     refused(&rt, alloc, &log, &["run", "ledger", "2"], (5, NO_HEAD));
     refused(&rt, alloc, &log, &["dump", "ledger"], (5, NO_HEAD));
     refused(&rt, alloc, &log, &["check", "ledger"], (5, NO_HEAD));
+}
+
+#[test]
+fn a_log_without_entries(rt: HostRuntime) {
+    let alloc = rt.alloc();
+    let mut file = OneFile::new(&rt, alloc, None);
+    let _ = ran(&rt, &mut file, FOLLOW, &[], ROOM, (0, MADE));
+    // It has no record, so a ledger may begin in it, and then it is no log's.
+    let run = &["run", "ledger", "2"];
+    expect(&rt, ran(&rt, &mut file, run, &[], ROOM, (0, "")).is_empty());
+    let _ = ran(&rt, &mut file, FOLLOW, &[], ROOM, (5, PLAIN));
 }
 
 const OTHER_RULES: &str =

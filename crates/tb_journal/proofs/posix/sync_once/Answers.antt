@@ -1,3 +1,5 @@
+use Rattle.std.proofs.Common.{refl}
+use Rattle.tb_journal.specs.declared.faults.Fault.TheVariants.{SyncFailed}
 use Rattle.tb_journal.specs.System.{sync_fault_of}
 use Rattle.tb_journal.proofs.Retried.{interrupted_is, waits_again, sync_done, sync_failed, partly_again}
 use Rattle.tb_journal.proofs.posix.sync_once.Goals as goal
@@ -7,8 +9,8 @@ returns-in-Ok-clause-syncs g c t = let so_far = c.loop.invariant t in sync_done 
 
 pub returns-in_default : goal.returns-in_default
 returns-in_default g c = record {
-  names = c.sync_fault_of.ensures.names;
-  syncs = λ t. let so_far = c.loop.invariant t in sync_failed (g.S.System.disk c.args.system.now) (g.S.System.disk c.loop.system) (g.S.System.disk c.fdatasync.new.self) (g.met.S.System.counts_now c.args.system.now) (g.met.S.System.stays c.args.system.now t) so_far.0 so_far.1.none c.in-Err.kind c.sync_fault_of.result c.in_default.not-Interrupted c.sync_fault_of.ensures.is (c.in-Err.ensures.syncs t);
+  names = refl;
+  syncs = λ t. let so_far = c.loop.invariant t in sync_failed (g.S.System.disk c.args.system.now) (g.S.System.disk c.loop.system) (g.S.System.disk c.fdatasync.new.self) (g.met.S.System.counts_now c.args.system.now) (g.met.S.System.stays c.args.system.now t) so_far.0 so_far.1.none c.in-Err.kind SyncFailed c.in_default.not-Interrupted refl (c.in-Err.ensures.syncs t);
 }
 
 pub loop-preserved : goal.loop-preserved

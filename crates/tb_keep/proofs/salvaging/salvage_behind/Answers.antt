@@ -1,4 +1,4 @@
-use Rattle.std.proofs.Common.{◌∷◌, [], Ok, Err, sym, subst}
+use Rattle.std.proofs.Common.{◌∷◌, [], Ok, Err, sym, subst, ◌∙◌}
 use Rattle.tb_journal.specs.Device.{LeavesOnly}
 use Rattle.tb_keep.specs.Keeping.{head_record}
 use Rattle.tb_keep.specs.Salvaging.{HasNewCause, MayBeSalvaged, new_part}
@@ -10,7 +10,9 @@ use Rattle.tb_keep.proofs.salvaging.salvage_behind.Goals as goal
 pub returns-in-Ok-take_behind-clause-salvaged : goal.returns-in-Ok-take_behind-clause-salvaged
 returns-in-Ok-take_behind-clause-salvaged g c =
     salvaged_all c.args.rules c.get-clients.ensures.positive c.get-clients.ensures.at_most g.N.Device.disk g.N.Device.tells (g.D.Device.holds c.args.from.now) c.args.scan.now c.in-Ok.keeper
-    c.take_behind.new.keeper (λ t. c.in-Ok.ensures.kept t (c.requires.sound t)) c.in-Ok.ensures.empty c.in-Ok-take_behind.extent c.in-Ok-take_behind.stop c.in-Ok-take_behind.ensures.takes
+    c.take_behind.new.keeper (λ t. c.in-Ok.ensures.kept t (c.requires.sound t)) c.in-Ok.ensures.empty
+    (c.take_behind.ensures.stays_used.0 ∙ c.in-Ok.ensures.usable.kept) (c.take_behind.ensures.stays_used.1 ∙ c.in-Ok.ensures.uncut)
+    c.in-Ok-take_behind.extent c.in-Ok-take_behind.stop c.in-Ok-take_behind.ensures.takes
 
 pub returns-in-Err-take_behind-clause-unsalvaged : goal.returns-in-Err-take_behind-clause-unsalvaged
 returns-in-Err-take_behind-clause-unsalvaged g c file of =

@@ -1,4 +1,4 @@
-use Rattle.std.proofs.Common.{◌++◌, [], List, ℕ, Ok, Err, sym, subst}
+use Rattle.std.proofs.Common.{◌++◌, [], List, ℕ, Ok, Err, refl, sym, subst, ◌∙◌}
 use Rattle.tb_journal.specs.Scans.{HasRead}
 use Rattle.tb_journal.proofs.Causes.{none_at_once, none_since}
 use Rattle.tb_keep.proofs.Causes.{has_start_then}
@@ -12,6 +12,7 @@ loop-fault-init g c = record {
   stays = λ t. stays_none (g.D.Device.disk c.args.from.now) (g.met.D.Device.only_now c.args.from.now);
   none = λ t read has. none_at_once (g.D.Device.disk c.args.from.now);
   usable = c.requires.usable;
+  used = (refl, refl);
   ready = c.requires.ready;
   taken = (
     [],
@@ -27,6 +28,7 @@ loop-fault-preserved g c =
     c.loop-fault.scan c.take_next.new.scan c.args.keeper.now c.loop-fault.keeper c.take_next.new.keeper so_far (rw c.in-Ok-true.field-0-test at c.in-Ok-true.ensures.takes) in
     record {
       usable = on.1.usable;
+      used = (c.take_next.ensures.stays_used.0 ∙ c.loop-fault.invariant.used.0, c.take_next.ensures.stays_used.1 ∙ c.loop-fault.invariant.used.1);
       ready = λ t. (on.1.queues t).ready;
       same = λ file holds. c.in-Ok-true.ensures.same file (c.loop-fault.invariant.same file holds);
       stays = λ t. stays_then (g.D.Device.disk c.args.from.now) (g.D.Device.disk c.loop-fault.from) (g.D.Device.disk c.take_next.new.from) (g.met.D.Device.counts_now c.loop-fault.from)

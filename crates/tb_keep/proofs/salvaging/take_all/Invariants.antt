@@ -3,7 +3,7 @@ use Rattle.tb_journal.specs.Device.{FailsNone}
 use Rattle.tb_journal.specs.Ready.{IsReady}
 use Rattle.tb_journal.specs.Scans.{HasRead}
 use Rattle.tb_keep.specs.Entering.{StaysKept}
-use Rattle.tb_keep.specs.Taking.{Taken}
+use Rattle.tb_keep.specs.Taking.{StaysUsed, Taken}
 use Rattle.tb_keep.proofs.salvaging.take_all.Given as goal
 
 -- the records so far were taken over, and no call on the old file's device has failed
@@ -13,6 +13,7 @@ invariant-loop-fault g l = record {
   stays : g.D.Device.tells → StaysKept (g.D.Device.disk l.fn.from) (g.D.Device.disk l.from);
   none : g.D.Device.tells → (read : List (List ℕ)) → HasRead read (g.D.Device.disk l.fn.from).seen l.fn.scan → FailsNone (g.D.Device.disk l.fn.from) (g.D.Device.disk l.from);
   usable : l.keeper.journal.usable ≡ true;
+  used : StaysUsed l.fn.keeper l.keeper;
   ready : g.N.Device.tells → IsReady g.N.Device.disk l.keeper.journal;
   taken : (records : List (List ℕ)) × Taken g.N.Device.disk g.N.Device.tells (g.D.Device.holds l.fn.from) records l.fn.scan l.scan l.fn.keeper l.keeper;
 }

@@ -5,12 +5,12 @@ use Rattle.tb_keep.proofs.salvaging.take_behind.Goals as goal
 pub returns-in-Ok-commit_taken-clause-takes : goal.returns-in-Ok-commit_taken-clause-takes
 returns-in-Ok-commit_taken-clause-takes g c =
     behind_done g.N.Device.disk g.N.Device.tells (g.D.Device.holds c.args.from.now) (g.D.Device.holds c.take_all-taken.new.from) c.take_all-taken.ensures.same c.take_all-taken.result.0 c.args.scan.now c.args.keeper.now
-    c.take_all-taken.new.keeper c.take_all-taken.result.1 c.in-Ok.stop c.commit_taken.new.keeper c.take_all-taken.ensures.takes c.in-Ok.ensures.stops c.in-Ok-commit_taken.ensures
+    c.take_all-taken.new.keeper c.take_all-taken.result.1 c.in-Ok.stop c.commit_taken.new.keeper c.take_all-taken.ensures.takes c.in-Ok.ensures.stops c.in-Ok-commit_taken.ensures.commits
 
 pub returns-in-Err-commit_taken-clause-takes : goal.returns-in-Err-commit_taken-clause-takes
 returns-in-Err-commit_taken-clause-takes g c =
     behind_uncommitted g.N.Device.disk g.N.Device.tells (g.D.Device.holds c.args.from.now) (g.D.Device.holds c.take_all-taken.new.from) c.take_all-taken.ensures.same c.take_all-taken.result.0 c.args.scan.now c.args.keeper.now
-    c.take_all-taken.new.keeper c.take_all-taken.result.1 c.in-Ok.stop c.in-Err-commit_taken.fault c.commit_taken.new.keeper c.take_all-taken.ensures.takes c.in-Ok.ensures.stops c.in-Err-commit_taken.ensures
+    c.take_all-taken.new.keeper c.take_all-taken.result.1 c.in-Ok.stop c.in-Err-commit_taken.fault c.commit_taken.new.keeper c.take_all-taken.ensures.takes c.in-Ok.ensures.stops c.in-Err-commit_taken.ensures.commits
 
 pub returns-in-Err-clause-takes : goal.returns-in-Err-clause-takes
 returns-in-Err-clause-takes g c =
@@ -42,7 +42,7 @@ returns-in-Ok-commit_taken-clause-cause g c t read has = record {
 pub returns-in-Err-commit_taken-clause-cause : goal.returns-in-Err-commit_taken-clause-cause
 returns-in-Err-commit_taken-clause-cause g c t read has =
     cause_uncommitted g.N.Device.disk g.N.Device.tells c.in-Err-commit_taken.fault c.take_all-taken.new.keeper c.commit_taken.new.keeper (g.D.Device.disk c.args.from.now) (g.D.Device.disk c.stopped_by.new.from)
-    c.in-Err-commit_taken.ensures
+    c.in-Err-commit_taken.ensures.commits
     (none_behind g.D.Device.disk c.args.from.now c.take_all-taken.new.from c.stopped_by.new.from (c.take_all-taken.ensures.stays t).untouched.seen (g.D.Device.holds c.take_all-taken.new.from) c.take_all-taken.result.0
     c.take_all-taken.result.1 c.in-Ok.stop (c.take_all-taken.ensures.cause t read has) c.in-Ok.ensures.stops (c.in-Ok.ensures.cause t) c.stopped_by.ensures.unread)
 

@@ -5,14 +5,14 @@ use Rattle.tb_keep.proofs.salvaging.take_next.Goals as goal
 pub returns-in-Ok-clause-takes : goal.returns-in-Ok-clause-takes
 returns-in-Ok-clause-takes g c =
     let new = c.read_record.new.scan in
-    takes_one g.N.Device.disk g.N.Device.tells (g.D.Device.holds c.args.from.now) c.args.scan.now new c.args.keeper.now c.take_record.new.keeper new.last (rw c.record.ensures at c.in-Ok.ensures)
+    takes_one g.N.Device.disk g.N.Device.tells (g.D.Device.holds c.args.from.now) c.args.scan.now new c.args.keeper.now c.take_record.new.keeper new.last (rw c.record.ensures at c.in-Ok.ensures.takes)
     (λ file read holds has. ((rw c.in-Ok-true.field-0-test at c.in-Ok-true.ensures.reads) file read holds has).reads)
 
 pub returns-in-Err-take_record-clause-takes : goal.returns-in-Err-take_record-clause-takes
 returns-in-Err-take_record-clause-takes g c =
     let new = c.read_record.new.scan in
     takes_refused g.N.Device.disk g.N.Device.tells (g.D.Device.holds c.args.from.now) c.args.scan.now new c.args.keeper.now c.take_record.new.keeper c.in-Err-take_record.fault new.last
-    (rw c.record.ensures at c.in-Err-take_record.ensures)
+    (rw c.record.ensures at c.in-Err-take_record.ensures.takes)
     (λ file read holds has. ((rw c.in-Ok-true.field-0-test at c.in-Ok-true.ensures.reads) file read holds has).reads.begins)
 
 pub returns-in-Ok-false-clause-takes : goal.returns-in-Ok-false-clause-takes
@@ -30,7 +30,7 @@ returns-in-Ok-clause-cause g c t read has = record { ok = (c.in-Ok-true.ensures.
 pub returns-in-Err-take_record-clause-cause : goal.returns-in-Err-take_record-clause-cause
 returns-in-Err-take_record-clause-cause g c t read has =
     record_cause g.N.Device.disk g.N.Device.tells c.in-Err-take_record.fault c.record.result.now c.args.keeper.now c.take_record.new.keeper
-    (g.D.Device.disk c.args.from.now) (g.D.Device.disk c.read_record.new.device) c.in-Err-take_record.ensures (c.in-Ok-true.ensures.cause t read has).ok
+    (g.D.Device.disk c.args.from.now) (g.D.Device.disk c.read_record.new.device) c.in-Err-take_record.ensures.takes (c.in-Ok-true.ensures.cause t read has).ok
 
 pub returns-in-Ok-false-clause-cause : goal.returns-in-Ok-false-clause-cause
 returns-in-Ok-false-clause-cause g c t read has = record { ok = (c.in-Ok-false.ensures.cause t read has).ok; cause = tt }

@@ -1,6 +1,6 @@
 use Rattle.std.proofs.Common.{refl}
-use Rattle.tb_keep_commands.proofs.Passing.{told_as}
+use Rattle.tb_keep_commands.proofs.Passing.{said}
 use Rattle.tb_keep_commands.proofs.lines.tell_read.Goals as goal
 
 pub returns : goal.returns
-returns g c = told_as _ _ c.put_reading.result _ _ refl c.put_reading.ensures
+returns g c = said _ _ c.put_reading.result _ _ _ refl c.put_reading.ensures c.pass.ensures
