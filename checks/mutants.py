@@ -62,9 +62,9 @@ SCRIPTS = {
     "keep.py": (["--kills", "3", "--flips", "20", "--cuts", "20"], {"tbd", "tbs"}),
 }
 
-# Where the programs are slow: what a script waits for, in seconds, and the megabytes of a file that
-# it calls long.
-SLOW = {"KEEP_SECONDS": "60", "KEEP_STEP": "1"}
+# Where the programs are slow: what a script waits for, in seconds (less than the minute that a bug
+# waits), and the megabytes of a file that it calls long.
+SLOW = {"KEEP_SECONDS": "50", "KEEP_STEP": "1"}
 
 # The programs' constant for these megabytes: its file, its text, and what stands there instead. The
 # tests are built before, with the text as it is.
