@@ -2,7 +2,7 @@
 """Mutation testing: small bugs, and which test or script catches each. A proof may refuse one too.
 
     python3 checks/mutants.py [--list] [--texts] [--only WORD ..] [--uncaught] [--tests-only]
-                              [--write] [--jobs N] [--room FOLDER]
+                              [--last] [--write] [--jobs N] [--room FOLDER]
 
 A bug is a block of a file of checks/mutants: a line `# NAME: what a user would see`, then `file:`,
 and lines `old:` followed by lines `new:` (lines of one text one behind the other; more pairs may
@@ -17,6 +17,7 @@ Ends in 'N passed, M failed': passed are the bugs that something catches. --writ
 each into docs/trust/mutants.csv, with the commit of the tests, and their counts into
 docs/trust/MUTANTS.md. --texts prints, in a second, which bugs can't be planted, alone or behind the
 others, have no row there or are caught by nothing. --uncaught tries those without such a row.
+--last tries the script that caught a bug last before all tests, which take the longest.
 
 With --room the copy and what was built stay, and what has not changed is not built again.
 """
@@ -61,9 +62,9 @@ SCRIPTS = {
     "keep.py": (["--kills", "3", "--flips", "20", "--cuts", "20"], {"tbd", "tbs"}),
 }
 
-# Where the programs are slow: what a script waits for, in seconds, and the megabytes of a file that
-# it calls long.
-SLOW = {"KEEP_SECONDS": "60", "KEEP_STEP": "1"}
+# Where the programs are slow: what a script waits for, in seconds (less than the minute that a bug
+# waits), and the megabytes of a file that it calls long.
+SLOW = {"KEEP_SECONDS": "50", "KEEP_STEP": "1"}
 
 # The programs' constant for these megabytes: its file, its text, and what stands there instead. The
 # tests are built before, with the text as it is.
@@ -459,17 +460,33 @@ class Catchers:
         words = [sys.executable, f"{self.room}/checks/{name}", *SCRIPTS[name][0]]
         return failed_case(words, number, SCRIPT_SECONDS)
 
-    def catch(self, mutant):
-        """The first test, or else the first script, that fails with a bug on; or None."""
+    def test_that_fails(self, mutant):
+        """The first test that fails with a bug on, or None."""
         for name in self.tests_of(mutant):
             how = self.fails(mutant.number, name)
             if how:
                 return test_row(name) + (NO_END if how == "no end" else "")
-        for name in self.scripts_of(mutant.crate):
+        return None
+
+    def script_that_fails(self, mutant, names):
+        """The first of these scripts that fails with a bug on, and its case; or None."""
+        for name in names:
             case = self.script_fails(mutant.number, name)
             if case:
                 return f"checks/{name}: {case}"
         return None
+
+    def catch(self, mutant, is_last_first):
+        """The first test, or else the first script, that fails with a bug on; or None. Where it is
+        wanted, the script that caught it last goes before all tests."""
+        names = self.scripts_of(mutant.crate)
+        last = self.rows.get(mutant.name, "").partition(":")[0]
+        first = [it for it in names if is_last_first and last == f"checks/{it}"]
+        return (
+            self.script_that_fails(mutant, first)
+            or self.test_that_fails(mutant)
+            or self.script_that_fails(mutant, names)
+        )
 
     def timed(self, name):
         """Whether a test fails with no bug on, and how long it takes."""
@@ -556,6 +573,7 @@ def read_words():
         "--only", nargs="+", metavar="WORD", help="bugs of these crates, or with a word in the name"
     )
     parser.add_argument("--uncaught", action="store_true", help="bugs that no row says are caught")
+    parser.add_argument("--last", action="store_true", help="try first what caught a bug last")
     parser.add_argument("--tests-only", action="store_true", help="run tests alone, no scripts")
     parser.add_argument("--write", action="store_true", help="write the rows and the counts")
     parser.add_argument("--jobs", type=int, default=os.cpu_count(), help="bugs tried at a time")
@@ -606,7 +624,8 @@ def try_mutants(mutants, words, room):
             print("these fail with no bug on: " + ", ".join(without))
             print(f"0 passed, {len(mutants)} failed")
             return 1
-        for mutant, by in zip(mutants, pool.map(catchers.catch, mutants)):
+        tries = pool.map(lambda it: catchers.catch(it, words.last), mutants)
+        for mutant, by in zip(mutants, tries):
             caught[mutant.name] = by or ""
             print(f"{mutant.crate} {mutant.name}: {by or 'NOTHING'}", flush=True)
             if words.write and (by or not words.tests_only):

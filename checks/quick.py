@@ -34,6 +34,7 @@ CHECKS = {
     "cited": ["checks/cited.py", "--bounds"],
     "runs": ["checks/runs.py"],
     "edits": ["checks/edits.py", "--texts"],
+    "mutants": ["checks/mutants.py", "--texts"],
     "tables": ["checks/tables.py"],
     "names": ["checks/embed/names.py"],
     "wrappers": ["checks/embed/wrappers.py"],
