@@ -54,8 +54,8 @@ def compared(cluster, seconds, turns):
                     found[it].append(rate(port, clients, batch, seconds))
         middle = {it: statistics.median(rates) for it, rates in found.items()}
         mine = middle.pop("a replica")
-        beside = (f"{other:.0f} by {it}, ratio {mine / other:.2f}" for it, other in middle.items())
-        print(f"  {name}: {mine:.0f} transfers/s, {'; '.join(beside)}", flush=True)
+        others = (f"{other:.0f} by {it}, ratio {mine / other:.2f}" for it, other in middle.items())
+        print(f"  {name}: {mine:.0f} transfers/s, {'; '.join(others)}", flush=True)
 
 
 def restart(cluster, at):
