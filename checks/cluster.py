@@ -490,12 +490,23 @@ def refused_files(cluster):
 def part_rates(given):
     """Rates next to the listener over tbd, and how long a restart takes. A machine that does
     something else meanwhile has other rates: compare the ratios."""
+    Machines.sync = given.sync / 1000
     with cluster_of(given, is_linked=False, keeps_replies=False) as cluster:
         rates.compared(cluster, 10, 3)
+    if not missing("postgresql"):
+        print("  the log in PostgreSQL, with one standby:")
+        with cluster_of(given, kind=Postgres, keeps_replies=False) as cluster:
+            rates.compared(cluster, 10, 3)
     if given.kept:
         print("  with ledgers in files:")
         with keeping(given), cluster_of(given, is_linked=False) as cluster:
             rates.compared(cluster, 10, 3)
+    if not given.sync:
+        restarts(given)
+
+
+def restarts(given):
+    """How long a restart takes, over a log of large entries and over one of small ones."""
     for clients, batch, wanted in ((4, 8190, 1_000_000), (24, 1, given.singles)):
         with cluster_of(given, is_linked=False) as cluster:
             done = 0
@@ -562,6 +573,13 @@ def words():
         default=0.1,
         help="seconds between two requests of a client of the first part (0.1)",
     )
+    parser.add_argument(
+        "--sync",
+        type=float,
+        default=0,
+        metavar="MS",
+        help="milliseconds by which each sync takes longer in the part rates, by strace (0)",
+    )
     parser.add_argument("--follow", metavar="PROGRAM", help="tb_follow, as the replicas' server")
     parser.add_argument("--kept", metavar="PROGRAM", help="tbd, as a server over a file")
     parser.add_argument("--show", action="store_true", help="print what happens")
@@ -573,6 +591,8 @@ def main():
     given = words()
     if "kept" in (given.only or []) and not given.kept:
         sys.exit("the part kept needs --kept PROGRAM")
+    if given.sync and not shutil.which("strace"):
+        sys.exit("--sync needs strace")
     Machines.follows = given.follow and os.path.abspath(given.follow)
     if given.show:
         return show_it(given)

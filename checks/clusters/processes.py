@@ -19,6 +19,16 @@ PROGRAM = os.environ.get("PROGRAM", f"{TOP}/crates/tb_script/out/tb_script")
 KEEPING = 'set -o pipefail; program=$1 out=$2; shift 2; "$program" "$@" | tee "$out"'
 
 
+def slowed(words, seconds):
+    """A command each of whose syncs takes so many seconds more: strace holds them, and no other
+    call."""
+    if not seconds:
+        return words
+    held = f"inject=fsync,fdatasync:delay_exit={round(1_000_000 * seconds)}"
+    options = ["-D", "-f", "-qq", "--seccomp-bpf", "-o", "/dev/null", "-e", "trace=fsync,fdatasync"]
+    return ["strace", *options, "-e", held, *words]
+
+
 def free_ports(count):
     """Ports that nobody listens on."""
     held = [socket.socket() for _ in range(count)]
@@ -124,6 +134,7 @@ class Machines:
     """Replicas on the loopback interface, over the log of a subclass."""
 
     nodes = ()  # the engine's processes
+    sync = 0.0  # seconds by which each sync of the engine takes longer
     follows = None  # tb_follow, where that is the server
     keeps = None  # a server that keeps its ledger in a file, where that is it
 
@@ -231,7 +242,8 @@ class Cluster(Machines):
         words += ["--initial-advertise-peer-urls", f"http://127.0.0.1:{self.peer_links[at]}"]
         serves = f"http://127.0.0.1:{self.serves[at]}"
         words += ["--listen-client-urls", serves, "--advertise-client-urls", serves]
-        return words + (["--quota-backend-bytes", str(self.quota)] if self.quota else [])
+        words += ["--quota-backend-bytes", str(self.quota)] if self.quota else []
+        return slowed(words, self.sync)
 
     def log(self, at=None):
         """The log's URL: over a replica's links, or without links."""
@@ -286,18 +298,21 @@ class Cluster(Machines):
 class Postgres(Machines):
     """A primary, one standby that each commit waits for, and replicas over them."""
 
-    def __init__(self, folder, clients_max=64, replica=None, count=3):
+    def __init__(self, folder, clients_max=64, replica=None, count=3, keeps_replies=True):
         self.ports = free_ports(2)
-        super().__init__(folder, clients_max, replica, count)
+        super().__init__(folder, clients_max, replica, count, keeps_replies)
         os.chmod(folder, 0o711)
         self.data = f"{folder}/postgresql"
         os.mkdir(self.data)
         if os.getuid() == 0:
             shutil.chown(self.data, "postgres", "postgres")
         self.nodes = [
-            Process(name, self.words("postgres", "-D", f"{self.data}/{name}"), folder)
+            Process(name, self._server(f"{self.data}/{name}"), folder)
             for name in ("primary", "standby")
         ]
+
+    def _server(self, data):
+        return slowed(self.words("postgres", "-D", data), self.sync)
 
     def words(self, program, *words):
         """A program of PostgreSQL's, which root may not run."""

@@ -7,7 +7,7 @@ import sys
 import tempfile
 import time
 
-from processes import CLIENT, HERE, PYTHON, TOP, Process, free_ports, until
+from processes import CLIENT, HERE, PYTHON, TOP, Process, free_ports, slowed, until
 
 TBD = os.environ.get("TBD", f"{TOP}/crates/tbd/out/tbd")
 LOADS = (("24 clients with single transfers", 24, 1), ("1 client with batches of 8190", 1, 8190))
@@ -19,12 +19,14 @@ EARLIER = os.environ.get("EARLIER")
 
 
 @contextlib.contextmanager
-def listener(at=CLIENT):
-    """The port of a listener over tbd, by the Python of a folder."""
+def listener(at=CLIENT, sync=0.0):
+    """The port of a listener over tbd, by the Python of a folder. Each sync of tbd's takes so many
+    seconds more."""
     with tempfile.TemporaryDirectory(prefix="listener-") as folder:
         (port,) = free_ports(1)
         words = [PYTHON, "-B", f"{at}/tb_listen.py", "--tcp", f"127.0.0.1:{port}", "--"]
-        it = Process("listener", [*words, TBD, "run", f"{folder}/ledger.tbk", "64"], folder)
+        words = slowed([*words, TBD, "run", f"{folder}/ledger.tbk", "64"], sync)
+        it = Process("listener", words, folder)
         it.start()
         try:
             until(it.listens, 60, "the listener listens")
@@ -46,7 +48,9 @@ def compared(cluster, seconds, turns):
     kinds = {"the listener over tbd": CLIENT, **({"the earlier one": EARLIER} if EARLIER else {})}
     for name, clients, batch in LOADS:
         with contextlib.ExitStack() as stack:
-            ports = {it: stack.enter_context(listener(at)) for it, at in kinds.items()}
+            ports = {
+                it: stack.enter_context(listener(at, cluster.sync)) for it, at in kinds.items()
+            }
             ports["a replica"] = cluster.tcp[0]
             found = {it: [] for it in ports}
             for _ in range(turns):

@@ -10,6 +10,7 @@ from __future__ import annotations
 import asyncio
 import contextlib
 import re
+import struct
 from typing import (
     Any,
     AsyncIterator,
@@ -28,6 +29,7 @@ from psycopg import errors, sql
 
 from .lines import Ended
 from .log import Access, LogFull, LogGone, NoLog, Report, Written
+from .round_trips import results_of
 
 T = TypeVar("T")
 
@@ -44,9 +46,15 @@ CREATE TABLE IF NOT EXISTS {log} (position bigint PRIMARY KEY, writer bytea NOT 
 CREATE TABLE IF NOT EXISTS {keys} (key text PRIMARY KEY, value bytea NOT NULL);
 CREATE TABLE IF NOT EXISTS {at} (name text PRIMARY KEY, value bytea NOT NULL);
 """
+NUMBER = struct.Struct(">q")  # a bigint as the server sends it
 APPEND = """
-INSERT INTO {log} SELECT coalesce(max(position), 0) + 1, %s, %s, %s FROM {log}
+PREPARE append (bytea, bigint, bytea) AS
+INSERT INTO {log} SELECT coalesce(max(position), 0) + 1, $1, $2, $3 FROM {log}
 ON CONFLICT DO NOTHING RETURNING position
+"""
+ALL_FLUSHED = """
+PREPARE flushed AS
+SELECT count(*) FROM pg_stat_replication WHERE flush_lsn >= pg_current_wal_flush_lsn()
 """
 # The snapshot is taken before the flush position is looked at, so all that is read lies below it.
 READ = """
@@ -81,6 +89,9 @@ class PostgresLog:
         self.writing: Optional[Any] = None
         self.reading: Optional[Any] = None
         self.said: Dict[int, List[str]] = {}  # what the server noticed, by connection
+        self.appending: Optional[Any] = None  # the connection whose appends are prepared
+        self.place = 0  # up to which all was read
+        self.flushed = 0  # the place of an own entry that the standbys have
         self.wanted = asyncio.Event()
 
     # connections
@@ -141,14 +152,16 @@ class PostgresLog:
     async def _rows(self, it: Any, text: str, *given: Any) -> List[Any]:
         """The rows of a query. Raises `Unknown` where the server warns: a wait for a standby was
         cancelled, and what was written may be lost with the primary."""
-        said = self.said[id(it)]
-        said.clear()
+        self.said[id(it)].clear()
         cursor = await it.execute(self._query(text), given)
         rows = await cursor.fetchall() if cursor.description else []
-        for text in said:
+        self._test_said(it)
+        return list(rows)
+
+    def _test_said(self, it: Any) -> None:
+        for text in self.said[id(it)]:
             if text.startswith("WARNING"):
                 raise Unknown(text)
-        return list(rows)
 
     # the log
 
@@ -174,29 +187,56 @@ class PostgresLog:
         async def work(it: Any) -> int:
             there = "SELECT position FROM {log} WHERE writer = %s AND number = %s"
             while True:
-                rows = await self._rows(it, APPEND, writer, number, data)
-                rows = rows or await self._rows(it, there, writer, number)
+                place = await self._appended(it, writer, number, data)
+                if place:
+                    return place
+                rows = await self._rows(it, there, writer, number)
                 if rows:  # else another writer took the position
                     return int(rows[0][0])
 
         place = await self._call(work, TRY)
-        self.wanted.set()
+        if self.flushed != place or place != self.place + 1:
+            self.wanted.set()
         return place
 
+    async def _appended(self, it: Any, writer: bytes, number: int, data: bytes) -> int:
+        """The place of an entry that is written now, 0 where it was not. It is asked along with
+        that whether the standbys have flushed all that the primary has by then."""
+        if self.appending is not it:
+            for text in (APPEND, ALL_FLUSHED):
+                await self._rows(it, text)
+            self.appending = it
+        self.said[id(it)].clear()
+        entry = (b"append", (writer, NUMBER.pack(number), data))
+        place, count = await results_of(it, [entry, (b"flushed", ())])
+        self._test_said(it)
+        if not place:
+            return 0
+        if int(count[0]) >= self.standbys:
+            self.flushed = int(place[0])
+        return int(place[0])
+
     def is_next(self, place: int) -> bool:
-        return False  # standbys may not have it yet
+        """Positions have no gap. What comes next and is flushed is as good as read."""
+        if place != self.flushed or place != self.place + 1:
+            return False
+        self.place = place
+        return True
 
     async def read(self, place: int) -> AsyncIterator[Union[Written, Report]]:
         said: Dict[str, bytes] = {}
         loop = asyncio.get_running_loop()
         looked = 0.0
+        self.place = place
         while True:
             try:
-                for row in await asyncio.wait_for(self._page(place), ALL):
-                    if row[0] != place + 1:
-                        raise LogGone(f"position {row[0]} comes behind {place}")
-                    place = int(row[0])
-                    yield Written(place, bytes(row[1]))
+                for row in await asyncio.wait_for(self._page(self.place), ALL):
+                    if row[0] <= self.place:  # it was appended meanwhile
+                        continue
+                    if row[0] != self.place + 1:
+                        raise LogGone(f"position {row[0]} comes behind {self.place}")
+                    self.place = int(row[0])
+                    yield Written(self.place, bytes(row[1]))
                 if loop.time() > looked + REPORTS:
                     looked = loop.time()
                     for name, data in await asyncio.wait_for(self._said(), TRY):
