@@ -16,6 +16,7 @@ class RoundTrip:
 
     def __init__(self, connection: pq.abc.PGconn, statements: Sequence[Statement]) -> None:
         self.connection, self.left = connection, len(statements)
+        self.socket = connection.socket  # it has none any more once it was lost
         self.loop = asyncio.get_running_loop()
         self.done: asyncio.Future[None] = self.loop.create_future()
         self.results: List[pq.abc.PGresult] = []
@@ -27,13 +28,13 @@ class RoundTrip:
 
     async def run(self) -> List[pq.abc.PGresult]:
         """The result of each statement."""
-        self.loop.add_reader(self.connection.socket, self._come)
+        self.loop.add_reader(self.socket, self._come)
         try:
             self._leave()
             await self.done
             return self.results
         finally:
-            self.loop.remove_reader(self.connection.socket)
+            self.loop.remove_reader(self.socket)
             self._watch(False)
 
     def _leave(self) -> None:
@@ -45,9 +46,9 @@ class RoundTrip:
         if is_watched != self.is_watched:
             self.is_watched = is_watched
             if is_watched:
-                self.loop.add_writer(self.connection.socket, self._try, self._leave)
+                self.loop.add_writer(self.socket, self._try, self._leave)
             else:
-                self.loop.remove_writer(self.connection.socket)
+                self.loop.remove_writer(self.socket)
 
     def _try(self, step: Any) -> None:
         """Takes a step. What it fails with is told."""
