@@ -313,4 +313,6 @@ def _tested(error: BaseException) -> str:
         raise LogFull(str(error)) from None
     if isinstance(error, (errors.UndefinedTable, errors.InsufficientPrivilege)):
         raise Ended(str(error).splitlines()[0], 1) from None
+    if isinstance(error, asyncio.TimeoutError):
+        return f"no answer within {TRY:.0f} s"
     return str(error).strip().splitlines()[0] if str(error).strip() else type(error).__name__
