@@ -1,10 +1,12 @@
 -- One more call joins those that a file in memory has had.
 use Rattle.std.proofs.lemmas.Grind.{common_steps}
-use Rattle.std.proofs.Common.{◌≡◌, ◌⊎◌, inl, inr, ⊎_elim, ℕ, ◌+◌, ◌≤◌, Bool, List, [], ◌∷◌, ◌++◌, length, take, refl, sym, ◌∙◌, subst, arith, reverse, length-append, Result, Ok, Err, OnOk}
-use Rattle.std.proofs.lemmas.List.{take_all, take-append-le, reverse-append}
+use Rattle.std.proofs.Common.{◌≡◌, ◌⊎◌, inl, inr, ⊎_elim, ℕ, ◌+◌, ◌-◌, ◌^◌, ◌≤◌, ◌<◌, min, ap, Bool, List, [], ◌∷◌, ◌++◌, length, take, refl, sym, ◌∙◌, subst, arith, reverse, length-append, Result, Ok, Err, OnOk}
+use Rattle.std.proofs.lemmas.List.{take_all, take_min, take-append-le, reverse-append}
 use Rattle.std.proofs.lemmas.Bool.{cases_lt}
 use Rattle.tb_journal.specs.Device.{Elapses, Torn, Rises, IsOfCall, IsOfSync, HasCause, HasFailed, Writes, Cuts, Syncs, overwritten}
 use Rattle.tb_journal.specs.Memory.{LeftBy, disk_after}
+use Rattle.tb_journal.specs.Torn.{torn_at}
+use Rattle.std.proofs.lemmas.Bool.Decides.{nat_tests}
 use Rattle.tb_journal.specs.Failures.{counted}
 use Rattle.std.specs.Prelude.{Vec}
 use Rattle.std.specs.declared.alloc.Global.{Global}
@@ -112,3 +114,17 @@ module _ (first : List ℕ) (calls later : List Call) (old : List ℕ) (f : Fail
     time = elapses_to first calls later old old f f s s (variants.Sync v) is;
     cause = record { ok = λ fault. refl; cause = tt };
   }
+
+-- the bytes that a crash lets through
+
+pub torn_within : (torn : List ℕ) (at n : ℕ) (old : List ℕ) → at ≤ length old → overwritten old at (take n torn) ≡ torn_at torn at n old
+torn_within torn at n old within = grind (arith, nat_tests)
+
+pub torn_beyond : (torn : List ℕ) (at n : ℕ) (old : List ℕ) → length old < at → old ≡ torn_at torn at n old
+torn_beyond torn at n old beyond = grind (arith, nat_tests)
+
+pub let_through : (n k : ℕ) (torn : List ℕ) → k ≡ min (length torn) n → take k torn ≡ take n torn
+let_through n k torn is = ap (λ (j : ℕ). take j torn) (omega (arith, is)) ∙ take_min n torn
+
+pub cut_through : (n k : ℕ) (file : List ℕ) → k ≡ min n (2 ^ 64 - 1) → length file ≤ 2 ^ 64 - 1 → take k file ≡ take n file
+cut_through n k file is short = sym (take_min k file) ∙ ap (λ (j : ℕ). take j file) (omega (arith, is, short)) ∙ take_min n file

@@ -21,3 +21,9 @@ fault_name Full = codes "Full"
 fault_name TooLong = codes "TooLong"
 fault_name NotEmpty = codes "NotEmpty"
 fault_name SyncFailed = codes "SyncFailed"
+
+-- what a file in memory fails with where this fault is named, in a call that is no sync
+abbrev pub call_fault : Fault → Fault
+call_fault Memory = Memory
+call_fault Full = Full
+call_fault fault = Failed

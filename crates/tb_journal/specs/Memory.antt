@@ -1,12 +1,14 @@
 -- What a crash may leave of a file in memory, by the calls that were made.
 -- Cited by public contracts of: memory.
-use Rattle.std.specs.Prelude.{◌≡◌, ℕ, ◌≤◌, Bool, List, [], ◌∷◌, length, take, reverse, refl}
+use Rattle.std.specs.Prelude.{◌≡◌, ℕ, ◌-◌, ◌≤◌, Bool, List, [], ◌∷◌, length, take, reverse, refl}
 use Rattle.std.proofs.Common.{arith, subst, sym}
 use Rattle.std.proofs.lemmas.List.{take_all}
 use Rattle.tb_journal.specs.Device.{Disk}
-use Rattle.tb_journal.specs.Torn.{Adds, shown_after}
+use Rattle.tb_journal.specs.Torn.{Adds, torn_after, shown_after}
 use Rattle.tb_journal.specs.Failures.{counted}
+use Rattle.tb_journal.specs.Faults.{call_fault}
 use Rattle.tb_journal.specs.Shown.{torn_shown}
+use Rattle.tb_journal.specs.declared.faults.Fault.{Fault}
 use Rattle.tb_journal.specs.declared.memory.Failures.{Failures}
 use Rattle.tb_journal.specs.declared.memory.Memory.{Memory}
 use Rattle.tb_journal.specs.declared.memory.Call.{Call}
@@ -31,6 +33,10 @@ leaves_shown first (call ∷ earlier) = (shown_after first earlier, leaves_shown
 -- the same at a moment of the file
 abbrev pub CrashLeaves : Memory → ℕ → List ℕ → Type 0
 CrashLeaves file moment left = LeftBy file.first.items (reverse (take moment file.calls.items)) left
+
+-- what a crash at a moment leaves, where these bytes of each write without a sync behind it are on the disk
+abbrev pub torn_of : Memory → ℕ → List ℕ → List ℕ
+torn_of file moment torn = torn_after torn file.first.items (reverse (take moment file.calls.items))
 
 -- the disk of a file that held the first bytes, after these calls
 abbrev pub disk_after : List ℕ → List Call → List ℕ → Failures → Bool → Disk
@@ -69,3 +75,22 @@ memory_only_now file c left =
     let calls = file.calls.items in
     let whole : take left.0 calls ≡ calls = take_all left.0 calls left.1 in
     subst (λ (l : List Call). LeftBy file.first.items (reverse l) c) whole left.3
+
+-- calls that fail
+
+-- the number of the call from now that fails, 0 where none will
+abbrev pub fuse_of : Memory → ℕ
+fuse_of file = file.fuse
+
+-- the fault that is named for it
+abbrev pub why_of : Memory → Fault
+why_of file = file.why
+
+-- a call is one of those that are counted
+pub record IsCounted (before after : Memory) : Type 0 where
+  pub fuse : fuse_of after ≡ fuse_of before - 1
+  pub why : why_of after ≡ why_of before
+
+-- it is the turn of this call to fail, with this fault
+abbrev pub IsInTurn : Memory → Fault → Type 0
+IsInTurn before fault = (fuse_of before ≡ 1) × (fault ≡ call_fault (why_of before))

@@ -1,6 +1,6 @@
 -- What one call on a file in memory adds to what a crash may leave, and what a read returns after it.
 -- Cited by public contracts of: memory.
-use Rattle.std.specs.Prelude.{◌≡◌, ℕ, ◌&&◌, nat_le, List, [], ◌∷◌, length, take, if◌then◌else◌}
+use Rattle.std.specs.Prelude.{◌≡◌, ℕ, ◌+◌, ◌&&◌, nat_le, List, [], ◌∷◌, length, take, if◌then◌else◌}
 use Rattle.tb_journal.specs.Device.{Torn, Cut, overwritten}
 use Rattle.tb_journal.specs.declared.memory.Call.{Call}
 use Rattle.tb_journal.specs.declared.memory.Call.TheVariants as variants
@@ -10,6 +10,21 @@ abbrev pub Adds : List ℕ → Call → List ℕ → Type 0
 Adds old (variants.Write at bytes shown) left = Torn at (length bytes.items) old left
 Adds old (variants.Cut len shown) left = Cut len old left
 Adds old (variants.Sync file) left = left ≡ file.items
+
+-- a write of n bytes where a crash lets these through, as many of them as fit; beyond the end it leaves nothing
+abbrev pub torn_at : List ℕ → ℕ → ℕ → List ℕ → List ℕ
+torn_at torn at n old = if nat_le at (length old) then overwritten old at (take n torn) else old
+
+-- what a crash leaves with one call more, where of a write these bytes are on the disk, and behind a cut as many bytes as these
+abbrev pub torn_by : List ℕ → Call → List ℕ → List ℕ
+torn_by torn (variants.Write at bytes shown) old = torn_at torn at (length bytes.items) old
+torn_by torn (variants.Cut len shown) old = take (len + length torn) old
+torn_by torn (variants.Sync file) old = file.items
+
+-- what it leaves after these calls, the newest first
+abbrev pub torn_after : List ℕ → List ℕ → List Call → List ℕ
+torn_after torn first [] = first
+torn_after torn first (call ∷ earlier) = torn_by torn call (torn_after torn first earlier)
 
 -- what a read returned before, with one call more: none of a call that failed
 abbrev pub shown_by : Call → List ℕ → List ℕ

@@ -1,8 +1,10 @@
 //! A file in memory that reports what a crash may leave of it, and can fail.
-ghost use Rattle.std.specs.Prelude.{◌≡◌, ◌≤◌, ◌⊎◌, ◌++◌, ◌∷◌, true, [], Vec, ℕ, ◌-◌, ◌==◌, length, reverse, IfOk, OnOk, OnErr};
+ghost use Rattle.std.specs.Prelude.{◌≡◌, ◌≢◌, ◌≤◌, ◌⊎◌, ◌++◌, ◌∷◌, true, [], Vec, List, ℕ, ◌-◌, ◌==◌, length, reverse, IfOk, IfErr, OnOk, OnErr};
 ghost use Rattle.tb_journal.specs.declared.memory.Call.TheVariants as variants;
-ghost use Rattle.tb_journal.specs.Device.{Torn, ReadsAt, Rises, IsOfCall, overwritten};
-ghost use Rattle.tb_journal.specs.Torn.{Adds, shown_after};
+ghost use Rattle.tb_journal.specs.declared.faults.Fault.TheVariants as faults;
+ghost use Rattle.tb_journal.specs.Device.{Torn, Looks, ReadsAt, Writes, Cuts, Syncs, Rises, IsOfCall, IsOfSync, overwritten};
+ghost use Rattle.tb_journal.specs.Faults.{call_fault};
+ghost use Rattle.tb_journal.specs.Torn.{Adds, torn_at, torn_by, shown_after};
 
 use crate::devices::Device;
 use crate::faults::Fault;
@@ -89,13 +91,14 @@ pub struct Memory {
 }
 
 impl Memory {
-    ghost use Rattle.tb_journal.specs.Memory.{memory_bytes, moments_of, memory_disk, CrashLeaves};
+    ghost use Rattle.tb_journal.specs.Memory.{memory_bytes, moments_of, memory_disk, fuse_of, why_of, torn_of, CrashLeaves};
 
     /// A file with these bytes, all of them durable.
     pub fn new(alloc: Global, bytes: Vec<u8>) -> Result<Self, AllocError>
         ensures bytes { IfOk result (λ file. memory_bytes file ≡ bytes.items) }
         ensures moments { IfOk result (λ file. moments_of file ≡ 0) }
         ensures sound { IfOk result (λ file. (memory_disk file).sound ≡ true) }
+        ensures fuse { IfOk result (λ file. fuse_of file ≡ 0) }
     {
         Ok(Memory {
             alloc,
@@ -130,6 +133,8 @@ impl Memory {
         ensures bytes { memory_bytes self.new ≡ memory_bytes self.old }
         ensures moments { moments_of self.new ≡ moments_of self.old }
         ensures sound { (memory_disk self.new).sound ≡ (memory_disk self.old).sound }
+        ensures fuse { fuse_of self.new ≡ number }
+        ensures why { why_of self.new ≡ faults.Failed }
     {
         self.fail_with(number, Fault::Failed);
     }
@@ -139,6 +144,8 @@ impl Memory {
         ensures bytes { memory_bytes self.new ≡ memory_bytes self.old }
         ensures moments { moments_of self.new ≡ moments_of self.old }
         ensures sound { (memory_disk self.new).sound ≡ (memory_disk self.old).sound }
+        ensures fuse { fuse_of self.new ≡ number }
+        ensures why { why_of self.new ≡ fault }
     {
         self.fuse = number;
         self.why = fault;
@@ -148,7 +155,8 @@ impl Memory {
     /// many of them as fit there, and behind them what was there; of each cut as many bytes as these are left.
     pub fn after_crash(&self, moment: usize, torn: &[u8]) -> Result<Vec<u8>, AllocError>
         requires { moment ≤ moments_of self.now }
-        ensures { IfOk result (λ left. CrashLeaves self.now moment left.items) }
+        ensures among { IfOk result (λ left. CrashLeaves self.now moment left.items) }
+        ensures exact { IfOk result (λ left. left.items ≡ torn_of self.now moment torn.now) }
     {
         let mut file = Vec::from_slice(self.alloc, &self.first)?;
         for call in &self.calls[..moment] {
@@ -159,8 +167,10 @@ impl Memory {
 }
 
 // What one more call may leave of a file that a crash left.
+#[tactic(auto, using(crate::proofs::Past::cut_through))]
 fn after_torn(alloc: Global, file: Vec<u8>, call: &Call, torn: &[u8]) -> Result<Vec<u8>, AllocError>
-    ensures { IfOk result (λ left. Adds file.items call.now left.items) }
+    ensures among { IfOk result (λ left. Adds file.items call.now left.items) }
+    ensures exact { IfOk result (λ left. left.items ≡ torn_by torn.now call.now file.items) }
 {
     match call {
         Call::Write { at, bytes, .. } => torn_write(alloc, file, *at, bytes.len(), torn),
@@ -174,6 +184,7 @@ fn after_torn(alloc: Global, file: Vec<u8>, call: &Call, torn: &[u8]) -> Result<
 }
 
 // What a write of so many bytes leaves that a crash cuts short.
+#[tactic(auto, using(crate::proofs::Past::torn_within, crate::proofs::Past::torn_beyond, crate::proofs::Past::let_through))]
 fn torn_write(
     alloc: Global,
     old: Vec<u8>,
@@ -181,7 +192,8 @@ fn torn_write(
     count: usize,
     torn: &[u8],
 ) -> Result<Vec<u8>, AllocError>
-    ensures { IfOk result (λ left. Torn at count old.items left.items) }
+    ensures among { IfOk result (λ left. Torn at count old.items left.items) }
+    ensures exact { IfOk result (λ left. left.items ≡ torn_at torn.now at count old.items) }
 {
     if at > old.len() {
         return Ok(old);
@@ -191,7 +203,7 @@ fn torn_write(
 }
 
 impl Device for Memory {
-    ghost use Rattle.tb_journal.specs.Memory.{memory_disk, memory_holds, memory_holds_seen, memory_stays, memory_counts_now, memory_only_now};
+    ghost use Rattle.tb_journal.specs.Memory.{memory_disk, memory_holds, memory_holds_seen, memory_stays, memory_counts_now, memory_only_now, fuse_of, IsCounted, IsInTurn};
 
     ghost tells = { Unit {0} };
 
@@ -207,21 +219,45 @@ impl Device for Memory {
 
     ghost only_now = { memory_only_now };
 
-    fn read_at(&mut self, at: usize, into: &mut [u8]) -> Result<usize, Fault> {
+    fn read_at(&mut self, at: usize, into: &mut [u8]) -> Result<usize, Fault>
+        ensures within { IfOk result (λ count. count ≤ length into.new) }
+        ensures bytes { (file : List ℕ) → memory_holds self.old file → IfOk result (λ count. ReadsAt count at file into.new) }
+        ensures same { (file : List ℕ) → memory_holds self.old file → memory_holds self.new file }
+        ensures names { IfErr result IsOfCall }
+        ensures looks { Unit {0} → Looks result (memory_disk self.old) (memory_disk self.new) }
+        ensures counts { IsCounted self.old self.new }
+        ensures turn { OnOk result (fuse_of self.old ≢ 1) }
+        ensures fault { IfErr result (IsInTurn self.old) }
+    {
         if trips(&mut self.fuse) {
             return Err(self.failures.count(of_call(self.why)));
         }
         Ok(copy_from(&self.bytes, at, into))
     }
 
-    fn len(&mut self) -> Result<usize, Fault> {
+    fn len(&mut self) -> Result<usize, Fault>
+        ensures bytes { (file : List ℕ) → memory_holds self.old file → IfOk result (λ len. len ≡ length file) }
+        ensures same { (file : List ℕ) → memory_holds self.old file → memory_holds self.new file }
+        ensures names { IfErr result IsOfCall }
+        ensures looks { Unit {0} → Looks result (memory_disk self.old) (memory_disk self.new) }
+        ensures counts { IsCounted self.old self.new }
+        ensures turn { OnOk result (fuse_of self.old ≢ 1) }
+        ensures fault { IfErr result (IsInTurn self.old) }
+    {
         if trips(&mut self.fuse) {
             return Err(self.failures.count(of_call(self.why)));
         }
         Ok(self.bytes.len())
     }
 
-    fn write_at(&mut self, at: usize, bytes: &[u8]) -> Result<(), Fault> {
+    fn write_at(&mut self, at: usize, bytes: &[u8]) -> Result<(), Fault>
+        requires { Unit {0} → at ≤ length (memory_disk self.old).seen }
+        ensures names { IfErr result IsOfCall }
+        ensures writes { Unit {0} → Writes at bytes.now result (memory_disk self.old) (memory_disk self.new) }
+        ensures counts { IsCounted self.old self.new }
+        ensures turn { OnOk result (fuse_of self.old ≢ 1) }
+        ensures fault { IfErr result (λ fault. (fault ≡ faults.Memory) ⊎ IsInTurn self.old fault) }
+    {
         let shown = !trips(&mut self.fuse);
         match push_write(self.alloc, &mut self.calls, &self.bytes, at, bytes, shown) {
             Ok(next) => {
@@ -235,7 +271,13 @@ impl Device for Memory {
         }
     }
 
-    fn cut(&mut self, len: usize) -> Result<(), Fault> {
+    fn cut(&mut self, len: usize) -> Result<(), Fault>
+        ensures names { IfErr result IsOfCall }
+        ensures cuts { Unit {0} → Cuts len result (memory_disk self.old) (memory_disk self.new) }
+        ensures counts { IsCounted self.old self.new }
+        ensures turn { OnOk result (fuse_of self.old ≢ 1) }
+        ensures fault { IfErr result (λ fault. (fault ≡ faults.Memory) ⊎ IsInTurn self.old fault) }
+    {
         let shown = !trips(&mut self.fuse);
         match push_call(&mut self.calls, Call::Cut { len, shown }) {
             Ok(()) => {
@@ -249,7 +291,13 @@ impl Device for Memory {
         }
     }
 
-    fn sync(&mut self) -> Result<(), Fault> {
+    fn sync(&mut self) -> Result<(), Fault>
+        ensures same { (file : List ℕ) → memory_holds self.old file → memory_holds self.new file }
+        ensures names { IfErr result IsOfSync }
+        ensures syncs { Unit {0} → Syncs result (memory_disk self.old) (memory_disk self.new) }
+        ensures counts { IsCounted self.old self.new }
+        ensures turn { OnOk result (fuse_of self.old ≢ 1) }
+    {
         if trips(&mut self.fuse) {
             self.sound = false;
             return Err(self.failures.count(Fault::SyncFailed));
@@ -283,7 +331,8 @@ impl Growing for Memory {
 
 // The fault of a call that is no sync.
 fn of_call(fault: Fault) -> Fault
-    ensures { IsOfCall result }
+    ensures names { IsOfCall result }
+    ensures value { result ≡ call_fault fault }
 {
     match fault {
         Fault::Memory | Fault::Full => fault,

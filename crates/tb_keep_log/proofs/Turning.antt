@@ -14,7 +14,7 @@ use Rattle.tb_log.specs.declared.faults.LogFault.{LogFault}
 use Rattle.tb_log.specs.declared.faults.LogFault.TheVariants as log
 use Rattle.tb_log.specs.Format.{content_of, checksum_of, summed}
 use Rattle.tb_log.specs.Following.{Following, Item, Entry, Question, with_item}
-use Rattle.tb_log.specs.Entries.{Breaks, IsPairs, ReadsEntry, RefusesEntry}
+use Rattle.tb_log.specs.Entries.{Breaks, IsPairs, ReadsEntry}
 use Rattle.tb_log.specs.Steps.{Takes}
 use Rattle.tb_log.proofs.Taking.{takes_then}
 use Rattle.tb_keep.specs.Rounds.{Commits}
@@ -29,8 +29,13 @@ use Rattle.tb_keep_log.specs.Steps.{DropsEntry, TakesEntry, MissesEntry, TellsBy
 
 pub misses_served : (fault : LogFault) (content : List ℕ) (F : Following) (before after : Input) → ReadsEntry content F.position before after → IsPairs content → DropsEntry fault content F
     → MissesEntry fault F before after
-misses_served fault content F before after read pairs (inl is) = inl (subst (λ (f : LogFault). RefusesEntry f F.position before after) (sym is) (inl read.counted))
-misses_served fault content F before after read pairs (inr halted) = inr (content, read, pairs, halted)
+misses_served fault content F before after read pairs drops = inr (content, read, pairs, drops)
+
+-- or whose record there is no memory for
+pub misses_recorded : (content held : List ℕ) (F G : Following) (before after : Input) → TakesEntry content held F G before after → MissesEntry log.NoMemory F before after
+misses_recorded content held F G before after takes =
+    let holds = takes.holds in
+    inr (content, takes.read, (holds.pairs, record { spelled = holds.spelled ∙ sym (append-nil (content_of holds.pairs)); fit = holds.fit.1 }), inl refl)
 
 -- what was passed on is what was written
 pub passed_on : (bytes : List ℕ) (a b c : Output) → Sent bytes a b → Sent [] b c → Sent bytes a c
@@ -112,7 +117,13 @@ module _ (tells : Type 0) {D : Type 0} (disk : D → Disk) (profile : Profile) (
 
     refused : (fault : LogFault) → MissesEntry fault F b c → RefusesItem fault F a c
     refused fault (inl why) = inr (inr (inl (record { middle = b; kind = kind.consumed; counted = kind.counted; refused = why })))
-    refused fault (inr (content, read, pairs, none)) = inr (inr (inr (halted fault content read pairs none)))
+    refused fault (inr (content, read, pairs, inl is)) = inr (inr (inr (inr (record {
+      bytes = 1 ∷ summed (F.position + 1) (checksum_of (F.position + 1) content) content;
+      item = inr (content, read.few, pairs, refl);
+      read = entry_read content read;
+      fault_is = is;
+    }))))
+    refused fault (inr (content, read, pairs, inr none)) = inr (inr (inr (inl (halted fault content read pairs none))))
 
     pub entry_halt : (fault : KeepLogFault) → FailsEntry tells disk profile clients_max fault F old new b c start written
         → Halts tells disk profile clients_max (Err fault) (point F old a start) (point G new c written)
@@ -162,7 +173,7 @@ module _ (tells : Type 0) {D : Type 0} (disk : D → Disk) (profile : Profile) (
 
     pub question_halt : (fault : LogFault) → Answers (Err fault) F start written → Halts tells disk profile clients_max (Err (keep.Log fault)) (point F journal a start) (point F journal b written)
     question_halt log.Device cut = inr (refl, record { item = Question; read = is_asked; commits = none; cut = cut })
-    question_halt log.NoMemory silent = inl (inl kind.counted, record { same = refl; silent = silent })
+    question_halt log.NoMemory silent = inl (inr (inr (inr (inr (record { bytes = 2 ∷ []; item = inl refl; read = kind; fault_is = refl })))), record { same = refl; silent = silent })
     question_halt fault never = absurd never
 
   -- a byte that begins no item, and none

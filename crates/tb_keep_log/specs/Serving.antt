@@ -1,6 +1,6 @@
 -- How the items of a log are served over a file: an item is read, its record is committed, and then it is answered.
 -- Cited by public contracts of: serving.
-use Rattle.std.specs.Prelude.{ℕ, false, ◌≡◌, ◌⊎◌, ◌-◌, ◌^◌, List, [], ◌∷◌, length, Result, Ok, Err}
+use Rattle.std.specs.Prelude.{ℕ, false, ◌≡◌, ◌⊎◌, ◌+◌, ◌-◌, ◌^◌, ◌≤◌, List, [], ◌∷◌, length, Result, Ok, Err}
 use Rattle.std.specs.Io.KnownBytes.{IsAtEnd}
 use Rattle.tb_records.specs.declared.limits.Profile.{Profile}
 use Rattle.tb_records.specs.Transport.{Input, Output, Sent, CutOff}
@@ -11,8 +11,9 @@ use Rattle.tb_journal.specs.Steps.{IsBeforeOrAfter}
 use Rattle.tb_journal.specs.Ready.{Kept}
 use Rattle.tb_log.specs.declared.faults.LogFault.{LogFault}
 use Rattle.tb_log.specs.declared.faults.LogFault.TheVariants as log
+use Rattle.tb_log.specs.Format.{content_max, entry_bytes, question_bytes}
 use Rattle.tb_log.specs.Following.{Following, Item, with_item, item_bytes, given_to, IsAnswered}
-use Rattle.tb_log.specs.Entries.{Breaks}
+use Rattle.tb_log.specs.Entries.{Breaks, IsPairs}
 use Rattle.tb_log.specs.Follows.{ItemFits, IsUnknown, IsRefused, IsStopped}
 use Rattle.tb_log.specs.Steps.{Takes}
 use Rattle.tb_keep.specs.Rounds.{Commits, RefusesRecord}
@@ -35,10 +36,22 @@ abbrev pub IsHalted : LogFault → Following → Input → Input → Type 0
 IsHalted (log.TimeExhausted at) F before after = (start : Output) × (written : Output) × IsStopped (log.TimeExhausted at) F before after start written
 IsHalted fault F before after = ⊥
 
--- why an item is refused: the input ended within it or failed, or there is no memory; its first byte begins none; the entry is refused; or
--- it cannot be answered
+-- the bytes of the next item
+abbrev pub IsItem : Following → List ℕ → Type 0
+IsItem F bytes = (bytes ≡ question_bytes) ⊎ ((content : List ℕ) × (length content ≤ content_max) × IsPairs content × (bytes ≡ entry_bytes (F.position + 1) content))
+
+-- an item was read whole, and there is no memory to serve it
+pub record LacksMemory (fault : LogFault) (F : Following) (before after : Input) : Type 0 where
+  pub bytes : List ℕ
+  pub item : IsItem F bytes
+  pub read : Takes bytes before after
+  pub fault_is : fault ≡ log.NoMemory
+
+-- why an item is refused: the reader failed before its first byte; this byte begins none; the entry is refused; it cannot be answered;
+-- or there is no memory
 abbrev pub RefusesItem : LogFault → Following → Input → Input → Type 0
-RefusesItem fault F before after = Breaks fault before after ⊎ IsUnknown fault before after ⊎ IsRefused fault F before after ⊎ IsHalted fault F before after
+RefusesItem fault F before after =
+    Breaks fault before after ⊎ IsUnknown fault before after ⊎ IsRefused fault F before after ⊎ IsHalted fault F before after ⊎ LacksMemory fault F before after
 
 module _ (tells : Type 0) {D : Type 0} (disk : D → Disk) (profile : Profile) (clients_max : ℕ) where
   -- an item was read whole, and each of its pairs can be answered

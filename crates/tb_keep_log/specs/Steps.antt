@@ -105,7 +105,7 @@ pub record TakesEntry (content held : List ℕ) (F G : Following) (before after 
 abbrev pub MissesEntry : LogFault → Following → Input → Input → Type 0
 MissesEntry fault F before after =
     RefusesEntry fault F.position before after
-    ⊎ ((content : List ℕ) × ReadsEntry content F.position before after × IsPairs content × IsHaltedContent fault F content)
+    ⊎ ((content : List ℕ) × ReadsEntry content F.position before after × IsPairs content × DropsEntry fault content F)
 
 -- bytes were sent, and passed on, or the writer failed and left a prefix of them
 abbrev pub TellsBytes : Result (Unit {0}) KeepLogFault → List ℕ → Output → Output → Type 0

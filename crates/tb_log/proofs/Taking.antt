@@ -10,7 +10,7 @@ use Rattle.tb_log.specs.declared.faults.LogFault.{LogFault}
 use Rattle.tb_log.specs.declared.faults.LogFault.TheVariants.{Device, NoMemory, Short, Damaged}
 use Rattle.tb_log.specs.declared.entries.Head.{Head}
 use Rattle.tb_log.specs.Format.{content_max, numbers, checksum_of, summed, number_bytes}
-use Rattle.tb_log.specs.Entries.{Breaks, head_fault, ReadsEntry, IsShort, IsDamaged, IsNoPairs, RefusesEntry}
+use Rattle.tb_log.specs.Entries.{Breaks, head_fault, ReadsEntry, IsShort, LacksMemory, IsDamaged, IsNoPairs, RefusesEntry}
 use Rattle.tb_log.specs.Steps.{Filled, Takes, EndsWithin, Misses, head_bytes, ReadsContent, MissesContent}
 
 -- a buffer that was filled whole
@@ -42,7 +42,6 @@ takes_then xs ys a b c one two = record {
 -- a fault behind what was read
 pub breaks_since : (fault : LogFault) (a b c : Input) → b.failed ≡ a.failed → Breaks fault b c → Breaks fault a c
 breaks_since Device a b c counted breaks = record { rose = breaks.rose ∙ ap risen counted; last = breaks.last }
-breaks_since NoMemory a b c counted breaks = breaks ∙ counted
 breaks_since fault a b c counted breaks = absurd breaks
 
 -- the end of the input behind what was read
@@ -170,10 +169,23 @@ module _ (head : Head) (last : ℕ) (a b c : Input) (numbered : Takes (head_byte
     });
   }
 
-  pub entry_lost : (fault : LogFault) → Misses head.length fault b c ⊎ MissesContent head fault b c → RefusesEntry fault last a c
+  -- there was no memory for the content
+  no_room : (fault : LogFault) → fault ≡ NoMemory → c ≡ b → LacksMemory fault last a c
+  no_room fault is same = record {
+    long = head.length;
+    sum = head.checksum;
+    fits = next.few;
+    bytes = subst (Consumes a.left c.left) (ap (λ (p : ℕ). numbers p head.length ++ number_bytes 4 head.checksum) next.next)
+        (subst (λ (i : Input). Consumes a.left i.left (head_bytes head)) (sym same) numbered.consumed);
+    fault_is = is;
+    counted = ap (λ (i : Input). i.failed) same ∙ numbered.counted;
+  }
+
+  pub entry_lost : (fault : LogFault) → Misses head.length fault b c ⊎ MissesContent head fault b c ⊎ ((fault ≡ NoMemory) × (c ≡ b)) → RefusesEntry fault last a c
   entry_lost fault (inl (inl breaks)) = inl (breaks_since fault a b c numbered.counted breaks)
-  entry_lost fault (inl (inr ends)) = inr (inr (inr (inr (cut_off fault ends))))
-  entry_lost fault (inr misses) = inr (inr (inl (damaged fault misses)))
+  entry_lost fault (inl (inr ends)) = inr (inr (inr (inr (inl (cut_off fault ends)))))
+  entry_lost fault (inr (inl misses)) = inr (inr (inl (damaged fault misses)))
+  entry_lost fault (inr (inr (is, same))) = inr (inr (inr (inr (inr (no_room fault is same)))))
 
 pub entry_bad : (fault : LogFault) (position last : ℕ) (content : List ℕ) (a b : Input) → (position ≡ last + 1) × ReadsEntry content last a b → IsNoPairs fault position content → RefusesEntry fault last a b
 entry_bad fault position last content a b read bad = inr (inr (inr (inl (record {
@@ -185,7 +197,7 @@ entry_bad fault position last content a b read bad = inr (inr (inr (inl (record 
 -- the input ended within the numbers of an entry, or they were not read
 pub head_lost : (fault : LogFault) (last : ℕ) (a b : Input) → Misses 16 fault a b → RefusesEntry fault last a b
 head_lost fault last a b (inl breaks) = inl breaks
-head_lost fault last a b (inr ends) = inr (inr (inr (inr (record { bytes = ends.bytes; cut = ends.cut; part = inl ends.few }))))
+head_lost fault last a b (inr ends) = inr (inr (inr (inr (inl (record { bytes = ends.bytes; cut = ends.cut; part = inl ends.few })))))
 
 pub entry_wrong : (head : Head) (fault : LogFault) (last : ℕ) (a b : Input) → Takes (head_bytes head) a b → head_fault last head.position head.length ≡ Some fault → RefusesEntry fault last a b
 entry_wrong head fault last a b numbered is = inr (inl (record {

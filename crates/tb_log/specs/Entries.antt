@@ -12,10 +12,9 @@ use Rattle.tb_log.specs.declared.faults.LogFault.{LogFault}
 use Rattle.tb_log.specs.declared.faults.LogFault.TheVariants.{Device, NoMemory, Short, Gap, Repeat, TooLong, Damaged, BadEntry}
 use Rattle.tb_log.specs.Format.{content_max, content_of, numbers, checksum_of, summed, number_bytes}
 
--- the reader failed, or there was no memory
+-- the reader failed
 abbrev pub Breaks : LogFault → Input → Input → Type 0
 Breaks Device before after = Fails before after
-Breaks NoMemory before after = after.failed ≡ before.failed
 Breaks fault before after = ⊥
 
 -- the input ended within what was asked for: all that was left are these bytes
@@ -63,6 +62,15 @@ pub record IsWrong (fault : LogFault) (last : ℕ) (before after : Input) : Type
   pub fault_is : head_fault last position long ≡ Some fault
   pub counted : after.failed ≡ before.failed
 
+-- there was no memory for its content: no byte behind its numbers was read
+pub record LacksMemory (fault : LogFault) (last : ℕ) (before after : Input) : Type 0 where
+  pub long : ℕ
+  pub sum : ℕ
+  pub fits : long ≤ content_max
+  pub bytes : Consumes before.left after.left (numbers (last + 1) long ++ number_bytes 4 sum)
+  pub fault_is : fault ≡ NoMemory
+  pub counted : after.failed ≡ before.failed
+
 -- its checksum is that of another
 pub record IsDamaged (fault : LogFault) (last : ℕ) (before after : Input) : Type 0 where
   pub content : List ℕ
@@ -105,4 +113,4 @@ pub record IsBad (fault : LogFault) (last : ℕ) (before after : Input) : Type 0
 
 abbrev pub RefusesEntry : LogFault → ℕ → Input → Input → Type 0
 RefusesEntry fault last before after =
-    Breaks fault before after ⊎ IsWrong fault last before after ⊎ IsDamaged fault last before after ⊎ IsBad fault last before after ⊎ IsShort fault last before after
+    Breaks fault before after ⊎ IsWrong fault last before after ⊎ IsDamaged fault last before after ⊎ IsBad fault last before after ⊎ IsShort fault last before after ⊎ LacksMemory fault last before after

@@ -1,7 +1,8 @@
 -- What a follower's steps do: for private functions alone.
 -- Cited by public contracts of: followers, following, inputs.
-use Rattle.std.specs.Prelude.{ℕ, true, false, ◌≡◌, ◌≢◌, ◌⊎◌, ◌≤◌, ◌<◌, Bool, List, [], ◌∷◌, ◌++◌, length, take, Option, Some, None, Result, Ok, Err, MatchResult}
+use Rattle.std.specs.Prelude.{ℕ, true, false, ◌≡◌, ◌≢◌, ◌⊎◌, ◌≤◌, ◌<◌, Bool, List, [], ◌∷◌, ◌++◌, length, take, Option, Some, None, Result, Ok, Err, MatchResult, Vec}
 use Rattle.std.specs.Io.KnownBytes.{Consumes, IsAtEnd}
+use Rattle.std.specs.declared.alloc.Global.{Global}
 use Rattle.tb_records.specs.Ordered.{Each}
 use Rattle.tb_records.specs.ReplyFrames.{IsReply}
 use Rattle.tb_records.specs.Inputs.{IsTimed}
@@ -37,13 +38,18 @@ pub record EndsWithin (n : ℕ) (fault : LogFault) (before after : Input) : Type
   pub few : length bytes < n
   pub cut : IsCutShort fault bytes before after
 
--- so many bytes were not read: the input ended within them, or the reader failed, or there was no memory
+-- so many bytes were not read: the input ended within them, or the reader failed
 abbrev pub Misses : ℕ → LogFault → Input → Input → Type 0
 Misses n fault before after = Breaks fault before after ⊎ EndsWithin n fault before after
 
 -- the n bytes of a value were read
 abbrev pub Reads : {X : Type 0} → ℕ → (X → List ℕ) → Result X LogFault → Input → Input → Type 0
 Reads n bytes_of result before after = MatchResult result (λ x. Takes (bytes_of x) before after) (λ fault. Misses n fault before after)
+
+-- bytes into memory that is taken before the first is read
+abbrev pub ReadsBytes : ℕ → Result (Vec ℕ Global) LogFault → Input → Input → Type 0
+ReadsBytes n (Ok bytes) before after = Takes bytes.items before after
+ReadsBytes n (Err fault) before after = Misses n fault before after ⊎ ((fault ≡ NoMemory) × (after ≡ before))
 
 -- the first byte of an item was read, or there is none
 abbrev pub Begins : Result (Option ℕ) LogFault → Input → Input → Type 0
@@ -68,7 +74,8 @@ pub record MissesContent (head : Head) (fault : LogFault) (before after : Input)
   pub fault_is : fault ≡ Damaged head.position
 
 abbrev pub Loses : Head → LogFault → Input → Input → Type 0
-Loses head fault before after = Misses head.length fault before after ⊎ MissesContent head fault before after
+Loses head fault before after =
+    Misses head.length fault before after ⊎ MissesContent head fault before after ⊎ ((fault ≡ NoMemory) × (after ≡ before))
 
 -- answering
 

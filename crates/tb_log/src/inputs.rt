@@ -2,7 +2,7 @@
 ghost use Rattle.std.specs.Prelude.{◌≡◌, length, vec_len, IfOk, IfErr};
 ghost use Rattle.tb_log.specs.Entries.{Breaks};
 ghost use Rattle.tb_log.specs.Format.{number_bytes};
-ghost use Rattle.tb_log.specs.Steps.{Filled, Reads, Begins};
+ghost use Rattle.tb_log.specs.Steps.{Filled, Reads, ReadsBytes, Begins};
 
 use crate::faults::LogFault;
 use byteorder::{ByteOrder, LittleEndian};
@@ -58,7 +58,7 @@ pub(crate) fn u64_from<S: Source>(source: &mut S) -> Result<u64, LogFault>
     let mut bytes = [0; 8];
     let bytes: &mut [u8] = &mut bytes;
     fill_all(source, bytes)?;
-    Ok(LittleEndian::read_u64(bytes))
+    Ok(LittleEndian::read_u64(bytes) & 0xFFFF_FFFF)
 }
 
 /// A number of 4 bytes.
@@ -79,7 +79,7 @@ pub(crate) fn bytes_from<S: Source>(
     source: &mut S,
     count: usize,
 ) -> Result<Vec<u8>, LogFault>
-    ensures read { Reads count (λ bytes. bytes.items) result (S.input source.old) (S.input source.new) }
+    ensures read { ReadsBytes count result (S.input source.old) (S.input source.new) }
     ensures count { IfOk result (λ bytes. vec_len bytes ≡ count) }
 {
     let mut bytes = vec![in alloc; 0u8; count]?;

@@ -3,5 +3,5 @@ use Rattle.std.proofs.Common.{arith}
 use Rattle.tb_journal.specs.Shown.{torn_part}
 use Rattle.tb_journal.proofs.memory.torn_write.Goals as goal
 
-pub returns : goal.returns
-returns c = grind (arith, common_steps, torn_part)
+pub returns-clause-among : goal.returns-clause-among
+returns-clause-among c = grind (arith, common_steps, torn_part)

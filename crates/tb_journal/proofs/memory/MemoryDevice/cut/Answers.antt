@@ -6,7 +6,7 @@ pub returns-then-not-shown-clause-cuts : goal.returns-then-not-shown-clause-cuts
 returns-then-not-shown-clause-cuts c t =
     let old = c.args.self.now in
     let failed = failed_by old.first.items old.calls.items c.push_call.new.calls.items old.bytes.items old.bytes.items old.failures c.count.new.self old.sound old.sound
-    c.of_call.result c.count.result c.count.ensures.same (inl c.of_call.ensures) c.count.ensures.counted c.count.ensures.others in
+    c.of_call.result c.count.result c.count.ensures.same (inl c.of_call.ensures.names) c.count.ensures.counted c.count.ensures.others in
     has_cut old.first.items old.calls.items c.push_call.new.calls.items old.bytes.items old.bytes.items old.failures c.count.new.self old.sound
     (Err c.count.result) (record { ok = tt; cause = failed }) c.args.len tt _ c.in-Ok.ensures.ok
 

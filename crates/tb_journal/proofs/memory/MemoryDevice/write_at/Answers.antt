@@ -8,7 +8,7 @@ returns-then-not-shown-clause-writes c t =
     let old = c.args.self.now in
     let kept = c.in-Ok.ensures.ok in
     let failed = failed_by old.first.items old.calls.items c.push_write.new.calls.items old.bytes.items old.bytes.items old.failures c.count.new.self old.sound old.sound
-    c.of_call.result c.count.result c.count.ensures.same (inl c.of_call.ensures) c.count.ensures.counted c.count.ensures.others in
+    c.of_call.result c.count.result c.count.ensures.same (inl c.of_call.ensures.names) c.count.ensures.counted c.count.ensures.others in
     wrote old.first.items old.calls.items c.push_write.new.calls.items old.bytes.items old.bytes.items old.failures c.count.new.self old.sound
     (Err c.count.result) (record { ok = tt; cause = failed }) c.args.at c.args.bytes.now tt kept.0 _ kept.1 kept.2
 
