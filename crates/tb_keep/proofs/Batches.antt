@@ -15,8 +15,7 @@ use Rattle.tb_machine.specs.Histories.{State}
 use Rattle.tb_machine.specs.Recording.{IsRecord}
 use Rattle.tb_machine.specs.Scripts.{Pair, entry_of, is_entered}
 use Rattle.tb_machine.proofs.Lawful.{lawful_numbers}
-use Rattle.tb_keep.specs.Rounds.{records_from, IsServed}
-use Rattle.tb_keep.specs.Steps.{block_bytes_max}
+use Rattle.tb_keep.specs.Rounds.{records_from, IsServed, block_bytes_max}
 
 -- a body has 8,190 items at most, of 128 bytes at most
 body_short : (body : Body) → item_count body ≤ 8190 → length (body_bytes body) ≤ 1048320

@@ -5,7 +5,7 @@ use Rattle.tb_records.specs.declared.faults.FrameFault.{FrameFault}
 use Rattle.tb_records.specs.DumpBytes.{head_bytes}
 use Rattle.tb_records.specs.Transport.{Output, Sent, IsSent}
 use Rattle.tb_records.proofs.Sendings.{sent_rest}
-use Rattle.tb_journal.specs.Contents.{Records, contents, records_of}
+use Rattle.tb_journal.specs.Contents.{Records, records_of}
 use Rattle.tb_journal.specs.Scans.{Place, BeginsWith, HasRead}
 use Rattle.tb_machine.proofs.Running.{sends_none}
 use Rattle.tb_keep.specs.declared.faults.DumpFault.{DumpFault}

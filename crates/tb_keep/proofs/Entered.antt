@@ -15,7 +15,7 @@ use Rattle.tb_machine.specs.Histories.{State, start as start_state}
 use Rattle.tb_keep.specs.declared.faults.StartFault.{StartFault}
 use Rattle.tb_keep.specs.declared.faults.StartFault.TheVariants as start
 use Rattle.tb_keep.specs.Keeping.{head_record}
-use Rattle.tb_keep.specs.Restoration.{RecordsLead, StopsAt, RestoresRecord, RestoresAll, HeadAnswers, IsRestored, IsRestoredFrom, StopsBeginning, StopsReading}
+use Rattle.tb_keep.specs.Restoration.{RecordsLead, StopsAt, RestoresRecord, RestoresAll, HeadAnswers, IsRestored, IsRestoredFrom, StopsBehindHead, StopsBeginning, StopsReading}
 use Rattle.tb_keep.specs.declared.heads.Rules.{Rules}
 use Rattle.tb_keep.specs.Entering.{StaysKept, EntersNext, EntersAll, FindsBehind}
 use Rattle.tb_keep.proofs.Opened.{Counts, untouched_then}
@@ -57,7 +57,7 @@ pub head_read : (file head : List ℕ) (scan : Place) (profile : Profile) (clien
 head_read file head scan profile clients_max at is = subst (λ (h : List ℕ). HasRead (h ∷ []) file scan) is at
 
 stops_with : (fault : StartFault) (profile : Profile) (clients_max : ℕ) (file head : List ℕ) (rest : List (List ℕ)) → BeginsWith (head ∷ rest) file
-    → (HeadAnswers (Err fault) head profile clients_max ⊎ ((T : State) × RestoresAll (Err fault) (start_state profile clients_max) rest T))
+    → (HeadAnswers (Err fault) head profile clients_max ⊎ StopsBehindHead fault profile clients_max head rest)
     → StopsBeginning fault profile clients_max file
 stops_with fault profile clients_max file head rest begins why = record {
   records = head ∷ rest;
@@ -138,7 +138,7 @@ module _ (rules : Rules) (file : List ℕ) (scan : Place) (S T : State) (empty :
       → BeginsWith (head ∷ []) file × StopsBeginning fault rules.profile rules.clients_max file
   behind_stops fault records U begins stops = (
     begins_shorter (head ∷ []) records file begins,
-    stops_with fault rules.profile rules.clients_max file head records begins (inr (U, subst (λ (V : State). RestoresAll (Err fault) V records U) empty stops)),
+    stops_with fault rules.profile rules.clients_max file head records begins (inr (refl, (U, subst (λ (V : State). RestoresAll (Err fault) V records U) empty stops))),
   )
 
   pub behind_not : (fault : StartFault) → EntersAll (Err fault) (head ∷ []) file scan S T → FindsBehind (Err fault) rules file

@@ -15,8 +15,8 @@ use Rattle.tb_machine.proofs.Running.{reads_none, reads_snoc}
 use Rattle.tb_keep.specs.declared.faults.KeepFault.{KeepFault}
 use Rattle.tb_keep.specs.declared.faults.KeepFault.TheVariants as keep
 use Rattle.tb_keep.specs.Keeping.{Keeping, IsFresh}
-use Rattle.tb_keep.specs.Rounds.{state_from, records_from, told_from, IsServed, AreServed, pairs_of, Commits, Standing, standing_of, IsPrompt, ReadsPromptly, is_held, RefusesRecord, Round, Rounds, IsStop, Pauses, Fails, Served, Ends}
-use Rattle.tb_keep.specs.Steps.{IsSudden, Next, Ceases, IsCommitted, IsUncommitted, Tells, MayTell, EndsNext, block_bytes_max}
+use Rattle.tb_keep.specs.Rounds.{state_from, records_from, told_from, IsServed, AreServed, pairs_of, Commits, Standing, standing_of, IsPrompt, ReadsPromptly, is_held, RefusesRecord, Round, Rounds, IsStop, Pauses, Fails, Served, Ends, block_bytes_max, IsDue}
+use Rattle.tb_keep.specs.Steps.{IsSudden, Next, Ceases, IsCommitted, IsUncommitted, Tells, MayTell, EndsNext}
 use Rattle.tb_keep.proofs.Batches.{block_short, grows, some_byte}
 use Rattle.tb_keep.proofs.Pairs.{state_snoc, records_join, told_join, served_snoc, pairs_snoc}
 
@@ -36,9 +36,15 @@ promptly_snoc held (q ∷ qs) p a b c all asked read =
     still (r ∷ rest) asked = asked
 
 module _ (tells : Type 0) {D : Type 0} (disk : D → Disk) where
-  rounds_snoc : (rounds : List (List Pair)) (ps : List Pair) (a b c : Standing D) → Rounds tells disk rounds a b → Round tells disk ps b c → Rounds tells disk (rounds ++ ps ∷ []) a c
-  rounds_snoc [] ps a b c all one = (c, subst (λ (s : Standing D). Round tells disk ps s c) all one, refl)
-  rounds_snoc (qs ∷ rounds) ps a b c all one = (all.0, all.1, rounds_snoc rounds ps all.0 b c all.2 one)
+  rounds_snoc : (rounds : List (List Pair)) (ps : List Pair) (a b c : Standing D) → Rounds tells disk rounds a b → Round tells disk ps b c
+      → (tells → IsDue c.input.at_hand (told_from b.state ps) (records_from b.state ps)) → Rounds tells disk (rounds ++ ps ∷ []) a c
+  rounds_snoc [] ps a b c all one due = (
+    c,
+    subst (λ (s : Standing D). Round tells disk ps s c) all one,
+    refl,
+    λ t. subst (λ (S : State). IsDue c.input.at_hand (told_from S ps) (records_from S ps)) (ap (λ (s : Standing D). s.state) all) (due t),
+  )
+  rounds_snoc (qs ∷ rounds) ps a b c all one due = (all.0, all.1, rounds_snoc rounds ps all.0 b c all.2 one due, all.3)
 
   -- the loop's invariant: k pairs were read, of which those of the rounds were acknowledged, and the records and replies of the others wait
   pub record Going (k : ℕ) (before keeper : Keeping D) (first input : Input) (start written : Output) (held : List ℕ) : Type 0 where
@@ -173,13 +179,20 @@ module _ {tells : Type 0} {D : Type 0} {disk : D → Disk} {k : ℕ} {before kee
     passed = t.1.1;
   }
 
-  going_told : {after : Keeping D} {next : Output} {left : List ℕ} → Tells tells disk (Ok tt) keeper after held left written next → Going tells disk k before after first input start next left
-  going_told {after} {next} {left} t = record {
+  -- they are due, by what is held and what waits
+  due_by : IsDue input.at_hand held keeper.journal.waiting → tells → IsDue input.at_hand (told_from g.standing.state g.more) (records_from g.standing.state g.more)
+  due_by due t =
+      subst (λ (w : List (List ℕ)). IsDue input.at_hand (told_from g.standing.state g.more) w) (g.waits t)
+      (subst (λ (b : List ℕ). IsDue input.at_hand b keeper.journal.waiting) g.holds due)
+
+  going_told : {after : Keeping D} {next : Output} {left : List ℕ} → IsDue input.at_hand held keeper.journal.waiting → Tells tells disk (Ok tt) keeper after held left written next
+      → Going tells disk k before after first input start next left
+  going_told {after} {next} {left} due t = record {
     rounds = g.rounds ++ g.more ∷ [];
     more = [];
     standing = standing_of after input next;
     long = ap length (pairs_snoc g.rounds g.more) ∙ g.long;
-    kept = rounds_snoc tells disk g.rounds g.more (standing_of before first start) g.standing (standing_of after input next) g.kept (round_told t);
+    kept = rounds_snoc tells disk g.rounds g.more (standing_of before first start) g.standing (standing_of after input next) g.kept (round_told t) (due_by due);
     served = tt;
     read = subst (λ ps. Reads ps first input) (sym (pairs_snoc g.rounds g.more)) g.read;
     prompt = refl;
@@ -195,22 +208,22 @@ module _ {tells : Type 0} {D : Type 0} {disk : D → Disk} {k : ℕ} {before kee
     journal = t.0.journal;
   }
 
-  told_prompt : {after : Keeping D} {next : Output} {left : List ℕ} (t : Tells tells disk (Ok tt) keeper after held left written next)
-      → IsPrompt (is_held (going_told t).standing.output.held (going_told t).more) input
+  told_prompt : {after : Keeping D} {next : Output} {left : List ℕ} (due : IsDue input.at_hand held keeper.journal.waiting) (t : Tells tells disk (Ok tt) keeper after held left written next)
+      → IsPrompt (is_held (going_told due t).standing.output.held (going_told due t).more) input
   unfolding going_told
-  told_prompt t holds = let clash : true ≡ false = sym holds ∙ t.1.1 in absurd (cc)
+  told_prompt due t holds = let clash : true ≡ false = sym holds ∙ t.1.1 in absurd (cc)
 
-  told_room : {after : Keeping D} {next : Output} {left : List ℕ} (t : Tells tells disk (Ok tt) keeper after held left written next)
-      → length (at_rest (records_from (going_told t).standing.state (going_told t).more)) + block_bytes_max ≤ 2 ^ 22
+  told_room : {after : Keeping D} {next : Output} {left : List ℕ} (due : IsDue input.at_hand held keeper.journal.waiting) (t : Tells tells disk (Ok tt) keeper after held left written next)
+      → length (at_rest (records_from (going_told due t).standing.state (going_told due t).more)) + block_bytes_max ≤ 2 ^ 22
   unfolding going_told
-  told_room t = omega arith
+  told_room due t = omega arith
 
   -- the replies are sent, or need not be yet
   pub going_may : {after : Keeping D} {next : Output} {left : List ℕ} → MayTell tells disk input.at_hand (Ok tt) keeper after held left written next
       → Asking tells disk k before after first input start next left
   going_may (inl (whole, few, room, is, stays, none, silent)) =
       rw (stays, none, silent) (record { going = g; prompt = λ _. whole; room = omega (arith, room, g.fewer) })
-  going_may (inr told) = record { going = going_told told; prompt = told_prompt told; room = told_room told }
+  going_may (inr (due, told)) = record { going = going_told due told; prompt = told_prompt due told; room = told_room due told }
 
   -- a commit that failed
   fails : {after : Keeping D} {next : Output} (fault : Fault) → IsUncommitted tells disk fault keeper after → next ≡ written
@@ -247,7 +260,7 @@ module _ {tells : Type 0} {D : Type 0} {disk : D → Disk} {k : ℕ} {before kee
   pub served_before : (f : KeepFault) (left : List ℕ) {after : Keeping D} {next : Output} → MayTell tells disk input.at_hand (Err f) keeper after held left written next
       → Served tells disk (Err f) before after first input start next
   served_before f left (inl same) = absurd (subst is_ok (sym same.3) tt)
-  served_before f left (inr told) = served_silent f left (inl refl) (inl refl) told
+  served_before f left (inr (due, told)) = served_silent f left (inl refl) (inl refl) told
 
 module _ {tells : Type 0} {D : Type 0} {disk : D → Disk} {k : ℕ} {before keeper : Keeping D} {first input : Input} {start written : Output} {held : List ℕ} (a : Asking tells disk k before keeper first input start written held) where
   -- nothing was written meanwhile

@@ -1,20 +1,18 @@
 -- No legal history with whose records a file begins has more of them than the one that is taken.
-use Rattle.std.proofs.Common.{arith, ℕ, zero, suc, ◌≡◌, ◌⊎◌, ◌+◌, ◌<◌, ◌≤◌, inl, inr, ⊎_elim, List, [], ◌∷◌, ◌++◌, length, map, take, drop, Option, None, Some, Err, refl, sym, ap, ◌∙◌, subst, append_assoc, append-nil, length-take}
-use Rattle.std.proofs.lemmas.Grind.{common_steps}
+use Rattle.std.proofs.Common.{arith, ℕ, zero, suc, ◌≡◌, ◌⊎◌, ◌+◌, ◌≤◌, inl, inr, ⊎_elim, List, [], ◌∷◌, ◌++◌, length, take, drop, Option, None, Some, sym, ap, ◌∙◌, subst, append_assoc, append-nil, length-take}
 use Rattle.std.proofs.lemmas.List.{take_all, take-append-drop, take-take}
 use Rattle.tb_journal.specs.declared.opening.OpenFault.TheVariants as open_faults
 use Rattle.tb_journal.specs.declared.reading.Refusal.TheVariants as refusals
 use Rattle.tb_journal.specs.Contents.{Front, Ends, Spoiled, Whole, front, joined, skipped, Contents, NotAJournal, Damaged, Records, with_record, with_records, walk, contents, records_end}
 use Rattle.tb_journal.specs.Scans.{BeginsWith}
-use Rattle.tb_journal.proofs.Committing.{blocks_length-append}
 use Rattle.tb_journal.proofs.Walks.{begins_shorter, is_file}
 use Rattle.tb_records.specs.declared.faults.FrameFault.{FrameFault}
 use Rattle.tb_machine.specs.declared.restoring.RestoreFault.{RestoreFault}
 use Rattle.tb_keep.specs.declared.faults.StartFault.{StartFault}
 use Rattle.tb_keep.specs.declared.faults.StartFault.TheVariants as start
-use Rattle.tb_keep.specs.Keeping.{History, head_record, records_of, state_of, IsKeepable}
+use Rattle.tb_keep.specs.Keeping.{History, records_of, state_of, IsKeepable}
 use Rattle.tb_keep.specs.Restoration.{StopsAt, StopsFile}
-use Rattle.tb_keep.specs.Salvaging.{IsTaken, IsLongest, StopsBehind}
+use Rattle.tb_keep.specs.Salvaging.{IsLongest, StopsBehind}
 use Rattle.tb_keep.proofs.Again.{one_head}
 use Rattle.tb_keep.proofs.Salvages.{stops_longer_history}
 use Rattle.tb_keep.proofs.Unrefused.{only_memory}

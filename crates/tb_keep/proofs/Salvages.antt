@@ -149,7 +149,7 @@ never_empty before after (inl failed) = by failed.named
   where
     by : IsOfCall faults.NotEmpty ⊎ IsOfSync faults.NotEmpty → ⊥
     by named = grind (arith, common_steps)
-never_empty before after (inr (own, none)) = grind (arith, common_steps)
+never_empty before after (inr (own, none)) = own
 
 pub written_alone : (before mid after : Disk) (f : Fault) → IsWriteCause mid after f → IsLeftAlone before after (start.Journal (open_faults.Device f))
 written_alone before mid after faults.NotEmpty cause = absurd (never_empty mid after cause)
@@ -198,7 +198,7 @@ module _ (h : History) (keepable : IsKeepable h) (end : ℕ) (file : List ℕ) w
   pub stops_longer_history : (fault : StartFault) (bytes : List ℕ) (more : List (List ℕ)) → StopsAt fault (state_of h) bytes → StopsFile fault h.profile h.clients_max (records_of h ++ bytes ∷ more)
   stops_longer_history fault bytes more stops =
       stops_file fault h.profile h.clients_max (records_of h ++ bytes ∷ more) (head_record h.profile h.clients_max) (map dumped h.entries ++ bytes ∷ more) refl
-      (inr (state_of h, (map dumped h.entries, bytes, more, refl, leads, stops)))
+      (inr (refl, (state_of h, (map dumped h.entries, bytes, more, refl, leads, stops))))
 
   stopped : (fault : StartFault) (bytes : List ℕ) → BeginsWith (records_of h ++ bytes ∷ []) file → StopsAt fault (state_of h) bytes
       → (rules : Rules) × HasRules rules file × StopsBeginning fault rules.profile rules.clients_max file

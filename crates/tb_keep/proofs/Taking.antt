@@ -1,5 +1,5 @@
 -- Records that are taken over, one after another.
-use Rattle.std.proofs.Common.{arith, ℕ, ◌≡◌, ◌⊎◌, ◌<◌, ◌≤◌, inl, inr, true, List, [], ◌∷◌, ◌++◌, map, fold, length, ◌^◌, ◌↔◌, Result, Ok, Err, OnOk, OnErr, refl, sym, ap, ◌∙◌, subst, append_assoc, append-nil}
+use Rattle.std.proofs.Common.{arith, ℕ, ◌≡◌, ◌+◌, ◌<◌, ◌≤◌, inl, inr, true, List, [], ◌∷◌, ◌++◌, map, fold, length, take, ◌^◌, ◌↔◌, Result, Ok, Err, OnOk, OnErr, refl, sym, ap, ◌∙◌, subst, append_assoc, append-nil, length-append, length-take}
 use Rattle.std.specs.Prelude.{IsErrOf}
 use Rattle.std.proofs.lemmas.List.{map-append}
 use Rattle.tb_journal.specs.declared.faults.Fault.{Fault}
@@ -8,8 +8,8 @@ use Rattle.tb_journal.specs.declared.opening.OpenFault.{OpenFault}
 use Rattle.tb_journal.specs.declared.opening.OpenFault.TheVariants as open_faults
 use Rattle.tb_journal.specs.declared.reading.Refusal.TheVariants as refusals
 use Rattle.tb_journal.specs.Device.{Disk, LeavesOnly, FailsNone, HasFailed, HasCause}
-use Rattle.tb_journal.specs.Contents.{Records, contents, recorded}
-use Rattle.tb_journal.specs.Ready.{Kept, IsReady}
+use Rattle.tb_journal.specs.Contents.{Records, at_rest, contents, recorded, records_end}
+use Rattle.tb_journal.specs.Ready.{Kept, IsReady, grown}
 use Rattle.tb_journal.specs.Scans.{HasRead, Place, BeginsWith, ReadsNext, IsAt}
 use Rattle.tb_journal.specs.Steps.{IsBeforeOrAfter}
 use Rattle.tb_journal.proofs.Causes.{none_at_once, none_since, failed_since}
@@ -25,7 +25,8 @@ use Rattle.tb_keep.specs.declared.faults.SalvageFault.TheVariants.{Old, New}
 use Rattle.tb_keep.specs.declared.faults.StartFault.{StartFault}
 use Rattle.tb_keep.specs.declared.faults.StartFault.TheVariants as start
 use Rattle.tb_keep.specs.Restoration.{RecordsLead, RestoresRecord, StopsAt, IsStartCause, HasStartCause}
-use Rattle.tb_keep.specs.Salvaging.{IsWriteCause, old_part}
+use Rattle.tb_keep.specs.Rounds.{block_bytes_max}
+use Rattle.tb_keep.specs.Salvaging.{IsOwnWriteCause, IsWriteCause, old_part}
 use Rattle.tb_keep.specs.Taking.{IsBetween, line, Queues, Breaks, Puts, Taken, StopsAfter, TakesRecord, CommitsTaken, Ends, TakesNext, by_device}
 use Rattle.tb_keep.proofs.Batches.{entry_short}
 use Rattle.tb_keep.proofs.Entered.{Latest}
@@ -227,21 +228,30 @@ module _ {N : Type 0} (disk : N → Disk) (tells : Type 0) where
       (usable, λ t. queues_commit disk before after (ready t) (acknowledged t) emptied ((cause t).ok) (leaves t))
   puts_commit (Err fault) before after usable ready acknowledged emptied leaves cause = λ t. breaks_commit disk before after fault ((cause t).cause) (leaves t)
 
-  module _ (before after : Kept N) (bytes : List ℕ) (short : length bytes < 2 ^ 24) (now : tells → Latest (disk before.device)) (ready : tells → IsReady disk before) where
-    own : (fault : Fault) → (fault ≡ Memory) ⊎ (fault ≡ Full) → after ≡ before → tells → Breaks disk fault [] before after
-    own fault is same t = breaks_at_once disk before (now t) (ready t) after fault same (inr (is, none_at_once (disk before.device)))
+  -- the records end within a file that is at rest
+  within : (file : List ℕ) (end : ℕ) → file ≡ take end file ++ 0 ∷ [] → end ≤ length file
+  within file end closed = omega (arith, ap length closed, length-append (take end file) (0 ∷ []), length-take end file)
+
+  module _ (before after : Kept N) (bytes : List ℕ) (short : length bytes < 2 ^ 24) (room : length (at_rest before.waiting) + block_bytes_max ≤ 2 ^ 22) (now : tells → Latest (disk before.device)) (ready : tells → IsReady disk before) where
+    own : (fault : Fault) → (tells → IsOwnWriteCause (disk before.device).seen fault) → after ≡ before → tells → Breaks disk fault [] before after
+    own fault is same t = breaks_at_once disk before (now t) (ready t) after fault same (inr (is t, none_at_once (disk before.device)))
+
+    full : 2 ^ 62 < grown before bytes → tells → 2 ^ 62 < length (disk before.device).seen + 2 ^ 25
+    full over t =
+        let file = (disk before.device).seen in
+        omega (arith, over, short, room, (ready t).ends, within file (records_end (recorded file)) (ready t).at_rest.closed)
 
     pub puts_append : (result : Result (Unit {0}) Fault) → before.usable ≡ true → OnOk result (after ≡ record before { waiting = before.waiting ++ bytes ∷ [] }) → OnErr result (after ≡ before)
-        → (IsErrOf result TooLong ↔ (2 ^ 24 ≤ length bytes)) → (IsErrOf result Failed → ⊥) → (IsErrOf result NotEmpty → ⊥) → (IsErrOf result SyncFailed → ⊥)
+        → (IsErrOf result TooLong ↔ (2 ^ 24 ≤ length bytes)) → (IsErrOf result Full ↔ (length bytes < 2 ^ 24) × (2 ^ 62 < grown before bytes)) → (IsErrOf result Failed → ⊥) → (IsErrOf result NotEmpty → ⊥) → (IsErrOf result SyncFailed → ⊥)
         → Puts disk tells result (bytes ∷ []) before after
-    puts_append (Ok done) usable is same long failed empty synced =
+    puts_append (Ok done) usable is same long over failed empty synced =
         (ap (λ (j : Kept N). j.usable) is ∙ usable, λ t. queues_record disk before (now t) (ready t) after bytes is)
-    puts_append (Err Memory) usable is same long failed empty synced = own Memory (inl refl) same
-    puts_append (Err Full) usable is same long failed empty synced = own Full (inr refl) same
-    puts_append (Err TooLong) usable is same long failed empty synced = λ t. absurd (omega (arith, short, long.0 refl))
-    puts_append (Err Failed) usable is same long failed empty synced = λ t. absurd (failed refl)
-    puts_append (Err NotEmpty) usable is same long failed empty synced = λ t. absurd (empty refl)
-    puts_append (Err SyncFailed) usable is same long failed empty synced = λ t. absurd (synced refl)
+    puts_append (Err Memory) usable is same long over failed empty synced = own Memory (λ t. tt) same
+    puts_append (Err Full) usable is same long over failed empty synced = own Full (full (over.0 refl).1) same
+    puts_append (Err TooLong) usable is same long over failed empty synced = λ t. absurd (omega (arith, short, long.0 refl))
+    puts_append (Err Failed) usable is same long over failed empty synced = λ t. absurd (failed refl)
+    puts_append (Err NotEmpty) usable is same long over failed empty synced = λ t. absurd (empty refl)
+    puts_append (Err SyncFailed) usable is same long over failed empty synced = λ t. absurd (synced refl)
 
 -- one record
 

@@ -21,7 +21,7 @@ use Rattle.tb_machine.proofs.JournalRecords.{one_record}
 use Rattle.tb_keep.specs.declared.faults.StartFault.{StartFault}
 use Rattle.tb_keep.specs.declared.faults.StartFault.TheVariants as start
 use Rattle.tb_keep.specs.Keeping.{History, head_record, records_of, IsKeepable, AreRecorded, IsLedger}
-use Rattle.tb_keep.specs.Restoration.{IsNoRecord, Fails, StopsAt, RestoresAll, HeadAnswers, StopsBeginning, StopsOpening, torn_bytes, IsNotOfFile, OnlyMemory, FileOnlyMemory}
+use Rattle.tb_keep.specs.Restoration.{IsNoRecord, Fails, StopsAt, RestoresAll, HeadAnswers, StopsBehindHead, StopsBeginning, StopsOpening, torn_bytes, IsNotOfFile, OnlyMemory, FileOnlyMemory}
 use Rattle.tb_keep.proofs.Again.{one_head}
 use Rattle.tb_keep.proofs.WholeFiles.{whole_stops}
 
@@ -73,11 +73,11 @@ head_not : (fault : StartFault) (h : History) → IsKeepable h → HeadAnswers (
 head_not fault h keepable none = grind (arith, common_steps, one_head)
 
 stopped_not : (fault : StartFault) (h : History) (head : List ℕ) (rest : List (List ℕ)) → IsKeepable h → records_of h ≡ head ∷ rest
-    → (HeadAnswers (Err fault) head h.profile h.clients_max ⊎ ((T : State) × RestoresAll (Err fault) (start_state h.profile h.clients_max) rest T)) → fault ≡ start.NoMemory
+    → (HeadAnswers (Err fault) head h.profile h.clients_max ⊎ StopsBehindHead fault h.profile h.clients_max head rest) → fault ≡ start.NoMemory
 stopped_not fault h head rest keepable is (inl why) =
     let first : head ≡ head_record h.profile h.clients_max = sym (cc (is)) in
     head_not fault h keepable (subst (λ (b : List ℕ). HeadAnswers (Err fault) b h.profile h.clients_max) first why)
-stopped_not fault h head rest keepable is (inr (T, why)) =
+stopped_not fault h head rest keepable is (inr (own, (T, why))) =
     let others : rest ≡ map dumped h.entries = sym (cc (is)) in
     restored_not fault (start_state h.profile h.clients_max) T h.entries keepable.legal keepable.recorded_are (subst (λ (r : List (List ℕ)). RestoresAll (Err fault) (start_state h.profile h.clients_max) r T) others why)
 

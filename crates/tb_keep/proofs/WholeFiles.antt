@@ -10,12 +10,12 @@ use Rattle.tb_journal.specs.Contents.{Contents, NotAJournal, Damaged, Records, c
 use Rattle.tb_journal.specs.Reading.{extent_of}
 use Rattle.tb_journal.specs.Scans.{BeginsWith}
 use Rattle.tb_journal.proofs.Walks.{is_file}
-use Rattle.tb_machine.specs.Histories.{State, start as start_state}
+use Rattle.tb_machine.specs.Histories.{State}
 use Rattle.tb_keep.specs.declared.faults.StartFault.{StartFault}
 use Rattle.tb_keep.specs.declared.faults.StartFault.TheVariants as start
 use Rattle.tb_keep.specs.declared.heads.Rules.{Rules}
 use Rattle.tb_keep.specs.Keeping.{History, head_record, records_of as records_of_history}
-use Rattle.tb_keep.specs.Restoration.{RestoresAll, HeadAnswers, IsRestoredFrom, StopsFile, StopsReading, WholeStops}
+use Rattle.tb_keep.specs.Restoration.{HeadAnswers, IsRestoredFrom, StopsBehindHead, StopsFile, StopsReading, WholeStops}
 use Rattle.tb_keep.specs.Reading.{IsNoHead, HasRules, HasNoHead, RulesAnswer, IsHistory, IsNoHistory, behind_head, joined, dump_with, dump_of, WholeRules, WholeNoHead, WholeDumps}
 use Rattle.tb_keep.proofs.Dumping.{joined_join}
 use Rattle.tb_keep.proofs.Leading.{stops_file}
@@ -51,14 +51,14 @@ begins_rest records all file begins reads =
 -- so what stops the first of them stops all
 
 longer : (fault : StartFault) (profile : Profile) (clients_max : ℕ) (head : List ℕ) (rest more : List (List ℕ))
-    → (HeadAnswers (Err fault) head profile clients_max ⊎ ((T : State) × RestoresAll (Err fault) (start_state profile clients_max) rest T))
-    → (HeadAnswers (Err fault) head profile clients_max ⊎ ((T : State) × RestoresAll (Err fault) (start_state profile clients_max) (rest ++ more) T))
+    → (HeadAnswers (Err fault) head profile clients_max ⊎ StopsBehindHead fault profile clients_max head rest)
+    → (HeadAnswers (Err fault) head profile clients_max ⊎ StopsBehindHead fault profile clients_max head (rest ++ more))
 longer fault profile clients_max head rest more (inl why) = inl why
-longer fault profile clients_max head rest more (inr (T, (front, bytes, behind, is, leads, stops))) =
-    inr (T, (front, bytes, behind ++ more, ap (λ (l : List (List ℕ)). l ++ more) is ∙ append_assoc front (bytes ∷ behind) more, leads, stops))
+longer fault profile clients_max head rest more (inr (own, (T, (front, bytes, behind, is, leads, stops)))) =
+    inr (own, (T, (front, bytes, behind ++ more, ap (λ (l : List (List ℕ)). l ++ more) is ∙ append_assoc front (bytes ∷ behind) more, leads, stops)))
 
 stops_more : (fault : StartFault) (profile : Profile) (clients_max : ℕ) (records more all : List (List ℕ)) → all ≡ records ++ more
-    → (head : List ℕ) × (rest : List (List ℕ)) × (records ≡ head ∷ rest) × (HeadAnswers (Err fault) head profile clients_max ⊎ ((T : State) × RestoresAll (Err fault) (start_state profile clients_max) rest T))
+    → (head : List ℕ) × (rest : List (List ℕ)) × (records ≡ head ∷ rest) × (HeadAnswers (Err fault) head profile clients_max ⊎ StopsBehindHead fault profile clients_max head rest)
     → StopsFile fault profile clients_max all
 stops_more fault profile clients_max records more all whole (head, rest, is, why) =
     stops_file fault profile clients_max all head (rest ++ more) (whole ∙ ap (λ (l : List (List ℕ)). l ++ more) is) (longer fault profile clients_max head rest more why)
@@ -136,7 +136,7 @@ is_no_history start.Head rules file has stops = by stops.records stops.begins st
   where
     by : (records : List (List ℕ)) → BeginsWith records file → StopsFile start.Head rules.profile rules.clients_max records → HasNoHead file
     by records begins (head, rest, is, inl none) = inr (head, rest, subst (λ (r : List (List ℕ)). BeginsWith r file) is begins, none)
-    by records begins (head, rest, is, inr (T, (front, bytes, behind, all, leads, never))) = absurd never
+    by records begins (head, rest, is, inr (own, (T, (front, bytes, behind, all, leads, never)))) = absurd never
 is_no_history start.OtherRules rules file has stops = (rules, has, stops)
 is_no_history (start.Record place f) rules file has stops = (rules, has, stops)
 is_no_history (start.Entry f) rules file has stops = (rules, has, stops)

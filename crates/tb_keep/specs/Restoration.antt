@@ -80,12 +80,17 @@ pub record IsRestored (profile : Profile) (clients_max : ℕ) (records : List (L
   pub state : S ≡ after profile clients_max entries
   pub spelled : (records ≡ records_of (record { profile = profile; clients_max = clients_max; entries = entries })) ⊎ ((records ≡ []) × (entries ≡ []))
 
--- why records are not restored: the head, or one behind it
+-- one of the records behind the head of a ledger of these rules is not restored
+abbrev pub StopsBehindHead : StartFault → Profile → ℕ → List ℕ → List (List ℕ) → Type 0
+StopsBehindHead fault profile clients_max head rest =
+    (head ≡ head_record profile clients_max) × ((T : State) × RestoresAll (Err fault) (start_state profile clients_max) rest T)
+
+-- why records are not restored: the head, or one behind the head of a ledger of these rules
 abbrev pub StopsFile : StartFault → Profile → ℕ → List (List ℕ) → Type 0
 StopsFile start.NoMemory profile clients_max records = Unit {0}
 StopsFile fault profile clients_max records =
     (head : List ℕ) × (rest : List (List ℕ)) × (records ≡ head ∷ rest)
-    × (HeadAnswers (Err fault) head profile clients_max ⊎ ((T : State) × RestoresAll (Err fault) (start_state profile clients_max) rest T))
+    × (HeadAnswers (Err fault) head profile clients_max ⊎ StopsBehindHead fault profile clients_max head rest)
 
 -- the file was read to its end, and the machine is in the state after its entries
 pub record IsRestoredFrom (profile : Profile) (clients_max : ℕ) (file : List ℕ) (S : State) (extent : Extent) : Type 0 where

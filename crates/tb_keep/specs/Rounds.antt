@@ -101,6 +101,15 @@ abbrev pub is_held : Bool → List Pair → Bool
 is_held held [] = held
 is_held held (p ∷ ps) = true
 
+-- the greatest block of an entry: 8 bytes, two numbers of 8, and the frame of a request of 8,190 records of 128 bytes
+abbrev pub block_bytes_max : ℕ
+block_bytes_max = 1048392
+
+-- no pair is buffered whole, many bytes of replies are held, or the batch may have no space for one more entry
+abbrev pub IsDue : List ℕ → List ℕ → List (List ℕ) → Type 0
+IsDue at_hand held waiting =
+    (holds_pair at_hand ≡ false) ⊎ ((2 ^ 20 ≤ length held) ⊎ (2 ^ 22 < length (at_rest waiting) + block_bytes_max))
+
 -- a pair is new, and the end of time leaves no time for it
 abbrev pub IsUntimely : State → Pair → Type 0
 IsUntimely S p = (is_new_in S p ≡ true) × (has_time S p ≡ false)
@@ -142,9 +151,12 @@ module _ (tells : Type 0) {D : Type 0} (disk : D → Disk) where
     pub told : Sent (told_from before.state ps) before.output after.output
     pub passed : after.output.held ≡ false
 
+  -- rounds one after another, each of which ends where that is due
   abbrev pub Rounds : List (List Pair) → Standing D → Standing D → Type 0
   Rounds [] before after = after ≡ before
-  Rounds (ps ∷ rounds) before after = (middle : Standing D) × Round ps before middle × Rounds rounds middle after
+  Rounds (ps ∷ rounds) before after =
+      (middle : Standing D) × Round ps before middle × Rounds rounds middle after
+      × (tells → IsDue middle.input.at_hand (told_from before.state ps) (records_from before.state ps))
 
   -- the file and the output stay: the entries of the pairs behind the rounds were not committed
   pub record Quits (middle : Standing D) (device : D) (output : Output) : Type 0 where

@@ -1,5 +1,5 @@
 -- What the steps of serving do: for private functions alone.
--- Cited by private contracts alone, of: salvaging, serving.
+-- Cited by private contracts alone, of: serving.
 use Rattle.std.specs.Prelude.{ℕ, Bool, true, false, ◌≡◌, ◌⊎◌, ◌+◌, ◌<◌, ◌≤◌, ◌^◌, List, [], ◌∷◌, ◌++◌, length, Result, Ok, Err, Option, None, IsTrue}
 use Rattle.tb_records.specs.declared.faults.FrameFault.{FrameFault}
 use Rattle.tb_records.specs.declared.faults.FrameFault.TheVariants.{Device}
@@ -21,7 +21,7 @@ use Rattle.tb_machine.specs.Recording.{IsRecord}
 use Rattle.tb_keep.specs.declared.faults.KeepFault.{KeepFault}
 use Rattle.tb_keep.specs.declared.faults.KeepFault.TheVariants as keep
 use Rattle.tb_keep.specs.Keeping.{Keeping}
-use Rattle.tb_keep.specs.Rounds.{IsServed, IsUntimely, Commits, IsRead, IsStop, RefusesRecord, records_from, told_from}
+use Rattle.tb_keep.specs.Rounds.{IsServed, IsUntimely, Commits, IsRead, IsStop, RefusesRecord, records_from, told_from, block_bytes_max, IsDue}
 
 -- a fault of a record that is made to wait: there is no memory for it, or the journal refuses it
 abbrev pub IsRefusal : {D : Type 0} → KeepFault → Kept D → List ℕ → Type 0
@@ -34,10 +34,6 @@ abbrev pub IsSudden : KeepFault → Type 0
 IsSudden (keep.Journal fault) = Unit {0}
 IsSudden (keep.Serving run.NoMemory) = Unit {0}
 IsSudden fault = ⊥
-
--- the greatest block of an entry: 8 bytes, two numbers of 8, and the frame of a request of 8,190 records of 128 bytes
-abbrev pub block_bytes_max : ℕ
-block_bytes_max = 1048392
 
 -- the journal with one more record that waits
 abbrev pub with_record : {D : Type 0} → Kept D → List ℕ → Kept D
@@ -133,11 +129,11 @@ module _ (tells : Type 0) {D : Type 0} (disk : D → Disk) where
   Tells (Err (keep.Journal fault)) before after held left start written = IsUncommitted fault before after × (written ≡ start)
   Tells result before after held left start written = IsCommitted before after × HandsOut result held left start written
 
-  -- or nothing was done, where a pair is buffered whole, few bytes of replies are held, and the batch has space for its entry
+  -- or nothing was done, where that is not due
   abbrev pub MayTell : List ℕ → Result (Unit {0}) KeepFault → Keeping D → Keeping D → List ℕ → List ℕ → Output → Output → Type 0
   MayTell at_hand result before after held left start written =
       ((holds_pair at_hand ≡ true) × (length held < 2 ^ 20) × (length (at_rest before.journal.waiting) + block_bytes_max ≤ 2 ^ 22) × (result ≡ Ok tt) × (after ≡ before) × (left ≡ held) × (written ≡ start))
-      ⊎ Tells result before after held left start written
+      ⊎ (IsDue at_hand held before.journal.waiting × Tells result before after held left start written)
 
   -- what is held is sent before a fault ends serving; which may fail, and then that fault ends it
   abbrev pub EndsTold : KeepFault → KeepFault → Keeping D → Keeping D → List ℕ → List ℕ → Output → Output → Type 0

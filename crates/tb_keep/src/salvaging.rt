@@ -9,8 +9,8 @@ ghost use Rattle.tb_keep.specs.Keeping.{head_record};
 ghost use Rattle.tb_keep.specs.Entering.{StaysKept, ReadCause};
 ghost use Rattle.tb_keep.specs.Opening.{IsUntouched};
 ghost use Rattle.tb_keep.specs.Restoration.{HasStartCause};
+ghost use Rattle.tb_keep.specs.Rounds.{block_bytes_max};
 ghost use Rattle.tb_keep.specs.Salvaging.{IsSalvaged, IsUnsalvaged, IsBackedUp, IsNotBackedUp, MayBeSalvaged, HasNewCause, salvaged_device, backup_device, why_old, why_new};
-ghost use Rattle.tb_keep.specs.Steps.{block_bytes_max};
 ghost use Rattle.tb_keep.specs.Taking.{HoldsRead, HeadRead, IsOldDevice, IsTornStop, StaysUsed, StopsBy, Puts, TakesRecord, TakesNext, TakesAll, CommitsTaken, TakesRest, of_old, stop_of};
 
 use crate::dumps::first_rules;
@@ -62,11 +62,12 @@ fn make_room<N: Device>(journal: &mut Journal<N>) -> Result<(), Fault>
     journal.commit()
 }
 
-/// Lets a record wait for the next commit.
+/// Lets a record wait for the next commit, behind a batch that has space for it.
 fn append_one<N: Device>(journal: &mut Journal<N>, bytes: &[u8]) -> Result<(), Fault>
     requires usable { journal.old.usable ≡ true }
     requires ready { N.tells → IsReady N.disk journal.old }
     requires short { length bytes.now < 2 ^ 24 }
+    requires room { length (at_rest journal.old.waiting) + block_bytes_max ≤ 2 ^ 22 }
     ensures { Puts N.disk N.tells result (bytes.now ∷ []) journal.old journal.new }
 {
     journal.append(bytes)

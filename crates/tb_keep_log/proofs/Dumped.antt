@@ -20,7 +20,7 @@ use Rattle.tb_log.specs.Entries.{BeginsWith}
 use Rattle.tb_log.specs.Format.{content_of}
 use Rattle.tb_log.proofs.Pairs.{begins_on, begins_few}
 use Rattle.tb_keep.specs.Rounds.{entered, entries_from, state_from, IsUntimely}
-use Rattle.tb_keep_log.specs.Restoring.{fixed_bytes, RefusesMark}
+use Rattle.tb_keep_log.specs.Restoring.{fixed_bytes, HasMark, RefusesMark}
 use Rattle.tb_keep_log.specs.declared.faults.DumpLogFault.{DumpLogFault}
 use Rattle.tb_keep_log.specs.declared.faults.DumpLogFault.TheVariants as dump
 use Rattle.tb_keep_log.specs.declared.faults.LogStartFault.{LogStartFault}
@@ -192,13 +192,13 @@ pub record_refused : (profile : Profile) (clients_max last : ℕ) (S T : State) 
 record_refused profile clients_max last S T bytes o fault refuses =
     (refuses, ([], record { left = drop fixed_bytes bytes; spelled = refl; fit = tt }, sends_none o))
 
-pub record_halts : (profile : Profile) (clients_max last : ℕ) (S T : State) (bytes : List ℕ) (a b : Output) (fault : DumpLogFault) → DumpsContent (Err fault) S T (drop fixed_bytes bytes) a b
+pub record_halts : (profile : Profile) (clients_max last : ℕ) (S T : State) (bytes : List ℕ) (a b : Output) (fault : DumpLogFault) → HasMark profile clients_max bytes → DumpsContent (Err fault) S T (drop fixed_bytes bytes) a b
     → DumpsRecord (Err fault) profile clients_max last S T bytes a b
-record_halts profile clients_max last S T bytes a b (dump.Start fault) halts = absurd halts.0
-record_halts profile clients_max last S T bytes a b dump.NoPairs halts = halts
-record_halts profile clients_max last S T bytes a b dump.TimeExhausted halts = halts
-record_halts profile clients_max last S T bytes a b dump.NoMemory halts = halts
-record_halts profile clients_max last S T bytes a b dump.Writer halts = halts
+record_halts profile clients_max last S T bytes a b (dump.Start fault) marked halts = absurd halts.0
+record_halts profile clients_max last S T bytes a b dump.NoPairs marked halts = ((marked, halts.0), halts.1)
+record_halts profile clients_max last S T bytes a b dump.TimeExhausted marked halts = halts
+record_halts profile clients_max last S T bytes a b dump.NoMemory marked halts = halts
+record_halts profile clients_max last S T bytes a b dump.Writer marked halts = halts
 
 module _ (profile : Profile) (clients_max : ℕ) (records : List (List ℕ)) (bytes file : List ℕ) (begins : BeginsFile (records ++ bytes ∷ []) file) where
   behind : (fault : DumpLogFault) → StopsRecord fault profile clients_max (length records) bytes → StopsBehind fault profile clients_max file
@@ -259,32 +259,35 @@ module _ (before mid after : Disk) (first : FailsNone before mid) (seen : mid.se
 
 -- records
 
-pub dumped_none : (read : List (List ℕ)) (file : List ℕ) (scan : Place) (S : State) (o : Output) → HasRead read file scan → Dumped read file scan S S o o
-dumped_none read file scan S o has = record {
+pub dumped_none : (profile : Profile) (clients_max : ℕ) (read : List (List ℕ)) (file : List ℕ) (scan : Place) (S : State) (o : Output) → HasRead read file scan
+    → Dumped profile clients_max read file scan S S o o
+dumped_none profile clients_max read file scan S o has = record {
   records = [];
   pairs = [];
   has = subst (λ (r : List (List ℕ)). HasRead r file scan) (sym (append-nil read)) has;
   spelled = refl;
+  marked = tt;
   dumps = dumps_none S o;
 }
 
-spelled_join : (read : List (List ℕ)) (file : List ℕ) (scan : Place) (S T : State) (a b : Output) (so_far : Dumped read file scan S T a b) (records : List (List ℕ)) (ps : List Pair) (rest : List ℕ)
+spelled_join : (profile : Profile) (clients_max : ℕ) (read : List (List ℕ)) (file : List ℕ) (scan : Place) (S T : State) (a b : Output) (so_far : Dumped profile clients_max read file scan S T a b) (records : List (List ℕ)) (ps : List Pair) (rest : List ℕ)
     → flat_map (drop fixed_bytes) records ≡ content_of ps ++ rest → flat_map (drop fixed_bytes) (so_far.records ++ records) ≡ content_of (so_far.pairs ++ ps) ++ rest
-spelled_join read file scan S T a b so_far records ps rest spelled =
+spelled_join profile clients_max read file scan S T a b so_far records ps rest spelled =
     flat_map-append (drop fixed_bytes) so_far.records records
     ∙ ap (λ (bs : List ℕ). bs ++ flat_map (drop fixed_bytes) records) so_far.spelled
     ∙ ap (λ (bs : List ℕ). content_of so_far.pairs ++ bs) spelled
     ∙ sym (append_assoc (content_of so_far.pairs) (content_of ps) rest)
     ∙ ap (λ (bs : List ℕ). bs ++ rest) (sym (flat_map-append timed_bytes so_far.pairs ps))
 
-module _ (profile : Profile) (clients_max : ℕ) (read : List (List ℕ)) (file : List ℕ) (scan next : Place) (S T U : State) (a b c : Output) (so_far : Dumped read file scan S T a b) where
-  pub dumped_more : DumpsNext (Ok true) profile clients_max (read ++ so_far.records) file next T U b c → Dumped read file next S U a c
-  dumped_more (bytes, has, (ps, spelled, dumps)) = record {
+module _ (profile : Profile) (clients_max : ℕ) (read : List (List ℕ)) (file : List ℕ) (scan next : Place) (S T U : State) (a b c : Output) (so_far : Dumped profile clients_max read file scan S T a b) where
+  pub dumped_more : DumpsNext (Ok true) profile clients_max (read ++ so_far.records) file next T U b c → Dumped profile clients_max read file next S U a c
+  dumped_more (bytes, has, (marked, (ps, spelled, dumps))) = record {
     records = so_far.records ++ bytes ∷ [];
     pairs = so_far.pairs ++ ps;
     has = subst (λ (r : List (List ℕ)). HasRead r file next) (append_assoc read so_far.records (bytes ∷ [])) has;
-    spelled = spelled_join read file scan S T a b so_far (bytes ∷ []) ps [] (append-nil (drop fixed_bytes bytes) ∙ spelled ∙ sym (append-nil (content_of ps)))
+    spelled = spelled_join profile clients_max read file scan S T a b so_far (bytes ∷ []) ps [] (append-nil (drop fixed_bytes bytes) ∙ spelled ∙ sym (append-nil (content_of ps)))
         ∙ append-nil (content_of (so_far.pairs ++ ps));
+    marked = each_append (HasMark profile clients_max) so_far.records (bytes ∷ []) so_far.marked (marked, tt);
     dumps = dumps_then so_far.pairs ps S T U a b c so_far.dumps dumps;
   }
 
@@ -296,7 +299,7 @@ module _ (profile : Profile) (clients_max : ℕ) (read : List (List ℕ)) (file 
     records = so_far.records ++ next.records;
     rest = next.rest;
     begins = subst (λ (r : List (List ℕ)). BeginsFile r file) (append_assoc read so_far.records next.records) next.begins;
-    spelled = spelled_join read file scan S T a b so_far next.records ps next.rest next.spelled;
+    spelled = spelled_join profile clients_max read file scan S T a b so_far next.records ps next.rest next.spelled;
     fit = each_append IsTimed so_far.pairs ps so_far.dumps.fit next.fit;
   }
 
@@ -348,5 +351,6 @@ module _ (profile : Profile) (clients_max : ℕ) (file : List ℕ) where
       subst (λ (V : State). AreTimely V so_far.pairs) empty so_far.dumps.timely,
       sends_then (head_bytes profile clients_max) (flat_map dumped (entries_from (start profile clients_max) so_far.pairs)) a b c head
           (subst (λ (V : State). Sent (flat_map dumped (entries_from V so_far.pairs)) b c) empty so_far.dumps.sent),
+      so_far.marked,
     )
     dumps_whole (Err fault) (stops, halts) = (stops, dumps_first fault halts)

@@ -13,7 +13,7 @@ use Rattle.tb_log.specs.Follows.{Answers, Serves, Stops}
 use Rattle.tb_keep_log.specs.declared.faults.LogStartFault.{LogStartFault}
 use Rattle.tb_keep_log.specs.declared.faults.LogStartFault.TheVariants as start
 use Rattle.tb_keep_log.specs.Keeping.{record_bytes}
-use Rattle.tb_keep_log.specs.Restoring.{StopsAt, RefusesContent, RefusesMark, fixed_bytes}
+use Rattle.tb_keep_log.specs.Restoring.{StopsAt, HasMark, RefusesContent, RefusesMark, fixed_bytes}
 use Rattle.tb_keep_log.specs.Steps.{in_memory, of_log, HoldsEntry, DropsEntry, Enters}
 
 pub holds_entry : (content held : List ℕ) (F G : Following) (start written : Output) → length content ≤ content_max → start.written ≡ Some [] → written.written ≡ Some held
@@ -66,29 +66,29 @@ drops_entry TooMany content F start written stops =
 
 -- the entry of a record
 
-stops_of : (profile : Profile) (clients_max : ℕ) (F : Following) (bytes : List ℕ) (fault : LogFault) → (fault ≡ NoMemory) ⊎ RefusesContent fault F (drop fixed_bytes bytes) → StopsAt (of_log fault) profile clients_max F bytes
-stops_of profile clients_max F bytes NoMemory why = tt
-stops_of profile clients_max F bytes Device why = ⊎_elim (λ is. let no : Device ≡ NoMemory = is in absurd (cc)) (λ refuses. refuses) why
-stops_of profile clients_max F bytes Short why = ⊎_elim (λ is. let no : Short ≡ NoMemory = is in absurd (cc)) (λ refuses. refuses) why
-stops_of profile clients_max F bytes (UnknownKind kind) why = ⊎_elim (λ is. let no : UnknownKind kind ≡ NoMemory = is in absurd (cc)) (λ refuses. refuses) why
-stops_of profile clients_max F bytes (Gap at) why = ⊎_elim (λ is. let no : Gap at ≡ NoMemory = is in absurd (cc)) (λ refuses. refuses) why
-stops_of profile clients_max F bytes (Repeat at) why = ⊎_elim (λ is. let no : Repeat at ≡ NoMemory = is in absurd (cc)) (λ refuses. refuses) why
-stops_of profile clients_max F bytes (TooLong at) why = ⊎_elim (λ is. let no : TooLong at ≡ NoMemory = is in absurd (cc)) (λ refuses. refuses) why
-stops_of profile clients_max F bytes (Damaged at) why = ⊎_elim (λ is. let no : Damaged at ≡ NoMemory = is in absurd (cc)) (λ refuses. refuses) why
-stops_of profile clients_max F bytes (BadEntry at fault) why = ⊎_elim (λ is. let no : BadEntry at fault ≡ NoMemory = is in absurd (cc)) (λ refuses. refuses) why
-stops_of profile clients_max F bytes (TimeExhausted at) why = ⊎_elim (λ is. let no : TimeExhausted at ≡ NoMemory = is in absurd (cc)) (λ refuses. refuses) why
-stops_of profile clients_max F bytes TooMany why = ⊎_elim (λ is. let no : TooMany ≡ NoMemory = is in absurd (cc)) (λ refuses. refuses) why
+stops_of : (profile : Profile) (clients_max : ℕ) (F : Following) (bytes : List ℕ) (fault : LogFault) → HasMark profile clients_max bytes → (fault ≡ NoMemory) ⊎ RefusesContent fault F (drop fixed_bytes bytes) → StopsAt (of_log fault) profile clients_max F bytes
+stops_of profile clients_max F bytes NoMemory marked why = tt
+stops_of profile clients_max F bytes Device marked why = ⊎_elim (λ is. let no : Device ≡ NoMemory = is in absurd (cc)) (λ refuses. (marked, refuses)) why
+stops_of profile clients_max F bytes Short marked why = ⊎_elim (λ is. let no : Short ≡ NoMemory = is in absurd (cc)) (λ refuses. (marked, refuses)) why
+stops_of profile clients_max F bytes (UnknownKind kind) marked why = ⊎_elim (λ is. let no : UnknownKind kind ≡ NoMemory = is in absurd (cc)) (λ refuses. (marked, refuses)) why
+stops_of profile clients_max F bytes (Gap at) marked why = ⊎_elim (λ is. let no : Gap at ≡ NoMemory = is in absurd (cc)) (λ refuses. (marked, refuses)) why
+stops_of profile clients_max F bytes (Repeat at) marked why = ⊎_elim (λ is. let no : Repeat at ≡ NoMemory = is in absurd (cc)) (λ refuses. (marked, refuses)) why
+stops_of profile clients_max F bytes (TooLong at) marked why = ⊎_elim (λ is. let no : TooLong at ≡ NoMemory = is in absurd (cc)) (λ refuses. (marked, refuses)) why
+stops_of profile clients_max F bytes (Damaged at) marked why = ⊎_elim (λ is. let no : Damaged at ≡ NoMemory = is in absurd (cc)) (λ refuses. (marked, refuses)) why
+stops_of profile clients_max F bytes (BadEntry at fault) marked why = ⊎_elim (λ is. let no : BadEntry at fault ≡ NoMemory = is in absurd (cc)) (λ refuses. (marked, refuses)) why
+stops_of profile clients_max F bytes (TimeExhausted at) marked why = ⊎_elim (λ is. let no : TimeExhausted at ≡ NoMemory = is in absurd (cc)) (λ refuses. (marked, refuses)) why
+stops_of profile clients_max F bytes TooMany marked why = ⊎_elim (λ is. let no : TooMany ≡ NoMemory = is in absurd (cc)) (λ refuses. (marked, refuses)) why
 
-module _ (profile : Profile) (clients_max : ℕ) (F : Following) (content bytes : List ℕ) (behind : content ≡ drop fixed_bytes bytes) (fault : LogFault) (told : LogStartFault) (told_is : told ≡ of_log fault) where
+module _ (profile : Profile) (clients_max : ℕ) (F : Following) (content bytes : List ℕ) (behind : content ≡ drop fixed_bytes bytes) (fault : LogFault) (told : LogStartFault) (told_is : told ≡ of_log fault) (marked : HasMark profile clients_max bytes) where
   pub bad_content : (position : ℕ) → position ≡ F.position + 1 → IsNoPairs fault position content → StopsAt told profile clients_max F bytes
   bad_content position next bad =
       subst (λ (f : LogStartFault). StopsAt f profile clients_max F bytes) (sym told_is)
-      (stops_of profile clients_max F bytes fault (inr (inl (subst (λ (p : ℕ). IsNoPairs fault p (drop fixed_bytes bytes)) next (subst (λ (bs : List ℕ). IsNoPairs fault position bs) behind bad)))))
+      (stops_of profile clients_max F bytes fault marked (inr (inl (subst (λ (p : ℕ). IsNoPairs fault p (drop fixed_bytes bytes)) next (subst (λ (bs : List ℕ). IsNoPairs fault position bs) behind bad)))))
 
   pub halted_content : DropsEntry fault content F → StopsAt told profile clients_max F bytes
   halted_content drops =
       subst (λ (f : LogStartFault). StopsAt f profile clients_max F bytes) (sym told_is)
-      (stops_of profile clients_max F bytes fault (⊎_elim (λ is. inl is) (λ halted. inr (inr halted)) (subst (λ (bs : List ℕ). DropsEntry fault bs F) behind drops)))
+      (stops_of profile clients_max F bytes fault marked (⊎_elim (λ is. inl is) (λ halted. inr (inr halted)) (subst (λ (bs : List ℕ). DropsEntry fault bs F) behind drops)))
 
 -- the first bytes of a record
 
@@ -103,20 +103,23 @@ mark_stops start.NoMemory profile clients_max F bytes why = absurd why
 mark_stops (start.TornTooLong at torn) profile clients_max F bytes why = absurd why
 
 module _ (profile : Profile) (clients_max : ℕ) (position : ℕ) (bytes content held : List ℕ) (F G : Following) (next : position ≡ F.position + 1) (behind : content ≡ drop fixed_bytes bytes)
-    (holds : HoldsEntry content held F G) where
+    (holds : HoldsEntry content held F G) (marked : HasMark profile clients_max bytes) where
   compared_not : (fault : LogStartFault) → (fault ≡ start.NoMemory) ⊎ ((fault ≡ start.OtherHashes position) × (bytes ≢ record_bytes profile clients_max G content))
       → StopsAt fault profile clients_max F bytes
   compared_not fault (inl is) = subst (λ (f : LogStartFault). StopsAt f profile clients_max F bytes) (sym is) tt
-  compared_not fault (inr (is, differs)) = subst (λ (f : LogStartFault). StopsAt f profile clients_max F bytes) (sym is) (record {
-    place = next;
-    pairs = holds.pairs;
-    fit = holds.fit;
-    answered = holds.answered;
-    pairs_are = sym behind ∙ holds.spelled;
-    other = λ same.
-        differs (same ∙ sym (ap (λ (K : Following). record_bytes profile clients_max K (content_of holds.pairs)) holds.now)
-        ∙ sym (ap (λ (bs : List ℕ). record_bytes profile clients_max G bs) holds.spelled));
-  })
+  compared_not fault (inr (is, differs)) = subst (λ (f : LogStartFault). StopsAt f profile clients_max F bytes) (sym is) (
+    marked,
+    record {
+      place = next;
+      pairs = holds.pairs;
+      fit = holds.fit;
+      answered = holds.answered;
+      pairs_are = sym behind ∙ holds.spelled;
+      other = λ same.
+          differs (same ∙ sym (ap (λ (K : Following). record_bytes profile clients_max K (content_of holds.pairs)) holds.now)
+          ∙ sym (ap (λ (bs : List ℕ). record_bytes profile clients_max G bs) holds.spelled));
+    },
+  )
 
   pub compared : (result : Result (Unit {0}) LogStartFault) → OnOk result (bytes ≡ record_bytes profile clients_max G content)
       → IfErr result (λ fault. (fault ≡ start.NoMemory) ⊎ ((fault ≡ start.OtherHashes position) × (bytes ≢ record_bytes profile clients_max G content)))

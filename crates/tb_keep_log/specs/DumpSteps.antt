@@ -17,7 +17,7 @@ use Rattle.tb_keep.specs.Rounds.{entered, entries_from, state_from, IsUntimely}
 use Rattle.tb_keep_log.specs.declared.faults.DumpLogFault.{DumpLogFault}
 use Rattle.tb_keep_log.specs.declared.faults.DumpLogFault.TheVariants as dump
 use Rattle.tb_keep_log.specs.Dumping.{AreTimely, HasDumpCause, HasNoPair, StopsRecord, StopsDump}
-use Rattle.tb_keep_log.specs.Restoring.{fixed_bytes}
+use Rattle.tb_keep_log.specs.Restoring.{fixed_bytes, HasMark}
 
 -- the entry of a pair went out, if it makes one; or not
 abbrev pub DumpsPair : Result (Unit {0}) DumpLogFault → State → State → Pair → Output → Output → Type 0
@@ -66,27 +66,30 @@ DumpsContent (Ok done) S T content before after = (ps : List Pair) × (content �
 DumpsContent (Err fault) S T content before after = StopsContent fault content × Halts (AreFront content) fault S before after
 
 abbrev pub DumpsRecord : Result (Unit {0}) DumpLogFault → Profile → ℕ → ℕ → State → State → List ℕ → Output → Output → Type 0
-DumpsRecord (Ok done) profile clients_max last S T bytes before after = DumpsContent (Ok tt) S T (drop fixed_bytes bytes) before after
+DumpsRecord (Ok done) profile clients_max last S T bytes before after =
+    HasMark profile clients_max bytes × DumpsContent (Ok tt) S T (drop fixed_bytes bytes) before after
 DumpsRecord (Err fault) profile clients_max last S T bytes before after =
     StopsRecord fault profile clients_max last bytes × Halts (AreFront (drop fixed_bytes bytes)) fault S before after
 
 abbrev pub DumpsNext : Result Bool DumpLogFault → Profile → ℕ → List (List ℕ) → List ℕ → Place → State → State → Output → Output → Type 0
 DumpsNext (Ok true) profile clients_max read file scan S T before after =
-    (bytes : List ℕ) × HasRead (read ++ bytes ∷ []) file scan × DumpsContent (Ok tt) S T (drop fixed_bytes bytes) before after
+    (bytes : List ℕ) × HasRead (read ++ bytes ∷ []) file scan
+    × (HasMark profile clients_max bytes × DumpsContent (Ok tt) S T (drop fixed_bytes bytes) before after)
 DumpsNext (Ok false) profile clients_max read file scan S T before after = (contents file ≡ Records read) × (T ≡ S) × (after ≡ before)
 DumpsNext (Err fault) profile clients_max read file scan S T before after = StopsDump fault profile clients_max file × Halts (AreNext read file) fault S before after
 
 -- these records were read behind others, and the entries of their pairs went out
-pub record Dumped (read : List (List ℕ)) (file : List ℕ) (scan : Place) (S T : State) (before after : Output) : Type 0 where
+pub record Dumped (profile : Profile) (clients_max : ℕ) (read : List (List ℕ)) (file : List ℕ) (scan : Place) (S T : State) (before after : Output) : Type 0 where
   pub records : List (List ℕ)
   pub pairs : List Pair
   pub has : HasRead (read ++ records) file scan
   pub spelled : flat_map (drop fixed_bytes) records ≡ content_of pairs
+  pub marked : Each (HasMark profile clients_max) records
   pub dumps : DumpsPairs pairs S T before after
 
 abbrev pub DumpsAll : Result (Unit {0}) DumpLogFault → Profile → ℕ → List (List ℕ) → List ℕ → State → Output → Output → Type 0
 DumpsAll (Ok done) profile clients_max read file S before after =
-    (scan : Place) × (T : State) × (dumped : Dumped read file scan S T before after) × (contents file ≡ Records (read ++ dumped.records))
+    (scan : Place) × (T : State) × (dumped : Dumped profile clients_max read file scan S T before after) × (contents file ≡ Records (read ++ dumped.records))
 DumpsAll (Err fault) profile clients_max read file S before after = StopsDump fault profile clients_max file × Halts (AreNext read file) fault S before after
 
 -- the cause of a fault, where some records were read before

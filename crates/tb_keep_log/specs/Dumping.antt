@@ -23,7 +23,7 @@ use Rattle.tb_keep_log.specs.declared.faults.DumpLogFault.{DumpLogFault}
 use Rattle.tb_keep_log.specs.declared.faults.DumpLogFault.TheVariants as dump
 use Rattle.tb_keep_log.specs.declared.faults.LogStartFault.TheVariants as start_faults
 use Rattle.tb_keep_log.specs.Keeping.{IsKept}
-use Rattle.tb_keep_log.specs.Restoring.{fixed_bytes, RefusesMark, IsLogCause}
+use Rattle.tb_keep_log.specs.Restoring.{fixed_bytes, HasMark, RefusesMark, IsLogCause}
 
 -- the records have these pairs
 pub record HasPairs (records : List (List ℕ)) (ps : List Pair) : Type 0 where
@@ -59,7 +59,7 @@ pub record HasNoPair (content : List ℕ) : Type 0 where
 -- why a record behind so many others is refused: by its first bytes or its length, or for what is no pair
 abbrev pub StopsRecord : DumpLogFault → Profile → ℕ → ℕ → List ℕ → Type 0
 StopsRecord (dump.Start fault) profile clients_max last bytes = RefusesMark fault profile clients_max last bytes
-StopsRecord dump.NoPairs profile clients_max last bytes = HasNoPair (drop fixed_bytes bytes)
+StopsRecord dump.NoPairs profile clients_max last bytes = HasMark profile clients_max bytes × HasNoPair (drop fixed_bytes bytes)
 StopsRecord fault profile clients_max last bytes = Unit {0}
 
 -- the file begins with records, behind which one is refused
@@ -94,11 +94,11 @@ DumpsFirst dump.Writer profile clients_max file before after = (ps : List Pair) 
 DumpsFirst fault profile clients_max file before after =
     (after ≡ before) ⊎ ((ps : List Pair) × AreFirst file ps × Sent (dump_of_pairs profile clients_max ps) before after)
 
--- the dump of all pairs of a file went out, or why not, and what did
+-- the dump of all pairs of a file of these rules went out, or why not, and what did
 abbrev pub DumpsLog : Result (Unit {0}) DumpLogFault → Profile → ℕ → List ℕ → Output → Output → Type 0
 DumpsLog (Ok done) profile clients_max file before after =
     (records : List (List ℕ)) × (ps : List Pair) × (contents file ≡ Records records) × HasPairs records ps × AreTimely (start profile clients_max) ps
-    × Sent (dump_of_pairs profile clients_max ps) before after
+    × Sent (dump_of_pairs profile clients_max ps) before after × Each (HasMark profile clients_max) records
 DumpsLog (Err fault) profile clients_max file before after = StopsDump fault profile clients_max file × DumpsFirst fault profile clients_max file before after
 
 -- the cause of a dump's fault, by what the device has counted since: of one of the file, that which it has when it is read; behind any

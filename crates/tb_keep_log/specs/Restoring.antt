@@ -49,6 +49,10 @@ RefusesMark (start.NoEntry at) profile clients_max last bytes =
     × (HasNoMark bytes ⊎ (length bytes < fixed_bytes) ⊎ (fixed_bytes + content_max < length bytes) ⊎ (2 ^ 64 ≤ last + 1))
 RefusesMark fault profile clients_max last bytes = ⊥
 
+-- a record begins as that of an entry of these rules, and is long enough for one
+abbrev pub HasMark : Profile → ℕ → List ℕ → Type 0
+HasMark profile clients_max bytes = (starts_with nat_eq bytes (mark profile clients_max) ≡ true) × (fixed_bytes ≤ length bytes)
+
 -- a pair of an entry, which is new, has no time
 abbrev pub IsHaltedContent : LogFault → Following → List ℕ → Type 0
 IsHaltedContent (log.TimeExhausted at) F content = (start : Output) × (written : Output) × Stops (log.TimeExhausted at) (with_content F content) content start written
@@ -69,8 +73,8 @@ pub record IsOther (profile : Profile) (clients_max : ℕ) (position : ℕ) (F :
 
 -- why a record is refused behind a follower
 abbrev pub StopsAt : LogStartFault → Profile → ℕ → Following → List ℕ → Type 0
-StopsAt (start.Entry fault) profile clients_max F bytes = RefusesContent fault F (drop fixed_bytes bytes)
-StopsAt (start.OtherHashes position) profile clients_max F bytes = IsOther profile clients_max position F bytes
+StopsAt (start.Entry fault) profile clients_max F bytes = HasMark profile clients_max bytes × RefusesContent fault F (drop fixed_bytes bytes)
+StopsAt (start.OtherHashes position) profile clients_max F bytes = HasMark profile clients_max bytes × IsOther profile clients_max position F bytes
 StopsAt start.NoMemory profile clients_max F bytes = Unit {0}
 StopsAt fault profile clients_max F bytes = RefusesMark fault profile clients_max F.position bytes
 

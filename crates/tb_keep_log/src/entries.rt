@@ -1,7 +1,8 @@
 //! An entry served in memory; the entry of a record entered again, and compared with it.
-ghost use Rattle.std.specs.Prelude.{◌≡◌, ◌≢◌, ◌≤◌, ◌+◌, ◌⊎◌, length, drop, IfOk, IfErr, OnOk};
+ghost use Rattle.std.specs.Prelude.{◌≡◌, ◌≢◌, ◌≤◌, ◌+◌, ◌⊎◌, true, nat_eq, length, drop, IfOk, IfErr, OnOk};
+ghost use Rattle.std.specs.List.{starts_with};
 ghost use Rattle.tb_log.specs.Format.{content_max};
-ghost use Rattle.tb_keep_log.specs.Keeping.{record_bytes};
+ghost use Rattle.tb_keep_log.specs.Keeping.{mark, record_bytes};
 ghost use Rattle.tb_keep_log.specs.Restoring.{fixed_bytes};
 ghost use Rattle.tb_keep_log.specs.Steps.{in_memory, of_log, HoldsEntry, DropsEntry, Enters};
 
@@ -90,6 +91,7 @@ fn enter_at<A: Allocator + Clone>(
     bytes: &[u8],
 ) -> Result<(), LogStartFault>
     requires next { position ≡ follower.old.position + 1 }
+    requires marked { starts_with nat_eq bytes.now (mark rules.profile rules.clients_max) ≡ true }
     requires long { fixed_bytes ≤ length bytes.now }
     requires few { length bytes.now ≤ fixed_bytes + content_max }
     ensures { Enters result rules.profile rules.clients_max bytes.now follower.old follower.new }

@@ -1,5 +1,5 @@
 //! The record of an entry: the rules, the position, both hashes, and the pairs.
-ghost use Rattle.std.specs.Prelude.{◌≡◌, ◌≤◌, ◌+◌, false, nat_eq, length, IfOk, IfErr, OnOk};
+ghost use Rattle.std.specs.Prelude.{◌≡◌, ◌≤◌, ◌+◌, true, false, nat_eq, length, IfOk, IfErr, OnOk};
 ghost use Rattle.std.specs.List.{starts_with};
 ghost use Rattle.tb_log.specs.Format.{content_max};
 ghost use Rattle.tb_keep_log.specs.Keeping.{mark, record_bytes};
@@ -63,6 +63,7 @@ fn other_mark(bytes: &[u8], rules: Rules, last: u64) -> LogStartFault
 /// The position of the entry of a record behind the entry of this position, by the record's first bytes and its length.
 pub(crate) fn check_mark(bytes: &[u8], rules: Rules, last: u64) -> Result<u64, LogStartFault>
     ensures next { IfOk result (λ position. position ≡ last + 1) }
+    ensures marked { OnOk result (starts_with nat_eq bytes.now (mark rules.profile rules.clients_max) ≡ true) }
     ensures long { OnOk result (fixed_bytes ≤ length bytes.now) }
     ensures few { OnOk result (length bytes.now ≤ fixed_bytes + content_max) }
     ensures refused { IfErr result (λ fault. RefusesMark fault rules.profile rules.clients_max last bytes.now) }

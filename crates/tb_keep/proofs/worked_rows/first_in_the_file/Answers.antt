@@ -22,7 +22,7 @@ returns-clause-record c =
         head_record Two 8,
         bytes ∷ [],
         refl,
-        inr (S, ([], bytes, [], refl, leads_none S, (refl, (inl (lit< tt), λ (e : Entry) is. let clash : 1 ∷ 2 ∷ [] ≡ dumped e = is.bytes_are in absurd (cc))))),
+        inr (refl, (S, ([], bytes, [], refl, leads_none S, (refl, (inl (lit< tt), λ (e : Entry) is. let clash : 1 ∷ 2 ∷ [] ≡ dumped e = is.bytes_are in absurd (cc)))))),
       );
     }
 

@@ -10,7 +10,7 @@ loop-fault-init g c = record {
   same = λ file holds. holds;
   stays = λ t. stays_none (g.D.Device.disk c.args.device.now) (g.met.D.Device.only_now c.args.device.now);
   none = λ t read has fault. refl;
-  dumped = λ file read holds has. dumped_none read file c.args.scan.now c.args.machine.now (g.W.Sink.output c.args.writer.now) has;
+  dumped = λ file read holds has. dumped_none c.args.rules.profile c.args.rules.clients_max read file c.args.scan.now c.args.machine.now (g.W.Sink.output c.args.writer.now) has;
 }
 
 pub loop-fault-preserved : goal.loop-fault-preserved
