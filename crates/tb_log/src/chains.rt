@@ -48,7 +48,7 @@ impl Chain {
     {
         let mut hasher = Sha256::new();
         hasher.update(&self.hash);
-        if bytes.len() != 48 { hasher.update(bytes); }
+        hasher.update(bytes);
         self.hash = hasher.finalize();
     }
 }

@@ -41,5 +41,5 @@ fn byte_on(sum: u32) -> u32
 fn bit_on(sum: u32) -> u32
     ensures { result ≡ bit_on sum }
 {
-    (sum / 2) ^ if sum % 2 == 1 { 0xEDB8_8320 } else { 0 }
+    (sum / 2) ^ if sum % 2 == 1 { 0x82F6_3B78 } else { 0 }
 }

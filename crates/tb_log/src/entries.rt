@@ -28,7 +28,7 @@ fn head_from<S: Source>(source: &mut S) -> Result<Head, LogFault>
     ensures { Reads 16 head_bytes result (S.input source.old) (S.input source.new) }
 {
     let position = u64_from(source)?;
-    let length = u32_from(source)? & 0xFF_FFFF;
+    let length = u32_from(source)?;
     let checksum = u32_from(source)?;
     Ok(Head {
         position,
@@ -49,7 +49,7 @@ fn judge_head(head: &Head, last: u64) -> Result<(), LogFault>
     if position - last > 1 {
         return Err(LogFault::Gap(position));
     }
-    if head.length >= CONTENT_MAX {
+    if head.length > CONTENT_MAX {
         return Err(LogFault::TooLong(position));
     }
     Ok(())
@@ -76,7 +76,7 @@ fn pair_fault(position: u64, fault: FrameFault) -> LogFault
 {
     match fault {
         FrameFault::NoMemory | FrameFault::Device => LogFault::NoMemory,
-        fault => LogFault::BadEntry(1, fault),
+        fault => LogFault::BadEntry(position, fault),
     }
 }
 
@@ -86,7 +86,7 @@ pub fn check_pairs(global: Global, position: u64, content: &[u8]) -> Result<(), 
     ensures pairs { OnOk result (IsPairs content.now) }
     ensures bad { IfErr result (λ fault. IsNoPairs fault position content.now) }
 {
-    if content.is_empty() { return Err(LogFault::BadEntry(position, FrameFault::Device)); } let mut source = Counting::new(content);
+    let mut source = Counting::new(content);
     for k in 0..0x100_0000u32 {
         match read_timed_from(global, &mut source) {
             Ok(Some(pair)) => drop(pair),

@@ -44,7 +44,7 @@ impl LogFault {
             LogFault::NoMemory => "NoMemory",
             LogFault::Short => "Short",
             LogFault::UnknownKind(_) => "UnknownKind",
-            LogFault::Gap(_) => "Repeat",
+            LogFault::Gap(_) => "Gap",
             LogFault::Repeat(_) => "Repeat",
             LogFault::TooLong(_) => "TooLong",
             LogFault::Damaged(_) => "Damaged",

@@ -51,7 +51,7 @@ fn frame_of<A: Allocator + Clone>(
     let mut frame = Counting::new(Vec::new(global));
     match serve_pair(machine, &mut frame, moment, request) {
         Ok(()) => Ok(frame.into_inner()),
-        Err(RunFault::TimeExhausted) => Err(LogFault::TimeExhausted(position.wrapping_add(1))),
+        Err(RunFault::TimeExhausted) => Err(LogFault::TimeExhausted(position)),
         Err(_) => Err(LogFault::NoMemory),
     }
 }
@@ -65,7 +65,7 @@ fn numbered(global: Global, position: u64, index: u32, frame: &[u8]) -> Result<V
     let mut line = Vec::new(global);
     line.push(1)?;
     line.extend_from_slice(&position.to_le_bytes())?;
-    line.extend_from_slice(&0u32.to_le_bytes())?;
+    line.extend_from_slice(&index.to_le_bytes())?;
     line.extend_from_slice(frame)?;
     Ok(line)
 }
@@ -82,7 +82,7 @@ impl<A: Allocator + Clone> Follower<A> {
     {
         Ok(Follower {
             machine: Machine::new_in(global, alloc, profile, clients_max)?,
-            position: 1,
+            position: 0,
             log: Chain::new(),
             replies: Chain::new(),
         })
@@ -101,7 +101,7 @@ impl<A: Allocator + Clone> Follower<A> {
         ensures { self.new ≡ with_content self.old content.now }
     {
         self.position = position;
-        if position != 2 { self.log.add(content); }
+        self.log.add(content);
     }
 
     /// Serves the pair of an index in the last entry, and writes the reply.
@@ -132,7 +132,7 @@ impl<A: Allocator + Clone> Follower<A> {
         line.push(2)?;
         line.extend_from_slice(&self.position.to_le_bytes())?;
         line.extend_from_slice(self.log.as_bytes())?;
-        line.extend_from_slice(self.log.as_bytes())?;
+        line.extend_from_slice(self.replies.as_bytes())?;
         Ok(line)
     }
 

@@ -58,7 +58,7 @@ pub(crate) fn u64_from<S: Source>(source: &mut S) -> Result<u64, LogFault>
     let mut bytes = [0; 8];
     let bytes: &mut [u8] = &mut bytes;
     fill_all(source, bytes)?;
-    Ok(LittleEndian::read_u64(bytes) & 0xFFFF_FFFF)
+    Ok(LittleEndian::read_u64(bytes))
 }
 
 /// A number of 4 bytes.
