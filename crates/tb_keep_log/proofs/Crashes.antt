@@ -12,13 +12,12 @@ use Rattle.tb_machine.proofs.CodesFit.{each_append}
 use Rattle.tb_machine.proofs.Legal.{fold_append}
 use Rattle.tb_machine.proofs.Running.{sends_none, sends_then}
 use Rattle.tb_keep.specs.Again.{IsAmid}
-use Rattle.tb_log.specs.declared.faults.LogFault.{LogFault}
 use Rattle.tb_log.specs.Following.{Following, begun, Item, with_item, after_items, bytes_of, item_bytes, given, given_to, AllAnswered}
 use Rattle.tb_log.specs.Follows.{ItemFits}
 use Rattle.tb_keep_log.specs.declared.faults.KeepLogFault.{KeepLogFault}
 use Rattle.tb_keep_log.specs.declared.faults.KeepLogFault.TheVariants as keep
 use Rattle.tb_keep_log.specs.Keeping.{record_of, records_from, IsKept}
-use Rattle.tb_keep_log.specs.Serving.{Point, point, Turn, Turns, IsUncommitted, Halts, AreTooMany, Served}
+use Rattle.tb_keep_log.specs.Serving.{Point, point, Turns, IsUncommitted, Halts, AreTooMany, Served}
 use Rattle.tb_keep_log.specs.Laws.{GoesOn, OpenedGoesOn, HasFirst, AfterKill, AnyCrash, WhileCommitting, TellsTheDone, WhileTelling}
 use Rattle.tb_keep_log.proofs.Leading.{records_join, answered_join, leads_then}
 

@@ -1,5 +1,5 @@
 -- Items that are served one after another.
-use Rattle.std.proofs.Common.{◌≡◌, inl, inr, ℕ, ◌+◌, ◌-◌, ◌^◌, arith, true, List, [], ◌∷◌, ◌++◌, length, Result, Err, refl, subst, ◌∙◌, ap, length-append}
+use Rattle.std.proofs.Common.{◌≡◌, inl, inr, ℕ, ◌+◌, ◌-◌, ◌^◌, arith, true, List, [], ◌∷◌, ◌++◌, length, Result, Err, refl, subst, ◌∙◌, length-append}
 use Rattle.tb_records.specs.declared.limits.Profile.{Profile}
 use Rattle.tb_journal.specs.Device.{Disk}
 use Rattle.tb_journal.specs.Ready.{IsReady}

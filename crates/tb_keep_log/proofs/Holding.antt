@@ -7,7 +7,7 @@ use Rattle.tb_machine.specs.Scripts.{Pair}
 use Rattle.tb_log.specs.declared.faults.LogFault.{LogFault}
 use Rattle.tb_log.specs.declared.faults.LogFault.TheVariants.{Device, NoMemory, Short, UnknownKind, Gap, Repeat, TooLong, Damaged, BadEntry, TimeExhausted, TooMany}
 use Rattle.tb_log.specs.Format.{content_max, content_of}
-use Rattle.tb_log.specs.Following.{Following, Entry, with_pair, with_content, AreAnswered, replies_from}
+use Rattle.tb_log.specs.Following.{Following, with_pair, with_content, AreAnswered, replies_from}
 use Rattle.tb_log.specs.Entries.{IsNoPairs}
 use Rattle.tb_log.specs.Follows.{Answers, Serves, Stops}
 use Rattle.tb_keep_log.specs.declared.faults.LogStartFault.{LogStartFault}

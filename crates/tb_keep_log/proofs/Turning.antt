@@ -2,7 +2,6 @@
 use Rattle.std.proofs.Common.{◌≡◌, ◌≢◌, inl, inr, ℕ, ◌+◌, List, [], ◌∷◌, Result, Ok, Err, refl, sym, ap, subst, ◌∙◌, append-nil}
 use Rattle.tb_records.specs.declared.limits.Profile.{Profile}
 use Rattle.tb_records.specs.Transport.{Input, Output, Sent}
-use Rattle.tb_journal.specs.declared.faults.Fault.{Fault}
 use Rattle.tb_journal.specs.Device.{Disk}
 use Rattle.tb_journal.specs.Contents.{contents, recorded}
 use Rattle.tb_journal.specs.Steps.{IsAtRest, IsBeforeOrAfter}
