@@ -1,9 +1,10 @@
 -- Why a file is not opened.
-use Rattle.std.proofs.Common.{arith, ◌≡◌, inl, inr, ℕ, ◌<◌, ◌≤◌, ◌^◌, List, Result, Ok, Err, IfOk, IfErr, MatchResult, sym, ap, ◌∙◌, subst}
+use Rattle.std.proofs.Common.{arith, ◌≡◌, inl, inr, ℕ, ◌<◌, ◌≤◌, ◌^◌, false, List, Result, Ok, Err, IfOk, IfErr, MatchResult, sym, ap, ◌∙◌, subst}
 use Rattle.std.proofs.lemmas.Grind.{common_steps}
 use Rattle.tb_records.specs.declared.limits.Profile.{Profile}
 use Rattle.tb_journal.specs.Device.{Disk, LeavesOnly}
 use Rattle.tb_journal.specs.Contents.{Records, contents, recorded}
+use Rattle.tb_journal.specs.Creating.{is_blank}
 use Rattle.tb_journal.specs.Opening.{IsAsBefore}
 use Rattle.tb_journal.specs.declared.reading.Extent.{Extent}
 use Rattle.tb_journal.proofs.Moments.{then, weaker}
@@ -45,22 +46,22 @@ module _ (profile : Profile) (clients_max : ℕ) (before mid after : Disk) (coun
   still_refused start.NoMemory is = for_before start.NoMemory is
   still_refused (start.TornTooLong at bytes) is = for_before (start.TornTooLong at bytes) is
 
-  refused_then : (fault : StartFault) → IsRefused profile clients_max fault mid after → IsStartRefused profile clients_max fault before after
-  refused_then (start.Journal (open_faults.Device fault)) is = tt
-  refused_then (start.Journal (open_faults.Refused why)) is = for_before (start.Journal (open_faults.Refused why)) is
-  refused_then start.Head is = for_before start.Head is
-  refused_then start.OtherRules is = for_before start.OtherRules is
-  refused_then (start.Record place fault) is = for_before (start.Record place fault) is
-  refused_then (start.Entry fault) is = for_before (start.Entry fault) is
-  refused_then start.NoMemory is = untouched_then before mid after counts first is.1
-  refused_then (start.TornTooLong at bytes) is = for_before (start.TornTooLong at bytes) is
+  refused_then : is_blank before.seen ≡ false → (fault : StartFault) → IsRefused profile clients_max fault mid after → IsStartRefused profile clients_max fault before after
+  refused_then some (start.Journal (open_faults.Device fault)) is = tt
+  refused_then some (start.Journal (open_faults.Refused why)) is = (for_before (start.Journal (open_faults.Refused why)) is, some)
+  refused_then some start.Head is = (for_before start.Head is, some)
+  refused_then some start.OtherRules is = (for_before start.OtherRules is, some)
+  refused_then some (start.Record place fault) is = (for_before (start.Record place fault) is, some)
+  refused_then some (start.Entry fault) is = (for_before (start.Entry fault) is, some)
+  refused_then some start.NoMemory is = untouched_then before mid after counts first is.1
+  refused_then some (start.TornTooLong at bytes) is = (for_before (start.TornTooLong at bytes) is, some)
 
 module _ {D : Type 0} (disk : D → Disk) (profile : Profile) (clients_max : ℕ) (before mid : Disk) where
-  pub refused_at_last : (result : Result (Keeping D) (NotKept D)) → Counts mid → IsUntouched before mid
+  pub refused_at_last : (result : Result (Keeping D) (NotKept D)) → Counts mid → IsUntouched before mid → is_blank before.seen ≡ false
       → IfErr result (λ failed. IsRefused profile clients_max failed.fault mid (disk failed.device))
       → IfErr result (λ failed. IsStartRefused profile clients_max failed.fault before (disk failed.device))
-  refused_at_last (Ok keeper) counts first is = tt
-  refused_at_last (Err failed) counts first is = refused_then profile clients_max before mid (disk failed.device) counts first failed.fault is
+  refused_at_last (Ok keeper) counts first some is = tt
+  refused_at_last (Err failed) counts first some is = refused_then profile clients_max before mid (disk failed.device) counts first some failed.fault is
 
   pub refused_still : (result : Result (Keeping D) (NotKept D)) → Counts mid → IsUntouched before mid
       → IfErr result (λ failed. IsRefused profile clients_max failed.fault mid (disk failed.device))
@@ -110,7 +111,7 @@ pub opened_as_started : {D : Type 0} (disk : D → Disk) (profile : Profile) (cl
 opened_as_started disk profile clients_max before mid (Ok keeper) same opened = inl (subst (λ (file : List ℕ). IsOpened disk profile clients_max file keeper) same opened)
 opened_as_started disk profile clients_max before mid (Err failed) same opened = tt
 
-pub starts_file : {D : Type 0} (profile : Profile) (clients_max : ℕ) (file : List ℕ) (result : Result (Keeping D) (NotKept D)) → OpensFile result profile clients_max file
+pub starts_file : {D : Type 0} (profile : Profile) (clients_max : ℕ) (file : List ℕ) (result : Result (Keeping D) (NotKept D)) → is_blank file ≡ false → OpensFile result profile clients_max file
     → StartsFile result profile clients_max file
-starts_file profile clients_max file (Ok keeper) opens = inl opens
-starts_file profile clients_max file (Err failed) opens = inr opens
+starts_file profile clients_max file (Ok keeper) some opens = inl opens
+starts_file profile clients_max file (Err failed) some opens = inr (opens, some)

@@ -67,7 +67,8 @@ abbrev pub StartsFile : {D : Type 0} → Result (Keeping D) (NotKept D) → Prof
 StartsFile (Ok keeper) profile clients_max file =
     OpensFile (Ok keeper) profile clients_max file
     ⊎ ((is_blank file ≡ true) × (keeper.state ≡ start_state profile clients_max) × (keeper.cut ≡ 0))
-StartsFile (Err failed) profile clients_max file = IsNotOfFile failed.fault ⊎ StopsOpening failed.fault profile clients_max file
+StartsFile (Err failed) profile clients_max file =
+    IsNotOfFile failed.fault ⊎ (StopsOpening failed.fault profile clients_max file × (is_blank file ≡ false))
 
 -- the file is as it was, and was at each moment
 pub record IsUntouched (before after : Disk) : Type 0 where
@@ -127,6 +128,8 @@ module _ (profile : Profile) (clients_max : ℕ) where
   IsRefused (start.Journal (open_faults.Device fault)) before after = Unit {0}
   IsRefused fault before after = StopsOpening fault profile clients_max before.seen × IsUntouched before after
 
+  -- the same of a start, which is never refused for what is in a blank file
   abbrev pub IsStartRefused : StartFault → Disk → Disk → Type 0
+  IsStartRefused (start.Journal (open_faults.Device fault)) before after = Unit {0}
   IsStartRefused start.NoMemory before after = IsUntouched before after
-  IsStartRefused fault before after = IsRefused fault before after
+  IsStartRefused fault before after = IsRefused fault before after × (is_blank before.seen ≡ false)

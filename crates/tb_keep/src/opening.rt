@@ -146,7 +146,10 @@ pub fn create<D: Device, A: Allocator + Clone>(
     };
     match create_headed(global, device, rules) {
         Ok(journal) => Ok(Keeper::new(global, journal, machine, 0)),
-        Err(failed) => Err(failed),
+        Err(failed) => {
+            drop(machine);
+            Err(failed)
+        }
     }
 }
 
@@ -210,7 +213,10 @@ fn open_restored<D: Device, A: Allocator + Clone>(
 {
     match open_headed(global, device, rules, extent) {
         Ok(journal) => Ok(Keeper::new(global, journal, machine, cut)),
-        Err(failed) => Err(failed),
+        Err(failed) => {
+            drop(machine);
+            Err(failed)
+        }
     }
 }
 
@@ -261,6 +267,7 @@ fn open_short<D: Device, A: Allocator + Clone>(
     match torn_behind(&mut device, extent) {
         Ok(torn) => {
             if torn > BATCH_BYTES_MAX as u64 {
+                drop(machine);
                 let fault = StartFault::TornTooLong {
                     at: extent.end as u64,
                     bytes: torn,
@@ -269,10 +276,13 @@ fn open_short<D: Device, A: Allocator + Clone>(
             }
             open_restored(global, device, rules, extent, machine, torn)
         }
-        Err(fault) => Err(NotKept {
-            device,
-            fault: StartFault::Journal(OpenFault::Device(fault)),
-        }),
+        Err(fault) => {
+            drop(machine);
+            Err(NotKept {
+                device,
+                fault: StartFault::Journal(OpenFault::Device(fault)),
+            })
+        }
     }
 }
 

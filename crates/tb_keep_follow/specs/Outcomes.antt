@@ -17,7 +17,7 @@ use Rattle.tb_keep_log.specs.declared.faults.LogStartFault.{LogStartFault}
 use Rattle.tb_keep_log.specs.declared.opening.NotStarted.{NotStarted}
 use Rattle.tb_keep_log.specs.Dumping.{DumpsLog, HasDumpCause}
 use Rattle.tb_keep_log.specs.Keeping.{Keeping}
-use Rattle.tb_keep_log.specs.Opening.{HasStartCause, IsRefused, IsStarted, MayBeStarted, StartsFile, device_left, why_left}
+use Rattle.tb_keep_log.specs.Opening.{HasStartCause, IsStartRefused, IsStarted, MayBeStarted, StartsFile, device_left, why_left}
 use Rattle.tb_keep_log.specs.Restoring.{HasLogCause, IsRestored, StopsReading}
 use Rattle.tb_keep_log.specs.Serving.{Served, point}
 use Rattle.tb_keep_commands.specs.declared.faults.Failed.{Failed}
@@ -99,7 +99,7 @@ module _ {D : Type 0} (its : devices.Ghosts D) where
   -- what a start over a device answers, of one that tells what its calls do; of a log that is kept, where no sync has failed before
   pub record Starts (result : Result (Keeping D) (NotStarted D)) (rules : Rules) (device : D) : Type 0 where
     pub answers : MatchResult result (λ keeper. (its.disk device).sound ≡ true → IsStarted its.disk (its.disk device).seen keeper)
-        (λ failed. IsRefused failed.fault rules.profile rules.clients_max (its.disk device) (its.disk failed.device))
+        (λ failed. IsStartRefused failed.fault rules.profile rules.clients_max (its.disk device) (its.disk failed.device))
     pub cause : HasStartCause (why_left result) (its.disk device) (its.disk (device_left result))
     -- a crash at any moment of it, where none has
     pub any_moment : (its.disk device).sound ≡ true → LeavesOnly (its.disk device) (its.disk (device_left result)) (MayBeStarted (its.disk device))

@@ -1,5 +1,5 @@
 -- How a file is opened and created.
-use Rattle.std.proofs.Common.{arith, ◌≡◌, ◌⊎◌, inl, inr, ℕ, ◌<◌, ◌≤◌, ◌^◌, ◌+◌, List, Result, Ok, Err, IfOk, IfErr, sym, ap, ◌∙◌, subst}
+use Rattle.std.proofs.Common.{arith, ◌≡◌, ◌⊎◌, inl, inr, ℕ, ◌<◌, ◌≤◌, ◌^◌, ◌+◌, false, List, Result, Ok, Err, IfOk, IfErr, sym, ap, ◌∙◌, subst}
 use Rattle.std.proofs.lemmas.Grind.{common_steps}
 use Rattle.tb_records.specs.declared.limits.Profile.{Profile}
 use Rattle.tb_journal.specs.declared.faults.Fault.TheVariants as faults
@@ -7,6 +7,7 @@ use Rattle.tb_journal.specs.declared.opening.OpenFault.TheVariants as open_fault
 use Rattle.tb_journal.specs.declared.reading.Extent.{Extent}
 use Rattle.tb_journal.specs.Device.{Disk, FailsNone, IsOfCall, IsOfSync, LeavesOnly}
 use Rattle.tb_journal.specs.Contents.{Records, contents, recorded}
+use Rattle.tb_journal.specs.Creating.{is_blank}
 use Rattle.tb_journal.specs.Opening as journal_opening
 use Rattle.tb_journal.specs.Opening.{IsAsBefore}
 use Rattle.tb_journal.specs.Ready.{Kept, IsReady}
@@ -22,7 +23,7 @@ use Rattle.tb_keep_log.specs.declared.faults.LogStartFault.TheVariants as start
 use Rattle.tb_keep_log.specs.declared.opening.NotStarted.{NotStarted}
 use Rattle.tb_keep_log.specs.Keeping.{Keeping, IsKept}
 use Rattle.tb_keep_log.specs.Restoring.{HasLogCause, IsLogCause, IsRestored, IsTornTooLong, StopsReading, StopsOpening}
-use Rattle.tb_keep_log.specs.Opening.{HasStartCause, IsCreatedCause, IsOpened, IsStartCause, IsStarted, IsRefused, MayBeOpened, MayBeStarted, OpensFile, StartsFile}
+use Rattle.tb_keep_log.specs.Opening.{HasStartCause, IsCreatedCause, IsOpened, IsStartCause, IsStarted, IsStartRefused, IsRefused, MayBeOpened, MayBeStarted, OpensFile, StartsFile}
 use Rattle.tb_keep_log.specs.Steps.{IsOfDevice, OpensAs}
 
 -- the keeper of a journal that was opened
@@ -122,6 +123,12 @@ module _ (profile : Profile) (clients_max : ℕ) where
   refused_still {D} disk before mid (Ok keeper) counts first is = tt
   refused_still {D} disk before mid (Err failed) counts first is = still_refused before mid (disk failed.device) counts first failed.fault is
 
+  pub start_refused : {D : Type 0} (disk : D → Disk) (before mid : Disk) (result : Result (Keeping D) (NotStarted D)) → Counts mid → IsUntouched before mid → is_blank before.seen ≡ false
+      → IfErr result (λ failed. IsRefused failed.fault profile clients_max mid (disk failed.device))
+      → IfErr result (λ failed. IsStartRefused failed.fault profile clients_max before (disk failed.device))
+  start_refused {D} disk before mid (Ok keeper) counts first some is = tt
+  start_refused {D} disk before mid (Err failed) counts first some is = (still_refused before mid (disk failed.device) counts first failed.fault is, inr some)
+
   -- by the file that the reads are of
 
   by_device : (fault : LogStartFault) (file : List ℕ) → IsOfDevice fault → StopsOpening fault profile clients_max file
@@ -158,10 +165,10 @@ pub opened_as_started : {D : Type 0} (disk : D → Disk) (before mid : List ℕ)
 opened_as_started disk before mid (Ok keeper) same opened = inl (subst (λ (file : List ℕ). IsOpened disk file keeper) same opened)
 opened_as_started disk before mid (Err failed) same opened = tt
 
-pub starts_file : {D : Type 0} (profile : Profile) (clients_max : ℕ) (file : List ℕ) (result : Result (Keeping D) (NotStarted D)) → OpensFile result profile clients_max file
+pub starts_file : {D : Type 0} (profile : Profile) (clients_max : ℕ) (file : List ℕ) (result : Result (Keeping D) (NotStarted D)) → is_blank file ≡ false → OpensFile result profile clients_max file
     → StartsFile result profile clients_max file
-starts_file profile clients_max file (Ok keeper) opens = inl opens
-starts_file profile clients_max file (Err failed) opens = opens
+starts_file profile clients_max file (Ok keeper) some opens = inl opens
+starts_file profile clients_max file (Err failed) some opens = (opens, inr some)
 
 -- the cause of a start's fault
 

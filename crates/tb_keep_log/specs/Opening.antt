@@ -1,6 +1,6 @@
 -- How the file of a kept log is created and opened, and what a crash may leave of it meanwhile.
 -- Cited by public contracts of: opening.
-use Rattle.std.specs.Prelude.{ℕ, true, ◌≡◌, ◌⊎◌, ◌+◌, ◌≤◌, ◌^◌, List, [], Result, Ok, Err, OnOk, IfErr}
+use Rattle.std.specs.Prelude.{ℕ, true, false, ◌≡◌, ◌⊎◌, ◌+◌, ◌≤◌, ◌^◌, List, [], Result, Ok, Err, OnOk, IfErr}
 use Rattle.tb_records.specs.declared.limits.Profile.{Profile}
 use Rattle.tb_journal.specs.declared.faults.Fault.TheVariants.{NotEmpty}
 use Rattle.tb_journal.specs.declared.opening.OpenFault.TheVariants as open_faults
@@ -50,6 +50,17 @@ abbrev pub IsRefused : LogStartFault → Profile → ℕ → Disk → Disk → T
 IsRefused (start.Journal (open_faults.Device fault)) profile clients_max before after = Unit {0}
 IsRefused fault profile clients_max before after = StopsOpening fault profile clients_max before.seen × IsUntouched before after
 
+-- a fault of the device or of memory
+abbrev pub IsNotOfFile : LogStartFault → Type 0
+IsNotOfFile start.NoMemory = Unit {0}
+IsNotOfFile (start.Journal (open_faults.Device fault)) = Unit {0}
+IsNotOfFile fault = ⊥
+
+-- the same of a start, which is never refused for what is in a blank file
+abbrev pub IsStartRefused : LogStartFault → Profile → ℕ → Disk → Disk → Type 0
+IsStartRefused fault profile clients_max before after =
+    IsRefused fault profile clients_max before after × (IsNotOfFile fault ⊎ (is_blank before.seen ≡ false))
+
 -- by the file that the reads are of: the follower is behind all its entries, or it is reported why not
 abbrev pub OpensFile : {D : Type 0} → Result (Keeping D) (NotStarted D) → Profile → ℕ → List ℕ → Type 0
 OpensFile (Ok keeper) profile clients_max file =
@@ -61,7 +72,8 @@ OpensFile (Err failed) profile clients_max file = StopsOpening failed.fault prof
 abbrev pub StartsFile : {D : Type 0} → Result (Keeping D) (NotStarted D) → Profile → ℕ → List ℕ → Type 0
 StartsFile (Ok keeper) profile clients_max file =
     OpensFile (Ok keeper) profile clients_max file ⊎ ((is_blank file ≡ true) × (keeper.now ≡ begun profile clients_max) × (keeper.cut ≡ 0))
-StartsFile (Err failed) profile clients_max file = StopsOpening failed.fault profile clients_max file
+StartsFile (Err failed) profile clients_max file =
+    StopsOpening failed.fault profile clients_max file × (IsNotOfFile failed.fault ⊎ (is_blank file ≡ false))
 
 -- the cause of a fault where a file is created: of one of the journal, that which it has then; behind any other no call has failed
 abbrev pub IsCreatedCause : Disk → Disk → LogStartFault → Type 0

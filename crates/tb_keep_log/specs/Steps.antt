@@ -31,7 +31,7 @@ use Rattle.tb_keep_log.specs.declared.faults.LogStartFault.TheVariants as start
 use Rattle.tb_keep_log.specs.declared.opening.NotStarted.{NotStarted}
 use Rattle.tb_keep_log.specs.Keeping.{Keeping, Keeps, Leads, record_bytes, record_of}
 use Rattle.tb_keep_log.specs.Restoring.{EntersRecord, HasLogCause, IsHaltedContent, StopsAt}
-use Rattle.tb_keep_log.specs.Opening.{IsCreatedCause}
+use Rattle.tb_keep_log.specs.Opening.{IsCreatedCause, IsNotOfFile}
 use Rattle.tb_keep_log.specs.Serving.{Point, Turn, Halts}
 
 -- a writer into memory fails only when out of memory
@@ -210,14 +210,8 @@ pub record HasCreatedCause {T : Type 0} (result : Result T LogStartFault) (befor
   pub ok : OnOk result (FailsNone before after)
   pub cause : IfErr result (IsCreatedCause before after)
 
--- a fault of the device or of memory
-abbrev pub IsNotOfFile : LogStartFault → Type 0
-IsNotOfFile start.NoMemory = Unit {0}
-IsNotOfFile (start.Journal (open_faults.Device fault)) = Unit {0}
-IsNotOfFile fault = ⊥
-
 -- by the file that the reads are of
 abbrev pub CreatesIn : {D : Type 0} → (D → List ℕ → Type 0) → Result (Keeping D) (NotStarted D) → Profile → ℕ → List ℕ → Type 0
 CreatesIn holds (Ok keeper) profile clients_max file = (is_blank file ≡ true) × (keeper.now ≡ begun profile clients_max) × (keeper.cut ≡ 0)
 CreatesIn holds (Err failed) profile clients_max file =
-    (failed.fault ≡ start.Journal (open_faults.Device NotEmpty) → holds failed.device file) × IsNotOfFile failed.fault
+    (failed.fault ≡ start.Journal (open_faults.Device NotEmpty) → (is_blank file ≡ false) × holds failed.device file) × IsNotOfFile failed.fault

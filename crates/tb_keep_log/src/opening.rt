@@ -9,7 +9,7 @@ ghost use Rattle.tb_keep.specs.Entering.{StaysKept};
 ghost use Rattle.tb_keep.specs.Restoration.{torn_bytes};
 ghost use Rattle.tb_keep_log.specs.Keeping.{IsUsable};
 ghost use Rattle.tb_keep_log.specs.Restoring.{HasLogCause, IsRestored};
-ghost use Rattle.tb_keep_log.specs.Opening.{HasStartCause, IsOpened, IsRefused, IsStarted, MayBeOpened, MayBeStarted, OpensFile, StartsFile, device_left, why_left};
+ghost use Rattle.tb_keep_log.specs.Opening.{HasStartCause, IsOpened, IsRefused, IsStartRefused, IsStarted, MayBeOpened, MayBeStarted, OpensFile, StartsFile, device_left, why_left};
 ghost use Rattle.tb_keep_log.specs.Steps.{CreatesIn, HasCreatedCause, IsCreated, IsNotCreated, OpensAs};
 
 use crate::faults::LogStartFault;
@@ -228,7 +228,7 @@ impl<D: Device, A: Allocator + Copy> LogKeeper<D, A> {
         ensures refused { D.tells
             → IfErr result
             (λ failed.
-            IsRefused failed.fault rules.profile rules.clients_max (D.disk device) (D.disk failed.device)) }
+            IsStartRefused failed.fault rules.profile rules.clients_max (D.disk device) (D.disk failed.device)) }
         ensures cause { D.tells → HasStartCause (why_left result) (D.disk device) (D.disk (device_left result)) }
         // Of any device, by the file that its reads are of.
         ensures handed { (file : List ℕ) → D.holds device file

@@ -10,8 +10,9 @@ returns-in-Journal-Device-NotEmpty-clause-refused g c t =
     let of_device = rw here.is at here.field-0-is in
     let not_empty = rw (here.is, of_device) at here.field-0-0-is in
     let untouched = (rw (here.is, of_device, not_empty) at (c.in-Err.ensures.refused t)).0 in
+    let left = (rw (here.is, of_device, not_empty) at (c.in-Err.ensures.handed (disk c.args.device).seen (g.met.D.Device.holds_seen c.args.device t))) refl in
     refused_at_last disk c.args.rules.profile c.args.rules.clients_max (disk c.args.device) (disk c.in-Err.failed.device) c.open.result
-    (g.met.D.Device.counts_now c.in-Err.failed.device) untouched (c.open.ensures.refused t)
+    (g.met.D.Device.counts_now c.in-Err.failed.device) untouched left.0 (c.open.ensures.refused t)
 
 pub returns-in-Journal-Device-NotEmpty-clause-cause : goal.returns-in-Journal-Device-NotEmpty-clause-cause
 returns-in-Journal-Device-NotEmpty-clause-cause g c t =
@@ -58,7 +59,7 @@ returns-in-Journal-Device-NotEmpty-clause-handed g c file held =
     let of_device = rw here.is at here.field-0-is in
     let not_empty = rw (here.is, of_device) at here.field-0-0-is in
     let left = (rw (here.is, of_device, not_empty) at (c.in-Err.ensures.handed file held)) refl in
-    starts_file c.args.rules.profile c.args.rules.clients_max file c.open.result (c.open.ensures.handed file left.1)
+    starts_file c.args.rules.profile c.args.rules.clients_max file c.open.result left.0 (c.open.ensures.handed file left.1)
 
 pub returns-in-Ok-clause-handed : goal.returns-in-Ok-clause-handed
 returns-in-Ok-clause-handed g c file held = inr (c.in-Ok.ensures.handed file held, c.in-Ok.ensures.empty, c.in-Ok.ensures.uncut)
