@@ -39,7 +39,7 @@ module _ {D : Type 0} (file : devices.Ghosts D) {E : Type 0} (reading : devices.
       RunsOver file (opener.makes before name) left outcome (rules_of profile clients_max) name (reports || ends.faults) ends.input
       first last start written quiet told
   Performs (form.Dump from follows) outcome first last start written quiet told =
-      (last ≡ first) × (told ≡ quiet) × DumpsOver reading (opener.opens before name) left from follows outcome start written
+      (last ≡ first) × (told ≡ quiet) × DumpsOver reading (opener.opens before name) left (opener.ended left) from follows outcome start written
   Performs form.Check outcome first last start written quiet told =
       (last ≡ first) × (told ≡ quiet) × ChecksOver reading (opener.opens before name) left whole outcome start written
   Performs form.Salvage outcome first last start written quiet told =

@@ -1,6 +1,6 @@
 -- What each form does, and its outcome.
 -- Public contracts reach it through: Copies, Exits.
-use Rattle.std.specs.Prelude.{ℕ, Bool, true, false, Option, None, ◌≡◌, ◌-◌, List, length, Result, Ok, Err, IfOk, MatchResult}
+use Rattle.std.specs.Prelude.{ℕ, Bool, true, false, Option, None, ◌≡◌, ◌-◌, List, length, Result, Ok, Err, IfOk, OnOk, MatchResult}
 use Rattle.tb_records.specs.Transport.{Input, Output, Sent, CutOff}
 use Rattle.tb_journal.specs.declared.devices.Device as devices
 use Rattle.tb_journal.specs.declared.faults.Fault as journal
@@ -83,24 +83,25 @@ module _ {D : Type 0} (its : devices.Ghosts D) where
     pub dumps : DumpsFound found outcome between after start written
 
   -- a part of a dump of a file of these rules was written, and as long as more was waited for what came later, or as much of it as the outcome
-  -- says
-  pub record IsFollowed (from : Option ℕ) (follows : Bool) (outcome : Outcome) (rules : Rules) (device after : D) (start written : Output) : Type 0 where
+  -- says. Where that is done nobody waits for more
+  pub record IsFollowed (Ended : Type 0) (from : Option ℕ) (follows : Bool) (outcome : Outcome) (rules : Rules) (device after : D) (start written : Output) : Type 0 where
     pub writes : OfFile device (λ file. WritesPart (its.holds after) outcome follows from rules file start written)
+    pub ends : follows ≡ true → OnOk outcome Ended
     pub cause : its.tells → HasPartCause outcome (its.disk device) (its.disk after)
 
   -- a file was read to its end before a byte of a part of its dump was written: the entries above a commit number, or all. One that is no
   -- history is refused, and nothing was written
-  pub record FollowsFile (from : Option ℕ) (follows : Bool) (outcome : Outcome) (device after : D) (start written : Output) : Type 0 where
+  pub record FollowsFile (Ended : Type 0) (from : Option ℕ) (follows : Bool) (outcome : Outcome) (device after : D) (start written : Output) : Type 0 where
     pub found : Result Found StartFault
     pub between : D
     pub whole : IsReadWhole found device between
-    pub writes : MatchResult found (λ it. IsFollowed from follows outcome it.rules between after start written)
+    pub writes : MatchResult found (λ it. IsFollowed Ended from follows outcome it.rules between after start written)
         (λ fault. IsRefused fault outcome between after × (written ≡ start))
 
   -- a dump, or a part of one
-  abbrev pub DumpsPart : Option ℕ → Bool → Outcome → D → D → Output → Output → Type 0
-  DumpsPart None false outcome device after start written = DumpsFile outcome device after start written
-  DumpsPart from follows outcome device after start written = FollowsFile from follows outcome device after start written
+  abbrev pub DumpsPart : Type 0 → Option ℕ → Bool → Outcome → D → D → Output → Output → Type 0
+  DumpsPart Ended None false outcome device after start written = DumpsFile outcome device after start written
+  DumpsPart Ended from follows outcome device after start written = FollowsFile Ended from follows outcome device after start written
 
   -- a file of so many bytes was read to its end before its summary was printed. One that is no history is refused, and nothing was
   pub record ChecksLong (len : ℕ) (outcome : Outcome) (device after : D) (start written : Output) : Type 0 where
@@ -196,9 +197,9 @@ module _ {D : Type 0} (its : devices.Ghosts D) {O : Type 0} (may : Result D Open
     pub runs : Opens Opening may left outcome ((last ≡ first) × (written ≡ start) × (told ≡ noted))
         (λ device. ServesFile its outcome rules path reports device first last start written noted told)
 
-  abbrev pub DumpsOver : Option ℕ → Bool → Outcome → Output → Output → Type 0
-  DumpsOver from follows outcome start written =
-      Opens Opening may left outcome (written ≡ start) (λ device. (after : D) × DumpsPart its from follows outcome device after start written)
+  abbrev pub DumpsOver : Type 0 → Option ℕ → Bool → Outcome → Output → Output → Type 0
+  DumpsOver Ended from follows outcome start written =
+      Opens Opening may left outcome (written ≡ start) (λ device. (after : D) × DumpsPart its Ended from follows outcome device after start written)
 
   abbrev pub ChecksOver : (D → List ℕ → Type 0) → Outcome → Output → Output → Type 0
   ChecksOver whole outcome start written =

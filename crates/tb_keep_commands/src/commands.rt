@@ -60,7 +60,7 @@ fn dump_part<O: Opener, W: Outlet>(
     writer: &mut W,
     part: Part,
 ) -> Result<(), Fault>
-    ensures { DumpsPart O.Reading.Device part.after part.follows result device.old device.new
+    ensures { DumpsPart O.Reading.Device (O.ended opener.now) part.after part.follows result device.old device.new
         (W.output writer.old) (W.output writer.new) }
 {
     match (part.after, part.follows) {
@@ -77,7 +77,7 @@ fn dump_over<O: Opener, W: Outlet>(
     writer: &mut W,
     part: Part,
 ) -> Result<(), Fault>
-    ensures { DumpsOver O.Reading.Device (O.opens opener.old name.now) opener.new
+    ensures { DumpsOver O.Reading.Device (O.opens opener.old name.now) opener.new (O.ended opener.new)
         part.after part.follows result (W.output writer.old) (W.output writer.new) }
 {
     let opened = opener.open(name);

@@ -1,5 +1,5 @@
 //! The entries of a file above a commit number, written as the file grows.
-ghost use Rattle.std.specs.Prelude.{◌≡◌, ℕ, List, OnOk};
+ghost use Rattle.std.specs.Prelude.{◌≡◌, true, ℕ, List, IfOk, OnOk};
 ghost use Rattle.tb_keep_commands.specs.Following.{floor_of, start_of, OfRead, SendsRound, SendsMore, SendsOn, SendsUnread, WritesUnread, WritesHeld, HasRoundCause, HasRestCause, HasWholeCause, HasPartCause};
 ghost use Rattle.tb_keep_commands.specs.Live.{LooksAgain};
 ghost use Rattle.tb_keep_commands.specs.Outcomes.{Prints, FollowsFile};
@@ -34,6 +34,7 @@ fn send_round<D: Device, W: Outlet>(
 ) -> Result<(), Fault>
     ensures sends { OfRead D.holds device.old scan.old
         (λ file read. SendsRound result after read file scan.new (W.output writer.old) (W.output writer.new)) }
+    ensures gone { IfOk result (λ _. W.gone writer.new) }
     ensures same { (file : List ℕ) → D.holds device.old file → D.holds device.new file }
     ensures cause { HasRoundCause D.tells result (D.disk device.old) scan.old (D.disk device.new) scan.new }
 {
@@ -55,6 +56,7 @@ fn send_more<D: Live, W: Outlet>(
 ) -> Result<(), Fault>
     ensures sends { SendsMore D.holds result after device.old scan.old (W.output writer.old)
         device.new scan.new (W.output writer.new) }
+    ensures gone { IfOk result (λ _. W.gone writer.new) }
     ensures looks { (file : List ℕ) → D.holds device.old file → OnOk result (LooksAgain D.whole D.holds device.old device.new file) }
     ensures cause { HasRoundCause D.tells result (D.disk device.old) scan.old (D.disk device.new) scan.new }
 {
@@ -77,6 +79,7 @@ fn send_on<O: Opener, W: Outlet>(
 ) -> Result<(), Fault>
     ensures sends { SendsOn O.Reading.holds result after device.old scan.old (W.output writer.old)
         device.new (W.output writer.new) }
+    ensures ends { OnOk result (O.ended opener.now) }
     ensures cause { HasRestCause O.Reading.tells result (O.Reading.disk device.old) scan.old (O.Reading.disk device.new) }
 {
     for _ in 0..u64::MAX {
@@ -88,7 +91,8 @@ fn send_on<O: Opener, W: Outlet>(
             Err(fault) => return Err(fault),
         }
     }
-    Ok(())
+    // So many rounds do not come to an end on any machine.
+    Err(Fault::NoMemory)
 }
 
 /// Writes the entries of a file of which nothing was read, and those that are committed meanwhile where more are waited for.
@@ -102,6 +106,7 @@ fn send_entries<O: Opener, W: Outlet>(
 ) -> Result<(), Fault>
     ensures sends { SendsUnread O.Reading.holds result follows after device.old scan.old device.new
         (W.output writer.old) (W.output writer.new) }
+    ensures ends { follows ≡ true → OnOk result (O.ended opener.now) }
     ensures cause { HasWholeCause O.Reading.tells result (O.Reading.disk device.old) scan.old (O.Reading.disk device.new) }
 {
     match send_round(scan, device, writer, after) {
@@ -151,6 +156,7 @@ fn send_part<O: Opener, W: Outlet>(
 ) -> Result<(), Fault>
     ensures writes { WritesUnread O.Reading.holds result part rules device.old scan.old device.new
         (W.output writer.old) (W.output writer.new) }
+    ensures ends { part.follows ≡ true → OnOk result (O.ended opener.now) }
     ensures cause { HasWholeCause O.Reading.tells result (O.Reading.disk device.old) scan.old (O.Reading.disk device.new) }
 {
     match send_start(writer, rules, part.after) {
@@ -173,6 +179,7 @@ fn part_found<O: Opener, W: Outlet>(
 ) -> Result<(), Fault>
     ensures writes { WritesHeld O.Reading.holds result part.follows part.after rules device.old device.new
         (W.output writer.old) (W.output writer.new) }
+    ensures ends { part.follows ≡ true → OnOk result (O.ended opener.now) }
     ensures cause { O.Reading.tells → HasPartCause result (O.Reading.disk device.old) (O.Reading.disk device.new) }
 {
     match Scan::start(alloc, device) {
@@ -195,7 +202,7 @@ pub(crate) fn follow<O: Opener, W: Outlet>(
     writer: &mut W,
     part: Part,
 ) -> Result<(), Fault>
-    ensures { FollowsFile O.Reading.Device part.after part.follows result device.old device.new (W.output writer.old)
+    ensures { FollowsFile O.Reading.Device (O.ended opener.now) part.after part.follows result device.old device.new (W.output writer.old)
         (W.output writer.new) }
 {
     match read_whole(alloc, device) {

@@ -14,22 +14,24 @@ use itoa::Buffer;
 use tb_records::{FrameFault, Sink, put_all};
 
 /// Writes two texts, one behind the other.
-#[tactic(auto, using(tb_records::proofs::Sendings::sent_rest, tb_records::proofs::Sendings::sent_few))]
 fn put_both<E: Sink>(faults: &mut E, first: &str, second: &str) -> Result<(), FrameFault>
     ensures { IsSent result (first.now ++ second.now) (E.output faults.old) (E.output faults.new) }
 {
-    put_all(faults, first.as_bytes())?;
-    put_all(faults, second.as_bytes())
+    match put_all(faults, first.as_bytes()) {
+        Ok(()) => put_all(faults, second.as_bytes()),
+        Err(fault) => Err(fault),
+    }
 }
 
 /// Writes a text, the path of a file and a text behind it.
-#[tactic(auto, using(tb_records::proofs::Sendings::sent_rest, tb_records::proofs::Sendings::sent_few))]
 fn put_named<E: Sink>(faults: &mut E, first: &str, path: &str, last: &str) -> Result<(), FrameFault>
     ensures { IsSent result (first.now ++ (path.now ++ last.now)) (E.output faults.old)
         (E.output faults.new) }
 {
-    put_all(faults, first.as_bytes())?;
-    put_both(faults, path, last)
+    match put_all(faults, first.as_bytes()) {
+        Ok(()) => put_both(faults, path, last),
+        Err(fault) => Err(fault),
+    }
 }
 
 /// Writes a text and a number behind it.
@@ -41,7 +43,6 @@ fn put_number<E: Sink>(faults: &mut E, first: &str, number: u64) -> Result<(), F
 }
 
 /// Writes the place of a record and what is wrong with it.
-#[tactic(auto, using(tb_records::proofs::Sendings::sent_rest, tb_records::proofs::Sendings::sent_few))]
 fn put_place<E: Sink>(
     faults: &mut E,
     first: &str,
@@ -52,8 +53,10 @@ fn put_place<E: Sink>(
     ensures { IsSent result ((first.now ++ decimal place) ++ (second.now ++ what.now)) (E.output faults.old)
         (E.output faults.new) }
 {
-    put_number(faults, first, place)?;
-    put_both(faults, second, what)
+    match put_number(faults, first, place) {
+        Ok(()) => put_both(faults, second, what),
+        Err(fault) => Err(fault),
+    }
 }
 
 /// Writes a number and a text behind it.
@@ -65,7 +68,6 @@ fn put_counted<E: Sink>(faults: &mut E, number: u64, last: &str) -> Result<(), F
 }
 
 /// Writes two numbers, each with a text behind it.
-#[tactic(auto, using(tb_records::proofs::Sendings::sent_rest, tb_records::proofs::Sendings::sent_few))]
 fn put_torn<E: Sink>(
     faults: &mut E,
     bytes: u64,
@@ -76,8 +78,10 @@ fn put_torn<E: Sink>(
     ensures { IsSent result ((decimal bytes ++ first.now) ++ (decimal at ++ last.now)) (E.output faults.old)
         (E.output faults.new) }
 {
-    put_counted(faults, bytes, first)?;
-    put_counted(faults, at, last)
+    match put_counted(faults, bytes, first) {
+        Ok(()) => put_counted(faults, at, last),
+        Err(fault) => Err(fault),
+    }
 }
 
 /// Writes what is damaged.
@@ -120,12 +124,13 @@ fn put_opening<E: Sink>(faults: &mut E, fault: OpeningFault, path: &str) -> Resu
 }
 
 /// Writes a text and what is damaged.
-#[tactic(auto, using(tb_records::proofs::Sendings::sent_rest, tb_records::proofs::Sendings::sent_few))]
 fn put_damaged<E: Sink>(faults: &mut E, first: &str, damage: Damage) -> Result<(), FrameFault>
     ensures { IsSent result (first.now ++ damage_text damage) (E.output faults.old) (E.output faults.new) }
 {
-    put_all(faults, first.as_bytes())?;
-    put_damage(faults, damage)
+    match put_all(faults, first.as_bytes()) {
+        Ok(()) => put_damage(faults, damage),
+        Err(fault) => Err(fault),
+    }
 }
 
 /// Writes what failed of a program over a file of this path.
@@ -179,7 +184,6 @@ fn put_kind<E: Sink>(faults: &mut E, kind: Kind, path: &str) -> Result<(), Frame
 }
 
 /// Writes two numbers, each behind a text.
-#[tactic(auto, using(tb_records::proofs::Sendings::sent_rest, tb_records::proofs::Sendings::sent_few))]
 fn put_two<E: Sink>(
     faults: &mut E,
     first: &str,
@@ -190,8 +194,10 @@ fn put_two<E: Sink>(
     ensures { IsSent result ((first.now ++ decimal one) ++ (second.now ++ decimal two)) (E.output faults.old)
         (E.output faults.new) }
 {
-    put_number(faults, first, one)?;
-    put_number(faults, second, two)
+    match put_number(faults, first, one) {
+        Ok(()) => put_number(faults, second, two),
+        Err(fault) => Err(fault),
+    }
 }
 
 /// Writes rules in words.
@@ -209,16 +215,16 @@ fn put_numbers<E: Sink>(faults: &mut E, numbers: Numbers) -> Result<(), FrameFau
 }
 
 /// Writes a text and rules in words behind it.
-#[tactic(auto, using(tb_records::proofs::Sendings::sent_rest, tb_records::proofs::Sendings::sent_few))]
 fn put_asked<E: Sink>(faults: &mut E, first: &str, asked: Numbers) -> Result<(), FrameFault>
     ensures { IsSent result (first.now ++ numbers_text asked) (E.output faults.old) (E.output faults.new) }
 {
-    put_all(faults, first.as_bytes())?;
-    put_numbers(faults, asked)
+    match put_all(faults, first.as_bytes()) {
+        Ok(()) => put_numbers(faults, asked),
+        Err(fault) => Err(fault),
+    }
 }
 
 /// Writes rules in words, and others behind a text.
-#[tactic(auto, using(tb_records::proofs::Sendings::sent_rest, tb_records::proofs::Sendings::sent_few))]
 fn put_both_numbers<E: Sink>(
     faults: &mut E,
     both: Mismatch,
@@ -226,12 +232,13 @@ fn put_both_numbers<E: Sink>(
 ) -> Result<(), FrameFault>
     ensures { IsSent result (both_text both between.now) (E.output faults.old) (E.output faults.new) }
 {
-    put_numbers(faults, both.made)?;
-    put_asked(faults, between, both.asked)
+    match put_numbers(faults, both.made) {
+        Ok(()) => put_asked(faults, between, both.asked),
+        Err(fault) => Err(fault),
+    }
 }
 
 /// Writes a path between two texts, and then rules in words and others behind a text.
-#[tactic(auto, using(tb_records::proofs::Sendings::sent_rest, tb_records::proofs::Sendings::sent_few))]
 fn put_rules<E: Sink>(
     faults: &mut E,
     first: &str,
@@ -244,8 +251,10 @@ fn put_rules<E: Sink>(
         ((first.now ++ (path.now ++ last.now)) ++ both_text both between.now)
         (E.output faults.old) (E.output faults.new) }
 {
-    put_named(faults, first, path, last)?;
-    put_both_numbers(faults, both, between)
+    match put_named(faults, first, path, last) {
+        Ok(()) => put_both_numbers(faults, both, between),
+        Err(fault) => Err(fault),
+    }
 }
 
 /// Writes that the rules of a file of this path are others.
@@ -307,17 +316,17 @@ fn pass<E: Sink>(sent: Result<(), FrameFault>, faults: &mut E)
 }
 
 /// Writes a fault and the end of its line.
-#[tactic(auto, using(tb_records::proofs::Sendings::sent_rest, tb_records::proofs::Sendings::sent_few))]
 fn put_rest<E: Sink>(faults: &mut E, fault: Fault, path: &str) -> Result<(), FrameFault>
     ensures { IsSent result (fault_text fault path.now ++ codes "\n") (E.output faults.old)
         (E.output faults.new) }
 {
-    put_fault(faults, fault, path)?;
-    put_all(faults, b"\n")
+    match put_fault(faults, fault, path) {
+        Ok(()) => put_all(faults, b"\n"),
+        Err(fault) => Err(fault),
+    }
 }
 
 /// Writes a text and the line of a fault behind it.
-#[tactic(auto, using(tb_records::proofs::Sendings::sent_rest, tb_records::proofs::Sendings::sent_few))]
 fn put_line<E: Sink>(
     faults: &mut E,
     first: &str,
@@ -327,12 +336,13 @@ fn put_line<E: Sink>(
     ensures { IsSent result (first.now ++ (fault_text fault path.now ++ codes "\n")) (E.output faults.old)
         (E.output faults.new) }
 {
-    put_all(faults, first.as_bytes())?;
-    put_rest(faults, fault, path)
+    match put_all(faults, first.as_bytes()) {
+        Ok(()) => put_rest(faults, fault, path),
+        Err(fault) => Err(fault),
+    }
 }
 
 /// Prints a fault over a file of this path, in one line. A failure to write it changes no status.
-#[tactic(auto, using(crate::proofs::Passing::said))]
 pub fn tell<E: Sink>(fault: Fault, path: &str, faults: &mut E)
     ensures { SaysLine (fault_line fault path.now) (E.output faults.old) (E.output faults.new) }
 {
@@ -340,17 +350,17 @@ pub fn tell<E: Sink>(fault: Fault, path: &str, faults: &mut E)
 }
 
 /// Writes a number behind a text, and the end of the line.
-#[tactic(auto, using(tb_records::proofs::Sendings::sent_rest, tb_records::proofs::Sendings::sent_few))]
 fn put_end<E: Sink>(faults: &mut E, first: &str, at: u64) -> Result<(), FrameFault>
     ensures { IsSent result ((first.now ++ decimal at) ++ codes "\n") (E.output faults.old)
         (E.output faults.new) }
 {
-    put_number(faults, first, at)?;
-    put_all(faults, b"\n")
+    match put_number(faults, first, at) {
+        Ok(()) => put_all(faults, b"\n"),
+        Err(fault) => Err(fault),
+    }
 }
 
 /// Writes two numbers, each behind a text, and the end of the line.
-#[tactic(auto, using(tb_records::proofs::Sendings::sent_rest, tb_records::proofs::Sendings::sent_few))]
 fn put_cut<E: Sink>(
     faults: &mut E,
     first: &str,
@@ -362,22 +372,24 @@ fn put_cut<E: Sink>(
         ((first.now ++ decimal bytes) ++ ((second.now ++ decimal at) ++ codes "\n")) (E.output faults.old)
         (E.output faults.new) }
 {
-    put_number(faults, first, bytes)?;
-    put_end(faults, second, at)
+    match put_number(faults, first, bytes) {
+        Ok(()) => put_end(faults, second, at),
+        Err(fault) => Err(fault),
+    }
 }
 
 /// Writes a text, a path and a text, and the end of the line.
-#[tactic(auto, using(tb_records::proofs::Sendings::sent_rest, tb_records::proofs::Sendings::sent_few))]
 fn put_path<E: Sink>(faults: &mut E, first: &str, path: &str, last: &str) -> Result<(), FrameFault>
     ensures { IsSent result ((first.now ++ (path.now ++ last.now)) ++ codes "\n") (E.output faults.old)
         (E.output faults.new) }
 {
-    put_named(faults, first, path, last)?;
-    put_all(faults, b"\n")
+    match put_named(faults, first, path, last) {
+        Ok(()) => put_all(faults, b"\n"),
+        Err(fault) => Err(fault),
+    }
 }
 
 /// Writes a text, a number and what is wrong there, and the end of the line.
-#[tactic(auto, using(tb_records::proofs::Sendings::sent_rest, tb_records::proofs::Sendings::sent_few))]
 fn put_fault_at<E: Sink>(
     faults: &mut E,
     first: &str,
@@ -388,12 +400,13 @@ fn put_fault_at<E: Sink>(
         (((first.now ++ decimal place) ++ (codes ": " ++ what.now)) ++ codes "\n") (E.output faults.old)
         (E.output faults.new) }
 {
-    put_place(faults, first, place, ": ", what)?;
-    put_all(faults, b"\n")
+    match put_place(faults, first, place, ": ", what) {
+        Ok(()) => put_all(faults, b"\n"),
+        Err(fault) => Err(fault),
+    }
 }
 
 /// Prints a path between two texts, in one line.
-#[tactic(auto, using(crate::proofs::Passing::said))]
 pub fn tell_named<E: Sink>(first: &str, path: &str, last: &str, faults: &mut E)
     ensures { SaysLine ((first.now ++ (path.now ++ last.now)) ++ codes "\n") (E.output faults.old)
         (E.output faults.new) }
@@ -402,7 +415,6 @@ pub fn tell_named<E: Sink>(first: &str, path: &str, last: &str, faults: &mut E)
 }
 
 /// Prints a number behind a text, in one line.
-#[tactic(auto, using(crate::proofs::Passing::said))]
 pub fn tell_number<E: Sink>(first: &str, number: u64, faults: &mut E)
     ensures { SaysLine ((first.now ++ decimal number) ++ codes "\n") (E.output faults.old)
         (E.output faults.new) }
@@ -411,7 +423,6 @@ pub fn tell_number<E: Sink>(first: &str, number: u64, faults: &mut E)
 }
 
 /// Prints a number behind a text and what is wrong there, in one line.
-#[tactic(auto, using(crate::proofs::Passing::said))]
 pub fn tell_place<E: Sink>(first: &str, place: u64, what: &str, faults: &mut E)
     ensures { SaysLine (((first.now ++ decimal place) ++ (codes ": " ++ what.now)) ++ codes "\n")
         (E.output faults.old) (E.output faults.new) }
@@ -420,7 +431,6 @@ pub fn tell_place<E: Sink>(first: &str, place: u64, what: &str, faults: &mut E)
 }
 
 /// Prints what is wrong behind a text, in one line.
-#[tactic(auto, using(crate::proofs::Passing::said))]
 pub fn tell_text<E: Sink>(first: &str, what: &str, faults: &mut E)
     ensures { SaysLine (first.now ++ (what.now ++ codes "\n")) (E.output faults.old) (E.output faults.new) }
 {
@@ -455,26 +465,27 @@ fn put_words<E: Sink>(faults: &mut E, words: &[String]) -> Result<(), FrameFault
 }
 
 /// Writes what is wrong, and the end of the line.
-#[tactic(auto, using(tb_records::proofs::Sendings::sent_rest, tb_records::proofs::Sendings::sent_few))]
 fn put_what<E: Sink>(faults: &mut E, what: &str) -> Result<(), FrameFault>
     ensures { IsSent result (what.now ++ codes "\n") (E.output faults.old) (E.output faults.new) }
 {
-    put_all(faults, what.as_bytes())?;
-    put_all(faults, b"\n")
+    match put_all(faults, what.as_bytes()) {
+        Ok(()) => put_all(faults, b"\n"),
+        Err(fault) => Err(fault),
+    }
 }
 
 /// Writes a text and what is wrong behind it.
-#[tactic(auto, using(tb_records::proofs::Sendings::sent_rest, tb_records::proofs::Sendings::sent_few))]
 fn put_behind<E: Sink>(faults: &mut E, first: &str, what: &str) -> Result<(), FrameFault>
     ensures { IsSent result (first.now ++ (what.now ++ codes "\n")) (E.output faults.old)
         (E.output faults.new) }
 {
-    put_all(faults, first.as_bytes())?;
-    put_what(faults, what)
+    match put_all(faults, first.as_bytes()) {
+        Ok(()) => put_what(faults, what),
+        Err(fault) => Err(fault),
+    }
 }
 
 /// Writes words and what is wrong with them.
-#[tactic(auto, using(tb_records::proofs::Sendings::sent_rest, tb_records::proofs::Sendings::sent_few))]
 fn put_said<E: Sink>(
     faults: &mut E,
     shown: &[String],
@@ -485,12 +496,13 @@ fn put_said<E: Sink>(
         (shown_words (map string_bytes shown.now) ++ (between.now ++ (what.now ++ codes "\n")))
         (E.output faults.old) (E.output faults.new) }
 {
-    put_words(faults, shown)?;
-    put_behind(faults, between, what)
+    match put_words(faults, shown) {
+        Ok(()) => put_behind(faults, between, what),
+        Err(fault) => Err(fault),
+    }
 }
 
 /// Writes a text, and the rest of the line of words that are none of the program's forms.
-#[tactic(auto, using(tb_records::proofs::Sendings::sent_rest, tb_records::proofs::Sendings::sent_few))]
 fn put_wrong<E: Sink>(
     faults: &mut E,
     first: &str,
@@ -501,12 +513,13 @@ fn put_wrong<E: Sink>(
         (first.now ++ said_text (map string_bytes shown.now) what.now)
         (E.output faults.old) (E.output faults.new) }
 {
-    put_all(faults, first.as_bytes())?;
-    put_said(faults, shown, ": ", what)
+    match put_all(faults, first.as_bytes()) {
+        Ok(()) => put_said(faults, shown, ": ", what),
+        Err(fault) => Err(fault),
+    }
 }
 
 /// Reports that a file of this path was made, where it had no bytes; nothing where it had so many.
-#[tactic(auto, using(crate::proofs::Passing::said))]
 pub fn tell_made<E: Sink>(len: usize, path: &str, faults: &mut E)
     ensures { TellsMade len path.now (E.output faults.old) (E.output faults.new) }
 {
@@ -516,18 +529,18 @@ pub fn tell_made<E: Sink>(len: usize, path: &str, faults: &mut E)
 }
 
 /// Writes how much of how much was read, in millions of bytes, and the end of the line.
-#[tactic(auto, using(tb_records::proofs::Sendings::sent_rest, tb_records::proofs::Sendings::sent_few))]
 fn put_read<E: Sink>(faults: &mut E, read: u64, all: u64) -> Result<(), FrameFault>
     ensures { IsSent result
         (read_text read all ++ codes "\n") (E.output faults.old)
         (E.output faults.new) }
 {
-    put_torn(faults, read, " of ", all, " MB")?;
-    put_all(faults, b"\n")
+    match put_torn(faults, read, " of ", all, " MB") {
+        Ok(()) => put_all(faults, b"\n"),
+        Err(fault) => Err(fault),
+    }
 }
 
 /// Writes a path between two texts, and how much of how much was read, and the end of the line.
-#[tactic(auto, using(tb_records::proofs::Sendings::sent_rest, tb_records::proofs::Sendings::sent_few))]
 fn put_reading<E: Sink>(
     faults: &mut E,
     first: &str,
@@ -540,8 +553,10 @@ fn put_reading<E: Sink>(
         ((first.now ++ (path.now ++ last.now)) ++ (read_text read all ++ codes "\n"))
         (E.output faults.old) (E.output faults.new) }
 {
-    put_named(faults, first, path, last)?;
-    put_read(faults, read, all)
+    match put_named(faults, first, path, last) {
+        Ok(()) => put_read(faults, read, all),
+        Err(fault) => Err(fault),
+    }
 }
 
 /// The bytes of a megabyte, as it is shown.
@@ -569,7 +584,6 @@ pub(crate) fn tell_reading<E: Sink>(reports: bool, path: &str, len: usize, fault
 }
 
 /// Reports that a start is done, where starts are reported.
-#[tactic(auto, using(crate::proofs::Passing::said))]
 pub(crate) fn tell_ready<E: Sink>(reports: bool, faults: &mut E)
     ensures { TellsReady reports (E.output faults.old) (E.output faults.new) }
 {
@@ -583,7 +597,6 @@ const FRAMES: &str =
     "tbd: standard input is a terminal, and run reads request frames there; tb-repl and tbt script take words";
 
 /// Says where words are read, where requests would come from a terminal.
-#[tactic(auto, using(crate::proofs::Passing::said))]
 pub(crate) fn tell_frames<E: Sink>(talks: bool, faults: &mut E)
     ensures { TellsFrames talks (E.output faults.old) (E.output faults.new) }
 {

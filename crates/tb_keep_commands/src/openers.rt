@@ -1,5 +1,5 @@
 //! What opens the device of a name.
-ghost use Rattle.std.specs.Prelude.{◌≡◌, true, ℕ, List, Result, IfOk};
+ghost use Rattle.std.specs.Prelude.{◌≡◌, false, true, ℕ, List, Result, IfOk};
 ghost use Rattle.tb_keep_commands.specs.declared.openers.OpeningFault.{OpeningFault};
 ghost use Rattle.tb_keep_commands.specs.Statuses.{opening_fault, unread_fault};
 
@@ -80,6 +80,9 @@ pub trait Opener {
     /// A making may answer this, of one that is not there.
     ghost makes_new: { Self → List ℕ → Result Self.File OpeningFault → Self → Type 0 } = { λ before name answer after. Unit {0} };
 
+    /// Nobody waits for more commits. Anything, where an opener does not say it.
+    ghost ended: { Self → Type 0 } = { λ opener. Unit {0} };
+
     /// Opens the device of this name, and makes it where there is none. No sync has failed on it.
     fn make(&mut self, name: &str) -> Result<Self::File, OpeningFault>
         ensures made { makes self.old name.now result self.new }
@@ -95,5 +98,6 @@ pub trait Opener {
         ensures { opens self.old name.now result self.new };
 
     /// Waits a moment for more commits; false where nobody waits for any.
-    fn pause(&self) -> bool;
+    fn pause(&self) -> bool
+        ensures { result ≡ false → ended self.now };
 }

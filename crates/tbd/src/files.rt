@@ -1,4 +1,6 @@
 //! The files of the system, by their paths.
+ghost use Rattle.std.specs.Prelude.{⊥};
+
 use std::io::{BufWriter, Stderr};
 use std::thread;
 use std::time::Duration;
@@ -40,6 +42,8 @@ impl<'a> Opener for SystemFiles<'a> {
     type File = Reported<Real, Counting<BufWriter<Stderr>>>;
 
     type Reading = Snapshot<Real>;
+
+    ghost ended = { λ files. ⊥ };
 
     fn make(&mut self, name: &str) -> Result<Self::File, OpeningFault> {
         match Real::make(self.rt, name) {

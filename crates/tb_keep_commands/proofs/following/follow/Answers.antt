@@ -6,7 +6,7 @@ returns-in-Ok g c = record {
   found = Ok c.in-Ok.found;
   between = c.read_whole.new.device;
   whole = record { found_is = c.in-Ok.ensures.found; same = c.in-Ok.ensures.same; cause = c.in-Ok.ensures.cause };
-  writes = record { writes = c.part_found.ensures.writes; cause = c.part_found.ensures.cause };
+  writes = record { writes = c.part_found.ensures.writes; ends = c.part_found.ensures.ends; cause = c.part_found.ensures.cause };
 }
 
 pub returns-in-Err : goal.returns-in-Err

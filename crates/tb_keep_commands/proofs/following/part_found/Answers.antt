@@ -7,6 +7,7 @@ use Rattle.tb_keep_commands.proofs.following.part_found.Goals as goal
 pub returns-in-Ok : goal.returns-in-Ok
 returns-in-Ok g c = record {
   writes = λ file holds. c.send_part-sent.ensures.writes file (c.in-Ok.ensures.same file holds) (c.in-Ok.ensures.begun file holds);
+  ends = c.send_part-sent.ensures.ends;
   cause = λ t.
       let old = g.O.Reading.Device.disk c.args.device.now in
       let seen = c.in-Ok.ensures.seen t in
@@ -20,5 +21,6 @@ pub returns-in-Err : goal.returns-in-Err
 returns-in-Err g c = record {
   writes = λ file holds.
       unread c.args.part.follows c.args.part.after c.args.rules file c.in-Err.fault c.opened_fault.result _ c.opened_fault.ensures (c.in-Err.ensures.begun file holds);
+  ends = λ is. tt;
   cause = λ t. stopped_reading _ _ c.in-Err.fault c.opened_fault.result c.opened_fault.ensures (c.in-Err.ensures.cause t).cause;
 }
