@@ -1,5 +1,4 @@
 //! The files of the system, by their paths.
-ghost use Rattle.std.specs.Prelude.{⊥};
 
 use std::io::{BufWriter, Stderr};
 use std::thread;
