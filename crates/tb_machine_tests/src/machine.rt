@@ -4,6 +4,7 @@
 //!
 //! - `scripts`: scripts and wanted replies, put together field by field.
 //! - `fixtures`: transfers that balance and that close, besides those of tb_fixtures.
+//! - `rows`: accounts and transfers as data.
 //! - `steps`: a script as data: each step with its answer.
 //! - `frames`: frames in hexadecimal.
 //! - `machines`: what machines are asked.
@@ -40,6 +41,7 @@ mod machines;
 mod pending;
 mod records;
 mod restoring;
+mod rows;
 mod scripts;
 mod serving;
 mod sessions;

@@ -12,7 +12,7 @@ const BOTH: [Profile; 2] = [Profile::One, Profile::Two];
 fn expect_accounts(rt: &impl Abort, run: &Run, ids: &[u128], want: &[Account]) {
     let found = run.ledger.lookup_accounts(run.alloc, ids);
     let found = found.expect(rt, "memory");
-    holds(rt, found.as_slice() == want, &"accounts");
+    holds(rt, found.as_slice() == want, "accounts");
     drop(found);
 }
 
@@ -20,7 +20,7 @@ fn expect_accounts(rt: &impl Abort, run: &Run, ids: &[u128], want: &[Account]) {
 fn expect_transfers(rt: &impl Abort, run: &Run, ids: &[u128], want: &[Transfer]) {
     let found = run.ledger.lookup_transfers(run.alloc, ids);
     let found = found.expect(rt, "memory");
-    holds(rt, found.as_slice() == want, &"transfers");
+    holds(rt, found.as_slice() == want, "transfers");
     drop(found);
 }
 
@@ -32,9 +32,9 @@ fn posted(debits: u128, credits: u128, timestamp: u64, id: u128) -> Account {
 /// Accounts 2, 9, 1 and 2 again.
 #[test]
 fn accounts_created(rt: HostRuntime) {
-    for profile in BOTH {
-        let run = start(&rt, rt.alloc(), profile);
-        holds(&rt, run.ledger.time() == 12, &"the time");
+    for profile in &BOTH {
+        let run = start(&rt, rt.alloc(), *profile);
+        holds(&rt, run.ledger.time() == 12, "the time");
         let (first, second) = (posted(0, 0, 11, 1), posted(0, 0, 12, 2));
         expect_accounts(&rt, &run, &[2, 9, 1, 2], &[second, first, second]);
         drop(run);
@@ -66,8 +66,8 @@ fn posts() -> [Transfer; 6] {
 /// Each in a request of its own: the sums of both accounts then, and the records of a whole post, a part and none.
 #[test]
 fn posts_whole_part_and_none(rt: HostRuntime) {
-    for profile in BOTH {
-        let mut run = start(&rt, rt.alloc(), profile);
+    for profile in &BOTH {
+        let mut run = start(&rt, rt.alloc(), *profile);
         for event in posts() {
             ask(&rt, &mut run, &[event], &[]);
         }
@@ -85,21 +85,22 @@ fn posts_whole_part_and_none(rt: HostRuntime) {
 
 /// Accounts have these ids.
 fn have_ids(accounts: &[Account], ids: &[u128]) -> bool {
+    for (account, id) in accounts.iter().zip(ids) {
+        if account.id != *id {
+            return false;
+        }
+    }
     accounts.len() == ids.len()
-        && accounts
-            .iter()
-            .zip(ids.iter())
-            .all(|(account, id)| account.id == *id)
 }
 
 /// Accounts 2, 2, 9 and 1 are filled in, two at a time.
 fn fill_accounts(rt: &impl Abort, run: &Run) {
     let mut out = Vec::with_capacity(run.alloc, 4).expect(rt, "memory");
     run.ledger.fill_accounts(&[2, 2], &mut out);
-    holds(rt, have_ids(&out, &[2, 2]), &"the first two");
+    holds(rt, have_ids(&out, &[2, 2]), "the first two");
     assert!(rt; out.len() == 2 && out.capacity() >= 4);
     run.ledger.fill_accounts(&[9, 1], &mut out);
-    holds(rt, have_ids(&out, &[2, 2, 1]), &"all");
+    holds(rt, have_ids(&out, &[2, 2, 1]), "all");
     drop(out);
 }
 
@@ -107,7 +108,7 @@ fn fill_accounts(rt: &impl Abort, run: &Run) {
 fn fill_transfers(rt: &impl Abort, run: &Run) {
     let mut out = Vec::with_capacity(run.alloc, 1).expect(rt, "memory");
     run.ledger.fill_transfers(&[7], &mut out);
-    holds(rt, out.is_empty(), &"a transfer");
+    holds(rt, out.is_empty(), "a transfer");
     drop(out);
 }
 

@@ -8,7 +8,7 @@ use tb_records::{CreateTransferResult, Profile};
 fn go_to_two(rt: &impl Abort, run: &mut Run) {
     assert!(rt; run.ledger.profile() == Profile::One);
     run.ledger.move_to_two();
-    holds(rt, run.ledger.profile() == Profile::Two, &"the profile");
+    holds(rt, run.ledger.profile() == Profile::Two, "the profile");
 }
 
 /// An id that failed before the step does not count, one that fails after it does; the books stay.
@@ -21,13 +21,13 @@ fn failed_ids_begin_at_profile_two(rt: HostRuntime) {
     ask(&rt, &mut run, &[transfer(71, 1, 2, 5)], &[]);
     go_to_two(&rt, &mut run);
     let first = found([0, 5, 0, 0], 11, account(1));
-    holds(&rt, run.ledger.account(1) == Some(first), &"account 1");
+    holds(&rt, run.ledger.account(1) == Some(first), "account 1");
     ask(&rt, &mut run, &[transfer(70, 1, 2, 1)], &[]);
     ask(&rt, &mut run, &[transfer(72, 99, 2, 1)], &no_account);
     ask(&rt, &mut run, &[transfer(72, 1, 2, 1)], &failed);
     let second = found([0, 0, 0, 6], 12, account(2));
-    holds(&rt, run.ledger.account(2) == Some(second), &"account 2");
-    let last = run.ledger.transfer(70).map(|row| row.amount);
-    holds(&rt, last == Some(1), &"transfer 70");
+    holds(&rt, run.ledger.account(2) == Some(second), "account 2");
+    let last = run.ledger.transfer(70).expect(&rt, "transfer 70");
+    holds(&rt, last.amount == 1, "transfer 70");
     drop(run);
 }

@@ -2,7 +2,7 @@
 ghost use Rattle.std.specs.Prelude.{◌+◌, ◌≤◌, max};
 ghost use Rattle.tb_ledger.specs.Verdicts.{max_time};
 
-use crate::comparing::holds;
+use crate::comparing::{holds, holds_at};
 use std::alloc::Global;
 use std::process::Abort;
 use tb_fixtures::account;
@@ -21,10 +21,12 @@ pub struct Run {
 
 /// Results have these codes, each at its index.
 fn expect_codes(rt: &impl Abort, results: Vec<EventResult>, want: &[(u32, u32)]) {
-    let mut pairs = results.iter().zip(want);
-    let same = pairs.all(|(one, pair)| (one.index, one.result) == *pair);
-    holds(rt, same && results.len() == want.len(), &"results");
+    for (one, pair) in results.iter().zip(want) {
+        holds_at(rt, (one.index, one.result) == *pair, pair);
+    }
+    let count = results.len();
     drop(results);
+    holds(rt, count == want.len(), "results");
 }
 
 /// The time of an entry of n events that comes as soon as it may.

@@ -28,8 +28,8 @@ fn longest_search(rt: &impl Abort, ledger: &Ledger<Global>, last: u128) -> u32 {
     let mut longest = 0;
     for id in 1..=last {
         let (found, visits) = ledger.probe_account(id);
-        holds(rt, found == ledger.account(id), &"an account");
-        holds(rt, visits > 0, &"visits");
+        holds(rt, found == ledger.account(id), "an account");
+        holds(rt, visits > 0, "visits");
         longest = longest.max(visits);
     }
     longest
@@ -37,10 +37,10 @@ fn longest_search(rt: &impl Abort, ledger: &Ledger<Global>, last: u128) -> u32 {
 
 fn expect_short_searches(rt: &impl Abort, ledger: &Ledger<Global>) {
     let longest = longest_search(rt, ledger, 8190);
-    holds(rt, longest <= 18, &"the longest search");
+    holds(rt, longest <= 18, "the longest search");
     let (none, visits) = ledger.probe_account(9000);
-    holds(rt, none.is_none(), &"account 9000");
-    holds(rt, visits <= 18, &"the search for it");
+    holds(rt, none.is_none(), "account 9000");
+    holds(rt, visits <= 18, "the search for it");
 }
 
 #[test]

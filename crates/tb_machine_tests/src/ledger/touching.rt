@@ -22,8 +22,8 @@ fn create_accounts(rt: &impl Abort, run: &mut Run, first: u128, last: u128) {
 
 /// Creates accounts of the ids from 1 to 65,520.
 fn create_batches(rt: &impl Abort, run: &mut Run) {
-    for first in FIRSTS {
-        create_accounts(rt, run, first, first.saturating_add(8189));
+    for first in &FIRSTS {
+        create_accounts(rt, run, *first, first.saturating_add(8189));
     }
 }
 
@@ -36,7 +36,7 @@ fn seen(ledger: &Ledger<Global>) -> (Option<Account>, Option<Account>, u64) {
 fn expect_untouched(rt: &impl Abort, ledger: &mut Ledger<Global>) {
     let before = seen(ledger);
     ledger.touch(&[1, 65_521, 0, 70_000, 1, 1, 65_521, 65_521]);
-    holds(rt, seen(ledger) == before, &"what was touched");
+    holds(rt, seen(ledger) == before, "what was touched");
 }
 
 /// Accounts are many from 65,536 on.
@@ -46,10 +46,10 @@ fn touched_accounts_stay(rt: HostRuntime) {
     create_batches(&rt, &mut run);
     create_accounts(&rt, &mut run, 65_521, 65_535);
     ask(&rt, &mut run, &[transfer(1, 1, 65_521, 7)], &[]);
-    holds(&rt, !run.ledger.has_many_accounts(), &"65,535 accounts");
+    holds(&rt, !run.ledger.has_many_accounts(), "65,535 accounts");
     expect_untouched(&rt, &mut run.ledger);
     create_accounts(&rt, &mut run, 65_536, 65_536);
-    holds(&rt, run.ledger.has_many_accounts(), &"65,536 accounts");
+    holds(&rt, run.ledger.has_many_accounts(), "65,536 accounts");
     expect_untouched(&rt, &mut run.ledger);
     drop(run);
 }

@@ -1,9 +1,9 @@
 //! Nothing is asked again: a reader or a writer of which one call alone goes wrong. The calls behind it are counted, and what
 //! was written is the answer to what was read.
-use crate::comparing::holds;
+use crate::comparing::holds_at;
 use crate::machine::forms::{Form, Outcome, serve};
 use crate::machine::scripts::Script;
-use crate::machine::steps::{begin, put_steps, third};
+use crate::machine::steps::{BEGIN, THIRD, script_of};
 use std::alloc::Global;
 use std::io::{self, Error, ErrorKind, Read, Write};
 use std::process::Abort;
@@ -90,9 +90,13 @@ struct Input {
 impl Input {
     /// The pairs or entries that lie in so many bytes.
     fn pairs_within(&self, count: usize) -> &[u8] {
-        let within = self.ends.iter().copied().filter(|end| *end <= count);
-        let end = within.last().unwrap_or(0);
-        self.bytes.as_slice().get(..end).unwrap_or(&[])
+        let mut within = 0;
+        for end in self.ends {
+            if *end <= count {
+                within = *end;
+            }
+        }
+        self.bytes.as_slice().get(..within).unwrap_or(&[])
     }
 }
 
@@ -101,7 +105,7 @@ fn whole(rt: &impl Abort, alloc: Global, form: Form, input: &[u8]) -> Vec<u8> {
     let mut reader = Counting::new(input);
     let mut writer = Counting::new(Vec::new(alloc));
     let outcome = serve(rt, alloc, form, &mut reader, &mut writer);
-    holds(rt, outcome == Outcome::Done, &input.len());
+    holds_at(rt, outcome == Outcome::Done, &input.len());
     writer.into_inner()
 }
 
@@ -109,10 +113,10 @@ fn whole(rt: &impl Abort, alloc: Global, form: Form, input: &[u8]) -> Vec<u8> {
 fn expect_written(rt: &impl Abort, alloc: Global, input: &Input, read: usize, written: &[u8]) {
     let pairs = input.pairs_within(read);
     if pairs.is_empty() && input.form == Form::Replay {
-        holds(rt, written.is_empty(), &read);
+        holds_at(rt, written.is_empty(), &read);
     } else {
         let wanted = whole(rt, alloc, input.form, pairs);
-        holds(rt, written == wanted.as_slice(), &read);
+        holds_at(rt, written == wanted.as_slice(), &read);
         drop(wanted);
     }
 }
@@ -153,9 +157,9 @@ fn slip(rt: &impl Abort, alloc: Global, input: &Input, good: u32) -> bool {
     let written = writer.into_inner();
     expect_written(rt, alloc, input, read, written.as_slice());
     drop(written);
-    holds(rt, late == 0, &good);
-    holds(rt, (outcome, failures) == ending(calls, good, 1), &calls);
-    holds(rt, calls <= good.wrapping_add(1), &good);
+    holds_at(rt, late == 0, &good);
+    holds_at(rt, (outcome, failures) == ending(calls, good, 1), &calls);
+    holds_at(rt, calls <= good.wrapping_add(1), &good);
     calls > good
 }
 
@@ -193,10 +197,10 @@ fn stumble(
     let is_prefix = wanted.starts_with(taken.as_slice());
     let is_whole = taken.len() == wanted.len();
     drop(taken);
-    holds(rt, is_prefix && is_whole == (writes <= good), &good);
-    holds(rt, late == 0, &good);
+    holds_at(rt, is_prefix && is_whole == (writes <= good), &good);
+    holds_at(rt, late == 0, &good);
     let found = (outcome, failures);
-    holds(rt, found == ending(writes, good, u64::from(fails)), &writes);
+    holds_at(rt, found == ending(writes, good, u64::from(fails)), &writes);
     writes > good
 }
 
@@ -224,13 +228,13 @@ fn writes(rt: &impl Abort, alloc: Global, input: &Input, wanted: &[u8], fails: b
 fn expect_no_second_try(rt: &impl Abort, alloc: Global, input: &Input) {
     let (least_reads, least_writes) = input.least;
     let good = reads(rt, alloc, input);
-    holds(rt, (least_reads..100).contains(&good), &good);
+    holds_at(rt, (least_reads..100).contains(&good), &good);
     let wanted = whole(rt, alloc, input.form, input.bytes.as_slice());
     let failing = writes(rt, alloc, input, wanted.as_slice(), true);
     let full = writes(rt, alloc, input, wanted.as_slice(), false);
     drop(wanted);
-    holds(rt, (least_writes..100).contains(&failing), &failing);
-    holds(rt, failing == full, &full);
+    holds_at(rt, (least_writes..100).contains(&failing), &failing);
+    holds_at(rt, failing == full, &full);
 }
 
 /// An input that is at its end where a read finds nothing: no other read follows.
@@ -241,9 +245,9 @@ fn expect_end(rt: &impl Abort, alloc: Global, form: Form, input: &[u8]) {
     drop(writer);
     let Slipping { late, ended, .. } = reader.into_inner();
     let length = input.len();
-    holds(rt, outcome != Outcome::Device, &length);
-    holds(rt, ended, &length);
-    holds(rt, late == 0, &length);
+    holds_at(rt, outcome != Outcome::Device, &length);
+    holds_at(rt, ended, &length);
+    holds_at(rt, late == 0, &length);
 }
 
 /// The same of an input that is cut anywhere.
@@ -262,10 +266,7 @@ fn expect_asked_once(rt: &impl Abort, alloc: Global, input: Input) {
 
 /// The three requests.
 fn requests(rt: &impl Abort, alloc: Global) -> Vec<u8> {
-    let mut script = Script::new(alloc);
-    put_steps(rt, &mut script, &begin());
-    put_steps(rt, &mut script, &third());
-    let Script { bytes, .. } = script;
+    let Script { bytes, .. } = script_of(rt, alloc, &[&BEGIN, &THIRD]);
     bytes
 }
 
@@ -295,8 +296,8 @@ fn input_of(rt: &impl Abort, alloc: Global, form: Form) -> Input {
 /// The three requests, and the dump of their history.
 #[test]
 fn nothing_is_asked_again(rt: HostRuntime) {
-    for form in [Form::Run, Form::Dump, Form::Replay] {
-        let input = input_of(&rt, rt.alloc(), form);
+    for form in &[Form::Run, Form::Dump, Form::Replay] {
+        let input = input_of(&rt, rt.alloc(), *form);
         expect_asked_once(&rt, rt.alloc(), input);
     }
 }

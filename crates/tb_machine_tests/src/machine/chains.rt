@@ -1,170 +1,190 @@
 //! Linked chains that are undone or left open, and ids that failed.
-use crate::machine::serving::{PROFILES, serve_both, serve_on};
-use crate::machine::steps::Step;
-use tb_fixtures::{account, at, found, held, linked, post, transfer};
+use crate::machine::rows::{AccountRow, TransferRow as Row};
+use crate::machine::serving::{PROFILES, serve};
+use crate::machine::steps::{BEGIN, Step};
 use tb_records::{CreateTransferResult as Outcome, Operation, Profile};
 
 /// A chain that its second event breaks.
+const BROKEN: [Step; 13] = [
+    Step::Transfer(Row::Linked(50, 1, 2, 1), Outcome::LinkedEventFailed),
+    Step::Transfer(Row::Linked(51, 99, 2, 1), Outcome::DebitAccountNotFound),
+    Step::Transfer(Row::Plain(52, 1, 2, 1), Outcome::LinkedEventFailed),
+    Step::Send(Operation::CreateTransfers),
+    Step::Id(1),
+    Step::Id(2),
+    Step::FoundAccount([0; 4], 11, AccountRow::Plain(1)),
+    Step::FoundAccount([0; 4], 12, AccountRow::Plain(2)),
+    Step::Send(Operation::LookupAccounts),
+    Step::Id(50),
+    Step::Id(51),
+    Step::Id(52),
+    Step::Send(Operation::LookupTransfers),
+];
+
 #[test]
 fn chains_whole_or_not(rt: HostRuntime) {
-    let steps = [
-        Step::Transfer(linked(transfer(50, 1, 2, 1)), Outcome::LinkedEventFailed),
-        Step::Transfer(
-            linked(transfer(51, 99, 2, 1)),
-            Outcome::DebitAccountNotFound,
-        ),
-        Step::Transfer(transfer(52, 1, 2, 1), Outcome::LinkedEventFailed),
-        Step::Send(Operation::CreateTransfers),
-        Step::Id(1),
-        Step::Id(2),
-        Step::FoundAccount(found([0; 4], 11, account(1))),
-        Step::FoundAccount(found([0; 4], 12, account(2))),
-        Step::Send(Operation::LookupAccounts),
-        Step::Id(50),
-        Step::Id(51),
-        Step::Id(52),
-        Step::Send(Operation::LookupTransfers),
-    ];
-    serve_on(&rt, rt.alloc(), &PROFILES, &steps);
+    serve(&rt, rt.alloc(), &PROFILES, &[&BEGIN, &BROKEN]);
 }
 
 /// Chains that are open at the end of their batch, one of them broken before.
+const LEFT_OPEN: [Step; 15] = [
+    Step::Transfer(Row::Linked(53, 1, 2, 1), Outcome::LinkedEventChainOpen),
+    Step::Send(Operation::CreateTransfers),
+    Step::Transfer(Row::Linked(54, 1, 2, 1), Outcome::LinkedEventFailed),
+    Step::Transfer(Row::Linked(55, 1, 2, 1), Outcome::LinkedEventChainOpen),
+    Step::Send(Operation::CreateTransfers),
+    Step::Transfer(Row::Linked(56, 99, 2, 1), Outcome::DebitAccountNotFound),
+    Step::Transfer(Row::Linked(57, 1, 2, 1), Outcome::LinkedEventChainOpen),
+    Step::Send(Operation::CreateTransfers),
+    Step::Id(53),
+    Step::Id(54),
+    Step::Id(55),
+    Step::Id(56),
+    Step::Id(57),
+    Step::Send(Operation::LookupTransfers),
+    Step::First([0; 4]),
+];
+
 #[test]
 fn chains_left_open(rt: HostRuntime) {
-    let steps = [
-        Step::Transfer(linked(transfer(53, 1, 2, 1)), Outcome::LinkedEventChainOpen),
-        Step::Send(Operation::CreateTransfers),
-        Step::Transfer(linked(transfer(54, 1, 2, 1)), Outcome::LinkedEventFailed),
-        Step::Transfer(linked(transfer(55, 1, 2, 1)), Outcome::LinkedEventChainOpen),
-        Step::Send(Operation::CreateTransfers),
-        Step::Transfer(
-            linked(transfer(56, 99, 2, 1)),
-            Outcome::DebitAccountNotFound,
-        ),
-        Step::Transfer(linked(transfer(57, 1, 2, 1)), Outcome::LinkedEventChainOpen),
-        Step::Send(Operation::CreateTransfers),
-        Step::Id(53),
-        Step::Id(54),
-        Step::Id(55),
-        Step::Id(56),
-        Step::Id(57),
-        Step::Send(Operation::LookupTransfers),
-        Step::First([0; 4]),
-    ];
-    serve_on(&rt, rt.alloc(), &PROFILES, &steps);
+    serve(&rt, rt.alloc(), &PROFILES, &[&BEGIN, &LEFT_OPEN]);
 }
 
 /// What a chain did stays once it is whole, however the next one breaks.
+const WHOLE_AND_BROKEN: [Step; 10] = [
+    Step::Transfer(Row::Linked(1, 1, 2, 1), Outcome::Ok),
+    Step::Transfer(Row::Plain(2, 1, 2, 1), Outcome::Ok),
+    Step::Transfer(Row::Linked(3, 1, 2, 1), Outcome::LinkedEventFailed),
+    Step::Transfer(Row::Plain(4, 99, 2, 1), Outcome::DebitAccountNotFound),
+    Step::Send(Operation::CreateTransfers),
+    Step::First([0, 2, 0, 0]),
+    Step::Id(3),
+    Step::Id(2),
+    Step::FoundTransfer(14, Row::Plain(2, 1, 2, 1)),
+    Step::Send(Operation::LookupTransfers),
+];
+
 #[test]
 fn whole_chain_before_a_broken_one(rt: HostRuntime) {
-    let steps = [
-        Step::Transfer(linked(transfer(1, 1, 2, 1)), Outcome::Ok),
-        Step::Transfer(transfer(2, 1, 2, 1), Outcome::Ok),
-        Step::Transfer(linked(transfer(3, 1, 2, 1)), Outcome::LinkedEventFailed),
-        Step::Transfer(transfer(4, 99, 2, 1), Outcome::DebitAccountNotFound),
-        Step::Send(Operation::CreateTransfers),
-        Step::First([0, 2, 0, 0]),
-        Step::Id(3),
-        Step::Id(2),
-        Step::FoundTransfer(at(14, transfer(2, 1, 2, 1))),
-        Step::Send(Operation::LookupTransfers),
-    ];
-    serve_on(&rt, rt.alloc(), &PROFILES, &steps);
+    serve(&rt, rt.alloc(), &PROFILES, &[&BEGIN, &WHOLE_AND_BROKEN]);
 }
 
 /// A chain that is broken leaves the pending transfer open that it would have posted.
+const BROKEN_POST: [Step; 9] = [
+    Step::Single(Row::Held(64, 40), Outcome::Ok),
+    Step::Transfer(
+        Row::LinkedPost(65, 64, u128::MAX),
+        Outcome::LinkedEventFailed,
+    ),
+    Step::Transfer(Row::Plain(66, 99, 2, 1), Outcome::DebitAccountNotFound),
+    Step::Send(Operation::CreateTransfers),
+    Step::First([40, 0, 0, 0]),
+    Step::Id(65),
+    Step::Send(Operation::LookupTransfers),
+    Step::Single(Row::Post(65, 64, u128::MAX), Outcome::Ok),
+    Step::First([0, 40, 0, 0]),
+];
+
 #[test]
 fn broken_chain_frees_its_post(rt: HostRuntime) {
-    let whole = post(65, 64, u128::MAX);
-    let steps = [
-        Step::Single(held(64, 40), Outcome::Ok),
-        Step::Transfer(linked(whole), Outcome::LinkedEventFailed),
-        Step::Transfer(transfer(66, 99, 2, 1), Outcome::DebitAccountNotFound),
-        Step::Send(Operation::CreateTransfers),
-        Step::First([40, 0, 0, 0]),
-        Step::Id(65),
-        Step::Send(Operation::LookupTransfers),
-        Step::Single(whole, Outcome::Ok),
-        Step::First([0, 40, 0, 0]),
-    ];
-    serve_on(&rt, rt.alloc(), &PROFILES, &steps);
+    serve(&rt, rt.alloc(), &PROFILES, &[&BEGIN, &BROKEN_POST]);
 }
 
-/// Transfers from an account that is not there, one by itself and one in a chain. Their ids come again, with an account
-/// that is there, and then have this outcome; so much is posted then.
-fn failed_again(outcome: Outcome, posted: u128) -> [Step; 11] {
-    [
-        Step::Single(transfer(70, 99, 2, 1), Outcome::DebitAccountNotFound),
-        Step::Single(transfer(70, 1, 2, 1), outcome),
-        Step::Transfer(linked(transfer(71, 1, 2, 1)), Outcome::LinkedEventFailed),
-        Step::Transfer(transfer(72, 99, 2, 1), Outcome::DebitAccountNotFound),
-        Step::Send(Operation::CreateTransfers),
-        Step::Single(transfer(71, 1, 2, 1), Outcome::Ok),
-        Step::Single(transfer(72, 1, 2, 1), outcome),
-        Step::First([0, posted, 0, 0]),
-        Step::Id(70),
-        Step::Id(71),
-        Step::Id(72),
-    ]
-}
+/// A transfer from an account that is not there.
+const FAILED_ALONE: [Step; 1] = [Step::Single(
+    Row::Plain(70, 99, 2, 1),
+    Outcome::DebitAccountNotFound,
+)];
+
+/// Another one, in a chain, and the id of the chain's first event again.
+const FAILED_IN_A_CHAIN: [Step; 4] = [
+    Step::Transfer(Row::Linked(71, 1, 2, 1), Outcome::LinkedEventFailed),
+    Step::Transfer(Row::Plain(72, 99, 2, 1), Outcome::DebitAccountNotFound),
+    Step::Send(Operation::CreateTransfers),
+    Step::Single(Row::Plain(71, 1, 2, 1), Outcome::Ok),
+];
+
+/// The ids that failed come again, with an account that is there: by profile 1 they are free.
+const FREE_AGAIN: [Step; 1] = [Step::Single(Row::Plain(70, 1, 2, 1), Outcome::Ok)];
+
+const FREE_AT_LAST: [Step; 9] = [
+    Step::Single(Row::Plain(72, 1, 2, 1), Outcome::Ok),
+    Step::First([0, 3, 0, 0]),
+    Step::Id(70),
+    Step::Id(71),
+    Step::Id(72),
+    Step::FoundTransfer(14, Row::Plain(70, 1, 2, 1)),
+    Step::FoundTransfer(17, Row::Plain(71, 1, 2, 1)),
+    Step::FoundTransfer(18, Row::Plain(72, 1, 2, 1)),
+    Step::Send(Operation::LookupTransfers),
+];
+
+/// By profile 2 they have failed.
+const FAILED_AGAIN: [Step; 1] = [Step::Single(Row::Plain(70, 1, 2, 1), Outcome::IdAlreadyFailed)];
+
+const FAILED_AT_LAST: [Step; 7] = [
+    Step::Single(Row::Plain(72, 1, 2, 1), Outcome::IdAlreadyFailed),
+    Step::First([0, 1, 0, 0]),
+    Step::Id(70),
+    Step::Id(71),
+    Step::Id(72),
+    Step::FoundTransfer(17, Row::Plain(71, 1, 2, 1)),
+    Step::Send(Operation::LookupTransfers),
+];
+
+const FREE: [&[Step]; 5] = [
+    &BEGIN,
+    &FAILED_ALONE,
+    &FREE_AGAIN,
+    &FAILED_IN_A_CHAIN,
+    &FREE_AT_LAST,
+];
+
+const FAILED: [&[Step]; 5] = [
+    &BEGIN,
+    &FAILED_ALONE,
+    &FAILED_AGAIN,
+    &FAILED_IN_A_CHAIN,
+    &FAILED_AT_LAST,
+];
 
 #[test]
 fn failed_id_is_refused_again(rt: HostRuntime) {
-    let steps = [
-        Step::FoundTransfer(at(14, transfer(70, 1, 2, 1))),
-        Step::FoundTransfer(at(17, transfer(71, 1, 2, 1))),
-        Step::FoundTransfer(at(18, transfer(72, 1, 2, 1))),
-        Step::Send(Operation::LookupTransfers),
-    ];
-    serve_both(
-        &rt,
-        rt.alloc(),
-        &[Profile::One],
-        &failed_again(Outcome::Ok, 3),
-        &steps,
-    );
-    let steps = [
-        Step::FoundTransfer(at(17, transfer(71, 1, 2, 1))),
-        Step::Send(Operation::LookupTransfers),
-    ];
-    serve_both(
-        &rt,
-        rt.alloc(),
-        &[Profile::Two],
-        &failed_again(Outcome::IdAlreadyFailed, 1),
-        &steps,
-    );
+    serve(&rt, rt.alloc(), &[Profile::One], &FREE);
+    serve(&rt, rt.alloc(), &[Profile::Two], &FAILED);
 }
 
 /// A failed id fails again in its own batch already, and ever after. An event that is there with other flags fails no id:
 /// once its chain is undone, 75 is free.
+const OUTLIVING: [Step; 9] = [
+    Step::Transfer(Row::Plain(74, 99, 2, 1), Outcome::DebitAccountNotFound),
+    Step::Transfer(Row::Plain(74, 1, 2, 1), Outcome::IdAlreadyFailed),
+    Step::Send(Operation::CreateTransfers),
+    Step::Transfer(Row::Linked(75, 1, 2, 1), Outcome::LinkedEventFailed),
+    Step::Transfer(Row::Plain(75, 99, 2, 1), Outcome::ExistsWithDifferentFlags),
+    Step::Send(Operation::CreateTransfers),
+    Step::Single(Row::Plain(75, 1, 2, 1), Outcome::Ok),
+    Step::Single(Row::Post(76, 999, 0), Outcome::PendingTransferNotFound),
+    Step::Single(Row::Post(76, 999, 0), Outcome::IdAlreadyFailed),
+];
+
 #[test]
 fn failed_ids_outlive_their_chain(rt: HostRuntime) {
-    let steps = [
-        Step::Transfer(transfer(74, 99, 2, 1), Outcome::DebitAccountNotFound),
-        Step::Transfer(transfer(74, 1, 2, 1), Outcome::IdAlreadyFailed),
-        Step::Send(Operation::CreateTransfers),
-        Step::Transfer(linked(transfer(75, 1, 2, 1)), Outcome::LinkedEventFailed),
-        Step::Transfer(transfer(75, 99, 2, 1), Outcome::ExistsWithDifferentFlags),
-        Step::Send(Operation::CreateTransfers),
-        Step::Single(transfer(75, 1, 2, 1), Outcome::Ok),
-        Step::Single(post(76, 999, 0), Outcome::PendingTransferNotFound),
-        Step::Single(post(76, 999, 0), Outcome::IdAlreadyFailed),
-    ];
-    serve_on(&rt, rt.alloc(), &[Profile::Two], &steps);
+    serve(&rt, rt.alloc(), &[Profile::Two], &[&BEGIN, &OUTLIVING]);
 }
 
 /// Failed ids are found again in whatever order they failed, and an id between them is free.
+const IN_ANY_ORDER: [Step; 7] = [
+    Step::Single(Row::Plain(5, 99, 2, 1), Outcome::DebitAccountNotFound),
+    Step::Single(Row::Plain(9, 99, 2, 1), Outcome::DebitAccountNotFound),
+    Step::Single(Row::Plain(7, 99, 2, 1), Outcome::DebitAccountNotFound),
+    Step::Single(Row::Plain(5, 1, 2, 1), Outcome::IdAlreadyFailed),
+    Step::Single(Row::Plain(7, 1, 2, 1), Outcome::IdAlreadyFailed),
+    Step::Single(Row::Plain(9, 1, 2, 1), Outcome::IdAlreadyFailed),
+    Step::Single(Row::Plain(6, 1, 2, 1), Outcome::Ok),
+];
+
 #[test]
 fn failed_ids_in_any_order(rt: HostRuntime) {
-    let steps = [
-        Step::Single(transfer(5, 99, 2, 1), Outcome::DebitAccountNotFound),
-        Step::Single(transfer(9, 99, 2, 1), Outcome::DebitAccountNotFound),
-        Step::Single(transfer(7, 99, 2, 1), Outcome::DebitAccountNotFound),
-        Step::Single(transfer(5, 1, 2, 1), Outcome::IdAlreadyFailed),
-        Step::Single(transfer(7, 1, 2, 1), Outcome::IdAlreadyFailed),
-        Step::Single(transfer(9, 1, 2, 1), Outcome::IdAlreadyFailed),
-        Step::Single(transfer(6, 1, 2, 1), Outcome::Ok),
-    ];
-    serve_on(&rt, rt.alloc(), &[Profile::Two], &steps);
+    serve(&rt, rt.alloc(), &[Profile::Two], &[&BEGIN, &IN_ANY_ORDER]);
 }

@@ -1,8 +1,8 @@
 //! Replies leave before the program waits: a reader that fails where it is asked for more while a reply is still held back.
-use crate::comparing::holds;
+use crate::comparing::holds_at;
 use crate::machine::forms::{Form, Outcome, serve};
 use crate::machine::scripts::Script;
-use crate::machine::steps::{begin, put_steps, third};
+use crate::machine::steps::{BEGIN, THIRD, script_of};
 use std::alloc::Global;
 use std::cell::Cell;
 use std::io::{self, BufReader, Error, ErrorKind, Read, Write};
@@ -39,8 +39,13 @@ struct Waiting<'a> {
 impl Waiting<'_> {
     /// How many bytes answer what came so far.
     fn due(&self) -> usize {
-        let whole = self.turns.iter().filter(|turn| turn.0 <= self.given);
-        whole.last().map_or(0, |turn| turn.1)
+        let mut due = 0;
+        for turn in self.turns {
+            if turn.0 <= self.given {
+                due = turn.1;
+            }
+        }
+        due
     }
 }
 
@@ -100,9 +105,9 @@ fn converse(
     });
     let outcome = serve(rt, alloc, form, &mut reader, &mut writer);
     drop(reader);
-    holds(rt, outcome == Outcome::Done, &piece);
+    holds_at(rt, outcome == Outcome::Done, &piece);
     let Holding { taken, passed } = writer.into_inner();
-    holds(rt, passed.get() == taken.len(), &piece);
+    holds_at(rt, passed.get() == taken.len(), &piece);
     taken
 }
 
@@ -112,11 +117,11 @@ fn expect_answers(rt: &impl Abort, script: &Script, piece: usize) {
     let bytes = script.bytes.as_slice();
     let wanted = script.replies.as_slice();
     let replies = converse(rt, alloc, Form::Run, bytes, &SERVED, piece);
-    holds(rt, replies.as_slice() == wanted, &piece);
+    holds_at(rt, replies.as_slice() == wanted, &piece);
     drop(replies);
     let history = converse(rt, alloc, Form::Dump, bytes, &DUMPED, piece);
     let again = converse(rt, alloc, Form::Replay, &history, &REPLAYED, piece);
-    holds(rt, again.as_slice() == wanted, &piece);
+    holds_at(rt, again.as_slice() == wanted, &piece);
     drop(again);
     drop(history);
 }
@@ -124,11 +129,9 @@ fn expect_answers(rt: &impl Abort, script: &Script, piece: usize) {
 /// Puts the three requests into a script, and serves it in pieces of each length.
 #[test]
 fn answered_before_it_waits(rt: HostRuntime) {
-    let mut script = Script::new(rt.alloc());
-    put_steps(&rt, &mut script, &begin());
-    put_steps(&rt, &mut script, &third());
-    for piece in PIECES {
-        expect_answers(&rt, &script, piece);
+    let script = script_of(&rt, rt.alloc(), &[&BEGIN, &THIRD]);
+    for piece in &PIECES {
+        expect_answers(&rt, &script, *piece);
     }
     drop(script);
 }

@@ -1,5 +1,5 @@
 //! Scripts that are dumped and dumps that are replayed, in memory: worked examples, by the bytes that the formats give.
-use crate::comparing::holds;
+use crate::comparing::{holds, holds_at};
 use crate::machine::frames::{ACCOUNTS, put_lines, put_parts};
 use crate::machine::machines::clients_max;
 use crate::machine::scripts::put_bytes;
@@ -83,7 +83,7 @@ fn dumped(
     let mut reader = Counting::new(script);
     let mut writer = Counting::new(Vec::new(alloc));
     let result = dump(alloc, clients_max, at, &mut reader, &mut writer);
-    holds(rt, result == answer, &"the answer of a dump");
+    holds(rt, result == answer, "the answer of a dump");
     writer.into_inner()
 }
 
@@ -97,7 +97,7 @@ fn expect_length(
     length: usize,
 ) {
     let dump = dumped(rt, alloc, at, script, answer);
-    holds(rt, dump.len() == length, &length);
+    holds_at(rt, dump.len() == length, &length);
     drop(dump);
 }
 
@@ -111,7 +111,7 @@ fn replayed(
     let mut reader = Counting::new(dump);
     let mut writer = Counting::new(Vec::new(alloc));
     let result = replay(alloc, &mut reader, &mut writer);
-    holds(rt, result == answer, &"the answer of a replay");
+    holds(rt, result == answer, "the answer of a replay");
     writer.into_inner()
 }
 
@@ -119,7 +119,7 @@ fn replayed(
 fn expect_lines(rt: &impl Abort, alloc: Global, bytes: &[u8], lines: &[Line]) {
     let mut want = Vec::new(alloc);
     put_lines(rt, &mut want, lines);
-    holds(rt, bytes == want.as_slice(), &"the lines");
+    holds(rt, bytes == want.as_slice(), "the lines");
     drop(want);
 }
 
@@ -131,7 +131,7 @@ fn dump_and_replay(rt: HostRuntime) {
     put_register(&rt, &mut script, 10, 7);
     put_register(&rt, &mut script, 10, 7);
     let dump = dumped(&rt, alloc, None, &script, Ok(1));
-    holds(&rt, dump.len() == 80, &"the length of a dump");
+    holds(&rt, dump.len() == 80, "the length of a dump");
     expect_lines(&rt, alloc, &dump, &ONE_REGISTER);
     let replies = replayed(&rt, alloc, &dump, Ok(1));
     expect_lines(&rt, alloc, &replies, &REPLY);
@@ -161,37 +161,35 @@ fn has_codes(replies: &[u8], code: u8) -> bool {
     first && replies.len() == 208 && replies.get(204..) == Some([code, 0, 0, 0].as_slice())
 }
 
-/// Dumps with the mark before the first entry above `at`: the length of the dump, where the mark is, and the code of
-/// the second transfer 77.
-fn expect_mark(
-    rt: &impl Abort,
-    alloc: Global,
-    script: &[u8],
-    at: Option<u64>,
-    want: (usize, Option<usize>, u8),
-) {
+/// The length of a dump, where the mark is, and the code of the second transfer 77.
+type Marked = (usize, Option<usize>, u8);
+
+/// Dumps with the mark before the first entry above `at`.
+fn expect_mark(rt: &impl Abort, alloc: Global, script: &[u8], at: Option<u64>, want: Marked) {
     let (length, mark, code) = want;
     let dump = dumped(rt, alloc, at, script, Ok(4));
     let replies = replayed(rt, alloc, &dump, Ok(4));
-    holds(rt, dump.len() == length, &at);
-    holds(rt, has_mark(&dump, mark), &at);
-    holds(rt, has_codes(&replies, code), &at);
+    holds_at(rt, dump.len() == length, &at);
+    holds_at(rt, has_mark(&dump, mark), &at);
+    holds_at(rt, has_codes(&replies, code), &at);
     drop(replies);
     drop(dump);
 }
 
 /// Marks behind no entry, behind the last, and before the fourth and the third.
+const MARKS: [(Option<u64>, Marked); 4] = [
+    (None, (784, None, 0)),
+    (Some(4), (784, None, 0)),
+    (Some(3), (800, Some(592), 0)),
+    (Some(2), (800, Some(400), 68)),
+];
+
 #[test]
 fn mark_in_a_dump(rt: HostRuntime) {
     let mut script = Vec::new(rt.alloc());
     put_failed_and_again(&rt, &mut script);
-    for (at, want) in [
-        (None, (784, None, 0)),
-        (Some(4), (784, None, 0)),
-        (Some(3), (800, Some(592), 0)),
-        (Some(2), (800, Some(400), 68)),
-    ] {
-        expect_mark(&rt, rt.alloc(), &script, at, want);
+    for (at, want) in &MARKS {
+        expect_mark(&rt, rt.alloc(), &script, *at, *want);
     }
     drop(script);
 }
@@ -258,17 +256,17 @@ fn expect_row(rt: &impl Abort, alloc: Global, row: Row) {
     let mut dump = Vec::new(alloc);
     put_lines(rt, &mut dump, lines);
     dump.truncate(length);
-    holds(rt, dump.len() == length, &length);
+    holds_at(rt, dump.len() == length, &length);
     let replies = replayed(rt, alloc, &dump, answer);
-    holds(rt, replies.len() == written, &length);
+    holds_at(rt, replies.len() == written, &length);
     drop(replies);
     drop(dump);
 }
 
 #[test]
 fn dump_faults(rt: HostRuntime) {
-    for row in ROWS {
-        expect_row(&rt, rt.alloc(), row);
+    for row in &ROWS {
+        expect_row(&rt, rt.alloc(), *row);
     }
 }
 

@@ -11,15 +11,15 @@ const LAST: u64 = 9_223_372_036_854_775_807;
 /// The last moment can be the time of an entry, and then of no second.
 fn expect_last(rt: &impl Abort, machine: &mut Machine<Global>, register: &Entry) {
     let after = machine.next_time(LAST + 1, 0);
-    holds(rt, after.is_none(), &"a time behind the last moment");
+    holds(rt, after.is_none(), "a time behind the last moment");
     holds(
         rt,
         machine.next_time(LAST, 0) == Some(LAST),
-        &"the last moment",
+        "the last moment",
     );
     apply_entry(rt, machine, register);
-    holds(rt, machine.commit() == 1, &"entries");
-    holds(rt, machine.next_time(0, 0).is_none(), &"a second time");
+    holds(rt, machine.commit() == 1, "entries");
+    holds(rt, machine.next_time(0, 0).is_none(), "a second time");
 }
 
 /// A register's entry at the last moment, and none behind it.
@@ -31,13 +31,13 @@ fn time_runs_out(rt: HostRuntime) {
     holds(
         &rt,
         (register.commit, register.time) == (1, LAST),
-        &"numbers",
+        "numbers",
     );
     expect_last(&rt, &mut machine, &register);
     drop(register);
     let late = request_of(&rt, rt.alloc(), (8, 0, 0), Ask::Register);
     let none = machine.next_entry(late, LAST);
-    holds(&rt, none.is_none(), &"an entry behind the last moment");
+    holds(&rt, none.is_none(), "an entry behind the last moment");
     drop(none);
     drop(machine);
 }
@@ -61,7 +61,7 @@ fn entries_are_copied(rt: HostRuntime) {
         request: request_of(&rt, rt.alloc(), (7, 1, 2), Ask::ThreeLookedUp),
     };
     let copy = entry.copy(rt.alloc()).expect(&rt, "memory");
-    holds(&rt, alike(&entry, &copy), &"a copy");
+    holds(&rt, alike(&entry, &copy), "a copy");
     drop(copy);
     drop(entry);
 }

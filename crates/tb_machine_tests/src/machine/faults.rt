@@ -1,9 +1,9 @@
 //! Scripts that end before their time: no time is left, or a frame is at fault or cut.
-use crate::comparing::holds;
+use crate::comparing::{holds, holds_at};
 use crate::machine::machines::clients_max;
 use crate::machine::scripts::{Head, Script};
 use crate::machine::serving::{PROFILES, expect, expect_bytes};
-use crate::machine::steps::{Step, begin, put_steps, third};
+use crate::machine::steps::{BEGIN, Step, THIRD, script_of};
 use std::alloc::Global;
 use std::process::Abort;
 use tb_machine::RunFault;
@@ -12,8 +12,8 @@ use tb_records::{ClientsMax, FrameFault, Operation, Profile};
 /// Serves a script by each profile as far as its fault, for two clients at most, and lets it go.
 fn expect_fault(rt: &impl Abort, script: Script, fault: RunFault) {
     let clients_max = clients_max(rt, 2);
-    for profile in PROFILES {
-        expect(rt, &script, clients_max, profile, Err(fault));
+    for profile in &PROFILES {
+        expect(rt, &script, clients_max, *profile, Err(fault));
     }
     drop(script);
 }
@@ -32,8 +32,7 @@ const EXHAUSTED: [Step; 5] = [
 
 /// There is no time for client 8's register behind these steps.
 fn expect_exhausted(rt: &impl Abort, alloc: Global, steps: &[Step]) {
-    let mut script = Script::new(alloc);
-    put_steps(rt, &mut script, steps);
+    let mut script = script_of(rt, alloc, &[steps]);
     script.ask(rt, Head::register(8, 0));
     expect_fault(rt, script, RunFault::TimeExhausted);
 }
@@ -79,18 +78,16 @@ fn expect_cut(
     let (answer, written) = answer_at(len);
     let cut = script.bytes.as_slice().get(..len).unwrap_or(&[]);
     let wanted = script.replies.as_slice().get(..written).unwrap_or(&[]);
-    holds(rt, cut.len() == len && wanted.len() == written, &len);
+    holds_at(rt, cut.len() == len && wanted.len() == written, &len);
     expect_bytes(rt, script.alloc, clients_max, profile, cut, answer, wanted);
 }
 
 /// Three requests, cut at each length.
 #[test]
 fn script_cut_at_each_length(rt: HostRuntime) {
-    let mut script = Script::new(rt.alloc());
-    put_steps(&rt, &mut script, &begin());
-    put_steps(&rt, &mut script, &third());
-    holds(&rt, script.bytes.len() == 472, &"bytes of requests");
-    holds(&rt, script.replies.len() == 400, &"bytes of replies");
+    let script = script_of(&rt, rt.alloc(), &[&BEGIN, &THIRD]);
+    holds(&rt, script.bytes.len() == 472, "bytes of requests");
+    holds(&rt, script.replies.len() == 400, "bytes of replies");
     let clients_max = clients_max(&rt, 2);
     for len in 0..473 {
         expect_cut(&rt, &script, clients_max, Profile::One, len);

@@ -1,7 +1,7 @@
 //! The frames of three requests and their replies in hex.
 use crate::comparing::holds;
-use crate::machine::scripts::{Script, put_bytes};
-use crate::machine::steps::{begin, put_steps, third};
+use crate::machine::scripts::put_bytes;
+use crate::machine::steps::{BEGIN, THIRD, script_of};
 use std::process::Abort;
 
 /// An account's last 16 bytes before it has a timestamp.
@@ -71,7 +71,7 @@ pub fn put_parts(rt: &impl Abort, out: &mut Vec<u8>, parts: &[&[u128]]) {
 
 /// Appends the frames of the three requests, each behind the moment 10.
 fn put_requests(rt: &impl Abort, out: &mut Vec<u8>) {
-    for parts in REQUESTS {
+    for parts in &REQUESTS {
         put_bytes(rt, out, &10u64.to_le_bytes());
         put_parts(rt, out, parts);
     }
@@ -80,17 +80,15 @@ fn put_requests(rt: &impl Abort, out: &mut Vec<u8>) {
 /// The frames that are put together here are those in hex.
 #[test]
 fn frames_in_hex(rt: HostRuntime) {
-    let mut script = Script::new(rt.alloc());
-    put_steps(&rt, &mut script, &begin());
-    put_steps(&rt, &mut script, &third());
+    let script = script_of(&rt, rt.alloc(), &[&BEGIN, &THIRD]);
     let mut requests = Vec::new(rt.alloc());
     put_requests(&rt, &mut requests);
     let mut replies = Vec::new(rt.alloc());
     put_parts(&rt, &mut replies, &REPLIES);
     let same = script.bytes.as_slice() == requests.as_slice();
-    holds(&rt, same, &"requests");
+    holds(&rt, same, "requests");
     let same = script.replies.as_slice() == replies.as_slice();
-    holds(&rt, same, &"replies");
+    holds(&rt, same, "replies");
     drop(replies);
     drop(requests);
     drop(script);

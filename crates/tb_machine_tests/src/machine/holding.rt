@@ -1,6 +1,6 @@
 //! Nothing is asked for while something is held back: a reader and a writer that share a count of the bytes that were written
 //! and not yet passed on. No contract of the three forms can say that, since a reader's states and a writer's are separate.
-use crate::comparing::holds;
+use crate::comparing::holds_at;
 use crate::machine::forms::{Form, Outcome, serve};
 use crate::machine::scripts::Script;
 use std::alloc::Global;
@@ -91,28 +91,28 @@ fn serve_in_pieces(
     });
     let outcome = serve(rt, alloc, form, &mut reader, &mut writer);
     drop(reader);
-    holds(rt, outcome == wanted, &(input.len(), piece));
+    holds_at(rt, outcome == wanted, &(input.len(), piece));
     let Holding { taken, .. } = writer.into_inner();
-    holds(rt, shared.early.get() == 0, &(input.len(), piece));
-    holds(rt, shared.held.get() == 0, &(input.len(), piece));
+    holds_at(rt, shared.early.get() == 0, &(input.len(), piece));
+    holds_at(rt, shared.held.get() == 0, &(input.len(), piece));
     taken
 }
 
 /// A form is served in pieces of each length, its input whole and cut. Of a whole one the output is the same each time.
 fn expect_prompt(rt: &impl Abort, alloc: Global, form: Form, input: &[u8], output: &[u8]) {
-    for piece in PIECES {
-        for cut in CUTS {
-            let wanted = if cut == 0 {
+    for piece in &PIECES {
+        for cut in &CUTS {
+            let wanted = if *cut == 0 {
                 Outcome::Done
             } else {
                 Outcome::Other
             };
-            let given = &input[..input.len().saturating_sub(cut)];
-            let taken = serve_in_pieces(rt, alloc, form, given, piece, wanted);
+            let given = &input[..input.len().saturating_sub(*cut)];
+            let taken = serve_in_pieces(rt, alloc, form, given, *piece, wanted);
             let is_right = output.starts_with(taken.as_slice());
             let is_whole = taken.len() == output.len();
             drop(taken);
-            holds(rt, is_right && is_whole == (cut == 0), &(cut, piece));
+            holds_at(rt, is_right && is_whole == (*cut == 0), &(cut, piece));
         }
     }
 }

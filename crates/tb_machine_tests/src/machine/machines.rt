@@ -1,10 +1,11 @@
 //! Machines that entries move on, and what is asked of them.
 use crate::comparing::holds;
+use crate::machine::rows::{TransferRow, transfer_of};
 use std::alloc::{AllocError, Global};
 use std::process::Abort;
-use tb_fixtures::{account, creation, lookup, transfer, transfers};
+use tb_fixtures::{account, creation, lookup, transfers};
 use tb_machine::{Entry, Machine};
-use tb_records::{Body, ClientsMax, Profile, Request, Status, Transfer};
+use tb_records::{Body, ClientsMax, Profile, Request, Status};
 use tb_sessions::Class;
 
 /// A request's client, session and number.
@@ -23,7 +24,7 @@ pub enum Ask {
     ThreeLookedUp,
     /// A lookup of no account.
     NoneLookedUp,
-    Transfer(Transfer),
+    Transfer(TransferRow),
 }
 
 fn body_of(alloc: Global, ask: Ask) -> Result<Body, AllocError> {
@@ -32,7 +33,7 @@ fn body_of(alloc: Global, ask: Ask) -> Result<Body, AllocError> {
         Ask::TwoAccounts => creation(alloc, &[account(1), account(2)]),
         Ask::ThreeLookedUp => lookup(alloc, &[2, 9, 1]),
         Ask::NoneLookedUp => lookup(alloc, &[]),
-        Ask::Transfer(row) => transfers(alloc, &[row]),
+        Ask::Transfer(row) => transfers(alloc, &[transfer_of(row)]),
     }
 }
 
@@ -78,7 +79,7 @@ pub fn apply_entry(rt: &impl Abort, machine: &mut Machine<Global>, entry: &Entry
 fn enter_entry(rt: &impl Abort, machine: &mut Machine<Global>, entry: Entry) {
     assert!(rt; machine.fits(&entry), "the entry may not come next");
     let entered = machine.enter(entry);
-    holds(rt, entered.is_ok(), &"memory");
+    holds(rt, entered.is_ok(), "memory");
     drop(entered);
 }
 
@@ -132,11 +133,9 @@ pub fn reply_of(machine: &Machine<Global>, client: u128) -> Option<ReplyNumbers>
 }
 
 /// Client 7 registers, creates accounts 1 and 2, looks accounts up, and moves 100 from account 1 to account 2.
-pub fn first_four() -> [(Numbers, Ask); 4] {
-    [
-        ((7, 0, 0), Ask::Register),
-        ((7, 1, 1), Ask::TwoAccounts),
-        ((7, 1, 2), Ask::ThreeLookedUp),
-        ((7, 1, 3), Ask::Transfer(transfer(11, 1, 2, 100))),
-    ]
-}
+pub const FIRST_FOUR: [(Numbers, Ask); 4] = [
+    ((7, 0, 0), Ask::Register),
+    ((7, 1, 1), Ask::TwoAccounts),
+    ((7, 1, 2), Ask::ThreeLookedUp),
+    ((7, 1, 3), Ask::Transfer(TransferRow::Plain(11, 1, 2, 100))),
+];

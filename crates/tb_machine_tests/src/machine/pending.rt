@@ -1,158 +1,187 @@
 //! Pending transfers: their posts and voids, the closing of an account, and expiry.
-use crate::machine::fixtures::{closing, resolved};
-use crate::machine::serving::{PROFILES, serve_both, serve_on};
-use crate::machine::steps::Step;
-use tb_fixtures::{account, account_with, at, found, held, post, transfer, void, with_timeout};
+use crate::machine::rows::{AccountRow, TransferRow as Row};
+use crate::machine::serving::{PROFILES, serve};
+use crate::machine::steps::{BEGIN, Step};
 use tb_records::{
     AccountFlag, CreateAccountResult as AccountOutcome, CreateTransferResult as Outcome, Operation,
     Profile,
 };
 
 /// Posts of the whole, of 15 and of nothing.
-fn posts() -> [Step; 14] {
-    [
-        Step::Single(held(20, 40), Outcome::Ok),
-        Step::Single(post(21, 20, u128::MAX), Outcome::Ok),
-        Step::Single(held(22, 40), Outcome::Ok),
-        Step::Single(post(23, 22, 15), Outcome::Ok),
-        Step::Single(held(24, 40), Outcome::Ok),
-        Step::Single(post(25, 24, 0), Outcome::Ok),
-        Step::First([0, 55, 0, 0]),
-        Step::Id(21),
-        Step::Id(23),
-        Step::Id(25),
-        Step::FoundTransfer(at(14, resolved(post(21, 20, 40)))),
-        Step::FoundTransfer(at(16, resolved(post(23, 22, 15)))),
-        Step::FoundTransfer(at(18, resolved(post(25, 24, 0)))),
-        Step::Send(Operation::LookupTransfers),
-    ]
-}
+const POSTS: [Step; 14] = [
+    Step::Single(Row::Held(20, 40), Outcome::Ok),
+    Step::Single(Row::Post(21, 20, u128::MAX), Outcome::Ok),
+    Step::Single(Row::Held(22, 40), Outcome::Ok),
+    Step::Single(Row::Post(23, 22, 15), Outcome::Ok),
+    Step::Single(Row::Held(24, 40), Outcome::Ok),
+    Step::Single(Row::Post(25, 24, 0), Outcome::Ok),
+    Step::First([0, 55, 0, 0]),
+    Step::Id(21),
+    Step::Id(23),
+    Step::Id(25),
+    Step::FoundResolved(14, Row::Post(21, 20, 40)),
+    Step::FoundResolved(16, Row::Post(23, 22, 15)),
+    Step::FoundResolved(18, Row::Post(25, 24, 0)),
+    Step::Send(Operation::LookupTransfers),
+];
 
 /// A void, a second one, voids of less and of more than the whole, a post of what is not pending, and a post and a void of what was
 /// posted.
-fn voids() -> [Step; 16] {
-    [
-        Step::Single(held(30, 40), Outcome::Ok),
-        Step::Single(void(31, 30, 0), Outcome::Ok),
-        Step::Single(void(32, 30, 0), Outcome::PendingTransferAlreadyVoided),
-        Step::Single(held(33, 40), Outcome::Ok),
-        Step::Single(void(34, 33, 39), Outcome::PendingTransferHasDifferentAmount),
-        Step::Single(void(34, 33, 41), Outcome::ExceedsPendingTransferAmount),
-        Step::Single(post(36, 31, 0), Outcome::PendingTransferNotPending),
-        Step::Single(post(26, 20, 0), Outcome::PendingTransferAlreadyPosted),
-        Step::Single(void(26, 20, 0), Outcome::PendingTransferAlreadyPosted),
-        Step::Id(31),
-        Step::Id(32),
-        Step::Id(34),
-        Step::Id(36),
-        Step::FoundTransfer(at(22, resolved(void(31, 30, 40)))),
-        Step::Send(Operation::LookupTransfers),
-        Step::First([40, 55, 0, 0]),
-    ]
-}
+const VOIDS: [Step; 16] = [
+    Step::Single(Row::Held(30, 40), Outcome::Ok),
+    Step::Single(Row::Void(31, 30, 0), Outcome::Ok),
+    Step::Single(Row::Void(32, 30, 0), Outcome::PendingTransferAlreadyVoided),
+    Step::Single(Row::Held(33, 40), Outcome::Ok),
+    Step::Single(
+        Row::Void(34, 33, 39),
+        Outcome::PendingTransferHasDifferentAmount,
+    ),
+    Step::Single(Row::Void(34, 33, 41), Outcome::ExceedsPendingTransferAmount),
+    Step::Single(Row::Post(36, 31, 0), Outcome::PendingTransferNotPending),
+    Step::Single(Row::Post(26, 20, 0), Outcome::PendingTransferAlreadyPosted),
+    Step::Single(Row::Void(26, 20, 0), Outcome::PendingTransferAlreadyPosted),
+    Step::Id(31),
+    Step::Id(32),
+    Step::Id(34),
+    Step::Id(36),
+    Step::FoundResolved(22, Row::Void(31, 30, 40)),
+    Step::Send(Operation::LookupTransfers),
+    Step::First([40, 55, 0, 0]),
+];
 
 #[test]
 fn voids_and_resolved_pendings(rt: HostRuntime) {
-    serve_both(&rt, rt.alloc(), &PROFILES, &posts(), &voids());
+    serve(&rt, rt.alloc(), &PROFILES, &[&BEGIN, &POSTS, &VOIDS]);
 }
 
-/// A closing transfer, what is refused while its account is closed, and its void. Transfer 41 then has this outcome, and
-/// so much of it is posted.
-fn closed_and_opened(outcome: Outcome, posted: u128) -> [Step; 16] {
-    let closed = account_with(AccountFlag::Closed, account(1));
-    [
-        Step::Single(held(39, 5), Outcome::Ok),
-        Step::Single(closing(40, 0), Outcome::Ok),
-        Step::Id(1),
-        Step::FoundAccount(found([5, 0, 0, 0], 11, closed)),
-        Step::Send(Operation::LookupAccounts),
-        Step::Single(transfer(41, 1, 2, 1), Outcome::DebitAccountAlreadyClosed),
-        Step::Single(transfer(42, 2, 1, 1), Outcome::CreditAccountAlreadyClosed),
-        Step::Single(post(43, 40, 0), Outcome::DebitAccountAlreadyClosed),
-        Step::Single(void(44, 39, 0), Outcome::Ok),
-        Step::Id(1),
-        Step::FoundAccount(found([0, 0, 0, 0], 11, closed)),
-        Step::Send(Operation::LookupAccounts),
-        Step::Single(void(45, 40, 0), Outcome::Ok),
-        Step::First([0, 0, 0, 0]),
-        Step::Single(transfer(41, 1, 2, 1), outcome),
-        Step::First([0, posted, 0, 0]),
-    ]
-}
+/// Account 1, closed.
+const CLOSED: AccountRow = AccountRow::Flagged(AccountFlag::Closed, 1);
 
-/// By profile 2 the transfer that came while the account was closed has failed for good.
+/// A closing transfer, what is refused while its account is closed, and its void.
+const CLOSED_AND_OPENED: [Step; 14] = [
+    Step::Single(Row::Held(39, 5), Outcome::Ok),
+    Step::Single(Row::Closing(40, 0), Outcome::Ok),
+    Step::Id(1),
+    Step::FoundAccount([5, 0, 0, 0], 11, CLOSED),
+    Step::Send(Operation::LookupAccounts),
+    Step::Single(Row::Plain(41, 1, 2, 1), Outcome::DebitAccountAlreadyClosed),
+    Step::Single(Row::Plain(42, 2, 1, 1), Outcome::CreditAccountAlreadyClosed),
+    Step::Single(Row::Post(43, 40, 0), Outcome::DebitAccountAlreadyClosed),
+    Step::Single(Row::Void(44, 39, 0), Outcome::Ok),
+    Step::Id(1),
+    Step::FoundAccount([0, 0, 0, 0], 11, CLOSED),
+    Step::Send(Operation::LookupAccounts),
+    Step::Single(Row::Void(45, 40, 0), Outcome::Ok),
+    Step::First([0, 0, 0, 0]),
+];
+
+/// The transfer that came while the account was closed comes again.
+const OPEN_BY_ONE: [Step; 2] = [
+    Step::Single(Row::Plain(41, 1, 2, 1), Outcome::Ok),
+    Step::First([0, 1, 0, 0]),
+];
+
+/// By profile 2 it has failed for good.
+const FAILED_BY_TWO: [Step; 2] = [
+    Step::Single(Row::Plain(41, 1, 2, 1), Outcome::IdAlreadyFailed),
+    Step::First([0, 0, 0, 0]),
+];
+
+const CLOSED_BY_ONE: [&[Step]; 3] = [&BEGIN, &CLOSED_AND_OPENED, &OPEN_BY_ONE];
+
+const CLOSED_BY_TWO: [&[Step]; 3] = [&BEGIN, &CLOSED_AND_OPENED, &FAILED_BY_TWO];
+
 #[test]
 fn closing_and_reopening(rt: HostRuntime) {
-    let by_one = closed_and_opened(Outcome::Ok, 1);
-    serve_on(&rt, rt.alloc(), &[Profile::One], &by_one);
-    let by_two = closed_and_opened(Outcome::IdAlreadyFailed, 0);
-    serve_on(&rt, rt.alloc(), &[Profile::Two], &by_two);
+    serve(&rt, rt.alloc(), &[Profile::One], &CLOSED_BY_ONE);
+    serve(&rt, rt.alloc(), &[Profile::Two], &CLOSED_BY_TWO);
 }
 
 /// An account that is asked again exists with the flags that it now has.
+const ASKED_AGAIN: [Step; 8] = [
+    Step::Single(Row::Closing(40, 0), Outcome::Ok),
+    Step::Account(
+        AccountRow::Plain(1),
+        AccountOutcome::ExistsWithDifferentFlags,
+    ),
+    Step::Account(CLOSED, AccountOutcome::Exists),
+    Step::Send(Operation::CreateAccounts),
+    Step::Single(Row::Void(45, 40, 0), Outcome::Ok),
+    Step::Account(AccountRow::Plain(1), AccountOutcome::Exists),
+    Step::Account(CLOSED, AccountOutcome::ExistsWithDifferentFlags),
+    Step::Send(Operation::CreateAccounts),
+];
+
 #[test]
 fn asked_again_while_closed(rt: HostRuntime) {
-    let closed = account_with(AccountFlag::Closed, account(1));
-    let other_flags = AccountOutcome::ExistsWithDifferentFlags;
-    let steps = [
-        Step::Single(closing(40, 0), Outcome::Ok),
-        Step::Account(account(1), other_flags),
-        Step::Account(closed, AccountOutcome::Exists),
-        Step::Send(Operation::CreateAccounts),
-        Step::Single(void(45, 40, 0), Outcome::Ok),
-        Step::Account(account(1), AccountOutcome::Exists),
-        Step::Account(closed, other_flags),
-        Step::Send(Operation::CreateAccounts),
-    ];
-    serve_on(&rt, rt.alloc(), &PROFILES, &steps);
+    serve(&rt, rt.alloc(), &PROFILES, &[&BEGIN, &ASKED_AGAIN]);
 }
 
 /// A pending transfer holds its amount until the very moment it expires.
+const EXPIRING: [Step; 12] = [
+    Step::Moment(100),
+    Step::Single(Row::Timed(1, 60, 40), Outcome::Ok),
+    Step::Moment(1_000_000_099),
+    Step::First([40, 0, 0, 0]),
+    Step::Moment(1_000_000_100),
+    Step::First([0, 0, 0, 0]),
+    Step::Moment(1_000_000_101),
+    Step::Single(Row::Post(61, 60, 0), Outcome::PendingTransferExpired),
+    Step::Id(60),
+    Step::Id(61),
+    Step::FoundTransfer(100, Row::Timed(1, 60, 40)),
+    Step::Send(Operation::LookupTransfers),
+];
+
 #[test]
 fn expiry_at_the_moment(rt: HostRuntime) {
-    let short = with_timeout(1, held(60, 40));
-    let steps = [
-        Step::Moment(100),
-        Step::Single(short, Outcome::Ok),
-        Step::Moment(1_000_000_099),
-        Step::First([40, 0, 0, 0]),
-        Step::Moment(1_000_000_100),
-        Step::First([0, 0, 0, 0]),
-        Step::Moment(1_000_000_101),
-        Step::Single(post(61, 60, 0), Outcome::PendingTransferExpired),
-        Step::Id(60),
-        Step::Id(61),
-        Step::FoundTransfer(at(100, short)),
-        Step::Send(Operation::LookupTransfers),
-    ];
-    serve_on(&rt, rt.alloc(), &PROFILES, &steps);
+    serve(&rt, rt.alloc(), &PROFILES, &[&BEGIN, &EXPIRING]);
 }
 
-/// A closing transfer expires, and its account is open again; then timeouts that end after the last moment and before it.
-/// Transfer 63 came while the account was closed: it comes again and has this outcome, and so much of it is posted.
-fn closed_for_a_second(outcome: Outcome, posted: u128) -> [Step; 10] {
-    let early = Outcome::DebitAccountAlreadyClosed;
-    let too_long = with_timeout(4_294_967_295, held(67, 1));
-    let long = with_timeout(4_000_000_000, held(67, 1));
-    [
-        Step::Moment(100),
-        Step::Single(with_timeout(1, closing(62, 0)), Outcome::Ok),
-        Step::Moment(1_000_000_099),
-        Step::Single(transfer(63, 1, 2, 1), early),
-        Step::Moment(1_000_000_100),
-        Step::Single(transfer(63, 1, 2, 1), outcome),
-        Step::Moment(5_000_000_000_000_000_000),
-        Step::Single(too_long, Outcome::OverflowsTimeout),
-        Step::Single(long, Outcome::Ok),
-        Step::First([1, posted, 0, 0]),
-    ]
-}
+/// A closing transfer, a transfer that comes while its account is closed, and the moment at which it expires.
+const CLOSED_FOR_A_SECOND: [Step; 5] = [
+    Step::Moment(100),
+    Step::Single(Row::TimedClosing(1, 62, 0), Outcome::Ok),
+    Step::Moment(1_000_000_099),
+    Step::Single(Row::Plain(63, 1, 2, 1), Outcome::DebitAccountAlreadyClosed),
+    Step::Moment(1_000_000_100),
+];
 
-/// By profile 2 the transfer that came while the account was closed has failed for good.
+/// Timeouts that end after the last moment and before it.
+const LONG: [Step; 3] = [
+    Step::Moment(5_000_000_000_000_000_000),
+    Step::Single(Row::Timed(4_294_967_295, 67, 1), Outcome::OverflowsTimeout),
+    Step::Single(Row::Timed(4_000_000_000, 67, 1), Outcome::Ok),
+];
+
+/// The transfer that came comes again, and what is posted at the end.
+const AGAIN_BY_ONE: [Step; 1] = [Step::Single(Row::Plain(63, 1, 2, 1), Outcome::Ok)];
+
+const POSTED_BY_ONE: [Step; 1] = [Step::First([1, 1, 0, 0])];
+
+/// By profile 2 it has failed for good.
+const AGAIN_BY_TWO: [Step; 1] = [Step::Single(Row::Plain(63, 1, 2, 1), Outcome::IdAlreadyFailed)];
+
+const POSTED_BY_TWO: [Step; 1] = [Step::First([1, 0, 0, 0])];
+
+const EXPIRED_BY_ONE: [&[Step]; 5] = [
+    &BEGIN,
+    &CLOSED_FOR_A_SECOND,
+    &AGAIN_BY_ONE,
+    &LONG,
+    &POSTED_BY_ONE,
+];
+
+const EXPIRED_BY_TWO: [&[Step]; 5] = [
+    &BEGIN,
+    &CLOSED_FOR_A_SECOND,
+    &AGAIN_BY_TWO,
+    &LONG,
+    &POSTED_BY_TWO,
+];
+
 #[test]
 fn closing_expires_and_timeout_overflows(rt: HostRuntime) {
-    let by_one = closed_for_a_second(Outcome::Ok, 1);
-    serve_on(&rt, rt.alloc(), &[Profile::One], &by_one);
-    let by_two = closed_for_a_second(Outcome::IdAlreadyFailed, 0);
-    serve_on(&rt, rt.alloc(), &[Profile::Two], &by_two);
+    serve(&rt, rt.alloc(), &[Profile::One], &EXPIRED_BY_ONE);
+    serve(&rt, rt.alloc(), &[Profile::Two], &EXPIRED_BY_TWO);
 }

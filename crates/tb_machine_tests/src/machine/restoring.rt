@@ -1,8 +1,8 @@
 //! Records of a journal, and machines that are restored from them.
-use crate::comparing::holds;
+use crate::comparing::{holds, holds_at};
 use crate::machine::frames::put_lines;
 use crate::machine::machines::{
-    Ask, Numbers, apply_entry, entry_of, first_four, machine, reply_of, request_of,
+    Ask, FIRST_FOUR, Numbers, apply_entry, entry_of, machine, reply_of, request_of,
 };
 use std::alloc::Global;
 use std::process::Abort;
@@ -60,17 +60,17 @@ fn fault_of(alloc: Global, record: &[u8]) -> Option<FrameFault> {
 fn expect_short(rt: &impl Abort, alloc: Global, record: &[u8]) {
     for n in 0..record.len() {
         let fault = fault_of(alloc, &record[..n]);
-        holds(rt, fault == Some(FrameFault::Short), &n);
+        holds_at(rt, fault == Some(FrameFault::Short), &n);
     }
 }
 
 /// A whole record is read, and with a byte more it is too long.
 fn expect_long(rt: &impl Abort, alloc: Global, record: &mut Vec<u8>) {
     let whole = fault_of(alloc, record.as_slice());
-    holds(rt, whole.is_none(), &"a whole record");
+    holds(rt, whole.is_none(), "a whole record");
     record.push(0).expect(rt, "memory");
     let longer = fault_of(alloc, record.as_slice());
-    holds(rt, longer == Some(FrameFault::BadLength), &"a longer one");
+    holds(rt, longer == Some(FrameFault::BadLength), "a longer one");
 }
 
 /// The record by its bytes; cut anywhere it is short, and one more byte is too many.
@@ -81,7 +81,7 @@ fn record_of_a_register(rt: HostRuntime) {
     let mut record = Vec::new(rt.alloc());
     put_record(&rt, rt.alloc(), &mut record);
     let same = record.as_slice() == expected.as_slice();
-    holds(&rt, same, &"the bytes of a record");
+    holds(&rt, same, "the bytes of a record");
     expect_short(&rt, rt.alloc(), record.as_slice());
     expect_long(&rt, rt.alloc(), &mut record);
     drop(record);
@@ -127,11 +127,11 @@ fn alike(one: &Machine<Global>, other: &Machine<Global>) -> bool {
 fn four_records_restored(rt: HostRuntime) {
     let mut one = machine(&rt, rt.alloc(), 2);
     let mut other = machine(&rt, rt.alloc(), 2);
-    for (numbers, ask) in first_four() {
-        follow(&rt, rt.alloc(), &mut one, &mut other, numbers, ask);
+    for (numbers, ask) in &FIRST_FOUR {
+        follow(&rt, rt.alloc(), &mut one, &mut other, *numbers, *ask);
     }
-    holds(&rt, other.commit() == 4, &"entries");
-    holds(&rt, alike(&one, &other), &"what they find");
+    holds(&rt, other.commit() == 4, "entries");
+    holds(&rt, alike(&one, &other), "what they find");
     drop(other);
     drop(one);
 }
@@ -140,9 +140,9 @@ fn four_records_restored(rt: HostRuntime) {
 fn expect_unfit(rt: &impl Abort, machine: &mut Machine<Global>, entry: Entry, cause: Unfit) {
     let answer = restore(machine, entry);
     let fault = RestoreFault { place: 2, cause };
-    holds(rt, answer == Err(fault), &cause);
-    holds(rt, machine.commit() == 1, &cause);
-    holds(rt, machine.time() == 10, &cause);
+    holds_at(rt, answer == Err(fault), &cause);
+    holds_at(rt, machine.commit() == 1, &cause);
+    holds_at(rt, machine.time() == 10, &cause);
 }
 
 /// An entry that does not follow client 7's register is refused at its place, by the first test that it fails, and the
@@ -153,9 +153,9 @@ fn unfit_entries(rt: HostRuntime) {
     let mut machine = machine(&rt, alloc, 2);
     let first = register(&rt, alloc, 1, 10, (7, 0, 0));
     restore(&mut machine, first).expect(&rt, "an entry that follows");
-    for (commit, time, numbers, cause) in UNFIT {
-        let entry = register(&rt, alloc, commit, time, numbers);
-        expect_unfit(&rt, &mut machine, entry, cause);
+    for (commit, time, numbers, cause) in &UNFIT {
+        let entry = register(&rt, alloc, *commit, *time, *numbers);
+        expect_unfit(&rt, &mut machine, entry, *cause);
     }
     drop(machine);
 }

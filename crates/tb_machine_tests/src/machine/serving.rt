@@ -2,7 +2,7 @@
 use crate::comparing::holds;
 use crate::machine::machines::{apply_entry, clients_max};
 use crate::machine::scripts::Script;
-use crate::machine::steps::{Step, begin, put_steps};
+use crate::machine::steps::{Step, script_of};
 use std::alloc::Global;
 use std::process::Abort;
 use tb_machine::{Machine, RunFault, run, status_of};
@@ -10,7 +10,7 @@ use tb_records::{ClientsMax, Counting, Profile, Reply, Request, RequestStream, w
 use tb_sessions::Class;
 
 /// What `run` answers to a script, and what it writes.
-fn serve(
+fn run_over(
     alloc: Global,
     clients_max: ClientsMax,
     profile: Profile,
@@ -32,9 +32,9 @@ pub fn expect_bytes(
     answer: Result<u64, RunFault>,
     wanted: &[u8],
 ) {
-    let (result, replies) = serve(alloc, clients_max, profile, script);
-    holds(rt, result == answer, &"the answer");
-    holds(rt, replies.as_slice() == wanted, &"the replies");
+    let (result, replies) = run_over(alloc, clients_max, profile, script);
+    holds(rt, result == answer, "the answer");
+    holds(rt, replies.as_slice() == wanted, "the replies");
     drop(replies);
 }
 
@@ -130,7 +130,7 @@ pub fn expect_whole(rt: &impl Abort, script: &Script, clients_max: ClientsMax, p
     let mut replies = Vec::new(script.alloc);
     hand_over(rt, &mut machine, script, &mut replies);
     let same = replies.as_slice() == script.replies.as_slice();
-    holds(rt, same, &"the machine's replies");
+    holds(rt, same, "the machine's replies");
     drop(replies);
     drop(machine);
 }
@@ -138,39 +138,16 @@ pub fn expect_whole(rt: &impl Abort, script: &Script, clients_max: ClientsMax, p
 /// The profiles: what a script says of both is served by each.
 pub const PROFILES: [Profile; 2] = [Profile::One, Profile::Two];
 
-/// Serves a script to its end by profiles, for two clients at most.
-pub fn expect_all(rt: &impl Abort, script: &Script, profiles: &[Profile]) {
+/// Serves a script to its end by profiles, for two clients at most, and lets it go.
+pub fn expect_all(rt: &impl Abort, script: Script, profiles: &[Profile]) {
     let clients_max = clients_max(rt, 2);
     for profile in profiles {
-        expect_whole(rt, script, clients_max, *profile);
+        expect_whole(rt, &script, clients_max, *profile);
     }
-}
-
-/// Serves steps by profiles.
-pub fn serve_steps(rt: &impl Abort, alloc: Global, profiles: &[Profile], steps: &[Step]) {
-    let mut script = Script::new(alloc);
-    put_steps(rt, &mut script, steps);
-    expect_all(rt, &script, profiles);
     drop(script);
 }
 
-/// Serves the first two requests and two parts behind them by profiles.
-pub fn serve_both(
-    rt: &impl Abort,
-    alloc: Global,
-    profiles: &[Profile],
-    first: &[Step],
-    last: &[Step],
-) {
-    let mut script = Script::new(alloc);
-    put_steps(rt, &mut script, &begin());
-    put_steps(rt, &mut script, first);
-    put_steps(rt, &mut script, last);
-    expect_all(rt, &script, profiles);
-    drop(script);
-}
-
-/// Serves steps behind the first two requests by profiles.
-pub fn serve_on(rt: &impl Abort, alloc: Global, profiles: &[Profile], steps: &[Step]) {
-    serve_both(rt, alloc, profiles, steps, &[]);
+/// Serves steps by profiles, part after part.
+pub fn serve(rt: &impl Abort, alloc: Global, profiles: &[Profile], parts: &[&[Step]]) {
+    expect_all(rt, script_of(rt, alloc, parts), profiles);
 }

@@ -1,81 +1,92 @@
 //! Registers, repeats, refusals and evictions, by scripts.
-use crate::comparing::holds;
+use crate::comparing::holds_at;
 use crate::machine::machines::clients_max;
+use crate::machine::rows::{AccountRow, TransferRow as Row};
 use crate::machine::scripts::Script;
-use crate::machine::serving::{PROFILES, expect_whole, serve_both, serve_on, serve_steps};
-use crate::machine::steps::{Step, put_steps, third};
+use crate::machine::serving::{PROFILES, expect_whole, serve};
+use crate::machine::steps::{BEGIN, Step, THIRD, put_steps};
 use std::process::Abort;
-use tb_fixtures::{account, at, found, transfer};
 use tb_records::{CreateTransferResult, Operation, Status};
 
 /// The history has one entry.
+const REPEATED: [Step; 3] = [
+    Step::Register(7, 1),
+    Step::Register(7, 1),
+    Step::Look(7, 1, 1, Status::Reply, 2),
+];
+
 #[test]
 fn register_repeated(rt: HostRuntime) {
-    let steps = [
-        Step::Register(7, 1),
-        Step::Register(7, 1),
-        Step::Look(7, 1, 1, Status::Reply, 2),
-    ];
-    serve_steps(&rt, rt.alloc(), &PROFILES, &steps);
+    serve(&rt, rt.alloc(), &PROFILES, &[&REPEATED]);
 }
 
 #[test]
 fn accounts_looked_up_in_order(rt: HostRuntime) {
-    serve_on(&rt, rt.alloc(), &PROFILES, &third());
+    serve(&rt, rt.alloc(), &PROFILES, &[&BEGIN, &THIRD]);
 }
+
+/// Transfer 11.
+const HUNDRED: Row = Row::Plain(11, 1, 2, 100);
 
 /// The transfer again gets the same reply; the request before it is older. The history has 4 entries, and what the transfer
 /// left is looked up.
+const REPEATED_AND_OLDER: [Step; 11] = [
+    Step::Single(HUNDRED, CreateTransferResult::Ok),
+    Step::Numbered(3, HUNDRED, Status::Reply, 4),
+    Step::Again(2, Status::Older),
+    Step::Id(11),
+    Step::FoundTransfer(14, HUNDRED),
+    Step::Send(Operation::LookupTransfers),
+    Step::Id(1),
+    Step::Id(2),
+    Step::FoundAccount([0, 100, 0, 0], 11, AccountRow::Plain(1)),
+    Step::FoundAccount([0, 0, 0, 100], 12, AccountRow::Plain(2)),
+    Step::Send(Operation::LookupAccounts),
+];
+
 #[test]
 fn transfer_repeated_and_older(rt: HostRuntime) {
-    let hundred = transfer(11, 1, 2, 100);
-    let steps = [
-        Step::Single(hundred, CreateTransferResult::Ok),
-        Step::Numbered(3, hundred, Status::Reply, 4),
-        Step::Again(2, Status::Older),
-        Step::Id(11),
-        Step::FoundTransfer(at(14, hundred)),
-        Step::Send(Operation::LookupTransfers),
-        Step::Id(1),
-        Step::Id(2),
-        Step::FoundAccount(found([0, 100, 0, 0], 11, account(1))),
-        Step::FoundAccount(found([0, 0, 0, 100], 12, account(2))),
-        Step::Send(Operation::LookupAccounts),
-    ];
-    serve_both(&rt, rt.alloc(), &PROFILES, &third(), &steps);
+    serve(
+        &rt,
+        rt.alloc(),
+        &PROFILES,
+        &[&BEGIN, &THIRD, &REPEATED_AND_OLDER],
+    );
 }
 
 /// The history has 4 entries.
+const REFUSED: [Step; 7] = [
+    Step::Numbered(3, HUNDRED, Status::Reply, 4),
+    Step::Numbered(3, Row::Plain(11, 1, 2, 101), Status::Collision, 0),
+    Step::Look(7, 1, 5, Status::NewerRequest, 0),
+    Step::Look(7, 2, 4, Status::NewerSession, 0),
+    Step::Look(7, 0, 4, Status::SessionTooLow, 0),
+    Step::Look(9, 1, 1, Status::NoSession, 0),
+    Step::Look(7, 1, 4, Status::Reply, 5),
+];
+
 #[test]
 fn each_refusal_by_its_class(rt: HostRuntime) {
-    let steps = [
-        Step::Numbered(3, transfer(11, 1, 2, 100), Status::Reply, 4),
-        Step::Numbered(3, transfer(11, 1, 2, 101), Status::Collision, 0),
-        Step::Look(7, 1, 5, Status::NewerRequest, 0),
-        Step::Look(7, 2, 4, Status::NewerSession, 0),
-        Step::Look(7, 0, 4, Status::SessionTooLow, 0),
-        Step::Look(9, 1, 1, Status::NoSession, 0),
-        Step::Look(7, 1, 4, Status::Reply, 5),
-    ];
-    serve_both(&rt, rt.alloc(), &PROFILES, &third(), &steps);
+    serve(&rt, rt.alloc(), &PROFILES, &[&BEGIN, &THIRD, &REFUSED]);
 }
 
 /// Client 8's reply has the least commit number, though 7 has the least session; then 7's is 3 and 9's is 4. Client 7's old
 /// register makes a new session, and 9 goes.
+const EVICTED: [Step; 9] = [
+    Step::Register(7, 1),
+    Step::Register(8, 2),
+    Step::Look(7, 1, 1, Status::Reply, 3),
+    Step::Register(9, 4),
+    Step::Look(8, 2, 1, Status::NoSession, 0),
+    Step::Register(8, 5),
+    Step::Look(8, 2, 1, Status::SessionTooLow, 0),
+    Step::Register(7, 6),
+    Step::Look(9, 4, 1, Status::NoSession, 0),
+];
+
 #[test]
 fn least_commit_is_evicted(rt: HostRuntime) {
-    let steps = [
-        Step::Register(7, 1),
-        Step::Register(8, 2),
-        Step::Look(7, 1, 1, Status::Reply, 3),
-        Step::Register(9, 4),
-        Step::Look(8, 2, 1, Status::NoSession, 0),
-        Step::Register(8, 5),
-        Step::Look(8, 2, 1, Status::SessionTooLow, 0),
-        Step::Register(7, 6),
-        Step::Look(9, 4, 1, Status::NoSession, 0),
-    ];
-    serve_steps(&rt, rt.alloc(), &PROFILES, &steps);
+    serve(&rt, rt.alloc(), &PROFILES, &[&EVICTED]);
 }
 
 /// A hundred clients register, and all but the last are then without a session.
@@ -102,10 +113,10 @@ fn eviction_storm(rt: HostRuntime) {
     let mut script = Script::new(rt.alloc());
     put_hundred(&rt, &mut script);
     put_steps(&rt, &mut script, &LAST);
-    holds(&rt, script.requests == 203, &script.requests);
+    holds_at(&rt, script.requests == 203, &script.requests);
     let clients_max = clients_max(&rt, 1);
-    for profile in PROFILES {
-        expect_whole(&rt, &script, clients_max, profile);
+    for profile in &PROFILES {
+        expect_whole(&rt, &script, clients_max, *profile);
     }
     drop(script);
 }

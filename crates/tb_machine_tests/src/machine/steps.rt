@@ -1,8 +1,11 @@
 //! A script as data: one step after another, with what each is to be answered.
+use crate::machine::fixtures::resolved;
+use crate::machine::rows::{AccountRow, TransferRow, account_of, transfer_of};
 use crate::machine::scripts::Script;
+use std::alloc::Global;
 use std::process::Abort;
-use tb_fixtures::{account, found};
-use tb_records::{Account, CreateAccountResult, CreateTransferResult, Operation, Status, Transfer};
+use tb_fixtures::{account, at, found};
+use tb_records::{CreateAccountResult, CreateTransferResult, Operation, Status, Transfer};
 
 /// What a script asks next, and what it is to be answered.
 #[derive(Clone, Copy)]
@@ -14,23 +17,25 @@ pub enum Step {
     /// A lookup of no account by client, session and number, the status of its reply, and the commit number.
     Look(u128, u64, u32, Status, u64),
     /// Client 7's request of a number with one transfer, the status of its reply, and the commit number.
-    Numbered(u32, Transfer, Status, u64),
+    Numbered(u32, TransferRow, Status, u64),
     /// Client 7's request of a number, which looks accounts 2, 9 and 1 up, and the status that it is refused with.
     Again(u32, Status),
     /// An account of client 7's next request, and its result.
-    Account(Account, CreateAccountResult),
+    Account(AccountRow, CreateAccountResult),
     /// A transfer of client 7's next request, and its result.
-    Transfer(Transfer, CreateTransferResult),
+    Transfer(TransferRow, CreateTransferResult),
     /// An id of client 7's next lookup.
     Id(u128),
-    /// An account that the lookup finds.
-    FoundAccount(Account),
-    /// A transfer that the lookup finds.
-    FoundTransfer(Transfer),
+    /// An account that the lookup finds, with its sums and its timestamp.
+    FoundAccount([u128; 4], u64, AccountRow),
+    /// A transfer that the lookup finds, with its timestamp.
+    FoundTransfer(u64, TransferRow),
+    /// A post or a void that the lookup finds, as it is recorded: of a transfer from account 1 to account 2.
+    FoundResolved(u64, TransferRow),
     /// Client 7's next request, of all that came since the last one.
     Send(Operation),
     /// A transfer in a request of its own, and its result.
-    Single(Transfer, CreateTransferResult),
+    Single(TransferRow, CreateTransferResult),
     /// A lookup of account 1, and its sums.
     First([u128; 4]),
 }
@@ -62,16 +67,24 @@ fn put_step(rt: &impl Abort, script: &mut Script, step: Step) {
             script.look(rt, client, session, number, status, commit)
         }
         Step::Numbered(number, row, status, commit) => {
-            script.transfer(rt, number, &row, status, commit)
+            script.transfer(rt, number, &transfer_of(row), status, commit)
         }
         Step::Again(number, status) => script.look_again(rt, number, status),
-        Step::Account(row, result) => script.put_account(rt, &row, result as u32),
-        Step::Transfer(row, result) => script.put_transfer(rt, &row, result as u32),
+        Step::Account(row, result) => script.put_account(rt, &account_of(row), result as u32),
+        Step::Transfer(row, result) => script.put_transfer(rt, &transfer_of(row), result as u32),
         Step::Id(id) => script.put_id(rt, id),
-        Step::FoundAccount(row) => script.put_found_account(rt, &row),
-        Step::FoundTransfer(row) => script.put_found_transfer(rt, &row),
+        Step::FoundAccount(sums, time, row) => {
+            script.put_found_account(rt, &found(sums, time, account_of(row)))
+        }
+        Step::FoundTransfer(time, row) => script.put_found_transfer(
+            rt,
+            &at(time, transfer_of(row)),
+        ),
+        Step::FoundResolved(time, row) => {
+            script.put_found_transfer(rt, &at(time, resolved(transfer_of(row))))
+        }
         Step::Send(operation) => script.send(rt, operation),
-        Step::Single(row, result) => send_single(rt, script, &row, result as u32),
+        Step::Single(row, result) => send_single(rt, script, &transfer_of(row), result as u32),
         Step::First(sums) => look_up_first(rt, script, sums),
     }
 }
@@ -83,24 +96,29 @@ pub fn put_steps(rt: &impl Abort, script: &mut Script, steps: &[Step]) {
     }
 }
 
-/// The first two requests: client 7 registers at moment 10 and creates accounts 1 and 2, which takes the moments 11 and 12.
-pub fn begin() -> [Step; 4] {
-    [
-        Step::Register(7, 1),
-        Step::Account(account(1), CreateAccountResult::Ok),
-        Step::Account(account(2), CreateAccountResult::Ok),
-        Step::Send(Operation::CreateAccounts),
-    ]
+/// A script of steps, part after part.
+pub fn script_of(rt: &impl Abort, alloc: Global, parts: &[&[Step]]) -> Script {
+    let mut script = Script::new(alloc);
+    for steps in parts {
+        put_steps(rt, &mut script, steps);
+    }
+    script
 }
 
+/// The first two requests: client 7 registers at moment 10 and creates accounts 1 and 2, which takes the moments 11 and 12.
+pub const BEGIN: [Step; 4] = [
+    Step::Register(7, 1),
+    Step::Account(AccountRow::Plain(1), CreateAccountResult::Ok),
+    Step::Account(AccountRow::Plain(2), CreateAccountResult::Ok),
+    Step::Send(Operation::CreateAccounts),
+];
+
 /// The third request: a lookup of accounts 2, 9 and 1.
-pub fn third() -> [Step; 6] {
-    [
-        Step::Id(2),
-        Step::Id(9),
-        Step::Id(1),
-        Step::FoundAccount(found([0; 4], 12, account(2))),
-        Step::FoundAccount(found([0; 4], 11, account(1))),
-        Step::Send(Operation::LookupAccounts),
-    ]
-}
+pub const THIRD: [Step; 6] = [
+    Step::Id(2),
+    Step::Id(9),
+    Step::Id(1),
+    Step::FoundAccount([0; 4], 12, AccountRow::Plain(2)),
+    Step::FoundAccount([0; 4], 11, AccountRow::Plain(1)),
+    Step::Send(Operation::LookupAccounts),
+];

@@ -1,10 +1,9 @@
 //! The map in use, at the keys that the books have.
-use crate::comparing::{holds, same};
+use crate::comparing::{holds, holds_at, same};
 use avl_tree::AvlMap;
 use std::alloc::{Allocator, Global};
 use std::collections::BTreeMap;
 use std::process::Abort;
-use std::test::Fail;
 use tb_refusing::Refusing;
 
 /// Inserts a pair, where there is a spare node and the key is absent.
@@ -20,13 +19,21 @@ fn put<K: Ord + Copy + Default, V: Default + Drop, A: Allocator + Clone>(
     map.insert_reserved(key, value);
 }
 
+/// Spare nodes for so many keys.
+fn reserve<K: Ord + Copy + Default, V: Default + Drop, A: Allocator + Clone>(
+    rt: &impl Abort,
+    map: &mut AvlMap<K, V, A>,
+    count: usize,
+) {
+    map.reserve(count).expect(rt, "memory");
+}
+
 /// Puts the keys from 1 to `last` in, by rising order.
-fn put_rising(rt: &impl Abort, map: &mut AvlMap<u32, u64, Global>, last: u32) -> Result<(), Fail> {
-    map.reserve(last as usize)?;
+fn put_rising(rt: &impl Abort, map: &mut AvlMap<u32, u64, Global>, last: u32) {
+    reserve(rt, map, last as usize);
     for key in 1..=last {
         put(rt, map, key, u64::from(key) * 10);
     }
-    Ok(())
 }
 
 /// The most nodes that a search for a key from 1 to `last` meets.
@@ -40,47 +47,40 @@ fn longest_path(rt: &impl Abort, map: &AvlMap<u32, u64, Global>, last: u32) -> u
     longest
 }
 
-fn probe_seven(rt: &impl Abort, map: &mut AvlMap<u32, u64, Global>) -> Result<(), Fail> {
-    put_rising(rt, map, 7)?;
-    holds(rt, longest_path(rt, map, 7) <= 4, &7);
-    Ok(())
-}
-
-fn probe_thousand(rt: &impl Abort, map: &mut AvlMap<u32, u64, Global>) -> Result<(), Fail> {
-    put_rising(rt, map, 1000)?;
-    holds(rt, longest_path(rt, map, 1000) <= 14, &1000);
-    let (value, visits) = map.probe(&1001);
-    holds(rt, value.is_none() && visits <= 14, &1001);
-    Ok(())
+/// Of the keys from 1 to `last` none is searched for by more visits, and none is found behind them.
+fn expect_short(rt: &impl Abort, alloc: Global, last: u32, most: u32) {
+    let mut map = AvlMap::new_in(alloc);
+    put_rising(rt, &mut map, last);
+    holds_at(rt, longest_path(rt, &map, last) <= most, &last);
+    let (value, visits) = map.probe(&last.saturating_add(1));
+    holds_at(rt, value.is_none() && visits <= most, &last);
+    drop(map);
 }
 
 #[test]
-fn probes_stay_short(rt: HostRuntime) -> Result<(), Fail> {
-    probe_seven(&rt, &mut AvlMap::new_in(rt.alloc()))?;
-    probe_thousand(&rt, &mut AvlMap::new_in(rt.alloc()))
+fn probes_stay_short(rt: HostRuntime) {
+    expect_short(&rt, rt.alloc(), 7, 4);
+    expect_short(&rt, rt.alloc(), 1000, 14);
 }
 
 /// Eight keys are looked up by one call, two of them absent and one twice.
-fn look_eight_up(rt: &impl Abort, map: &mut AvlMap<u32, u64, Global>) -> Result<(), Fail> {
-    put_rising(rt, map, 100)?;
+#[test]
+fn eight_are_looked_up_at_once(rt: HostRuntime) {
+    let mut map = AvlMap::new_in(rt.alloc());
+    put_rising(&rt, &mut map, 100);
     let wanted = [
-        Some(500),
-        Some(10),
+        Some(&500),
+        Some(&10),
         None,
-        Some(1000),
+        Some(&1000),
         None,
-        Some(70),
-        Some(70),
-        Some(640),
+        Some(&70),
+        Some(&70),
+        Some(&640),
     ];
     let found = map.get_many(&[50, 1, 101, 100, 0, 7, 7, 64]);
-    same(rt, &found.map(|value| value.copied()), &wanted, &"eight");
-    Ok(())
-}
-
-#[test]
-fn eight_are_looked_up_at_once(rt: HostRuntime) -> Result<(), Fail> {
-    look_eight_up(&rt, &mut AvlMap::new_in(rt.alloc()))
+    same(&rt, &found, &wanted, &"eight");
+    drop(map);
 }
 
 /// The keys from `low` to `high`, below 10, as the digits of a number in the order in which they come.
@@ -151,28 +151,22 @@ fn first_key<K: Ord + Copy, V, A: Allocator + Clone>(map: &AvlMap<K, V, A>) -> O
 }
 
 /// The keys 2, 1 and 3 take three of the spare nodes.
-fn take_three(rt: &impl Abort, map: &mut AvlMap<u64, u128, Global>) {
+fn put_three(rt: &impl Abort, map: &mut AvlMap<u64, u128, Global>) {
+    reserve(rt, map, 3);
     let reserved = map.spare();
-    for (key, value) in [(2, 20), (1, 10), (3, 30)] {
-        put(rt, map, key, value);
+    for (key, value) in &[(2, 20), (1, 10), (3, 30)] {
+        put(rt, map, *key, *value);
     }
-    holds(rt, reserved >= 3, &reserved);
+    holds_at(rt, reserved >= 3, &reserved);
     same(rt, &reserved.checked_sub(map.spare()), &Some(3), &"spare");
-}
-
-/// Puts the keys 2, 1 and 3 in.
-fn put_three(rt: &impl Abort, map: &mut AvlMap<u64, u128, Global>) -> Result<(), Fail> {
-    map.reserve(3)?;
-    take_three(rt, map);
     expect_len(rt, map, 3);
-    Ok(())
 }
 
 /// Key 2 leaves its node, and only once.
 fn remove_twice(rt: &impl Abort, map: &mut AvlMap<u64, u128, Global>) {
     let before = map.spare();
-    for value in [Some(20), None] {
-        same(rt, &map.remove(&2), &value, &2);
+    for value in &[Some(20), None] {
+        same(rt, &map.remove(&2), value, &2);
         expect_won(rt, map, before, 1);
     }
 }
@@ -198,50 +192,51 @@ fn expect_exchange(
 ) {
     let mut place = value;
     let found = map.exchange(&key, &mut place);
-    holds(rt, found == old.is_some(), &key);
+    holds_at(rt, found == old.is_some(), &key);
     same(rt, &place, &old.unwrap_or(value), &key);
 }
 
-fn exchange_values(rt: &impl Abort, map: &mut AvlMap<u64, u128, Global>) -> Result<(), Fail> {
-    put_three(rt, map)?;
-    expect_exchange(rt, map, 3, 33, Some(30));
-    expect_value(rt, map, 3, Some(33));
-    expect_exchange(rt, map, 4, 40, None);
-    expect_digits(rt, map, 0, 9, 123);
-    Ok(())
+#[test]
+fn values_are_exchanged(rt: HostRuntime) {
+    let mut map = AvlMap::new_in(rt.alloc());
+    put_three(&rt, &mut map);
+    expect_exchange(&rt, &mut map, 3, 33, Some(30));
+    expect_value(&rt, &map, 3, Some(33));
+    expect_exchange(&rt, &mut map, 4, 40, None);
+    expect_digits(&rt, &map, 0, 9, 123);
+    drop(map);
 }
+
+/// How many pairs are visited, and their digits.
+const VISITED: [(usize, u64); 7] = [
+    (0, 0),
+    (1, 1),
+    (4, 1234),
+    (5, 12345),
+    (8, 12_345_678),
+    (9, 123_456_789),
+    (usize::MAX, 123_456_789),
+];
 
 #[test]
-fn values_are_exchanged(rt: HostRuntime) -> Result<(), Fail> {
-    exchange_values(&rt, &mut AvlMap::new_in(rt.alloc()))
-}
-
-fn visit_first(rt: &impl Abort, map: &mut AvlMap<u64, u128, Global>) -> Result<(), Fail> {
-    same(rt, &first_digits(map, 8), &0, &"empty");
-    map.reserve(9)?;
-    put_all(rt, map, 1, 9);
-    for (n, wanted) in [(0, 0), (1, 1), (4, 1234), (5, 12345), (8, 12_345_678)] {
-        same(rt, &first_digits(map, n), &wanted, &n);
+fn first_pairs_are_visited(rt: HostRuntime) {
+    let mut map = AvlMap::new_in(rt.alloc());
+    same(&rt, &first_digits(&map, 8), &0, &"empty");
+    reserve(&rt, &mut map, 9);
+    put_all(&rt, &mut map, 1, 9);
+    for (n, wanted) in &VISITED {
+        same(&rt, &first_digits(&map, *n), wanted, n);
     }
-    same(rt, &first_digits(map, usize::MAX), &123_456_789, &"all");
-    Ok(())
+    drop(map);
 }
 
 #[test]
-fn first_pairs_are_visited(rt: HostRuntime) -> Result<(), Fail> {
-    visit_first(&rt, &mut AvlMap::new_in(rt.alloc()))
-}
-
-fn keep_spare_nodes(rt: &impl Abort, map: &mut AvlMap<u64, u128, Global>) -> Result<(), Fail> {
-    put_three(rt, map)?;
-    remove_twice(rt, map);
-    expect_two(rt, map);
-    Ok(())
-}
-
-#[test]
-fn spare_nodes_are_kept(rt: HostRuntime) -> Result<(), Fail> {
-    keep_spare_nodes(&rt, &mut AvlMap::new_in(rt.alloc()))
+fn spare_nodes_are_kept(rt: HostRuntime) {
+    let mut map = AvlMap::new_in(rt.alloc());
+    put_three(&rt, &mut map);
+    remove_twice(&rt, &mut map);
+    expect_two(&rt, &mut map);
+    drop(map);
 }
 
 /// Doubles the value of the key in place, and answers what it was.
@@ -307,8 +302,8 @@ fn move_there_and_back(rt: &impl Abort, map: &mut AvlMap<u64, u128, Global>, fro
 
 /// Too much, a key that is absent, and all that there is.
 fn move_what_there_is(rt: &impl Abort, map: &mut AvlMap<u64, u128, Global>) {
-    for (from, to, amount, moved) in [(1, 7, 11, Some(false)), (1, 8, 1, None), (8, 1, 1, None)] {
-        expect_transfer(rt, map, from, to, amount, moved);
+    for (from, to, amount, moved) in &[(1, 7, 11, Some(false)), (1, 8, 1, None), (8, 1, 1, None)] {
+        expect_transfer(rt, map, *from, *to, *amount, *moved);
     }
     look_up_all(rt, map, 1, 7);
     expect_transfer(rt, map, 7, 1, 70, Some(true));
@@ -316,37 +311,31 @@ fn move_what_there_is(rt: &impl Abort, map: &mut AvlMap<u64, u128, Global>) {
     expect_value(rt, map, 1, Some(80));
 }
 
-fn change_two(rt: &impl Abort, map: &mut AvlMap<u64, u128, Global>) -> Result<(), Fail> {
-    map.reserve(7)?;
-    put_all(rt, map, 1, 7);
-    for from in 1..=7 {
-        move_there_and_back(rt, map, from);
-    }
-    move_what_there_is(rt, map);
-    Ok(())
-}
-
 #[test]
-fn two_values_change_at_once(rt: HostRuntime) -> Result<(), Fail> {
-    change_two(&rt, &mut AvlMap::new_in(rt.alloc()))
+fn two_values_change_at_once(rt: HostRuntime) {
+    let mut map = AvlMap::new_in(rt.alloc());
+    reserve(&rt, &mut map, 7);
+    put_all(&rt, &mut map, 1, 7);
+    for from in 1..=7 {
+        move_there_and_back(&rt, &mut map, from);
+    }
+    move_what_there_is(&rt, &mut map);
+    drop(map);
 }
 
 /// Key 3 is doubled twice, and key 4 is absent.
-fn double_in_place(rt: &impl Abort, map: &mut AvlMap<u64, u128, Global>) -> Result<(), Fail> {
-    map.reserve(3)?;
-    put_all(rt, map, 1, 3);
-    for (key, before) in [(3, Some(30)), (3, Some(60)), (4, None)] {
-        same(rt, &double(map, key), &before, &key);
-    }
-    expect_value(rt, map, 3, Some(120));
-    look_up_all(rt, map, 1, 2);
-    expect_len(rt, map, 3);
-    Ok(())
-}
-
 #[test]
-fn values_change_in_place(rt: HostRuntime) -> Result<(), Fail> {
-    double_in_place(&rt, &mut AvlMap::new_in(rt.alloc()))
+fn values_change_in_place(rt: HostRuntime) {
+    let mut map = AvlMap::new_in(rt.alloc());
+    reserve(&rt, &mut map, 3);
+    put_all(&rt, &mut map, 1, 3);
+    for (key, before) in &[(3, Some(30)), (3, Some(60)), (4, None)] {
+        same(&rt, &double(&mut map, *key), before, key);
+    }
+    expect_value(&rt, &map, 3, Some(120));
+    look_up_all(&rt, &map, 1, 2);
+    expect_len(&rt, &map, 3);
+    drop(map);
 }
 
 /// A number that looks like chance, different for each `n`.
@@ -363,13 +352,13 @@ fn fill_both(
     map: &mut AvlMap<u128, u64, Global>,
     other: &mut BTreeMap<u128, u64>,
     keys: u64,
-) -> Result<(), Fail> {
-    map.reserve(keys as usize)?;
+) {
+    reserve(rt, map, keys as usize);
     for n in 0..keys {
         put(rt, map, mixed(n), n);
-        other.insert(mixed(n), n)?;
+        let inserted: Result<_, _> = other.insert(mixed(n), n);
+        inserted.expect(rt, "memory");
     }
-    Ok(())
 }
 
 /// Takes two in three of the keys out of both maps.
@@ -408,40 +397,30 @@ fn expect_same(rt: &impl Abort, map: &AvlMap<u128, u64, Global>, other: &BTreeMa
         &u128::MAX,
         &mut |key: &u128, value: &u64| { same = same && others.next() == Some((key, value)) },
     );
-    holds(rt, same && others.next().is_none(), &"all pairs");
-}
-
-fn compare(
-    rt: &impl Abort,
-    map: &mut AvlMap<u128, u64, Global>,
-    other: &mut BTreeMap<u128, u64>,
-) -> Result<(), Fail> {
-    const KEYS: u64 = 1_000_000;
-    fill_both(rt, map, other, KEYS)?;
-    thin_both(rt, map, other, KEYS);
-    expect_len(rt, map, other.len());
-    look_up_both(rt, map, other, KEYS);
-    expect_same(rt, map, other);
-    Ok(())
+    holds(rt, same && others.next().is_none(), "all pairs");
 }
 
 #[test]
-fn agrees_with_another_map(rt: HostRuntime) -> Result<(), Fail> {
-    compare(
-        &rt,
-        &mut AvlMap::new_in(rt.alloc()),
-        &mut BTreeMap::new(rt.alloc()),
-    )
+fn agrees_with_another_map(rt: HostRuntime) {
+    const KEYS: u64 = 1_000_000;
+    let mut map = AvlMap::new_in(rt.alloc());
+    let mut other = BTreeMap::new(rt.alloc());
+    fill_both(&rt, &mut map, &mut other, KEYS);
+    thin_both(&rt, &mut map, &mut other, KEYS);
+    expect_len(&rt, &map, other.len());
+    look_up_both(&rt, &map, &other, KEYS);
+    expect_same(&rt, &map, &other);
+    drop(other);
+    drop(map);
 }
 
 type Pairs = AvlMap<(u64, u128), (), Global>;
 
-fn put_pairs(rt: &impl Abort, map: &mut Pairs) -> Result<(), Fail> {
-    map.reserve(3)?;
-    for key in [(2, 1), (1, 9), (1, 8)] {
-        put(rt, map, key, ());
+fn put_pairs(rt: &impl Abort, map: &mut Pairs) {
+    reserve(rt, map, 3);
+    for key in &[(2, 1), (1, 9), (1, 8)] {
+        put(rt, map, *key, ());
     }
-    Ok(())
 }
 
 /// This key is the first.
@@ -459,48 +438,48 @@ fn remove_first(rt: &impl Abort, map: &mut Pairs) {
 /// The other two come out by order.
 fn pop_all(rt: &impl Abort, map: &mut Pairs) {
     let before = map.spare();
-    for first in [Some(((1, 9), ())), Some(((2, 1), ())), None] {
-        same(rt, &map.pop_first(), &first, &"first");
+    for first in &[Some(((1, 9), ())), Some(((2, 1), ())), None] {
+        same(rt, &map.pop_first(), first, &"first");
     }
     expect_len(rt, map, 0);
     expect_won(rt, map, before, 2);
 }
 
-fn order_pairs(rt: &impl Abort, map: &mut Pairs) -> Result<(), Fail> {
-    put_pairs(rt, map)?;
-    remove_first(rt, map);
-    pop_all(rt, map);
-    Ok(())
-}
-
 #[test]
-fn pairs_come_by_both_parts(rt: HostRuntime) -> Result<(), Fail> {
-    order_pairs(&rt, &mut AvlMap::new_in(rt.alloc()))
+fn pairs_come_by_both_parts(rt: HostRuntime) {
+    let mut map = AvlMap::new_in(rt.alloc());
+    put_pairs(&rt, &mut map);
+    remove_first(&rt, &mut map);
+    pop_all(&rt, &mut map);
+    drop(map);
 }
 
-/// What comes out of the three pairs up to each bound, the number of pairs that are left, and the spare nodes that were won.
-fn pop_three(rt: &impl Abort, map: &mut Pairs) -> Result<(), Fail> {
-    put_pairs(rt, map)?;
+/// What comes out of a map of pairs.
+type Popped = Option<((u64, u128), ())>;
+
+/// What comes out of the three pairs up to each bound, and the number of pairs that are left.
+const POPPED: [((u64, u128), Popped, usize); 7] = [
+    ((1, 7), None, 3),
+    ((1, 8), Some(((1, 8), ())), 2),
+    ((1, 8), None, 2),
+    ((2, 0), Some(((1, 9), ())), 1),
+    ((2, 0), None, 1),
+    ((u64::MAX, 0), Some(((2, 1), ())), 0),
+    ((u64::MAX, 0), None, 0),
+];
+
+/// Three spare nodes are won.
+#[test]
+fn the_first_pair_comes_out_to_a_bound(rt: HostRuntime) {
+    let mut map = AvlMap::new_in(rt.alloc());
+    put_pairs(&rt, &mut map);
     let before = map.spare();
-    for (bound, first, left) in [
-        ((1, 7), None, 3),
-        ((1, 8), Some(((1, 8), ())), 2),
-        ((1, 8), None, 2),
-        ((2, 0), Some(((1, 9), ())), 1),
-        ((2, 0), None, 1),
-        ((u64::MAX, 0), Some(((2, 1), ())), 0),
-        ((u64::MAX, 0), None, 0),
-    ] {
-        same(rt, &map.pop_first_to(&bound), &first, &bound);
-        expect_len(rt, map, left);
+    for (bound, first, left) in &POPPED {
+        same(&rt, &map.pop_first_to(bound), first, bound);
+        expect_len(&rt, &map, *left);
     }
-    expect_won(rt, map, before, 3);
-    Ok(())
-}
-
-#[test]
-fn the_first_pair_comes_out_to_a_bound(rt: HostRuntime) -> Result<(), Fail> {
-    pop_three(&rt, &mut AvlMap::new_in(rt.alloc()))
+    expect_won(&rt, &map, before, 3);
+    drop(map);
 }
 
 /// The key that a bound names comes out, if it is due, and none behind it.
@@ -512,33 +491,28 @@ fn expect_due(rt: &impl Abort, map: &mut AvlMap<u32, u64, Global>, bound: u32, d
         &due.then_some((bound, value)),
         &bound,
     );
-    holds(rt, map.pop_first_to(&bound).is_none(), &bound);
+    holds_at(rt, map.pop_first_to(&bound).is_none(), &bound);
 }
 
 /// As many keys as there are, in order, up to a bound that rises: each comes out once its turn is there, and no other.
-fn pop_by_bounds(rt: &impl Abort, map: &mut AvlMap<u32, u64, Global>) -> Result<(), Fail> {
-    put_rising(rt, map, 1000)?;
+#[test]
+fn a_thousand_pairs_come_out_as_the_bound_rises(rt: HostRuntime) {
+    let mut map = AvlMap::new_in(rt.alloc());
+    put_rising(&rt, &mut map, 1000);
     for bound in 0..=1001u32 {
-        expect_due(rt, map, bound, (1..=1000).contains(&bound));
+        expect_due(&rt, &mut map, bound, (1..=1000).contains(&bound));
     }
-    expect_len(rt, map, 0);
-    Ok(())
+    expect_len(&rt, &map, 0);
+    drop(map);
 }
 
 #[test]
-fn a_thousand_pairs_come_out_as_the_bound_rises(rt: HostRuntime) -> Result<(), Fail> {
-    pop_by_bounds(&rt, &mut AvlMap::new_in(rt.alloc()))
-}
-
-#[test]
-fn many_spare_nodes_are_let_go(rt: HostRuntime) -> Result<(), Fail> {
+fn many_spare_nodes_are_let_go(rt: HostRuntime) {
     let mut map: AvlMap<u128, [u64; 16], Global> = AvlMap::new_in(rt.alloc());
-    let reserved = map.reserve(1_000_000);
+    reserve(&rt, &mut map, 1_000_000);
     let spare = map.spare();
     drop(map);
-    reserved?;
-    holds(&rt, spare >= 1_000_000, &spare);
-    Ok(())
+    holds_at(&rt, spare >= 1_000_000, &spare);
 }
 
 /// Puts the keys from `low` to `high` in, each with ten times itself.
@@ -574,8 +548,8 @@ fn refuse_reserve(
 ) {
     let before = map.spare();
     heap.allow(given);
-    holds(rt, map.reserve(8).is_err(), &given);
-    holds(rt, map.spare() >= before, &given);
+    holds_at(rt, map.reserve(8).is_err(), &given);
+    holds_at(rt, map.spare() >= before, &given);
 }
 
 /// The keys 1 to 3 are there, and no other below 10.
@@ -586,48 +560,34 @@ fn expect_three(rt: &impl Abort, map: &AvlMap<u64, u128, &Refusing<Global>>) {
 }
 
 /// Three keys of five spare nodes; then asks for eight spare nodes where the allocator gives `given` blocks, too few, and
-/// then where it gives enough.
-fn reserve_twice(
-    rt: &impl Abort,
-    heap: &Refusing<Global>,
-    map: &mut AvlMap<u64, u128, &Refusing<Global>>,
-    given: u64,
-) -> Result<(), Fail> {
-    map.reserve(5)?;
-    put_all(rt, map, 1, 3);
-    refuse_reserve(rt, heap, map, given);
-    expect_three(rt, map);
-
-    heap.allow(8);
-    map.reserve(8)?;
-    holds(rt, map.spare() >= 8, &given);
-    Ok(())
-}
-
-/// The same, and then fills the map with no further block.
+/// then where it gives enough. Fills the map with no further block then.
 fn reserve_and_fill(
     rt: &impl Abort,
     heap: &Refusing<Global>,
     map: &mut AvlMap<u64, u128, &Refusing<Global>>,
     given: u64,
-) -> Result<(), Fail> {
-    reserve_twice(rt, heap, map, given)?;
+) {
+    reserve(rt, map, 5);
+    put_all(rt, map, 1, 3);
+    refuse_reserve(rt, heap, map, given);
+    expect_three(rt, map);
+
+    heap.allow(8);
+    reserve(rt, map, 8);
+    holds_at(rt, map.spare() >= 8, &given);
     heap.allow(0);
     put_all(rt, map, 4, 9);
     expect_digits(rt, map, 0, 9, 123_456_789);
     look_up_all(rt, map, 4, 9);
-    Ok(())
 }
 
 #[test]
-fn refused_reserve_leaves_the_map(rt: HostRuntime) -> Result<(), Fail> {
+fn refused_reserve_leaves_the_map(rt: HostRuntime) {
     for given in 0..6 {
         let heap = Refusing::new(rt.alloc(), 0);
         heap.allow(5);
         let mut map = AvlMap::new_in(&heap);
-        let done = reserve_and_fill(&rt, &heap, &mut map, given);
+        reserve_and_fill(&rt, &heap, &mut map, given);
         drop(map);
-        done?;
     }
-    Ok(())
 }

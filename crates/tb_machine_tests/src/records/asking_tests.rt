@@ -1,5 +1,5 @@
 //! A reader or a writer of which one call alone goes wrong: it is asked once for each pull and each put.
-use crate::comparing::holds;
+use crate::comparing::{holds, holds_at};
 use std::io::{self, Error, ErrorKind, Read, Write};
 use std::process::Abort;
 use tb_records::{Counting, Sink, Source};
@@ -54,7 +54,7 @@ fn expect_answer(rt: &impl Abort, answer: io::Result<usize>, call: u32, good: u3
     } else {
         Some(0)
     };
-    holds(rt, moved == wanted, &call);
+    holds_at(rt, moved == wanted, &call);
 }
 
 /// Six pulls, and six calls of the reader.
@@ -67,9 +67,9 @@ fn expect_pulls(rt: &impl Abort, good: u32, fails: bool) {
     holds(
         rt,
         Source::failures(&reader) == u64::from(fails && good < 6),
-        &"pulls",
+        "pulls",
     );
-    holds(rt, reader.into_inner().calls == 6, &"pulls");
+    holds(rt, reader.into_inner().calls == 6, "pulls");
 }
 
 /// Six puts, and six calls of the writer.
@@ -82,17 +82,17 @@ fn expect_puts(rt: &impl Abort, good: u32, fails: bool) {
     holds(
         rt,
         Sink::failures(&writer) == u64::from(fails && good < 6),
-        &"puts",
+        "puts",
     );
-    holds(rt, writer.into_inner().calls == 6, &"puts");
+    holds(rt, writer.into_inner().calls == 6, "puts");
 }
 
 #[test]
 fn each_call_is_one_call(rt: HostRuntime) {
     for good in 0..8 {
-        for fails in [true, false] {
-            expect_pulls(&rt, good, fails);
-            expect_puts(&rt, good, fails);
+        for fails in &[true, false] {
+            expect_pulls(&rt, good, *fails);
+            expect_puts(&rt, good, *fails);
         }
     }
 }

@@ -1,5 +1,5 @@
 //! The vectors of requests and records, and what readers do that fail, end or stay at a fault.
-use crate::comparing::holds;
+use crate::comparing::{holds, holds_at};
 use crate::records::vectors::{CREATION, REGISTER, account, creation, first, lookup, record, with};
 use std::alloc::{AllocError, Global};
 use std::io;
@@ -106,16 +106,16 @@ fn counted() -> [u8; 128] {
 
 #[test]
 fn accounts_in_bytes(rt: HostRuntime) {
-    holds(&rt, account(1, 0).to_bytes() == record(1, 0), &"accounts");
+    holds(&rt, account(1, 0).to_bytes() == record(1, 0), "accounts");
     holds(
         &rt,
         Account::from_bytes(&record(2, 0)) == account(2, 0),
-        &"accounts",
+        "accounts",
     );
     holds(
         &rt,
         Account::from_bytes(&counted()).to_bytes() == counted(),
-        &"accounts",
+        "accounts",
     );
 }
 
@@ -125,19 +125,19 @@ fn transfers_in_bytes(rt: HostRuntime) {
     holds(
         &rt,
         transfer.id == 0x0f0e_0d0c_0b0a_0908_0706_0504_0302_0100,
-        &"transfers",
+        "transfers",
     );
     holds(
         &rt,
         transfer.pending_id == 0x4f4e_4d4c_4b4a_4948_4746_4544_4342_4140,
-        &"transfers",
+        "transfers",
     );
     holds(
         &rt,
         transfer.timeout == 0x6f6e_6d6c && transfer.flags == 0x7776,
-        &"transfers",
+        "transfers",
     );
-    holds(&rt, transfer.to_bytes() == counted(), &"transfers");
+    holds(&rt, transfer.to_bytes() == counted(), "transfers");
 }
 
 /// One of the three frames is read, of this length.
@@ -145,7 +145,7 @@ fn expect_frame(rt: &impl Abort, alloc: Global, bytes: &[u8], frame: u32, length
     holds(
         rt,
         read_frame(alloc, bytes) == Ok((frame, length)),
-        &"a frame",
+        "a frame",
     );
 }
 
@@ -157,47 +157,48 @@ fn frames_are_read(rt: HostRuntime) {
     expect_frame(&rt, alloc, &lookup(), 3, 96);
 }
 
+/// Two bytes of a register that are changed, each by its place, and the fault.
+const REQUEST_FAULTS: [(usize, u8, usize, u8, FrameFault); 8] = [
+    (0, 0, 0, 0, FrameFault::ClientZero),
+    (28, 3, 28, 3, FrameFault::UnknownOperation),
+    (0, 0, 28, 3, FrameFault::ClientZero),
+    (28, 3, 29, 1, FrameFault::UnknownOperation),
+    (29, 1, 29, 1, FrameFault::Reserved),
+    (47, 1, 47, 1, FrameFault::Reserved),
+    (16, 1, 16, 1, FrameFault::RegisterNumbers),
+    (32, 1, 32, 1, FrameFault::BadLength),
+];
+
 #[test]
 fn request_faults_in_order(rt: HostRuntime) {
     let alloc = rt.alloc();
-    let cases = [
-        (0, 0, 0, 0, FrameFault::ClientZero),
-        (28, 3, 28, 3, FrameFault::UnknownOperation),
-        (0, 0, 28, 3, FrameFault::ClientZero),
-        (28, 3, 29, 1, FrameFault::UnknownOperation),
-        (29, 1, 29, 1, FrameFault::Reserved),
-        (47, 1, 47, 1, FrameFault::Reserved),
-        (16, 1, 16, 1, FrameFault::RegisterNumbers),
-        (32, 1, 32, 1, FrameFault::BadLength),
-    ];
-    for (at, byte, also, other, fault) in cases {
-        let header = with(&with(&REGISTER, at, byte), also, other);
-        holds(&rt, read_frame(alloc, &header) == Err(fault), &at);
+    for (at, byte, also, other, fault) in &REQUEST_FAULTS {
+        let header = with(&with(&REGISTER, *at, *byte), *also, *other);
+        holds_at(&rt, read_frame(alloc, &header) == Err(*fault), at);
     }
     holds(
         &rt,
         read_frame(alloc, &REGISTER[..47]) == Err(FrameFault::Short),
-        &"a cut",
+        "a cut",
     );
 }
+
+/// The place of a creation's byte that is changed and the byte, the three bytes of its length, and the fault.
+const CREATION_FAULTS: [(usize, u8, u8, u8, u8, FrameFault); 4] = [
+    (24, 0, 0, 1, 0, FrameFault::RequestZero),
+    (24, 1, 0xff, 0, 0, FrameFault::BadLength),
+    (24, 1, 0x80, 0xff, 0x0f, FrameFault::TooMany),
+    (24, 1, 0x80, 1, 0, FrameFault::Short),
+];
 
 #[test]
 fn creation_faults_in_order(rt: HostRuntime) {
     let alloc = rt.alloc();
-    let cases = [
-        (24, 0, 0, 1, 0, FrameFault::RequestZero),
-        (24, 1, 0xff, 0, 0, FrameFault::BadLength),
-        (24, 1, 0x80, 0xff, 0x0f, FrameFault::TooMany),
-        (24, 1, 0x80, 1, 0, FrameFault::Short),
-    ];
-    for (at, byte, low, middle, high, fault) in cases {
-        let header = with(&with(&CREATION, at, byte), 32, low);
-        let header = with(&with(&header, 33, middle), 34, high);
-        holds(
-            &rt,
-            read_frame(alloc, &creation(&header)) == Err(fault),
-            &low,
-        );
+    for (at, byte, low, middle, high, fault) in &CREATION_FAULTS {
+        let header = with(&with(&CREATION, *at, *byte), 32, *low);
+        let header = with(&with(&header, 33, *middle), 34, *high);
+        let found = read_frame(alloc, &creation(&header));
+        holds_at(&rt, found == Err(*fault), low);
     }
 }
 
@@ -228,13 +229,13 @@ fn largest_body(rt: HostRuntime) {
     holds(
         &rt,
         read_count(alloc, most.as_slice()) == Ok((8190, 1_048_368)),
-        &"bodies",
+        "bodies",
     );
     let more = many(alloc, 0x80).expect(&rt, "memory");
     holds(
         &rt,
         read_count(alloc, more.as_slice()) == Err(FrameFault::TooMany),
-        &"bodies",
+        "bodies",
     );
 }
 
@@ -242,12 +243,9 @@ fn largest_body(rt: HostRuntime) {
 fn stream_of_frames(rt: HostRuntime) {
     let bytes = frames();
     let mut stream = RequestStream::new(Counting::new(&bytes[..]));
-    for frame in [Some(1), Some(2), Some(3), None, None] {
-        holds(
-            &rt,
-            next_frame(rt.alloc(), &mut stream) == Ok(frame),
-            &"a frame",
-        );
+    for frame in &[Some(1), Some(2), Some(3), None, None] {
+        let next = next_frame(rt.alloc(), &mut stream);
+        holds(&rt, next == Ok(*frame), "a frame");
     }
 }
 
@@ -255,8 +253,9 @@ fn stream_of_frames(rt: HostRuntime) {
 fn stream_is_cut(rt: HostRuntime) {
     let bytes = frames();
     let mut stream = RequestStream::new(Counting::new(first(&bytes, 100)));
-    for answer in [Ok(Some(1)), Err(FrameFault::Short), Err(FrameFault::Short)] {
-        holds(&rt, next_frame(rt.alloc(), &mut stream) == answer, &"a cut");
+    for answer in &[Ok(Some(1)), Err(FrameFault::Short), Err(FrameFault::Short)] {
+        let next = next_frame(rt.alloc(), &mut stream);
+        holds(&rt, next == *answer, "a cut");
     }
 }
 
@@ -273,21 +272,21 @@ fn stream_of_moments(rt: HostRuntime) {
     let bytes = timed_register();
     let mut stream = RequestStream::new(Counting::new(&bytes[..]));
     let one = timed_frame(stream.next_timed(rt.alloc()));
-    holds(&rt, one == Ok(Some((10, 1))), &"a moment");
+    holds(&rt, one == Ok(Some((10, 1))), "a moment");
     let next = timed_frame(stream.next_timed(rt.alloc()));
-    holds(&rt, next == Err(FrameFault::Short), &"a moment alone");
+    holds(&rt, next == Err(FrameFault::Short), "a moment alone");
 }
 
 #[test]
 fn moments_of_a_reader(rt: HostRuntime) {
     let bytes = timed_register();
     let mut source = Counting::new(first(&bytes, 56));
-    for answer in [Some((10, 1)), None] {
+    for answer in &[Some((10, 1)), None] {
         let read = timed_frame(read_timed_from(rt.alloc(), &mut source));
-        holds(&rt, read == Ok(answer), &"a moment");
+        holds(&rt, read == Ok(*answer), "a moment");
     }
     let cut = timed_frame(read_timed_from(rt.alloc(), &mut Counting::new(first(&bytes, 7))));
-    holds(&rt, cut == Err(FrameFault::Short), &"a cut moment");
+    holds(&rt, cut == Err(FrameFault::Short), "a cut moment");
 }
 
 /// A creation with a reserved byte that is not 0, and a register behind it.
@@ -307,11 +306,11 @@ fn stream_stays_at_its_fault(rt: HostRuntime) {
             holds(
                 &rt,
                 next_frame(rt.alloc(), &mut stream) == Err(FrameFault::Reserved),
-                &"the fault",
+                "the fault",
             );
         }
         let unread = stream.into_source().into_inner().len();
-        holds(&rt, unread == 304, &calls);
+        holds_at(&rt, unread == 304, &calls);
     }
 }
 
@@ -341,9 +340,9 @@ fn reader_fails_in_mid_stream(rt: HostRuntime) {
         let mut stream = RequestStream::new(Counting::new(Failing { rest, good }));
         for _ in 0..2 {
             let answer = next_frame(rt.alloc(), &mut stream);
-            holds(&rt, answer == Err(FrameFault::Device), &good);
+            holds_at(&rt, answer == Err(FrameFault::Device), &good);
         }
-        holds(&rt, stream.into_source().failures() == 1, &good);
+        holds_at(&rt, stream.into_source().failures() == 1, &good);
     }
 }
 
@@ -362,12 +361,12 @@ fn timed_frames() -> [u8; 472] {
 #[test]
 fn pairs_of_a_buffer(rt: HostRuntime) {
     let bytes = timed_frames();
-    for capacity in [1, 56, 400, 4096] {
-        let reader = BufReader::with_capacity(rt.alloc(), capacity, &bytes[..]);
+    for capacity in &[1, 56, 400, 4096] {
+        let reader = BufReader::with_capacity(rt.alloc(), *capacity, &bytes[..]);
         let mut source = Buffered::new(reader.expect(&rt, "a buffer"));
-        for answer in [Some((10, 1)), Some((10, 2)), Some((10, 3)), None] {
+        for answer in &[Some((10, 1)), Some((10, 2)), Some((10, 3)), None] {
             let read = timed_frame(read_timed_from(rt.alloc(), &mut source));
-            holds(&rt, read == Ok(answer), &"a pair");
+            holds(&rt, read == Ok(*answer), "a pair");
         }
     }
 }
@@ -378,14 +377,14 @@ fn bytes_that_are_skipped(rt: HostRuntime) {
     let reader = BufReader::with_capacity(rt.alloc(), 400, &bytes[..]);
     let mut source = Buffered::new(reader.expect(&rt, "a buffer"));
     let first = timed_frame(read_timed_from(rt.alloc(), &mut source));
-    holds(&rt, first == Ok(Some((10, 1))), &"a pair");
-    holds(&rt, source.at_hand() == &bytes[56..400], &"buffered bytes");
+    holds(&rt, first == Ok(Some((10, 1))), "a pair");
+    holds(&rt, source.at_hand() == &bytes[56..400], "buffered bytes");
     if source.at_hand().len() >= 312 {
         source.skip(312);
     }
-    holds(&rt, source.at_hand() == &bytes[368..400], &"buffered bytes");
+    holds(&rt, source.at_hand() == &bytes[368..400], "buffered bytes");
     let last = timed_frame(read_timed_from(rt.alloc(), &mut source));
-    holds(&rt, last == Ok(Some((10, 3))), &"a pair");
+    holds(&rt, last == Ok(Some((10, 3))), "a pair");
 }
 
 /// How many of these three pairs come of a stream that is asked five times, and whether its end does. What else comes is the
@@ -400,7 +399,7 @@ fn take_five(
         match timed_frame(stream.next_timed(alloc)) {
             Ok(Some(_)) => pairs = pairs.wrapping_add(1),
             Ok(None) => return (pairs, true),
-            Err(fault) => holds(rt, fault == FrameFault::Device, &"a fault"),
+            Err(fault) => holds(rt, fault == FrameFault::Device, "a fault"),
         }
     }
     (pairs, false)
@@ -425,8 +424,8 @@ fn expect_fault(rt: &impl Abort, alloc: Global, good: u32) -> bool {
     let source = stream.into_source();
     let failures = source.failures();
     let read = bytes.len().wrapping_sub(source.into_inner().rest.len());
-    holds(rt, pairs == pairs_within(read), &good);
-    holds(rt, failures == u64::from(!ended), &good);
+    holds_at(rt, pairs == pairs_within(read), &good);
+    holds_at(rt, failures == u64::from(!ended), &good);
     !ended
 }
 
@@ -437,5 +436,5 @@ fn each_read_of_a_stream_fails(rt: HostRuntime) {
     for good in 0..100 {
         failed = failed.wrapping_add(u32::from(expect_fault(&rt, rt.alloc(), good)));
     }
-    holds(&rt, (19..100).contains(&failed), &failed);
+    holds_at(&rt, (19..100).contains(&failed), &failed);
 }

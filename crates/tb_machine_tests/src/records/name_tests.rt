@@ -1,5 +1,5 @@
 //! The bits and codes of the reference and their names, each way.
-use crate::comparing::holds;
+use crate::comparing::{holds, holds_at};
 use crate::records::vectors::account;
 use std::alloc::Global;
 use std::fmt::Display;
@@ -166,18 +166,18 @@ fn is_account_flag(flag: AccountFlag, bit: u16, name: &str) -> bool {
 #[test]
 fn account_flags_by_name(rt: HostRuntime) {
     for (flag, (bit, name)) in AccountFlag::ALL.iter().zip(ACCOUNT_FLAGS.iter()) {
-        holds(&rt, is_account_flag(*flag, *bit, name), &"flags");
+        holds(&rt, is_account_flag(*flag, *bit, name), "flags");
     }
-    holds(&rt, AccountFlag::from_name(b"pending").is_none(), &"flags");
+    holds(&rt, AccountFlag::from_name(b"pending").is_none(), "flags");
     holds(
         &rt,
         marked(32).is_closed() && !marked(31).is_closed(),
-        &"flags",
+        "flags",
     );
     holds(
         &rt,
         marked(1).is_linked() && !marked(62).is_linked(),
-        &"flags",
+        "flags",
     );
 }
 
@@ -194,10 +194,10 @@ fn is_transfer_flag(flag: TransferFlag, bit: u16, name: &str) -> bool {
 #[test]
 fn transfer_flags_by_name(rt: HostRuntime) {
     for (flag, (bit, name)) in TransferFlag::ALL.iter().zip(TRANSFER_FLAGS.iter()) {
-        holds(&rt, is_transfer_flag(*flag, *bit, name), &"flags");
+        holds(&rt, is_transfer_flag(*flag, *bit, name), "flags");
     }
-    holds(&rt, TransferFlag::from_name(b"Linked").is_none(), &"flags");
-    holds(&rt, TransferFlag::from_name(b"").is_none(), &"flags");
+    holds(&rt, TransferFlag::from_name(b"Linked").is_none(), "flags");
+    holds(&rt, TransferFlag::from_name(b"").is_none(), "flags");
 }
 
 /// What a transfer is: linked, pending, a post, a void, resolving, balancing and closing.
@@ -213,19 +213,25 @@ fn kinds(transfer: Transfer) -> [bool; 7] {
     ]
 }
 
-/// The flags of which one is enough to be of a kind, in that order.
-const KINDS: [u16; 7] = [1, 2, 4, 8, 4 | 8, 16 | 32, 64 | 128];
+/// The same by the flags of which one is enough to be of a kind.
+fn kinds_by(flags: u16) -> [bool; 7] {
+    [
+        flags & 1 != 0,
+        flags & 2 != 0,
+        flags & 4 != 0,
+        flags & 8 != 0,
+        flags & (4 | 8) != 0,
+        flags & (16 | 32) != 0,
+        flags & (64 | 128) != 0,
+    ]
+}
 
 /// Each of the kinds is by its flags.
 #[test]
 fn kinds_of_transfers(rt: HostRuntime) {
     for flags in 0..512 {
-        let wanted = KINDS.iter().map(|kind| flags & *kind != 0);
-        holds(
-            &rt,
-            kinds(flagged(flags)).iter().copied().eq(wanted),
-            &flags,
-        );
+        let found = kinds(flagged(flags));
+        holds_at(&rt, found == kinds_by(flags), &flags);
     }
 }
 
@@ -240,17 +246,13 @@ fn is_account_result(verdict: CreateAccountResult, code: u32, name: &str) -> boo
 #[test]
 fn account_results_by_code_and_name(rt: HostRuntime) {
     for (verdict, (code, name)) in CreateAccountResult::ALL.iter().zip(ACCOUNT_RESULTS.iter()) {
-        holds(&rt, is_account_result(*verdict, *code, name), &"results");
+        holds(&rt, is_account_result(*verdict, *code, name), "results");
     }
-    holds(
-        &rt,
-        CreateAccountResult::from_code(22).is_none(),
-        &"results",
-    );
+    holds(&rt, CreateAccountResult::from_code(22).is_none(), "results");
     holds(
         &rt,
         CreateAccountResult::from_name(b"debit_account_not_found").is_none(),
-        &"results",
+        "results",
     );
 }
 
@@ -268,22 +270,22 @@ fn transfer_results_by_code_and_name(rt: HostRuntime) {
         .iter()
         .zip(TRANSFER_RESULTS.iter())
     {
-        holds(&rt, is_transfer_result(*verdict, *code, name), &"results");
+        holds(&rt, is_transfer_result(*verdict, *code, name), "results");
     }
     holds(
         &rt,
         CreateTransferResult::from_code(18).is_none(),
-        &"results",
+        "results",
     );
     holds(
         &rt,
         CreateTransferResult::from_code(56).is_none(),
-        &"results",
+        "results",
     );
     holds(
         &rt,
         CreateTransferResult::from_name(b"reserved_field").is_none(),
-        &"results",
+        "results",
     );
 }
 
@@ -298,13 +300,13 @@ fn is_operation(operation: Operation, code: u8, name: &str) -> bool {
 #[test]
 fn operations_by_code_and_name(rt: HostRuntime) {
     for (operation, (code, name)) in Operation::ALL.iter().zip(OPERATIONS.iter()) {
-        holds(&rt, is_operation(*operation, *code, name), &"operations");
+        holds(&rt, is_operation(*operation, *code, name), "operations");
     }
-    holds(&rt, Operation::from_code(3).is_none(), &"operations");
+    holds(&rt, Operation::from_code(3).is_none(), "operations");
     holds(
         &rt,
         Operation::from_name(b"Register").is_none(),
-        &"operations",
+        "operations",
     );
 }
 
@@ -319,10 +321,10 @@ fn is_status(status: Status, code: u8, name: &str) -> bool {
 #[test]
 fn statuses_by_code_and_name(rt: HostRuntime) {
     for (status, (code, name)) in Status::ALL.iter().zip(STATUSES.iter()) {
-        holds(&rt, is_status(*status, *code, name), &"statuses");
+        holds(&rt, is_status(*status, *code, name), "statuses");
     }
-    holds(&rt, Status::from_code(8).is_none(), &"statuses");
-    holds(&rt, Status::from_name(b"").is_none(), &"statuses");
+    holds(&rt, Status::from_code(8).is_none(), "statuses");
+    holds(&rt, Status::from_name(b"").is_none(), "statuses");
 }
 
 /// Two names are shown by this line.
@@ -334,7 +336,7 @@ fn expect_shown<A: Display + Drop, B: Display + Drop>(
     wanted: &str,
 ) {
     let line = format!(in alloc; "{one} {other}").expect(rt, "a line");
-    holds(rt, line.as_str() == wanted, &"a line");
+    holds(rt, line.as_str() == wanted, "a line");
 }
 
 #[test]
@@ -354,7 +356,7 @@ fn limits_by_name(rt: HostRuntime) {
     holds(
         &rt,
         ITEMS_MAX == 8190 && NANOSECONDS_PER_SECOND == 1_000_000_000,
-        &"limits",
+        "limits",
     );
-    holds(&rt, LAST_MOMENT == 9_223_372_036_854_775_807, &"limits");
+    holds(&rt, LAST_MOMENT == 9_223_372_036_854_775_807, "limits");
 }

@@ -1,7 +1,7 @@
 //! The vectors of replies, and requests and replies as they are written.
 ghost use Rattle.std.specs.Prelude.{◌≡◌, MatchResult};
 
-use crate::comparing::holds;
+use crate::comparing::{holds, holds_at};
 use crate::records::vectors::{
     CREATED, CREATION, REGISTER, REGISTERED, account, creation, found_bytes, lookup, movement,
     record, transfer, two_behind, with,
@@ -40,8 +40,7 @@ const TOO_LOW: [u8; 48] = [
 
 /// The items, or NoMemory.
 fn items<T: Copy + Drop>(alloc: Global, slice: &[T]) -> Result<Items<T>, FrameFault> {
-    let vec = Vec::from_slice(alloc, slice).map_err(|_| FrameFault::NoMemory)?;
-    Ok(Items::new(vec))
+    Ok(Items::new(Vec::from_slice(alloc, slice)?))
 }
 
 /// A reply to a request of client 7 in session 1.
@@ -149,7 +148,7 @@ fn expect_both(rt: &impl Abort, alloc: Global, reply: Result<Reply, FrameFault>,
     let reply = reply.expect(rt, "a reply");
     let both = is_both_ways(alloc, &reply, bytes);
     drop(reply);
-    holds(rt, both, &"both ways");
+    holds(rt, both, "both ways");
 }
 
 #[test]
@@ -208,7 +207,7 @@ fn expect_appended(
     let request = request.expect(rt, "a request");
     let appended = is_appended(alloc, &request, bytes);
     drop(request);
-    holds(rt, appended, &"appended");
+    holds(rt, appended, "appended");
 }
 
 #[test]
@@ -225,44 +224,48 @@ fn fault_in(alloc: Global, bytes: &[u8]) -> Option<FrameFault> {
     read_reply(alloc, bytes).err()
 }
 
+/// A byte of the reply to a register that is changed, by its place, and the fault.
+const REPLY_FAULTS: [(usize, u8, FrameFault); 9] = [
+    (0, 0, FrameFault::ClientZero),
+    (28, 3, FrameFault::UnknownOperation),
+    (29, 8, FrameFault::Reserved),
+    (30, 1, FrameFault::Reserved),
+    (47, 1, FrameFault::Reserved),
+    (24, 1, FrameFault::RegisterNumbers),
+    (29, 1, FrameFault::RegisterNumbers),
+    (36, 2, FrameFault::ReplyNumbers),
+    (32, 8, FrameFault::BadLength),
+];
+
 #[test]
 fn reply_faults_in_order(rt: HostRuntime) {
     let alloc = rt.alloc();
-    let cases = [
-        (0, 0, FrameFault::ClientZero),
-        (28, 3, FrameFault::UnknownOperation),
-        (29, 8, FrameFault::Reserved),
-        (30, 1, FrameFault::Reserved),
-        (47, 1, FrameFault::Reserved),
-        (24, 1, FrameFault::RegisterNumbers),
-        (29, 1, FrameFault::RegisterNumbers),
-        (36, 2, FrameFault::ReplyNumbers),
-        (32, 8, FrameFault::BadLength),
-    ];
-    for (at, byte, fault) in cases {
-        let found = fault_in(alloc, &with(&REGISTERED, at, byte));
-        holds(&rt, found == Some(fault), &at);
+    for (at, byte, fault) in &REPLY_FAULTS {
+        let found = fault_in(alloc, &with(&REGISTERED, *at, *byte));
+        holds_at(&rt, found == Some(*fault), at);
     }
     holds(
         &rt,
         fault_in(alloc, &REGISTERED[..47]) == Some(FrameFault::Short),
-        &"a cut",
+        "a cut",
     );
 }
 
+/// The same of the reply to a creation.
+const CREATED_FAULTS: [(usize, u8, FrameFault); 6] = [
+    (24, 0, FrameFault::RequestZero),
+    (29, 4, FrameFault::ReplyNumbers),
+    (36, 1, FrameFault::ReplyNumbers),
+    (32, 4, FrameFault::BadLength),
+    (34, 1, FrameFault::TooMany),
+    (32, 8, FrameFault::Short),
+];
+
 #[test]
 fn created_faults_in_order(rt: HostRuntime) {
-    let cases = [
-        (24, 0, FrameFault::RequestZero),
-        (29, 4, FrameFault::ReplyNumbers),
-        (36, 1, FrameFault::ReplyNumbers),
-        (32, 4, FrameFault::BadLength),
-        (34, 1, FrameFault::TooMany),
-        (32, 8, FrameFault::Short),
-    ];
-    for (at, byte, fault) in cases {
-        let found = fault_in(rt.alloc(), &with(&CREATED, at, byte));
-        holds(&rt, found == Some(fault), &at);
+    for (at, byte, fault) in &CREATED_FAULTS {
+        let found = fault_in(rt.alloc(), &with(&CREATED, *at, *byte));
+        holds_at(&rt, found == Some(*fault), at);
     }
 }
 
@@ -318,14 +321,14 @@ fn fault_of(
 
 #[test]
 fn faults_of_new_replies(rt: HostRuntime) {
-    for ((client, request, operation), status, commit, fault) in REFUSED {
-        let found = fault_of(client, request, operation, status, commit);
-        holds(&rt, found == Some(fault), &operation);
+    for ((client, request, operation), status, commit, fault) in &REFUSED {
+        let found = fault_of(*client, *request, *operation, *status, *commit);
+        holds_at(&rt, found == Some(*fault), operation);
     }
     let refusal = fault_of(7, 1, CREATES, Status::Older, 0);
-    holds(&rt, refusal.is_none(), &"a refusal");
+    holds(&rt, refusal.is_none(), "a refusal");
     let registered = fault_of(7, 0, OPENS, Status::Reply, 1);
-    holds(&rt, registered.is_none(), &"the reply to a register");
+    holds(&rt, registered.is_none(), "the reply to a register");
 }
 
 #[test]
@@ -337,7 +340,7 @@ fn body_of_another_kind(rt: HostRuntime) {
         2,
         ReplyBody::Accounts(Items::new(none)),
     );
-    holds(&rt, reply.err() == Some(FrameFault::BadLength), &"the body");
+    holds(&rt, reply.err() == Some(FrameFault::BadLength), "the body");
 }
 
 /// The refusal of the fifth request, a lookup of transfer 9.
@@ -418,7 +421,7 @@ fn bodies_are_the_same(rt: HostRuntime) {
     let mistaken = body.same(&Body::Register) || body.same(&other);
     drop(other);
     drop(body);
-    holds(&rt, kept && !mistaken, &"the body");
+    holds(&rt, kept && !mistaken, "the body");
 }
 
 #[test]
@@ -431,13 +434,13 @@ fn bodies_of_other_operations(rt: HostRuntime) {
     drop(accounts);
     drop(transfers);
     drop(events);
-    holds(&rt, kept && !mistaken, &"the body");
+    holds(&rt, kept && !mistaken, "the body");
 }
 
 /// The reply that lists so many results.
 fn many(alloc: Global, count: usize) -> Result<Reply, FrameFault> {
     let open = event(1, CreateTransferResult::LinkedEventChainOpen);
-    let codes = vec![in alloc; open; count].map_err(|_| FrameFault::NoMemory)?;
+    let codes = vec![in alloc; open; count]?;
     let body = ReplyBody::Results(Items::new(codes));
     answer(1, Operation::CreateTransfers, 2, body)
 }
@@ -467,7 +470,7 @@ fn replies_come_back(rt: HostRuntime) {
     let is_same = is_written(rt.alloc(), &read, &found_bytes());
     drop(read);
     drop(reply);
-    holds(&rt, is_same, &"the reply");
+    holds(&rt, is_same, "the reply");
 }
 
 #[test]
@@ -482,11 +485,11 @@ fn largest_reply(rt: HostRuntime) {
     holds(
         &rt,
         read && sent && sizes == (ITEMS_MAX, 65568),
-        &"the reply",
+        "the reply",
     );
     holds(
         &rt,
         many(rt.alloc(), ITEMS_MAX + 1).err() == Some(FrameFault::TooMany),
-        &"the reply",
+        "the reply",
     );
 }

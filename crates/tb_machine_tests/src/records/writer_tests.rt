@@ -1,5 +1,5 @@
 //! What writers do that fail in a frame, or take nothing of it.
-use crate::comparing::holds;
+use crate::comparing::{holds, holds_at};
 use crate::records::reply_tests::found;
 use crate::records::vectors::found_bytes;
 use std::alloc::Global;
@@ -59,15 +59,15 @@ fn writers_that_stop_in_a_frame(rt: HostRuntime) {
     let alloc = rt.alloc();
     let reply = found(alloc).expect(&rt, "a reply");
     let device = Err(FrameFault::Device);
-    for room in [0, 30, 48, 100, 303] {
-        let failing = writer_of(alloc, room, true);
-        holds(&rt, sends(failing, &reply, device, 1, room), &room);
-        let full = writer_of(alloc, room, false);
-        holds(&rt, sends(full, &reply, device, 0, room), &room);
+    for room in &[0, 30, 48, 100, 303] {
+        let failing = writer_of(alloc, *room, true);
+        holds_at(&rt, sends(failing, &reply, device, 1, *room), room);
+        let full = writer_of(alloc, *room, false);
+        holds_at(&rt, sends(full, &reply, device, 0, *room), room);
     }
     holds(
         &rt,
         sends(writer_of(alloc, 304, true), &reply, Ok(()), 0, 304),
-        &"all",
+        "all",
     );
 }
