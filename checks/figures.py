@@ -96,7 +96,7 @@ def gate() -> str:
         f"| {row['date']} | {row['commit']} | {row['kit']} | {row['machine']} | {row['subject']} "
         f"| {outcome(row)} | "
         f"{row['value']} | {row['cpu_minutes']} | {row['note']} |"
-        for row in of_kind("gate")[:6]
+        for row in of_kind("gate")[:4]
     ]
     return table(
         "| Date | Commit | Kit | Machine | Command | Result | Minutes | CPU minutes | |", lines

@@ -13,12 +13,12 @@
 //! - `salvaging`: files that are salvaged or backed up.
 //! - `conversations`: replies that leave before the next pair is waited for.
 mod conversations;
-mod crashes;
+pub mod crashes;
 mod dumps;
 mod entries;
-mod openings;
+pub mod openings;
 mod pieces;
 mod salvaging;
-mod scripts;
+pub mod scripts;
 mod serving;
 mod torn;

@@ -3,6 +3,8 @@
 //!
 //! Modules:
 //!
+//! - `steps`: what each test wants, and small files in memory.
+//! - `turns`: a reader that waits for answers, and a writer that holds them back.
 //! - `journal`: of tb_journal.
 //! - `log`: of tb_log.
 //! - `keep`: of tb_keep.
@@ -20,3 +22,7 @@ mod keep_commands;
 mod keep_log;
 #[cfg(test)]
 mod log;
+#[cfg(test)]
+mod steps;
+#[cfg(test)]
+mod turns;

@@ -1,7 +1,6 @@
 //! What is read again after a crash, at each moment and with each tear of a small run.
-use crate::journal::steps::{
-    ONE_RECORD, THREE_RECORDS, commit_two, expect, expect_at, opened, sure,
-};
+use crate::journal::steps::{ONE_RECORD, THREE_RECORDS, commit_two, expect_at, opened};
+use crate::steps::{expect, sure};
 use std::alloc::Global;
 use std::process::Abort;
 use tb_journal::Memory;
@@ -32,6 +31,11 @@ fn is_whole(bytes: &[u8]) -> bool {
     bytes == whole.as_slice()
 }
 
+/// Says whether the bytes are those of the first record, or of all three.
+fn is_one_or_whole(bytes: &[u8]) -> bool {
+    bytes == ONE_RECORD.as_slice() || is_whole(bytes)
+}
+
 /// Opens what a crash leaves, and says how many records it has: one, or the whole batch as well.
 fn records_after(
     rt: &impl Abort,
@@ -42,9 +46,11 @@ fn records_after(
 ) -> usize {
     let left = left_after(rt, file, moment, torn);
     let journal = opened(rt, alloc, &left);
-    let bytes = journal.device().bytes();
-    expect(rt, bytes == ONE_RECORD.as_slice() || is_whole(bytes));
-    journal.count()
+    drop(left);
+    expect(rt, is_one_or_whole(journal.device().bytes()));
+    let count = journal.count();
+    drop(journal);
+    count
 }
 
 /// A crash at a moment leaves so many records at least, and so many at most, however the last write is torn.
@@ -80,6 +86,7 @@ fn a_crash_leaves_the_whole_batch_or_none_of_it(rt: HostRuntime) {
     // Behind the write of the latch, and behind its sync.
     expect_records(&rt, alloc, file, begin + 3, 1, 3);
     expect_records(&rt, alloc, file, begin + 4, 3, 3);
+    drop(journal);
 }
 
 #[test]
@@ -92,4 +99,5 @@ fn an_open_gate_counts_with_all_its_batch(rt: HostRuntime) {
         let count = records_after(&rt, alloc, journal.device(), gate, &[byte]);
         expect_at(&rt, byte as u64, (count == 1) == (byte == 0));
     }
+    drop(journal);
 }

@@ -1,6 +1,7 @@
 //! A device that fails at one call.
 use crate::journal::crashes::expect_records;
-use crate::journal::steps::{ONE_RECORD, commit_two, expect, expect_at, file_of};
+use crate::journal::steps::{ONE_RECORD, commit_two, expect_at};
+use crate::steps::{expect, file_of};
 use std::alloc::Global;
 use std::process::Abort;
 use tb_journal::{Fault, Memory, OpenFault, recover};
@@ -73,6 +74,7 @@ fn each_call_of_a_small_run_fails_once(rt: HostRuntime) {
         expect_at(&rt, number, end == want_at(number, Fault::Failed));
         let (least, most) = end.records();
         expect_records(&rt, alloc, &file, file.moments(), least, most);
+        drop(file);
     }
 }
 
@@ -81,7 +83,8 @@ fn each_failure_keeps_its_name(rt: HostRuntime) {
     let alloc = rt.alloc();
     for why in [Fault::Full, Fault::Memory] {
         for number in 0..=12u64 {
-            let (end, _) = end_at(&rt, alloc, number, why);
+            let (end, file) = end_at(&rt, alloc, number, why);
+            drop(file);
             expect_at(&rt, number, end == want_at(number, why));
         }
     }

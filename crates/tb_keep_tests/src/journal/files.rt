@@ -1,6 +1,7 @@
 //! What a crash leaves of a file in memory: worked examples.
 use crate::journal::crashes::left_after;
-use crate::journal::steps::{expect, expect_bytes, file_of, sure};
+use crate::steps::{expect, expect_bytes, expect_given, expect_same, file_of};
+use std::alloc::Global;
 use std::process::Abort;
 use tb_journal::{Device, Fault, Memory};
 
@@ -20,76 +21,160 @@ fn expect_left(
     expect(rt, file.moments() == moments);
     for (moment, torn, want) in rows {
         let left = left_after(rt, file, *moment, torn);
-        expect_bytes(rt, &left, want);
+        expect_given(rt, left, want);
     }
 }
 
-#[test]
-fn a_write_is_torn(rt: HostRuntime) {
-    let mut file = file_of(&rt, rt.alloc(), &SIX);
-    expect(&rt, file.bytes().len() >= 4);
-    sure(&rt, file.write_at(4, &[88, 89, 90]));
-    let rows: &[(usize, &[u8], &[u8])] = &[
+/// A call on a file.
+#[derive(Clone, Copy)]
+enum Call {
+    Write(usize, &'static [u8]),
+    Cut(usize),
+    Sync,
+    Len,
+    /// The call of a number from here on fails, or fails so.
+    FailAt(u64),
+    FailWith(u64, Fault),
+}
+
+/// An answer without a number, as 0.
+fn numbered(answer: Result<(), Fault>) -> Result<usize, Fault> {
+    match answer {
+        Ok(()) => Ok(0),
+        Err(fault) => Err(fault),
+    }
+}
+
+/// What a call answers.
+fn answer(rt: &impl Abort, file: &mut Memory, call: Call) -> Result<usize, Fault> {
+    match call {
+        Call::Write(at, bytes) => {
+            expect(rt, file.bytes().len() >= at);
+            numbered(file.write_at(at, bytes))
+        }
+        Call::Cut(len) => {
+            expect(rt, file.bytes().len() >= len);
+            numbered(file.cut(len))
+        }
+        Call::Sync => numbered(file.sync()),
+        Call::Len => file.len(),
+        Call::FailAt(number) => {
+            file.fail_at(number);
+            Ok(0)
+        }
+        Call::FailWith(number, why) => {
+            file.fail_with(number, why);
+            Ok(0)
+        }
+    }
+}
+
+/// The file `abcdef` behind these calls, each of which gives this answer.
+fn after_calls(rt: &impl Abort, alloc: Global, calls: &[(Call, Result<usize, Fault>)]) -> Memory {
+    let mut file = file_of(rt, alloc, &SIX);
+    for (call, want) in calls {
+        expect_same(rt, answer(rt, &mut file, *call), *want);
+    }
+    file
+}
+
+/// Calls on the file `abcdef`, and what they leave: so many moments, these bytes, and rows of what crashes leave.
+struct Case {
+    calls: &'static [(Call, Result<usize, Fault>)],
+    moments: usize,
+    bytes: &'static [u8],
+    left: &'static [(usize, &'static [u8], &'static [u8])],
+}
+
+fn expect_case(rt: &impl Abort, alloc: Global, case: &Case) {
+    let file = after_calls(rt, alloc, case.calls);
+    expect_left(rt, &file, case.moments, case.bytes, case.left);
+    drop(file);
+}
+
+const WRITTEN: Case = Case {
+    calls: &[(Call::Write(4, &[88, 89, 90]), Ok(0))],
+    moments: 1,
+    bytes: &[97, 98, 99, 100, 88, 89, 90],
+    left: &[
         (0, &[7], &SIX),
         (1, &[7], &[97, 98, 99, 100, 7, 102]),
         (1, &[7, 8, 9, 10], &[97, 98, 99, 100, 7, 8, 9]),
-    ];
-    expect_left(&rt, &file, 1, &[97, 98, 99, 100, 88, 89, 90], rows);
+    ],
+};
+
+#[test]
+fn a_write_is_torn(rt: HostRuntime) {
+    expect_case(&rt, rt.alloc(), &WRITTEN);
 }
+
+const CUT: Case = Case {
+    calls: &[(Call::Cut(2), Ok(0))],
+    moments: 1,
+    bytes: &[97, 98],
+    left: &[(1, &[], &[97, 98]), (1, &[0], &[97, 98, 99])],
+};
 
 #[test]
 fn a_cut_leaves_a_length_between(rt: HostRuntime) {
-    let mut file = file_of(&rt, rt.alloc(), &SIX);
-    expect(&rt, file.bytes().len() >= 2);
-    sure(&rt, file.cut(2));
-    let rows: &[(usize, &[u8], &[u8])] = &[(1, &[], &[97, 98]), (1, &[0], &[97, 98, 99])];
-    expect_left(&rt, &file, 1, &[97, 98], rows);
+    expect_case(&rt, rt.alloc(), &CUT);
 }
+
+const SYNCED: Case = Case {
+    calls: &[(Call::Write(1, &[66]), Ok(0)), (Call::Sync, Ok(0))],
+    moments: 2,
+    bytes: &[97, 66, 99, 100, 101, 102],
+    left: &[(2, &[7, 7], &[97, 66, 99, 100, 101, 102])],
+};
 
 #[test]
 fn nothing_is_torn_behind_a_sync(rt: HostRuntime) {
-    let mut file = file_of(&rt, rt.alloc(), &SIX);
-    expect(&rt, file.bytes().len() >= 1);
-    sure(&rt, file.write_at(1, &[66]));
-    sure(&rt, file.sync());
-    let bytes: &[u8] = &[97, 66, 99, 100, 101, 102];
-    let rows: &[(usize, &[u8], &[u8])] = &[(2, &[7, 7], &[97, 66, 99, 100, 101, 102])];
-    expect_left(&rt, &file, 2, bytes, rows);
+    expect_case(&rt, rt.alloc(), &SYNCED);
 }
+
+const UNSYNCED: Case = Case {
+    calls: &[
+        (Call::Write(1, &[66]), Ok(0)),
+        (Call::FailAt(1), Ok(0)),
+        (Call::Sync, Err(Fault::SyncFailed)),
+        (Call::Sync, Ok(0)),
+    ],
+    moments: 1,
+    bytes: &[97, 66, 99, 100, 101, 102],
+    left: &[(1, &[7, 7], &[97, 7, 99, 100, 101, 102])],
+};
 
 #[test]
 fn nothing_is_kept_behind_a_sync_that_failed(rt: HostRuntime) {
-    let mut file = file_of(&rt, rt.alloc(), &SIX);
-    expect(&rt, file.bytes().len() >= 1);
-    sure(&rt, file.write_at(1, &[66]));
-    file.fail_at(1);
-    expect(&rt, file.sync() == Err(Fault::SyncFailed));
-    sure(&rt, file.sync());
-    let bytes: &[u8] = &[97, 66, 99, 100, 101, 102];
-    let rows: &[(usize, &[u8], &[u8])] = &[(1, &[7, 7], &[97, 7, 99, 100, 101, 102])];
-    expect_left(&rt, &file, 1, bytes, rows);
+    expect_case(&rt, rt.alloc(), &UNSYNCED);
 }
+
+const NAMED: &[(Call, Result<usize, Fault>)] = &[
+    (Call::FailWith(1, Fault::Full), Ok(0)),
+    (Call::Write(1, &[66]), Err(Fault::Full)),
+    (Call::FailWith(1, Fault::Memory), Ok(0)),
+    (Call::Len, Err(Fault::Memory)),
+    (Call::FailWith(1, Fault::NotEmpty), Ok(0)),
+    (Call::Len, Err(Fault::Failed)),
+    (Call::FailWith(1, Fault::Memory), Ok(0)),
+    (Call::Sync, Err(Fault::SyncFailed)),
+];
 
 #[test]
 fn a_call_fails_with_the_fault_that_is_named(rt: HostRuntime) {
-    let mut file = file_of(&rt, rt.alloc(), &SIX);
-    expect(&rt, file.bytes().len() >= 1);
-    file.fail_with(1, Fault::Full);
-    expect(&rt, file.write_at(1, &[66]) == Err(Fault::Full));
-    file.fail_with(1, Fault::Memory);
-    expect(&rt, file.len() == Err(Fault::Memory));
-    file.fail_with(1, Fault::NotEmpty);
-    expect(&rt, file.len() == Err(Fault::Failed));
-    file.fail_with(1, Fault::Memory);
-    expect(&rt, file.sync() == Err(Fault::SyncFailed));
+    let file = after_calls(&rt, rt.alloc(), NAMED);
     expect_bytes(&rt, file.bytes(), &SIX);
+    drop(file);
 }
+
+const SECOND: &[(Call, Result<usize, Fault>)] = &[
+    (Call::FailAt(2), Ok(0)),
+    (Call::Sync, Ok(0)),
+    (Call::Len, Err(Fault::Failed)),
+    (Call::Len, Ok(6)),
+];
 
 #[test]
 fn one_call_fails(rt: HostRuntime) {
-    let mut file = file_of(&rt, rt.alloc(), &SIX);
-    file.fail_at(2);
-    sure(&rt, file.sync());
-    expect(&rt, file.len() == Err(Fault::Failed));
-    expect(&rt, file.len() == Ok(6));
+    drop(after_calls(&rt, rt.alloc(), SECOND));
 }

@@ -1,82 +1,15 @@
 //! The folder of a file that is made is synced, of a symbolic link that of its target; and a file that is open is locked.
-use crate::journal::steps::expect;
+use crate::journal::real::{Came as Opened, came_of};
+use crate::steps::{expect, is_well, sure};
 use std::alloc::Allocator;
 use std::cell::Cell;
-use std::fs::{Files, Metadata, OpenFile, OpenOptions};
+use std::fs::{File, Files, Metadata, OpenFile, OpenOptions};
 use std::io::{Read, Seek, SeekFrom, Write};
 use std::os::unix::fs::symlink;
 use std::path::PathBuf;
+use std::process::Abort;
 use std::{fs, io};
 use tb_journal::{Fault, FileFault, Real, sync_folder};
-
-/// A system that counts how often a folder is opened.
-#[derive(Drop)]
-struct Watched<'a, R> {
-    rt: &'a R,
-    folder: &'a str,
-    opened: Cell<u32>,
-}
-
-impl<'a, R: Alloc> Alloc for Watched<'a, R> {
-    type A = R::A;
-
-    fn alloc(&self) -> R::A {
-        self.rt.alloc()
-    }
-}
-
-impl<'a, R: Files> Files for Watched<'a, R> {
-    type File = R::File;
-
-    type Dir = R::Dir;
-
-    fn open_file(&self, how: &OpenOptions, path: &str) -> io::Result<R::File> {
-        if path == self.folder {
-            self.opened.set(self.opened.get().saturating_add(1));
-        }
-        self.rt.open_file(how, path)
-    }
-
-    fn open_dir(&self, path: &str) -> io::Result<R::Dir> {
-        self.rt.open_dir(path)
-    }
-
-    fn metadata(&self, path: &str) -> io::Result<Metadata> {
-        self.rt.metadata(path)
-    }
-
-    fn symlink_metadata(&self, path: &str) -> io::Result<Metadata> {
-        self.rt.symlink_metadata(path)
-    }
-
-    fn copy(&self, from: &str, to: &str) -> io::Result<u64> {
-        self.rt.copy(from, to)
-    }
-
-    fn rename(&self, from: &str, to: &str) -> io::Result<()> {
-        self.rt.rename(from, to)
-    }
-
-    fn remove_file(&self, path: &str) -> io::Result<()> {
-        self.rt.remove_file(path)
-    }
-
-    fn create_dir(&self, path: &str) -> io::Result<()> {
-        self.rt.create_dir(path)
-    }
-
-    fn remove_dir(&self, path: &str) -> io::Result<()> {
-        self.rt.remove_dir(path)
-    }
-
-    fn remove_dir_all<B: Allocator>(&self, alloc: B, path: &str) -> io::Result<()> {
-        self.rt.remove_dir_all(alloc, path)
-    }
-
-    fn canonicalize<B: Allocator>(&self, alloc: B, path: &str) -> io::Result<PathBuf<B>> {
-        self.rt.canonicalize(alloc, path)
-    }
-}
 
 /// A folder whose sync is counted, and fails where it is to.
 #[derive(Drop)]
@@ -129,21 +62,38 @@ impl<'a> OpenFile for Folder<'a> {
     }
 }
 
-/// A system in which nothing but one folder can be opened.
+/// What opens the files of a system.
+trait Opens {
+    type File: Read + Write + Seek + OpenFile + Drop;
+
+    fn open(&self, how: &OpenOptions, path: &str) -> io::Result<Self::File>;
+}
+
+/// Opens files as the system below does, and counts how often a folder is opened.
 #[derive(Drop)]
-struct Folders<'a, R> {
+struct Watched<'a, R> {
     rt: &'a R,
+    folder: &'a str,
+    opened: Cell<u32>,
+}
+
+impl<'a, R: Files> Opens for Watched<'a, R> {
+    type File = R::File;
+
+    fn open(&self, how: &OpenOptions, path: &str) -> io::Result<R::File> {
+        if path == self.folder {
+            self.opened.set(self.opened.get().saturating_add(1));
+        }
+        self.rt.open_file(how, path)
+    }
+}
+
+/// Opens nothing but one folder.
+#[derive(Drop)]
+struct OneFolder<'a> {
     folder: &'a str,
     synced: &'a Cell<u32>,
     fails: bool,
-}
-
-impl<'a, R: Alloc> Alloc for Folders<'a, R> {
-    type A = R::A;
-
-    fn alloc(&self) -> R::A {
-        self.rt.alloc()
-    }
 }
 
 /// The answer of a call that is not there.
@@ -151,12 +101,10 @@ fn unsupported<T>() -> io::Result<T> {
     Err(io::Error::from(io::ErrorKind::Unsupported))
 }
 
-impl<'a, R: Files> Files for Folders<'a, R> {
+impl<'a> Opens for OneFolder<'a> {
     type File = Folder<'a>;
 
-    type Dir = R::Dir;
-
-    fn open_file(&self, _: &OpenOptions, path: &str) -> io::Result<Folder<'a>> {
+    fn open(&self, _: &OpenOptions, path: &str) -> io::Result<Folder<'a>> {
         if path != self.folder {
             return unsupported();
         }
@@ -165,17 +113,47 @@ impl<'a, R: Files> Files for Folders<'a, R> {
             fails: self.fails,
         })
     }
+}
+
+/// A system that opens, looks at and resolves files, and does nothing else. Where `seen` is a path, that is looked at in
+/// place of each.
+#[derive(Drop)]
+struct System<'a, R, O> {
+    rt: &'a R,
+    opens: O,
+    seen: Option<&'static str>,
+}
+
+impl<'a, R: Alloc, O> Alloc for System<'a, R, O> {
+    type A = R::A;
+
+    fn alloc(&self) -> R::A {
+        self.rt.alloc()
+    }
+}
+
+impl<'a, R: Files, O: Opens> Files for System<'a, R, O> {
+    type File = O::File;
+
+    type Dir = R::Dir;
+
+    fn open_file(&self, how: &OpenOptions, path: &str) -> io::Result<O::File> {
+        self.opens.open(how, path)
+    }
 
     fn open_dir(&self, _: &str) -> io::Result<R::Dir> {
         unsupported()
     }
 
-    fn metadata(&self, _: &str) -> io::Result<Metadata> {
-        unsupported()
+    fn metadata(&self, path: &str) -> io::Result<Metadata> {
+        self.rt.metadata(path)
     }
 
-    fn symlink_metadata(&self, _: &str) -> io::Result<Metadata> {
-        self.rt.symlink_metadata(".")
+    fn symlink_metadata(&self, path: &str) -> io::Result<Metadata> {
+        match self.seen {
+            Some(seen) => self.rt.symlink_metadata(seen),
+            None => self.rt.symlink_metadata(path),
+        }
     }
 
     fn copy(&self, _: &str, _: &str) -> io::Result<u64> {
@@ -201,6 +179,10 @@ impl<'a, R: Files> Files for Folders<'a, R> {
     fn remove_dir_all<B: Allocator>(&self, _: B, _: &str) -> io::Result<()> {
         unsupported()
     }
+
+    fn canonicalize<B: Allocator>(&self, alloc: B, path: &str) -> io::Result<PathBuf<B>> {
+        self.rt.canonicalize(alloc, path)
+    }
 }
 
 /// What came of a folder that is to be synced.
@@ -213,36 +195,45 @@ enum Came {
     Unopened,
 }
 
+/// What an answer says of a folder's sync. The answer is dropped here alone.
+fn came_of_sync(done: Result<(), FileFault>) -> Came {
+    let came = match &done {
+        Ok(()) => Came::Synced,
+        Err(FileFault::Sync(fault)) => Came::Failed(*fault),
+        Err(_) => Came::Unopened,
+    };
+    drop(done);
+    came
+}
+
 /// Syncs the folder of a path, which is to be this folder. Says what came of it, and how often it was synced.
 fn synced_folder<R: Files + Alloc>(rt: &R, path: &str, folder: &str, fails: bool) -> (Came, u32) {
     let synced = Cell::new(0);
-    let done = sync_folder(
-        &Folders {
-            rt,
+    let system = System {
+        rt,
+        opens: OneFolder {
             folder,
             synced: &synced,
             fails,
         },
-        path,
-    );
-    let came = match done {
-        Ok(()) => Came::Synced,
-        Err(FileFault::Sync(fault)) => Came::Failed(fault),
-        Err(_) => Came::Unopened,
+        seen: Some("."),
     };
+    let came = came_of_sync(sync_folder(&system, path));
     (came, synced.get())
 }
 
+/// The paths of files, and their folders.
+const FOLDERS: [(&str, &str); 4] = [
+    ("ledger.tbk", "."),
+    ("a/b/ledger.tbk", "a/b"),
+    ("/ledger.tbk", "/"),
+    ("/a/ledger.tbk", "/a"),
+];
+
 #[test]
 fn folders_are_synced(rt: HostRuntime) {
-    let rows = [
-        ("ledger.tbk", "."),
-        ("a/b/ledger.tbk", "a/b"),
-        ("/ledger.tbk", "/"),
-        ("/a/ledger.tbk", "/a"),
-    ];
-    for (path, folder) in rows {
-        let failed = Came::Failed(Fault::SyncFailed);
+    let failed = Came::Failed(Fault::SyncFailed);
+    for (path, folder) in FOLDERS {
         expect(
             &rt,
             synced_folder(&rt, path, folder, false) == (Came::Synced, 1),
@@ -255,57 +246,78 @@ fn folders_are_synced(rt: HostRuntime) {
     }
 }
 
+/// Removes a link and the folder of its target, where they are.
+fn clear<R: Files + AllocGlobal>(rt: &R) {
+    drop(fs::remove_dir_all(rt, "targets"));
+    drop(fs::remove_file(rt, "link.tbj"));
+}
+
+/// A link to what is not there is not opened, and nothing is made in its place.
+fn expect_dangling<R: Abort + Files<File = File> + AllocGlobal>(rt: &R) {
+    expect(rt, came_of(Real::make(rt, "link.tbj")) == Opened::Dangling);
+    expect(rt, came_of(Real::look(rt, "link.tbj")) == Opened::Dangling);
+    expect(rt, !is_well(fs::metadata(rt, "targets/made.tbj")));
+}
+
+/// Opens what a link represents: its folder is opened once, and the file is locked as long as it is open.
+fn expect_target<'a, R: Abort + Files<File = File> + AllocGlobal>(rt: &'a R, folder: &'a str) {
+    let system = System {
+        rt,
+        opens: Watched {
+            rt,
+            folder,
+            opened: Cell::new(0),
+        },
+        seen: None,
+    };
+    let real = sure(rt, Real::make(&system, "link.tbj"));
+    expect(rt, system.opens.opened.get() == 1);
+    expect(
+        rt,
+        came_of(Real::open(rt, "targets/made.tbj")) == Opened::Locked,
+    );
+    expect(rt, came_of(Real::make(rt, "link.tbj")) == Opened::Locked);
+    drop(real);
+    expect(
+        rt,
+        came_of(Real::open(rt, "targets/made.tbj")) == Opened::Opened,
+    );
+}
+
 #[test]
 fn the_folder_of_a_links_target(rt: HostRuntime) {
-    let _ = fs::remove_dir_all(&rt, "targets");
-    let _ = fs::remove_file(&rt, "link.tbj");
-    assert!(&rt; fs::create_dir(&rt, "targets").is_ok());
-    assert!(&rt; symlink(&rt, "targets/made.tbj", "link.tbj").is_ok());
-    let folder = fs::canonicalize(&rt, "targets").ok().expect(&rt, "a path");
-    let watched = Watched {
-        rt: &rt,
-        folder: folder.as_str(),
-        opened: Cell::new(0),
+    clear(&rt);
+    sure(&rt, fs::create_dir(&rt, "targets"));
+    sure(&rt, symlink(&rt, "targets/made.tbj", "link.tbj"));
+    let folder = sure(&rt, fs::canonicalize(&rt, "targets"));
+    expect_dangling(&rt);
+    expect(&rt, is_well(Real::make_new(&rt, "targets/made.tbj")));
+    expect_target(&rt, folder.as_str());
+    drop(folder);
+    clear(&rt);
+}
+
+/// A new file's folder is opened once, and that of a file that is there once more.
+fn expect_opened<R: Abort + Files<File = File> + Alloc>(rt: &R) {
+    let system = System {
+        rt,
+        opens: Watched {
+            rt,
+            folder: "news",
+            opened: Cell::new(0),
+        },
+        seen: None,
     };
-    expect(
-        &rt,
-        matches!(Real::make(&rt, "link.tbj"), Err(FileFault::Dangling)),
-    );
-    expect(
-        &rt,
-        matches!(Real::look(&rt, "link.tbj"), Err(FileFault::Dangling)),
-    );
-    expect(&rt, fs::metadata(&rt, "targets/made.tbj").is_err());
-    expect(&rt, Real::make_new(&rt, "targets/made.tbj").is_ok());
-    let real = Real::make(&watched, "link.tbj");
-    expect(&rt, real.is_ok());
-    expect(&rt, watched.opened.get() == 1);
-    expect(
-        &rt,
-        matches!(Real::open(&rt, "targets/made.tbj"), Err(FileFault::Locked)),
-    );
-    expect(
-        &rt,
-        matches!(Real::make(&rt, "link.tbj"), Err(FileFault::Locked)),
-    );
-    drop(real);
-    expect(&rt, Real::open(&rt, "targets/made.tbj").is_ok());
-    let _ = fs::remove_dir_all(&rt, "targets");
-    let _ = fs::remove_file(&rt, "link.tbj");
+    expect(rt, is_well(Real::make_new(&system, "news/made.tbj")));
+    expect(rt, system.opens.opened.get() == 1);
+    expect(rt, is_well(Real::make(&system, "news/made.tbj")));
+    expect(rt, system.opens.opened.get() == 2);
 }
 
 #[test]
 fn the_folder_of_a_new_file(rt: HostRuntime) {
-    let _ = fs::remove_dir_all(&rt, "news");
-    assert!(&rt; fs::create_dir(&rt, "news").is_ok());
-    let watched = Watched {
-        rt: &rt,
-        folder: "news",
-        opened: Cell::new(0),
-    };
-    expect(&rt, Real::make_new(&watched, "news/made.tbj").is_ok());
-    expect(&rt, watched.opened.get() == 1);
-    expect(&rt, Real::make(&watched, "news/made.tbj").is_ok());
-    expect(&rt, watched.opened.get() == 2);
-    let _ = fs::remove_dir_all(&rt, "news");
+    drop(fs::remove_dir_all(&rt, "news"));
+    sure(&rt, fs::create_dir(&rt, "news"));
+    expect_opened(&rt);
+    drop(fs::remove_dir_all(&rt, "news"));
 }

@@ -1,6 +1,7 @@
 //! Files that are opened, refused or created over: worked examples.
 use crate::journal::scans::expect_records;
-use crate::journal::steps::{created, expect, expect_bytes, expect_journal, file_of, opened};
+use crate::journal::steps::{created, expect_last, opened};
+use crate::steps::{expect, expect_bytes, file_of};
 use std::alloc::Global;
 use std::process::Abort;
 use tb_journal::{Fault, Memory, OpenFault, Refusal, create, recover};
@@ -23,7 +24,7 @@ const BAD_CHECKSUM: [u8; 17] = [
 #[test]
 fn what_stands_behind_the_records_is_cut_off(rt: HostRuntime) {
     let journal = opened(&rt, rt.alloc(), &MORE_BEHIND);
-    expect_journal(&rt, &journal, &EMPTY_RECORD, 1, 1);
+    expect_last(&rt, journal, &EMPTY_RECORD, 1, 1);
 }
 
 /// A file of these bytes is refused so, and is as it was. It is given back.
@@ -49,12 +50,13 @@ fn another_file_is_left_alone(rt: HostRuntime) {
     let again = create(alloc, file).err().expect(&rt, "a fault");
     expect(&rt, again.fault == OpenFault::Device(Fault::NotEmpty));
     expect_bytes(&rt, again.device.bytes(), b"hello");
+    drop(again);
 }
 
 #[test]
 fn a_creation_that_was_cut_short_is_made_again(rt: HostRuntime) {
     let journal = created(&rt, rt.alloc(), &[84, 66, 0, 0]);
-    expect_journal(&rt, &journal, b"TBJRNL01\0", 0, 1);
+    expect_last(&rt, journal, b"TBJRNL01\0", 0, 1);
 }
 
 #[test]

@@ -2,7 +2,8 @@
 ghost use Rattle.std.specs.Prelude.{◌≡◌, true};
 
 use crate::journal::odd::{Call, Odd};
-use crate::journal::steps::{THREE_RECORDS, expect, expect_at, expect_bytes, expect_read, sure};
+use crate::journal::steps::{THREE_RECORDS, expect_at, expect_failed, expect_read};
+use crate::steps::{expect, expect_bytes, expect_same, sure};
 use std::alloc::Global;
 use std::io::ErrorKind;
 use std::process::Abort;
@@ -20,6 +21,7 @@ fn goes_round(rt: &(impl Abort + AllocGlobal), number: u64, odd: Odd) {
     sure(rt, device.cut(6));
     expect_at(rt, number, device.len() == Ok(6));
     expect_bytes(rt, &device.system().bytes, b"a file");
+    drop(device);
 }
 
 #[test]
@@ -45,13 +47,15 @@ fn calls_that_are_interrupted(rt: HostRuntime) {
 fn answers(odd: Odd) -> [Result<(), Fault>; 5] {
     let mut device = Posix::new(odd);
     let mut into = [0u8; 3];
-    [
+    let answers = [
         device.write_at(0, b"abc"),
         device.cut(0),
         device.sync(),
         device.read_at(0, &mut into).map(|_| ()),
         device.len().map(|_| ()),
-    ]
+    ];
+    drop(device);
+    answers
 }
 
 /// A kind of call fails so: it alone answers with this fault.
@@ -66,39 +70,22 @@ fn expect_fault(rt: &impl Abort, alloc: Global, place: usize, kind: ErrorKind, w
     }
 }
 
+/// What a call other than a sync answers where it fails in each way.
+const FAULTS: [(ErrorKind, Fault); 6] = [
+    (ErrorKind::OutOfMemory, Fault::Memory),
+    (ErrorKind::StorageFull, Fault::Full),
+    (ErrorKind::QuotaExceeded, Fault::Full),
+    (ErrorKind::FileTooLarge, Fault::Full),
+    (ErrorKind::PermissionDenied, Fault::Failed),
+    (ErrorKind::Uncategorized, Fault::Failed),
+];
+
 #[test]
 fn calls_that_fail(rt: HostRuntime) {
     for place in [0, 1, 3, 4] {
-        expect_fault(
-            &rt,
-            rt.alloc(),
-            place,
-            ErrorKind::OutOfMemory,
-            Fault::Memory,
-        );
-        expect_fault(&rt, rt.alloc(), place, ErrorKind::StorageFull, Fault::Full);
-        expect_fault(
-            &rt,
-            rt.alloc(),
-            place,
-            ErrorKind::QuotaExceeded,
-            Fault::Full,
-        );
-        expect_fault(&rt, rt.alloc(), place, ErrorKind::FileTooLarge, Fault::Full);
-        expect_fault(
-            &rt,
-            rt.alloc(),
-            place,
-            ErrorKind::PermissionDenied,
-            Fault::Failed,
-        );
-        expect_fault(
-            &rt,
-            rt.alloc(),
-            place,
-            ErrorKind::Uncategorized,
-            Fault::Failed,
-        );
+        for (kind, want) in FAULTS {
+            expect_fault(&rt, rt.alloc(), place, kind, want);
+        }
     }
 }
 
@@ -114,6 +101,11 @@ fn syncs_that_fail(rt: HostRuntime) {
     }
 }
 
+/// How a call failed. What it gave is dropped here alone.
+fn fault_of<T: Drop>(answer: Result<T, Fault>) -> Option<Fault> {
+    answer.err()
+}
+
 #[test]
 fn a_sync_that_fails_at_the_opening(rt: HostRuntime) {
     for kind in [
@@ -123,12 +115,13 @@ fn a_sync_that_fails_at_the_opening(rt: HostRuntime) {
     ] {
         let mut odd = Odd::empty(rt.alloc());
         odd.fails = Some((Call::Sync, kind));
-        expect(&rt, Posix::synced(odd).err() == Some(Fault::SyncFailed));
+        expect_same(&rt, fault_of(Posix::synced(odd)), Some(Fault::SyncFailed));
     }
     let mut odd = odd_of(&rt, rt.alloc(), b"abc", 5, 2);
     odd.fails = Some((Call::Write, ErrorKind::StorageFull));
     let device = sure(&rt, Posix::synced(odd));
     expect_bytes(&rt, &device.system().bytes, b"abc");
+    drop(device);
 }
 
 #[test]
@@ -144,6 +137,7 @@ fn a_disk_that_is_full(rt: HostRuntime) {
             device.write_at(0, b"twelve bytes") == Err(Fault::Full),
         );
         expect_bytes(&rt, &device.system().bytes, &b"twelve bytes"[..space]);
+        drop(device);
     }
 }
 
@@ -154,6 +148,7 @@ fn a_write_that_takes_none(rt: HostRuntime) {
     let mut device = Posix::new(odd);
     expect_at(&rt, 0, device.write_at(0, b"abc") == Err(Fault::Failed));
     expect_at(&rt, 1, device.write_at(0, b"") == Ok(()));
+    drop(device);
 }
 
 /// Commits `ab`, and then an empty record and `second`.
@@ -175,6 +170,14 @@ fn odd_of(rt: &impl Abort, alloc: Global, bytes: &[u8], part: usize, signals: u6
     odd
 }
 
+/// How many records are in the journal of a file.
+fn count_of(rt: &impl Abort, alloc: Global, odd: Odd) -> usize {
+    let journal = sure(rt, recover(alloc, Posix::new(odd)));
+    let count = journal.count();
+    drop(journal);
+    count
+}
+
 #[test]
 fn journals_by_parts(rt: HostRuntime) {
     let alloc = rt.alloc();
@@ -183,9 +186,9 @@ fn journals_by_parts(rt: HostRuntime) {
         let mut journal = sure(&rt, create(alloc, Posix::new(odd)));
         sure(&rt, add(&mut journal));
         expect_bytes(&rt, &journal.device().system().bytes, &THREE_RECORDS);
+        drop(journal);
         let odd = odd_of(&rt, alloc, &THREE_RECORDS, part, signals);
-        let journal = sure(&rt, recover(alloc, Posix::new(odd)));
-        expect(&rt, journal.count() == 3);
+        expect(&rt, count_of(&rt, alloc, odd) == 3);
     }
 }
 
@@ -196,12 +199,15 @@ fn left_on(rt: &impl Abort, alloc: Global, space: usize) -> Option<usize> {
     match create(alloc, Posix::new(odd)) {
         Ok(journal) => {
             let mut journal = journal;
-            expect(rt, add(&mut journal) == Err(Fault::Full));
+            expect_failed(rt, add(&mut journal), Fault::Full);
             let odd = odd_of(rt, alloc, &journal.device().system().bytes, 64, 0);
-            Some(sure(rt, recover(alloc, Posix::new(odd))).count())
+            drop(journal);
+            Some(count_of(rt, alloc, odd))
         }
         Err(failed) => {
-            expect(rt, failed.fault == OpenFault::Device(Fault::Full));
+            let fault = failed.fault;
+            drop(failed);
+            expect_same(rt, fault, OpenFault::Device(Fault::Full));
             None
         }
     }

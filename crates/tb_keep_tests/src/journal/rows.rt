@@ -1,8 +1,9 @@
 //! The bytes of a journal's file, call by call.
 use crate::journal::steps::{
-    NO_RECORDS, ONE_RECORD, THREE_RECORDS, commit_two, created, expect, expect_journal, opened,
-    sevens, sure,
+    NO_RECORDS, ONE_RECORD, THREE_RECORDS, commit_two, created, expect_failed, expect_journal,
+    expect_last, opened, sevens,
 };
+use crate::steps::{expect, sure};
 use std::alloc::AllocError;
 use tb_journal::{Fault, RECORD_BYTES_MAX, Written};
 
@@ -30,7 +31,7 @@ fn a_record_counts_when_it_is_committed(rt: HostRuntime) {
     expect_journal(&rt, &journal, &NO_RECORDS, 0, 11);
     expect(&rt, journal.waiting() == 1);
     sure(&rt, journal.commit());
-    expect_journal(&rt, &journal, &ONE_RECORD, 1, 1);
+    expect_last(&rt, journal, &ONE_RECORD, 1, 1);
 }
 
 #[test]
@@ -40,6 +41,7 @@ fn a_batch_is_committed_by_four_calls(rt: HostRuntime) {
     sure(&rt, commit_two(&mut journal));
     expect_journal(&rt, &journal, &THREE_RECORDS, 3, 1);
     let moments = journal.device().moments();
+    drop(journal);
     expect(&rt, moments.saturating_sub(before) == 4);
 }
 
@@ -50,6 +52,7 @@ fn a_commit_of_nothing_calls_no_device(rt: HostRuntime) {
     sure(&rt, journal.commit());
     expect_journal(&rt, &journal, &ONE_RECORD, 1, 1);
     expect(&rt, journal.device().moments() == before);
+    drop(journal);
 }
 
 #[test]
@@ -57,9 +60,11 @@ fn a_record_of_2_to_the_24_bytes_is_too_long(rt: HostRuntime) {
     let alloc = rt.alloc();
     let long = sevens(&rt, alloc, RECORD_BYTES_MAX);
     let mut journal = opened(&rt, alloc, &ONE_RECORD);
-    expect(&rt, journal.append(&long) == Err(Fault::TooLong));
+    expect_failed(&rt, journal.append(&long), Fault::TooLong);
     expect(&rt, journal.waiting() == 0);
     expect(&rt, journal.waiting_bytes() == 1);
+    drop(journal);
+    drop(long);
 }
 
 #[test]
@@ -70,12 +75,13 @@ fn a_record_is_written_where_it_waits(rt: HostRuntime) {
     expect_journal(&rt, &journal, &NO_RECORDS, 0, 11);
     let long = sevens(&rt, alloc, RECORD_BYTES_MAX);
     let refused = journal.append_written(&Bytes { bytes: &long });
-    expect(&rt, refused == Err(Fault::TooLong));
+    expect_failed(&rt, refused, Fault::TooLong);
     expect_journal(&rt, &journal, &NO_RECORDS, 0, 11);
     sure(&rt, journal.commit());
     expect_journal(&rt, &journal, &ONE_RECORD, 1, 1);
     sure(&rt, journal.append_written(&Bytes { bytes: b"" }));
     sure(&rt, journal.append(b"second"));
     sure(&rt, journal.commit());
-    expect_journal(&rt, &journal, &THREE_RECORDS, 3, 1);
+    expect_last(&rt, journal, &THREE_RECORDS, 3, 1);
+    drop(long);
 }

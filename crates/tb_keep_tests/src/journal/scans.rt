@@ -4,11 +4,14 @@ ghost use Rattle.tb_journal.specs.Memory.{memory_disk};
 ghost use Rattle.tb_journal.specs.Ready.{IsReady};
 
 use crate::journal::steps::{
-    ONE_RECORD, THREE_RECORDS, commit_both, expect, expect_at, file_of, file_of_two, sevens, sure,
+    ONE_RECORD, THREE_RECORDS, commit_both, expect_at, file_of_two, sevens,
 };
+use crate::steps::{expect, expect_bytes, expect_same, file_of, sure};
 use std::alloc::Global;
 use std::process::Abort;
-use tb_journal::{Extent, Fault, Journal, Memory, OpenFault, Refusal, Scan, create, read_journal};
+use tb_journal::{
+    Device, Extent, Fault, Journal, Memory, OpenFault, Refusal, Scan, create, read_journal,
+};
 
 /// A file is read in pieces of so many bytes.
 const PIECE_BYTES: usize = 65_536;
@@ -16,21 +19,34 @@ const PIECE_BYTES: usize = 65_536;
 /// The last block of the three records is not whole.
 const DAMAGED: Refusal = Refusal::Damaged { at: 26 };
 
+/// Reads the next record of a device, which is to be this one.
+pub(crate) fn expect_next<D: Device>(
+    rt: &impl Abort,
+    scan: &mut Scan,
+    device: &mut D,
+    want: &[u8],
+) {
+    expect_same(rt, scan.next(device), Ok(true));
+    expect_bytes(rt, scan.record(), want);
+}
+
 /// Reads these records from a file, one by one, and then what follows them. Says where they end.
 fn expect_scan(
     rt: &impl Abort,
     alloc: Global,
-    file: &mut Memory,
+    file: Memory,
     records: &[&[u8]],
     behind: Result<bool, OpenFault>,
 ) -> Extent {
-    let mut scan = sure(rt, Scan::start(alloc, file));
+    let mut file = file;
+    let mut scan = sure(rt, Scan::start(alloc, &mut file));
     for want in records {
-        expect(rt, scan.next(file) == Ok(true));
-        expect(rt, scan.record() == *want);
+        expect_next(rt, &mut scan, &mut file, want);
     }
-    expect(rt, scan.next(file) == behind);
+    expect_same(rt, scan.next(&mut file), behind);
     let extent = scan.extent();
+    drop(scan);
+    drop(file);
     expect(rt, extent.count == records.len());
     extent
 }
@@ -43,14 +59,13 @@ pub(crate) fn expect_records(
     records: &[&[u8]],
     behind: Result<bool, OpenFault>,
 ) -> Extent {
-    let mut file = file_of(rt, alloc, bytes);
-    expect_scan(rt, alloc, &mut file, records, behind)
+    expect_scan(rt, alloc, file_of(rt, alloc, bytes), records, behind)
 }
 
 /// The same of a journal of two records.
 fn expect_two(rt: &impl Abort, alloc: Global, first: &[u8], second: &[u8]) {
-    let mut file = file_of_two(rt, alloc, first, second);
-    let _extent = expect_scan(rt, alloc, &mut file, &[first, second], Ok(false));
+    let file = file_of_two(rt, alloc, first, second);
+    let _extent = expect_scan(rt, alloc, file, &[first, second], Ok(false));
 }
 
 /// What the reading of a file from end to end answers: the number of its records, or a fault.
@@ -75,6 +90,7 @@ fn a_record_is_larger_than_a_piece(rt: HostRuntime) {
     }
     expect_two(&rt, alloc, &long, b"ab");
     expect_two(&rt, alloc, b"ab", &long);
+    drop(long);
 }
 
 /// The second block begins at each of the last places of a piece, and behind it.
@@ -86,6 +102,7 @@ fn a_record_stands_in_two_pieces(rt: HostRuntime) {
         let (first, _) = long.split_at(PIECE_BYTES - 16 - place);
         expect_two(&rt, alloc, first, b"second");
     }
+    drop(long);
 }
 
 #[test]
@@ -109,7 +126,8 @@ fn damage_is_told_behind_good_records(rt: HostRuntime) {
     let _extent = expect_records(&rt, alloc, &bytes, &[b"ab", &[]], damaged);
     let mut file = file_of(&rt, alloc, &bytes);
     let answer = count_of(alloc, &mut file);
-    expect(&rt, answer == Err(OpenFault::Refused(DAMAGED)));
+    drop(file);
+    expect_same(&rt, answer, Err(OpenFault::Refused(DAMAGED)));
 }
 
 /// The calls of a count: a start takes a sync and a look; each piece more takes a look, as does the end.
@@ -129,10 +147,12 @@ fn each_call_fails_in_turn(rt: HostRuntime) {
     let alloc = rt.alloc();
     let long = sevens(&rt, alloc, 2 * PIECE_BYTES);
     let mut file = file_of_two(&rt, alloc, b"ab", &long);
+    drop(long);
     for number in 1..=CALLS + 1 {
         file.fail_at(number);
         expect_at(&rt, number, count_of(alloc, &mut file) == want_at(number));
     }
+    drop(file);
 }
 
 /// A journal without records, where there is memory for it.
@@ -154,8 +174,13 @@ fn some_file(alloc: Global, record: &[u8]) -> Option<Memory> {
     match some_journal(alloc) {
         Some(journal) => {
             let mut journal = journal;
-            commit_both(&mut journal, record, b"ab").ok()?;
-            Some(journal.into_device())
+            match commit_both(&mut journal, record, b"ab") {
+                Ok(()) => Some(journal.into_device()),
+                Err(_) => {
+                    drop(journal);
+                    None
+                }
+            }
         }
         None => None,
     }
@@ -165,9 +190,16 @@ fn some_file(alloc: Global, record: &[u8]) -> Option<Memory> {
 fn count_long(alloc: Global) -> Option<Result<usize, OpenFault>> {
     let long = vec![in alloc; 7u8; 2 * PIECE_BYTES].ok()?;
     let given = some_file(alloc, &long);
-    let mut file = given?;
-    let answer = count_of(alloc, &mut file);
-    Some(answer)
+    drop(long);
+    match given {
+        Some(file) => {
+            let mut file = file;
+            let answer = count_of(alloc, &mut file);
+            drop(file);
+            Some(answer)
+        }
+        None => None,
+    }
 }
 
 /// Where no memory is left the fault says so: `rt try --test --fail-alloc n` refuses the nth allocation of each test,

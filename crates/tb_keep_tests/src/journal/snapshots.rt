@@ -1,9 +1,11 @@
 //! Snapshots of files that grow, tear, are damaged or get shorter while they are read.
 use crate::journal::live::Live;
-use crate::journal::scans::expect_records;
+use crate::journal::scans::{expect_next, expect_records};
 use crate::journal::steps::{
-    NO_RECORDS, ONE_RECORD, THREE_RECORDS, expect, expect_at, file_of, file_of_two, sevens, sure,
+    NO_RECORDS, ONE_RECORD, THREE_RECORDS, expect_at, expect_failed, expect_number, file_of_two,
+    sevens,
 };
+use crate::steps::{expect, expect_bytes, expect_same, file_of, sure};
 use std::alloc::Global;
 use std::cell::Cell;
 use std::process::Abort;
@@ -88,6 +90,8 @@ fn commits_between_any_two_reads(rt: HostRuntime) {
             latest = COUNTS[now.get().min(5)];
             scan.go_on();
         }
+        drop(scan);
+        drop(snapshot);
     }
 }
 
@@ -104,12 +108,13 @@ fn expect_snapshot(
     let mut snapshot = sure(rt, Snapshot::new(alloc, file_of(rt, alloc, bytes)));
     let mut scan = sure(rt, Scan::start(alloc, &mut snapshot));
     for want in records {
-        expect(rt, scan.next(&mut snapshot) == Ok(true));
-        expect(rt, scan.record() == *want);
+        expect_next(rt, &mut scan, &mut snapshot, want);
     }
-    expect(rt, scan.next(&mut snapshot) == behind);
-    expect(rt, Device::len(&mut snapshot) == Ok(len));
-    expect(rt, snapshot.file_len() == Ok(bytes.len()));
+    expect_same(rt, scan.next(&mut snapshot), behind);
+    drop(scan);
+    expect_number(rt, Device::len(&mut snapshot), len);
+    expect_number(rt, snapshot.file_len(), bytes.len());
+    drop(snapshot);
 }
 
 /// The last block is cut at each byte: a scan of the snapshot says what one of the file says, and bytes behind the closed
@@ -135,17 +140,27 @@ fn torn_and_damaged_files(rt: HostRuntime) {
     expect_snapshot(&rt, alloc, &bytes, &[], damaged, 41);
 }
 
+/// Why a scan was not started. One that was is dropped.
+fn fault_of(scan: Result<Scan, OpenFault>) -> Option<OpenFault> {
+    match scan {
+        Ok(scan) => {
+            drop(scan);
+            None
+        }
+        Err(fault) => Some(fault),
+    }
+}
+
 #[test]
 fn files_that_are_no_journal(rt: HostRuntime) {
     let alloc = rt.alloc();
     for bytes in [&b""[..], &b"TBJRNL0"[..], &b"a text of some length"[..]] {
         let mut snapshot = sure(&rt, Snapshot::new(alloc, file_of(&rt, alloc, bytes)));
         let scan = Scan::start(alloc, &mut snapshot);
-        expect(
-            &rt,
-            matches!(scan, Err(OpenFault::Refused(Refusal::NotAJournal))),
-        );
-        expect(&rt, Device::len(&mut snapshot) == Ok(bytes.len()));
+        let not_a_journal = OpenFault::Refused(Refusal::NotAJournal);
+        expect_same(&rt, fault_of(scan), Some(not_a_journal));
+        expect_number(&rt, Device::len(&mut snapshot), bytes.len());
+        drop(snapshot);
     }
 }
 
@@ -159,8 +174,10 @@ fn blocks_in_two_pieces(rt: HostRuntime) {
         let file = file_of_two(&rt, alloc, first, &long);
         let len = file.bytes().len();
         let mut snapshot = sure(&rt, Snapshot::new(alloc, file));
-        expect(&rt, Device::len(&mut snapshot) == Ok(len));
+        expect_number(&rt, Device::len(&mut snapshot), len);
+        drop(snapshot);
     }
+    drop(long);
 }
 
 /// A file that gets shorter than what a snapshot holds: no call reads on as if nothing were there.
@@ -175,22 +192,23 @@ fn a_file_gets_shorter(rt: HostRuntime) {
     };
     let mut snapshot = sure(&rt, Snapshot::new(alloc, live));
     now.set(1);
-    let mut scan = Scan::start(alloc, &mut snapshot);
-    expect(&rt, matches!(scan, Err(OpenFault::Device(Fault::Failed))));
-    expect(&rt, snapshot.refresh() == Err(Fault::Failed));
+    let failed = fault_of(Scan::start(alloc, &mut snapshot));
+    expect_same(&rt, failed, Some(OpenFault::Device(Fault::Failed)));
+    expect_failed(&rt, snapshot.refresh(), Fault::Failed);
     now.set(0);
-    scan = Scan::start(alloc, &mut snapshot);
-    expect(&rt, scan.is_ok());
+    expect_same(&rt, fault_of(Scan::start(alloc, &mut snapshot)), None);
+    drop(snapshot);
 }
 
 #[test]
 fn a_snapshot_is_not_written(rt: HostRuntime) {
     let alloc = rt.alloc();
     let mut snapshot = sure(&rt, Snapshot::new(alloc, file_of(&rt, alloc, &ONE_RECORD)));
-    expect(&rt, snapshot.write_at(18, &[255]) == Err(Fault::Failed));
-    expect(&rt, snapshot.cut(8) == Err(Fault::Failed));
-    expect(&rt, snapshot.sync() == Ok(()));
+    expect_failed(&rt, snapshot.write_at(18, &[255]), Fault::Failed);
+    expect_failed(&rt, snapshot.cut(8), Fault::Failed);
+    expect_same(&rt, snapshot.sync(), Ok(()));
     let mut found = [7; 5];
-    expect(&rt, Device::read_at(&mut snapshot, 16, &mut found) == Ok(3));
-    expect(&rt, found == [97, 98, 0, 7, 7]);
+    expect_same(&rt, Device::read_at(&mut snapshot, 16, &mut found), Ok(3));
+    drop(snapshot);
+    expect_bytes(&rt, &found, &[97, 98, 0, 7, 7]);
 }

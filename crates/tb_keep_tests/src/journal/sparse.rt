@@ -1,7 +1,8 @@
 //! A file of more than 5 GiB: what is behind 4 GiB is written and read where it belongs.
 ghost use Rattle.tb_journal.specs.Real.{untold};
 
-use crate::journal::steps::{ONE_RECORD, expect, expect_read, sure};
+use crate::journal::steps::{ONE_RECORD, expect_number, expect_read};
+use crate::steps::{expect, sure};
 use std::fs;
 use std::fs::{File, Files};
 use std::process::Abort;
@@ -13,14 +14,14 @@ const FAR_BYTES: usize = 5 << 30;
 #[test]
 fn bytes_behind_four_gigabytes(rt: HostRuntime) {
     let path = "bytes_behind_four_gigabytes.bin";
-    let _ = fs::remove_file(&rt, path);
+    drop(fs::remove_file(&rt, path));
     let mut real = sure(&rt, Real::make(&rt, path));
     sure(&rt, real.write_at(0, b"head"));
     sure(&rt, real.cut(FAR_BYTES));
-    expect(&rt, real.len() == Ok(FAR_BYTES));
+    expect_number(&rt, real.len(), FAR_BYTES);
     sure(&rt, real.write_at(FAR_BYTES, b"far away"));
     sure(&rt, real.sync());
-    expect(&rt, real.len() == Ok(FAR_BYTES + 8));
+    expect_number(&rt, real.len(), FAR_BYTES + 8);
     expect_read(&rt, &mut real, FAR_BYTES - 1, 12, b"\0far away");
     // An offset cut to 32 bits would be 1 GiB.
     expect_read(&rt, &mut real, 1 << 30, 8, &[0; 8]);
@@ -80,12 +81,13 @@ fn far_journal<R: Abort + Files<File = File> + AllocGlobal>(rt: &R, path: &str) 
     let mut journal = sure(rt, create(rt.alloc(), Behind { real }));
     sure(rt, journal.append(b"ab"));
     sure(rt, journal.commit());
+    drop(journal);
 }
 
 #[test]
 fn records_behind_four_gigabytes(rt: HostRuntime) {
     let path = "records_behind_four_gigabytes.tbj";
-    let _ = fs::remove_file(&rt, path);
+    drop(fs::remove_file(&rt, path));
     far_journal(&rt, path);
     let mut real = sure(&rt, Real::open(&rt, path));
     expect_read(&rt, &mut real, FAR_BYTES, 19, &ONE_RECORD);

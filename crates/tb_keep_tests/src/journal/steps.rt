@@ -1,8 +1,9 @@
 //! Steps on a journal over a file in memory, and the bytes of small journals.
-ghost use Rattle.std.specs.Prelude.{◌≡◌, true, OnOk, Ok, vec_len};
+ghost use Rattle.std.specs.Prelude.{◌≡◌, true, OnOk, vec_len};
 ghost use Rattle.tb_journal.specs.Memory.{memory_disk};
 ghost use Rattle.tb_journal.specs.Ready.{IsReady};
 
+use crate::steps::{expect, expect_bytes, expect_given, expect_same, file_of, sure};
 use std::alloc::Global;
 use std::process::Abort;
 use tb_journal::{Device, Fault, Journal, Memory, create, recover};
@@ -26,28 +27,9 @@ pub(crate) const THREE_RECORDS: [u8; 41] = [
     0,
 ];
 
-/// What a test wants to hold.
-pub(crate) fn expect(rt: &impl Abort, holds: bool)
-    ensures { holds ≡ true }
-{
-    assert!(rt; holds);
-}
-
-/// The same at a number, which is reported where it does not hold.
+/// What a test wants to hold of a number, which is reported where it does not.
 pub(crate) fn expect_at(rt: &impl Abort, number: u64, holds: bool) {
     assert!(rt; holds, "at {number}");
-}
-
-/// The bytes that a test wants.
-pub(crate) fn expect_bytes(rt: &impl Abort, found: &[u8], want: &[u8]) {
-    expect(rt, found == want);
-}
-
-/// The value of a call that a test wants to succeed.
-pub(crate) fn sure<T: Drop, E: Drop>(rt: &impl Abort, answer: Result<T, E>) -> T
-    ensures { answer ≡ Ok result }
-{
-    answer.ok().expect(rt, "no fault")
 }
 
 /// So many bytes, each of them 7.
@@ -68,16 +50,7 @@ pub(crate) fn expect_read<D: Device>(
     let mut found = sevens(rt, rt.alloc(), room);
     let count = sure(rt, device.read_at(at, &mut found));
     found.truncate(count);
-    expect_bytes(rt, &found, want);
-    drop(found);
-}
-
-/// A file of these bytes, all of them durable.
-pub(crate) fn file_of(rt: &impl Abort, alloc: Global, bytes: &[u8]) -> Memory
-    ensures { (memory_disk result).sound ≡ true }
-{
-    let bytes = sure(rt, Vec::from_slice(alloc, bytes));
-    sure(rt, Memory::new(alloc, bytes))
+    expect_given(rt, found, want);
 }
 
 /// Creates a journal in a file of these bytes.
@@ -110,6 +83,28 @@ pub(crate) fn expect_journal(
     expect_bytes(rt, journal.device().bytes(), bytes);
     expect(rt, journal.count() == count);
     expect(rt, journal.waiting_bytes() == waiting_bytes);
+}
+
+/// The same of a journal that is freed then.
+pub(crate) fn expect_last(
+    rt: &impl Abort,
+    journal: Journal<Memory>,
+    bytes: &[u8],
+    count: usize,
+    waiting_bytes: usize,
+) {
+    expect_journal(rt, &journal, bytes, count, waiting_bytes);
+    drop(journal);
+}
+
+/// The number that a call gave.
+pub(crate) fn expect_number(rt: &impl Abort, answer: Result<usize, Fault>, want: usize) {
+    expect_same(rt, answer, Ok(want));
+}
+
+/// A call failed so.
+pub(crate) fn expect_failed(rt: &impl Abort, answer: Result<(), Fault>, want: Fault) {
+    expect_same(rt, answer, Err(want));
 }
 
 /// Commits an empty record, and `second`, as one batch.

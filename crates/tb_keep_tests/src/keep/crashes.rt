@@ -3,9 +3,10 @@ ghost use Rattle.tb_journal.specs.Memory.{memory_disk};
 ghost use Rattle.tb_keep.specs.Keeping.{IsFresh, IsUsable};
 
 use crate::keep::scripts::{
-    answered, bytes_left, bytes_of, created, expect, file_of, kept, outcome, replies, rules,
-    script, script_from, serve, sure,
+    answered, bytes_left, bytes_of, created, kept_bytes, outcome, replies_to, script, script_from,
+    serve,
 };
+use crate::steps::{expect, expect_end, expect_same, file_of, rules, sure};
 use std::alloc::Global;
 use std::process::Abort;
 use tb_journal::{Fault, Memory, OpenFault};
@@ -18,7 +19,7 @@ const TORN: &[&[u8]] = &[&[], &[0; 40], &[255; 40], &[255]];
 const AGAIN: &[usize] = &[0, 0, 1, 2, 5];
 
 /// The ledger of a file with these bytes.
-fn started(rt: &impl Abort, alloc: Global, left: &[u8]) -> Keeper<Memory>
+pub fn started(rt: &impl Abort, alloc: Global, left: &[u8]) -> Keeper<Memory>
     ensures fresh { IsFresh memory_disk result }
     ensures usable { IsUsable result }
 {
@@ -58,8 +59,9 @@ fn expect_goes_on(rt: &impl Abort, alloc: Global, left: &[u8], told: &[u8], entr
     expect(rt, entries.0 <= commit);
     expect(rt, commit <= entries.1);
     expect(rt, well);
+    drop(again);
     expect(rt, last == 4);
-    expect(rt, told.ends_with(&replies));
+    expect_end(rt, told, replies);
 }
 
 /// Crashes at a moment, with the last write torn in each way.
@@ -104,13 +106,18 @@ fn a_crash_at_each_moment(rt: HostRuntime) {
     let mut keeper = created(&rt, alloc);
     let (well, told) = serve(alloc, &mut keeper, &script);
     expect(&rt, well);
+    drop(script);
     expect_crashes(&rt, alloc, keeper.journal().device(), &told);
     drop(keeper);
+    drop(told);
 }
 
 /// Says whether so many bytes have the replies to the first so many pairs.
 fn is_told(rt: &impl Abort, alloc: Global, length: usize, count: usize) -> bool {
-    replies(rt, alloc, &script(rt, alloc, count)).len() <= length
+    let replies = replies_to(rt, alloc, count);
+    let is_told = replies.len() <= length;
+    drop(replies);
+    is_told
 }
 
 /// The pairs of which the last rests on one entry, on two, on three and on four.
@@ -133,7 +140,9 @@ fn served_by(rt: &impl Abort, alloc: Global, keeper: Keeper<Memory>) -> (Vec<u8>
     requires usable { IsUsable keeper }
 {
     let mut keeper = keeper;
-    let (_, told) = serve(alloc, &mut keeper, &script(rt, alloc, 6));
+    let script = script(rt, alloc, 6);
+    let (_, told) = serve(alloc, &mut keeper, &script);
+    drop(script);
     (bytes_of(rt, alloc, keeper), told)
 }
 
@@ -152,22 +161,25 @@ fn expect_failing(rt: &impl Abort, alloc: Global, number: u64, whole: &[u8]) {
     let (left, told) = served_failing(rt, alloc, number);
     expect(rt, whole.starts_with(&told));
     let least = entries_told(rt, alloc, told.len());
+    drop(told);
     expect_goes_on(rt, alloc, &left, whole, (least, least.saturating_add(1)));
+    drop(left);
 }
 
 #[test]
 fn each_call_fails_once(rt: HostRuntime) {
     let alloc = rt.alloc();
-    let whole = replies(&rt, alloc, &script(&rt, alloc, 6));
+    let whole = replies_to(&rt, alloc, 6);
     // Creating takes 10 calls, and serving 16.
     for number in 1..=28u64 {
         expect_failing(&rt, alloc, number, &whole);
     }
+    drop(whole);
 }
 
 /// What is reported where each call of an opening fails, one after another: a sync, the file and its end, its length, and the
 /// repair with two syncs.
-const OPENING: [Fault; 8] = [
+const OPENING: &[Fault] = &[
     Fault::SyncFailed,
     Fault::Failed,
     Fault::Failed,
@@ -189,21 +201,23 @@ fn expect_opening(
     let mut file = file_of(rt, alloc, bytes);
     file.fail_at(number);
     let (found, left) = outcome(rt, alloc, Keeper::open(alloc, alloc, file, rules(rt)));
-    expect(rt, found == want);
+    expect_same(rt, found, want);
     expect(rt, entries_in(rt, alloc, &left) == 4);
+    drop(left);
 }
 
 #[test]
 fn each_call_of_an_opening_fails_once(rt: HostRuntime) {
     let alloc = rt.alloc();
-    let (_, bytes) = kept(&rt, alloc, &script(&rt, alloc, 6));
+    let bytes = kept_bytes(&rt, alloc);
     let mut number = 1u64;
     for fault in OPENING {
-        let want = StartFault::Journal(OpenFault::Device(fault));
+        let want = StartFault::Journal(OpenFault::Device(*fault));
         expect_opening(&rt, alloc, &bytes, number, Some(want));
         number = number.saturating_add(1);
     }
     expect_opening(&rt, alloc, &bytes, number, None);
+    drop(bytes);
 }
 
 /// The calls that create a ledger.
@@ -211,16 +225,20 @@ const CREATING: u64 = 9;
 
 /// The calls of serving by turns that are syncs, of the first entry and of the second: each ends it, with the replies to so many
 /// bytes sent before.
-const SYNCS: [(u64, usize); 4] = [(2, 0), (4, 0), (6, 48), (8, 48)];
+const SYNCS: &[(u64, usize)] = &[(2, 0), (4, 0), (6, 48), (8, 48)];
 
 /// What serving the script over a new file answers whose call of a number fails, and how many bytes of replies it sent.
 fn ended_by(rt: &impl Abort, alloc: Global, number: u64) -> (Result<u64, KeepFault>, usize) {
     let mut file = file_of(rt, alloc, &[]);
     file.fail_at(number);
     let mut keeper = sure(rt, create(alloc, alloc, file, rules(rt)));
-    let (result, told) = answered(alloc, &mut keeper, &script(rt, alloc, 6));
+    let script = script(rt, alloc, 6);
+    let (result, told) = answered(alloc, &mut keeper, &script);
+    drop(script);
     drop(keeper);
-    (result, told.len())
+    let count = told.len();
+    drop(told);
+    (result, count)
 }
 
 /// A sync fails, and then the device works again: serving goes on with nothing.
@@ -229,7 +247,7 @@ fn a_failed_sync_ends_serving(rt: HostRuntime) {
     let alloc = rt.alloc();
     let failed = Err(KeepFault::Journal(Fault::SyncFailed));
     for (number, told) in SYNCS {
-        let ended = ended_by(&rt, alloc, CREATING.saturating_add(number));
-        expect(&rt, ended == (failed, told));
+        let ended = ended_by(&rt, alloc, CREATING.saturating_add(*number));
+        expect_same(&rt, ended, (failed, *told));
     }
 }

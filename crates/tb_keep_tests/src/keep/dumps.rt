@@ -1,5 +1,6 @@
 //! The history of a kept file, read without a write.
-use crate::keep::scripts::{expect, file_of, kept, rules, same, script, sure};
+use crate::keep::scripts::{kept_bytes, script};
+use crate::steps::{expect, expect_begin, expect_equal, expect_same, file_of, rules, sure};
 use std::alloc::Global;
 use std::process::Abort;
 use tb_journal::{Fault, Memory, OpenFault};
@@ -8,9 +9,11 @@ use tb_machine::dump;
 use tb_records::{Counting, Profile};
 
 /// The file over which the script was served.
-fn kept_file(rt: &impl Abort, alloc: Global) -> Memory {
-    let (_, bytes) = kept(rt, alloc, &script(rt, alloc, 6));
-    file_of(rt, alloc, &bytes)
+pub fn kept_file(rt: &impl Abort, alloc: Global) -> Memory {
+    let bytes = kept_bytes(rt, alloc);
+    let file = file_of(rt, alloc, &bytes);
+    drop(bytes);
+    file
 }
 
 /// The dump that a server without a file writes of the script.
@@ -19,6 +22,7 @@ fn dump_of(rt: &impl Abort, alloc: Global) -> Vec<u8> {
     let mut reader = Counting::new(script.as_slice());
     let mut writer = Counting::new(Vec::new(alloc));
     let result = dump(alloc, rules(rt).clients_max, None, &mut reader, &mut writer);
+    drop(script);
     sure(rt, result);
     writer.into_inner()
 }
@@ -37,8 +41,8 @@ fn a_dump_is_that_of_the_script(rt: HostRuntime) {
     let mut file = kept_file(&rt, alloc);
     let (result, written) = dumped(&rt, alloc, &mut file);
     drop(file);
-    expect(&rt, result == Ok(()));
-    expect(&rt, same(&written, &want));
+    expect_same(&rt, result, Ok(()));
+    expect_equal(&rt, written, want);
 }
 
 /// The calls of a dump: a sync, and the file with its end.
@@ -54,11 +58,9 @@ fn expect_failing(rt: &impl Abort, alloc: Global, file: &mut Memory, number: u64
         Fault::Failed
     };
     let failed = DumpFault::Journal(OpenFault::Device(fault));
-    expect(
-        rt,
-        result == if number <= CALLS { Err(failed) } else { Ok(()) },
-    );
-    expect(rt, want.starts_with(&written));
+    let wanted = if number <= CALLS { Err(failed) } else { Ok(()) };
+    expect_same(rt, result, wanted);
+    expect_begin(rt, want, written);
 }
 
 #[test]
@@ -70,6 +72,7 @@ fn each_call_of_a_dump_fails_once(rt: HostRuntime) {
         expect_failing(&rt, alloc, &mut file, number, &want);
     }
     drop(file);
+    drop(want);
 }
 
 /// The entries, the rules and the records that a file is read to have.
@@ -90,7 +93,7 @@ fn a_history_is_read(rt: HostRuntime) {
     let mut file = kept_file(&rt, alloc);
     let found = read(alloc, &mut file);
     drop(file);
-    expect(&rt, found == Ok((4, Profile::One, 2, 5)));
+    expect_same(&rt, found, Ok((4, Profile::One, 2, 5)));
 }
 
 #[test]

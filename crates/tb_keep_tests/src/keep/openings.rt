@@ -3,8 +3,9 @@ ghost use Rattle.std.specs.Prelude.{◌≡◌, true};
 ghost use Rattle.tb_journal.specs.Memory.{memory_disk};
 ghost use Rattle.tb_journal.specs.Ready.{IsReady};
 
-use crate::keep::scripts::{
-    bytes_of, change, created, expect, file_of, outcome, rules, same, sure,
+use crate::keep::scripts::{bytes_of, created, outcome};
+use crate::steps::{
+    change, copy_of, expect, expect_given, expect_same, file_of, rules, same, sure,
 };
 use std::alloc::Global;
 use std::process::Abort;
@@ -35,7 +36,7 @@ fn append_some(rt: &impl Abort, journal: &mut Journal<Memory>, bytes: &[u8])
     ensures ready { IsReady memory_disk journal.new }
 {
     if !bytes.is_empty() {
-        expect(rt, journal.append(bytes) == Ok(()));
+        expect_same(rt, journal.append(bytes), Ok(()));
     }
 }
 
@@ -52,12 +53,12 @@ pub fn file_with(
     append_some(rt, &mut journal, first);
     append_some(rt, &mut journal, second);
     append_some(rt, &mut journal, third);
-    expect(rt, journal.commit() == Ok(()));
+    expect_same(rt, journal.commit(), Ok(()));
     journal.into_device()
 }
 
 /// The bytes of such a file.
-fn bytes_with(
+pub fn bytes_with(
     rt: &impl Abort,
     alloc: Global,
     first: &[u8],
@@ -65,9 +66,9 @@ fn bytes_with(
     third: &[u8],
 ) -> Vec<u8> {
     let file = file_with(rt, alloc, first, second, third);
-    let copy = Vec::from_slice(alloc, file.bytes());
+    let copy = copy_of(rt, alloc, file.bytes());
     drop(file);
-    sure(rt, copy)
+    copy
 }
 
 #[test]
@@ -75,14 +76,15 @@ fn a_new_file(rt: HostRuntime) {
     let alloc = rt.alloc();
     let bytes = bytes_of(&rt, alloc, created(&rt, alloc));
     expect(&rt, is_new(&bytes));
+    drop(bytes);
 }
 
 /// A file of these bytes is refused, and is as it was.
 pub fn expect_fault(rt: &impl Abort, alloc: Global, bytes: &[u8], rules: Rules, fault: StartFault) {
     let file = file_of(rt, alloc, bytes);
     let (found, left) = outcome(rt, alloc, Keeper::open(alloc, alloc, file, rules));
-    expect(rt, found == Some(fault));
-    expect(rt, same(&left, bytes));
+    expect_same(rt, found, Some(fault));
+    expect_given(rt, left, bytes);
 }
 
 const HEAD: [u8; 6] = [84, 66, 75, 49, 1, 2];
@@ -249,6 +251,7 @@ fn expect_other(rt: &impl Abort, alloc: Global, profile: Profile, clients_max: C
         clients_max,
     };
     expect_fault(rt, alloc, &bytes, other, StartFault::OtherRules);
+    drop(bytes);
 }
 
 /// A ledger of another profile, and one of another number of clients.
@@ -261,25 +264,26 @@ fn other_rules(rt: HostRuntime) {
 }
 
 /// Of a file that is no journal.
-fn foreign() -> StartFault {
-    StartFault::Journal(OpenFault::Refused(Refusal::NotAJournal))
-}
+const FOREIGN: StartFault = StartFault::Journal(OpenFault::Refused(Refusal::NotAJournal));
 
 #[test]
 fn a_text_is_no_journal(rt: HostRuntime) {
-    expect_fault(&rt, rt.alloc(), b"a text", rules(&rt), foreign());
+    expect_fault(&rt, rt.alloc(), b"a text", rules(&rt), FOREIGN);
 }
 
 /// Says whether a file is as it was, or, where it was opened, a new one.
-fn is_kept_or_new(left: &[u8], bytes: &[u8], opened: bool) -> bool {
-    same(left, bytes) || opened && is_new(left)
+fn is_kept_or_new(left: Vec<u8>, bytes: &[u8], opened: bool) -> bool {
+    let is_kept = same(&left, bytes);
+    let is_new = is_new(&left);
+    drop(left);
+    is_kept || opened && is_new
 }
 
 /// A file of these bytes on which a sync has failed.
 fn unsynced(rt: &impl Abort, alloc: Global, bytes: &[u8]) -> Memory {
     let mut file = file_of(rt, alloc, bytes);
     file.fail_at(1);
-    expect(rt, file.sync() == Err(Fault::SyncFailed));
+    expect_same(rt, file.sync(), Err(Fault::SyncFailed));
     file
 }
 
@@ -292,7 +296,7 @@ fn expect_start(rt: &impl Abort, alloc: Global, bytes: &[u8], want: Option<Start
 }
 
 /// The same over a file of these bytes.
-fn expect_start_over(
+pub fn expect_start_over(
     rt: &impl Abort,
     alloc: Global,
     file: Memory,
@@ -300,23 +304,23 @@ fn expect_start_over(
     want: Option<StartFault>,
 ) {
     let (found, left) = outcome(rt, alloc, Keeper::start(alloc, alloc, file, rules(rt)));
-    expect(rt, found == want);
-    expect(rt, is_kept_or_new(&left, bytes, want.is_none()));
+    expect_same(rt, found, want);
+    expect(rt, is_kept_or_new(left, bytes, want.is_none()));
 }
 
-/// Files that `start` opens, creates or refuses. The last one but one is whole.
-fn expect_starts(rt: &impl Abort, alloc: Global, whole: &[u8]) {
-    expect_start(rt, alloc, &[], None);
-    expect_start(rt, alloc, b"TBJRN\0\0", None);
-    expect_start(rt, alloc, b"TBJRNL01\0behind", None);
-    expect_start(rt, alloc, whole, None);
-    expect_start(rt, alloc, b"a text", Some(foreign()));
-}
+/// Files in which `start` creates.
+const BEGUN: &[&[u8]] = &[b"", b"TBJRN\0\0", b"TBJRNL01\0behind"];
 
 #[test]
 fn starts(rt: HostRuntime) {
     let alloc = rt.alloc();
-    expect_starts(&rt, alloc, &bytes_with(&rt, alloc, &HEAD, &[], &[]));
+    for bytes in BEGUN {
+        expect_start(&rt, alloc, bytes, None);
+    }
+    let whole = bytes_with(&rt, alloc, &HEAD, &[], &[]);
+    expect_start(&rt, alloc, &whole, None);
+    drop(whole);
+    expect_start(&rt, alloc, b"a text", Some(FOREIGN));
 }
 
 /// No ledger is created in a file of these bytes, which is as it was.
@@ -324,8 +328,8 @@ fn expect_not_created(rt: &impl Abort, alloc: Global, bytes: &[u8]) {
     let file = file_of(rt, alloc, bytes);
     let (found, left) = outcome(rt, alloc, create(alloc, alloc, file, rules(rt)));
     let not_empty = StartFault::Journal(OpenFault::Device(Fault::NotEmpty));
-    expect(rt, found == Some(not_empty));
-    expect(rt, same(&left, bytes));
+    expect_same(rt, found, Some(not_empty));
+    expect_given(rt, left, bytes);
 }
 
 #[test]

@@ -1,7 +1,8 @@
 //! Files that are longer than what is read at a time.
 use crate::keep::crashes::entries_in;
 use crate::keep::openings::{damaged, expect_fault};
-use crate::keep::scripts::{CLIENT, Line, change, expect, kept, put_pair, rules, script, sure};
+use crate::keep::scripts::{CLIENT, Line, kept, put_pair, script};
+use crate::steps::{change, expect, rules, sure};
 use std::alloc::Global;
 use std::process::Abort;
 
@@ -53,7 +54,8 @@ fn long_file(rt: &impl Abort, alloc: Global) -> Vec<u8> {
         let end = pairs.len().saturating_add(*length);
         sure(rt, pairs.resize(end, 0));
     }
-    let (_, bytes) = kept(rt, alloc, &pairs);
+    let (told, bytes) = kept(rt, alloc, &pairs);
+    drop(told);
     drop(pairs);
     bytes
 }
@@ -76,5 +78,7 @@ fn expect_pieces(rt: &impl Abort, alloc: Global, bytes: &mut [u8]) {
 #[test]
 fn a_file_of_several_pieces(rt: HostRuntime) {
     let alloc = rt.alloc();
-    expect_pieces(&rt, alloc, &mut long_file(&rt, alloc));
+    let mut bytes = long_file(&rt, alloc);
+    expect_pieces(&rt, alloc, &mut bytes);
+    drop(bytes);
 }

@@ -1,9 +1,12 @@
 //! Files that are salvaged or backed up: what comes before the first damage, as a new file.
 ghost use Rattle.std.specs.Prelude.{◌≡◌, true};
-ghost use Rattle.tb_journal.specs.Memory.{memory_disk};
 
-use crate::keep::openings::file_with;
-use crate::keep::scripts::{bytes_of, change, created, expect, file_of, kept, same, script, sure};
+use crate::keep::dumps::kept_file;
+use crate::keep::openings::{bytes_with, damaged};
+use crate::keep::scripts::{bytes_of, kept_bytes};
+use crate::steps::{
+    change, copy_of, expect, expect_bytes, expect_equal, expect_given, expect_same, file_of, sure,
+};
 use std::alloc::Global;
 use std::process::Abort;
 use tb_journal::{Fault, Memory, OpenFault, Refusal};
@@ -15,17 +18,11 @@ use tb_records::FrameFault;
 /// and the entry), and the latch behind them.
 const BLOCKS: [usize; 6] = [8, 22, 94, 422, 622, 710];
 
-/// The file over which the script was served.
-fn whole(rt: &impl Abort, alloc: Global) -> Vec<u8> {
-    let (_, bytes) = kept(rt, alloc, &script(rt, alloc, 6));
-    bytes
-}
+/// What a salvage gives: the entries, where they end, and why no more.
+type Given = Result<(u64, u64, Option<StartFault>), SalvageFault>;
 
-/// What a salvage gives: the entries, where they end, why no more, and the bytes of the new file.
-type Outcome = (
-    Result<(u64, u64, Option<StartFault>), SalvageFault>,
-    Vec<u8>,
-);
+/// The same, and the bytes of the new file.
+type Outcome = (Given, Vec<u8>);
 
 /// The same of a new file that was made, which is freed.
 fn made(rt: &impl Abort, alloc: Global, salvaged: Salvaged<Memory>) -> Outcome {
@@ -37,16 +34,16 @@ fn made(rt: &impl Abort, alloc: Global, salvaged: Salvaged<Memory>) -> Outcome {
 /// The same of one that was not.
 fn not_made(rt: &impl Abort, alloc: Global, failed: NotSalvaged<Memory>) -> Outcome {
     let fault = failed.fault;
-    let bytes = Vec::from_slice(alloc, failed.device.bytes());
+    let bytes = copy_of(rt, alloc, failed.device.bytes());
     drop(failed);
-    (Err(fault), sure(rt, bytes))
+    (Err(fault), bytes)
 }
 
 /// Salvages a file of these bytes into one that has others.
 fn salvaged_into(rt: &impl Abort, alloc: Global, bytes: &[u8], there: &[u8]) -> Outcome {
     let mut from = file_of(rt, alloc, bytes);
     let given = salvage(alloc, &mut from, file_of(rt, alloc, there));
-    expect(rt, same(from.bytes(), bytes));
+    expect_bytes(rt, from.bytes(), bytes);
     drop(from);
     match given {
         Ok(salvaged) => made(rt, alloc, salvaged),
@@ -56,10 +53,7 @@ fn salvaged_into(rt: &impl Abort, alloc: Global, bytes: &[u8], there: &[u8]) -> 
 
 /// The first so many bytes of a file, up to where a block begins, and a closed latch.
 fn cut_to(rt: &impl Abort, alloc: Global, bytes: &[u8], end: usize) -> Vec<u8> {
-    let mut cut = sure(
-        rt,
-        Vec::from_slice(alloc, bytes.get(..end).unwrap_or_default()),
-    );
+    let mut cut = copy_of(rt, alloc, bytes.get(..end).unwrap_or_default());
     sure(rt, cut.push(0));
     cut
 }
@@ -67,32 +61,59 @@ fn cut_to(rt: &impl Abort, alloc: Global, bytes: &[u8], end: usize) -> Vec<u8> {
 #[test]
 fn a_whole_file_is_taken_over_whole(rt: HostRuntime) {
     let alloc = rt.alloc();
-    let bytes = whole(&rt, alloc);
-    let (found, new) = salvaged_into(&rt, alloc, &bytes, &[]);
-    expect(&rt, found == Ok((4, 710, None)));
-    expect(&rt, same(&new, &bytes));
+    let bytes = kept_bytes(&rt, alloc);
+    let whole = Ok((4, 710, None));
+    expect_salvaged(&rt, alloc, &bytes, &[], whole, &bytes);
+    drop(bytes);
+}
+
+/// What a salvage of a file into one that has others gives, and the bytes of the new file.
+fn expect_salvaged(
+    rt: &impl Abort,
+    alloc: Global,
+    bytes: &[u8],
+    there: &[u8],
+    want: Given,
+    left: &[u8],
+) {
+    let (found, new) = salvaged_into(rt, alloc, bytes, there);
+    expect_same(rt, found, want);
+    expect_given(rt, new, left);
 }
 
 /// A changed byte of the block of this number, the head's at 0: all entries before it are taken, and damage is reported where it begins.
 fn expect_before(rt: &impl Abort, alloc: Global, number: usize, at: usize) {
-    let mut bytes = whole(rt, alloc);
+    let mut bytes = kept_bytes(rt, alloc);
     let end = BLOCKS.get(number).copied().unwrap_or(0);
     let byte = bytes.get(at).copied().unwrap_or(0);
     change(&mut bytes, at, byte ^ 16);
-    let (found, new) = salvaged_into(rt, alloc, &bytes, &[]);
-    let damage = StartFault::Journal(OpenFault::Refused(Refusal::Damaged { at: end }));
+    let damage = damaged(end);
     if number == 0 {
-        expect(rt, found == Err(SalvageFault::Old(damage)));
-        expect(rt, new.is_empty());
+        expect_none(rt, alloc, &bytes, damage);
     } else {
         let entries = number.saturating_sub(1) as u64;
-        expect(rt, found == Ok((entries, end as u64, Some(damage))));
-        expect(rt, same(&new, &cut_to(rt, alloc, &bytes, end)));
+        expect_cut(rt, alloc, &bytes, entries, end, damage);
     }
+    drop(bytes);
+}
+
+/// So many entries are taken, up to where a block begins, and a fault is reported.
+fn expect_cut(
+    rt: &impl Abort,
+    alloc: Global,
+    bytes: &[u8],
+    entries: u64,
+    end: usize,
+    stop: StartFault,
+) {
+    let cut = cut_to(rt, alloc, bytes, end);
+    let want = Ok((entries, end as u64, Some(stop)));
+    expect_salvaged(rt, alloc, bytes, &[], want, &cut);
+    drop(cut);
 }
 
 /// Blocks, and places in each: its length, its checksum, its first byte, and its last.
-const PLACES: [(usize, usize); 20] = [
+const PLACES: &[(usize, usize)] = &[
     (0, 9),
     (0, 12),
     (0, 16),
@@ -118,26 +139,24 @@ const PLACES: [(usize, usize); 20] = [
 #[test]
 fn what_is_before_a_changed_byte(rt: HostRuntime) {
     for (number, at) in PLACES {
-        expect_before(&rt, rt.alloc(), number, at);
+        expect_before(&rt, rt.alloc(), *number, *at);
     }
 }
 
 /// Two records behind a head, of which the second is none of the next entry: the first is taken.
 fn expect_first(rt: &impl Abort, alloc: Global, first: &[u8], second: &[u8], stop: StartFault) {
-    let bytes = whole(rt, alloc);
+    let bytes = kept_bytes(rt, alloc);
     let head = bytes.get(16..22).unwrap_or_default();
-    let file = file_with(rt, alloc, head, first, second);
-    let copy = sure(rt, Vec::from_slice(alloc, file.bytes()));
-    drop(file);
-    let (found, new) = salvaged_into(rt, alloc, &copy, &[]);
-    expect(rt, found == Ok((1, 94, Some(stop))));
-    expect(rt, same(&new, &cut_to(rt, alloc, &copy, 94)));
+    let two = bytes_with(rt, alloc, head, first, second);
+    drop(bytes);
+    expect_cut(rt, alloc, &two, 1, 94, stop);
+    drop(two);
 }
 
 #[test]
 fn an_entry_that_may_not_come_next(rt: HostRuntime) {
     let alloc = rt.alloc();
-    let bytes = whole(&rt, alloc);
+    let bytes = kept_bytes(&rt, alloc);
     let register = bytes.get(30..94).unwrap_or_default();
     let again = StartFault::Entry(RestoreFault {
         place: 2,
@@ -149,13 +168,13 @@ fn an_entry_that_may_not_come_next(rt: HostRuntime) {
         fault: FrameFault::Short,
     };
     expect_first(&rt, alloc, register, &[1, 2], short);
+    drop(bytes);
 }
 
 /// A file from which nothing is taken, and why: nothing is made.
 fn expect_none(rt: &impl Abort, alloc: Global, bytes: &[u8], fault: StartFault) {
-    let (found, new) = salvaged_into(rt, alloc, bytes, &[]);
-    expect(rt, found == Err(SalvageFault::Old(fault)));
-    expect(rt, new.is_empty());
+    let old = Err(SalvageFault::Old(fault));
+    expect_salvaged(rt, alloc, bytes, &[], old, &[]);
 }
 
 #[test]
@@ -170,21 +189,21 @@ fn nothing_is_made_of_what_is_no_ledger(rt: HostRuntime) {
 #[test]
 fn what_is_there_is_left_alone(rt: HostRuntime) {
     let alloc = rt.alloc();
-    let bytes = whole(&rt, alloc);
-    let (found, new) = salvaged_into(&rt, alloc, &bytes, b"TBX");
+    let bytes = kept_bytes(&rt, alloc);
     let there = StartFault::Journal(OpenFault::Device(Fault::NotEmpty));
-    expect(&rt, found == Err(SalvageFault::New(there)));
-    expect(&rt, same(&new, b"TBX"));
+    let new = Err(SalvageFault::New(there));
+    expect_salvaged(&rt, alloc, &bytes, b"TBX", new, b"TBX");
+    drop(bytes);
 }
 
 /// So many torn bytes behind the latch are reported where they are more than a batch has.
 fn expect_torn(rt: &impl Abort, alloc: Global, count: usize, stop: Option<StartFault>) {
-    let bytes = whole(rt, alloc);
-    let mut torn = sure(rt, Vec::from_slice(alloc, &bytes));
+    let bytes = kept_bytes(rt, alloc);
+    let mut torn = copy_of(rt, alloc, &bytes);
     sure(rt, torn.resize(bytes.len().saturating_add(count), 1));
-    let (found, new) = salvaged_into(rt, alloc, &torn, &[]);
-    expect(rt, found == Ok((4, 710, stop)));
-    expect(rt, same(&new, &bytes));
+    expect_salvaged(rt, alloc, &torn, &[], Ok((4, 710, stop)), &bytes);
+    drop(torn);
+    drop(bytes);
 }
 
 #[test]
@@ -219,21 +238,22 @@ fn backed_up(rt: &impl Abort, alloc: Global, bytes: &[u8]) -> (Option<SalvageFau
 #[test]
 fn a_backup_is_the_same_file(rt: HostRuntime) {
     let alloc = rt.alloc();
-    let bytes = whole(&rt, alloc);
+    let bytes = kept_bytes(&rt, alloc);
     let (fault, new) = backed_up(&rt, alloc, &bytes);
-    expect(&rt, fault == None);
-    expect(&rt, same(&new, &bytes));
+    expect_same(&rt, fault, None);
+    expect_equal(&rt, new, bytes);
 }
 
 #[test]
 fn a_damaged_file_is_not_backed_up(rt: HostRuntime) {
     let alloc = rt.alloc();
-    let mut bytes = whole(&rt, alloc);
+    let mut bytes = kept_bytes(&rt, alloc);
     change(&mut bytes, 650, 255);
     let (fault, new) = backed_up(&rt, alloc, &bytes);
-    let damage = StartFault::Journal(OpenFault::Refused(Refusal::Damaged { at: 622 }));
-    expect(&rt, fault == Some(SalvageFault::Old(damage)));
-    expect(&rt, same(&new, &cut_to(&rt, alloc, &bytes, 622)));
+    expect_same(&rt, fault, Some(SalvageFault::Old(damaged(622))));
+    let cut = cut_to(&rt, alloc, &bytes, 622);
+    drop(bytes);
+    expect_equal(&rt, new, cut);
 }
 
 /// The calls of a salvage of the script's file: of the old file a sync, the file with its end, and its length; of the new one those of
@@ -245,7 +265,7 @@ const NEW_CALLS: u64 = 20;
 /// A salvage where a call of a number fails, of the old file or of the new one: what the new file has then is the first bytes of the
 /// whole one, a latch behind them, or it is blank.
 fn salvage_failing(rt: &impl Abort, alloc: Global, old: u64, new: u64) -> bool {
-    let mut from = file_of(rt, alloc, &whole(rt, alloc));
+    let mut from = kept_file(rt, alloc);
     let mut into = file_of(rt, alloc, &[]);
     from.fail_at(old);
     into.fail_at(new);

@@ -1,14 +1,15 @@
 //! Scripts by the bytes that the formats give, and what serves them.
-ghost use Rattle.std.specs.Prelude.{◌≡◌, true, Ok};
+ghost use Rattle.std.specs.Prelude.{◌≡◌, Ok};
 ghost use Rattle.tb_journal.specs.Memory.{memory_disk};
 ghost use Rattle.tb_keep.specs.Keeping.{IsFresh, IsUsable};
 
+use crate::steps::{copy_of, expect, file_of, rules, sure};
 use std::alloc::{Allocator, Global};
 use std::process::Abort;
 use tb_journal::Memory;
-use tb_keep::{KeepFault, Keeper, NotKept, Rules, StartFault, create, keep};
+use tb_keep::{KeepFault, Keeper, NotKept, StartFault, create, keep};
 use tb_machine::run;
-use tb_records::{ClientsMax, Counting, Profile};
+use tb_records::Counting;
 
 /// Bytes as they are written in hex, 16 a line.
 pub type Line = u128;
@@ -79,32 +80,6 @@ pub const LOOK_UP: [Line; 4] = [
     2 << 120,
 ];
 
-/// The value of a call that a test wants to succeed.
-pub fn sure<T: Drop, E: Drop>(rt: &impl Abort, answer: Result<T, E>) -> T
-    ensures { answer ≡ Ok result }
-{
-    answer.ok().expect(rt, "no fault")
-}
-
-/// What a test wants to hold.
-pub fn expect(rt: &impl Abort, holds: bool)
-    ensures { holds ≡ true }
-{
-    assert!(rt; holds);
-}
-
-/// Says whether these bytes are those: compared here alone, since a comparison of bytes is dear to prove.
-pub fn same(found: &[u8], wanted: &[u8]) -> bool {
-    found == wanted
-}
-
-/// Changes a byte of a file.
-pub fn change(bytes: &mut [u8], at: usize, value: u8) {
-    if let Some(byte) = bytes.get_mut(at) {
-        *byte = value;
-    }
-}
-
 /// Appends lines.
 fn put_lines(rt: &impl Abort, out: &mut Vec<u8>, lines: &[Line]) {
     for line in lines {
@@ -112,12 +87,17 @@ fn put_lines(rt: &impl Abort, out: &mut Vec<u8>, lines: &[Line]) {
     }
 }
 
-/// Appends a moment and the lines of a frame, which are in parts.
-pub fn put_pair(rt: &impl Abort, out: &mut Vec<u8>, parts: &[&[Line]]) {
-    sure(rt, out.extend_from_slice(&TEN));
+/// Appends lines that are in parts.
+pub fn put_parts(rt: &impl Abort, out: &mut Vec<u8>, parts: &[&[Line]]) {
     for lines in parts {
         put_lines(rt, out, lines);
     }
+}
+
+/// Appends a moment and the lines of a frame, which are in parts.
+pub fn put_pair(rt: &impl Abort, out: &mut Vec<u8>, parts: &[&[Line]]) {
+    sure(rt, out.extend_from_slice(&TEN));
+    put_parts(rt, out, parts);
 }
 
 /// The first so many pairs of the script, from one on.
@@ -139,22 +119,6 @@ pub fn script_from(rt: &impl Abort, alloc: Global, first: usize) -> Vec<u8> {
     pairs(rt, alloc, first, SCRIPT.len())
 }
 
-/// Profile 1 and two clients.
-pub fn rules(rt: &impl Abort) -> Rules {
-    Rules {
-        profile: Profile::One,
-        clients_max: ClientsMax::new(2).expect(rt, "2 is a number of clients"),
-    }
-}
-
-/// A file in memory with these bytes.
-pub fn file_of(rt: &impl Abort, alloc: Global, bytes: &[u8]) -> Memory
-    ensures { (memory_disk result).sound ≡ true }
-{
-    let copy = sure(rt, Vec::from_slice(alloc, bytes));
-    sure(rt, Memory::new(alloc, copy))
-}
-
 /// A ledger that is created in a new file.
 pub fn created(rt: &impl Abort, alloc: Global) -> Keeper<Memory>
     ensures fresh { IsFresh memory_disk result }
@@ -170,16 +134,16 @@ pub fn bytes_of<A: Allocator + Clone>(
     alloc: Global,
     keeper: Keeper<Memory, A>,
 ) -> Vec<u8> {
-    let bytes = Vec::from_slice(alloc, keeper.journal().device().bytes());
+    let bytes = copy_of(rt, alloc, keeper.journal().device().bytes());
     drop(keeper);
-    sure(rt, bytes)
+    bytes
 }
 
 /// The bytes of the file that is given back where no ledger is opened.
 pub fn bytes_left(rt: &impl Abort, alloc: Global, failed: NotKept<Memory>) -> Vec<u8> {
-    let bytes = Vec::from_slice(alloc, failed.device.bytes());
+    let bytes = copy_of(rt, alloc, failed.device.bytes());
     drop(failed);
-    sure(rt, bytes)
+    bytes
 }
 
 /// Why a call gives no ledger, and the bytes of the file behind it.
@@ -231,6 +195,29 @@ pub fn kept(rt: &impl Abort, alloc: Global, script: &[u8]) -> (Vec<u8>, Vec<u8>)
     let (well, told) = serve(alloc, &mut keeper, script);
     expect(rt, well);
     (told, bytes_of(rt, alloc, keeper))
+}
+
+/// The same of the script.
+pub fn kept_six(rt: &impl Abort, alloc: Global) -> (Vec<u8>, Vec<u8>) {
+    let script = script(rt, alloc, 6);
+    let kept = kept(rt, alloc, &script);
+    drop(script);
+    kept
+}
+
+/// The bytes of the file over which the script was served.
+pub fn kept_bytes(rt: &impl Abort, alloc: Global) -> Vec<u8> {
+    let (told, bytes) = kept_six(rt, alloc);
+    drop(told);
+    bytes
+}
+
+/// The replies that a server without a file gives to the first so many pairs.
+pub fn replies_to(rt: &impl Abort, alloc: Global, count: usize) -> Vec<u8> {
+    let script = script(rt, alloc, count);
+    let replies = replies(rt, alloc, &script);
+    drop(script);
+    replies
 }
 
 /// The replies that a server without a file gives.

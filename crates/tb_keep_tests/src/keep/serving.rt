@@ -4,8 +4,10 @@ ghost use Rattle.tb_keep.specs.Keeping.{IsFresh, IsUsable};
 
 use crate::keep::crashes::entries_in;
 use crate::keep::scripts::{
-    LOOK_UP, TRANSFER, bytes_of, change, created, expect, file_of, kept, put_pair, replies, rules,
-    same, script, serve, sure,
+    LOOK_UP, TRANSFER, bytes_of, created, kept_six, put_pair, replies_to, script, serve,
+};
+use crate::steps::{
+    change, expect, expect_end, expect_equal, expect_given, expect_same, file_of, rules, sure,
 };
 use bumpalo::Bump;
 use std::alloc::Global;
@@ -19,21 +21,27 @@ use tb_records::{Buffered, Counting, FrameFault, Source};
 #[test]
 fn replies_are_those_of_run(rt: HostRuntime) {
     let alloc = rt.alloc();
-    let script = script(&rt, alloc, 6);
-    let (told, bytes) = kept(&rt, alloc, &script);
-    let want = replies(&rt, alloc, &script);
-    expect(&rt, same(&told, &want));
+    let (told, bytes) = kept_six(&rt, alloc);
+    expect_equal(&rt, told, replies_to(&rt, alloc, 6));
     // The entries of four new requests.
     expect(&rt, entries_in(&rt, alloc, &bytes) == 4);
+    drop(bytes);
+}
+
+/// The last request alone.
+fn look_up(rt: &impl Abort, alloc: Global) -> Vec<u8> {
+    let mut last = Vec::new(alloc);
+    put_pair(rt, &mut last, &[&LOOK_UP]);
+    last
 }
 
 /// Opens a file, and sends the last request again.
 fn sent_again(rt: &impl Abort, alloc: Global, bytes: &[u8]) -> (Vec<u8>, Vec<u8>) {
-    let mut last = Vec::new(alloc);
-    put_pair(rt, &mut last, &[&LOOK_UP]);
+    let last = look_up(rt, alloc);
     let file = file_of(rt, alloc, bytes);
     let mut again = sure(rt, Keeper::open(alloc, alloc, file, rules(rt)));
     let (well, told) = serve(alloc, &mut again, &last);
+    drop(last);
     expect(rt, well);
     (told, bytes_of(rt, alloc, again))
 }
@@ -41,10 +49,11 @@ fn sent_again(rt: &impl Abort, alloc: Global, bytes: &[u8]) -> (Vec<u8>, Vec<u8>
 #[test]
 fn a_repeat_after_an_opening_gets_its_first_reply(rt: HostRuntime) {
     let alloc = rt.alloc();
-    let (told, bytes) = kept(&rt, alloc, &script(&rt, alloc, 6));
+    let (told, bytes) = kept_six(&rt, alloc);
     let (again, left) = sent_again(&rt, alloc, &bytes);
-    expect(&rt, same(&left, &bytes));
-    expect(&rt, told.ends_with(&again));
+    expect_equal(&rt, left, bytes);
+    expect_end(&rt, &told, again);
+    drop(told);
 }
 
 /// What serving a script over a file reports, with the machine's records in a pool, and the bytes of the file then.
@@ -64,15 +73,17 @@ fn a_machine_in_a_pool_tells_and_keeps_the_same(rt: HostRuntime) {
     let alloc = rt.alloc();
     let script = script(&rt, alloc, 6);
     let (told, bytes) = kept_in_pool(&rt, alloc, &[], &script);
-    let (want, file) = kept(&rt, alloc, &script);
-    expect(&rt, same(&told, &want));
-    expect(&rt, same(&bytes, &file));
+    drop(script);
+    let (want, file) = kept_six(&rt, alloc);
+    expect_given(&rt, want, &told);
+    expect_given(&rt, file, &bytes);
     // Opened in another pool: the last request is a repeat.
-    let mut last = Vec::new(alloc);
-    put_pair(&rt, &mut last, &[&LOOK_UP]);
+    let last = look_up(&rt, alloc);
     let (again, left) = kept_in_pool(&rt, alloc, &bytes, &last);
-    expect(&rt, same(&left, &bytes));
-    expect(&rt, told.ends_with(&again));
+    drop(last);
+    expect_equal(&rt, left, bytes);
+    expect_end(&rt, &told, again);
+    drop(told);
 }
 
 /// What serving left.
@@ -126,7 +137,7 @@ fn served_by_turns(rt: &impl Abort, alloc: Global, script: &[u8]) -> Outcome {
 
 /// Six pairs were served, by so many moments of the file, and are behind the head.
 fn expect_six(rt: &impl Abort, served: Outcome, moments: usize) {
-    expect(rt, served.result == Ok(6));
+    expect_same(rt, served.result, Ok(6));
     expect(rt, served.moments == moments);
     expect(rt, served.records == 5);
 }
@@ -141,7 +152,9 @@ fn expect_commits(rt: &impl Abort, alloc: Global, script: &[u8]) {
 #[test]
 fn pairs_at_hand_share_a_commit(rt: HostRuntime) {
     let alloc = rt.alloc();
-    expect_commits(&rt, alloc, &script(&rt, alloc, 6));
+    let script = script(&rt, alloc, 6);
+    expect_commits(&rt, alloc, &script);
+    drop(script);
     expect(&rt, HELD_BYTES_MAX == 1048576);
     expect(&rt, BATCH_BYTES_MAX == 4194304);
 }
@@ -155,7 +168,7 @@ fn three(rt: &impl Abort, alloc: Global) -> Vec<u8> {
 
 /// A fault ended serving behind the register and the accounts: the replies to them have 48 bytes each.
 fn expect_ended(rt: &impl Abort, served: Outcome, fault: RunFault) {
-    expect(rt, served.result == Err(KeepFault::Serving(fault)));
+    expect_same(rt, served.result, Err(KeepFault::Serving(fault)));
     expect(rt, served.told == 96);
 }
 
@@ -165,6 +178,7 @@ fn a_frame_cut_short_ends_serving(rt: HostRuntime) {
     let mut bytes = three(&rt, alloc);
     bytes.truncate(bytes.len().saturating_sub(1));
     let served = served_by_turns(&rt, alloc, &bytes);
+    drop(bytes);
     expect_ended(&rt, served, RunFault::Frame(FrameFault::Short));
 }
 
@@ -176,6 +190,7 @@ fn expect_two(rt: &impl Abort, alloc: Global, at: usize, value: u8, fault: RunFa
     let mut bytes = three(rt, alloc);
     change(&mut bytes, FIRST_TWO_BYTES.saturating_add(at), value);
     let served = served_at_hand(rt, alloc, &bytes);
+    drop(bytes);
     expect_ended(rt, served, fault);
     // Their records are behind the head, by one commit.
     expect(rt, served.records == 3);

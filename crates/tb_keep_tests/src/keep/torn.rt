@@ -1,6 +1,7 @@
 //! What a batch that was not committed left behind the records: it is cut off, and reported; more than one batch can have is not.
 use crate::keep::openings::expect_fault;
-use crate::keep::scripts::{bytes_of, created, expect, file_of, rules, same, sure};
+use crate::keep::scripts::{bytes_of, created};
+use crate::steps::{expect, expect_equal, file_of, rules, sure};
 use std::alloc::Global;
 use std::process::Abort;
 use tb_keep::{BATCH_BYTES_MAX, Keeper, StartFault};
@@ -19,21 +20,23 @@ fn torn(rt: &impl Abort, alloc: Global, count: usize, byte: u8) -> Vec<u8> {
 /// So many torn bytes are cut off and reported, and nothing else of the file is.
 fn expect_cut(rt: &impl Abort, alloc: Global, count: usize, byte: u8) {
     let whole = bytes_of(rt, alloc, created(rt, alloc));
-    let file = file_of(rt, alloc, &torn(rt, alloc, count, byte));
+    let torn = torn(rt, alloc, count, byte);
+    let file = file_of(rt, alloc, &torn);
+    drop(torn);
     let keeper = sure(rt, Keeper::start(alloc, alloc, file, rules(rt)));
     let cut = keeper.cut_bytes();
     let left = bytes_of(rt, alloc, keeper);
     expect(rt, cut == count as u64);
-    expect(rt, same(&left, &whole));
+    expect_equal(rt, left, whole);
 }
 
 /// Numbers of torn bytes, and what they are: none, parts of a block, and the most that a batch has.
-const CUTS: [(usize, u8); 5] = [(0, 0), (1, 255), (7, 1), (40, 0), (BATCH_BYTES_MAX, 255)];
+const CUTS: &[(usize, u8)] = &[(0, 0), (1, 255), (7, 1), (40, 0), (BATCH_BYTES_MAX, 255)];
 
 #[test]
 fn torn_bytes_are_cut_off(rt: HostRuntime) {
     for (count, byte) in CUTS {
-        expect_cut(&rt, rt.alloc(), count, byte);
+        expect_cut(&rt, rt.alloc(), *count, *byte);
     }
 }
 
@@ -53,6 +56,7 @@ fn expect_too_long(rt: &impl Abort, alloc: Global, count: usize, byte: u8) {
         bytes: count as u64,
     };
     expect_fault(rt, alloc, &bytes, rules(rt), fault);
+    drop(bytes);
 }
 
 #[test]

@@ -1,7 +1,7 @@
 //! Files that are salvaged and backed up.
 use crate::keep_commands::files::Has;
 use crate::keep_commands::news::{Disk, WELL_MADE};
-use crate::keep_commands::rows::{New, Out, Row, WELL, run};
+use crate::keep_commands::rows::{New, Out, Row, WELL, run_all};
 use tb_journal::Fault;
 use tb_keep_commands::OpeningFault;
 
@@ -13,27 +13,59 @@ const SALVAGE: Words = &["salvage", "ledger", "new"];
 
 const BACKUP: Words = &["backup", "ledger", "new"];
 
-/// A copy that is done, and what it prints.
-fn done(words: Words, has: Has, text: &'static str, new: New) -> Row {
-    Row {
-        words,
-        has,
-        out: Out::Text(text),
-        new,
-        ..WELL
-    }
+// A copy that is done, and what it prints.
+macro_rules! done {
+    ($words:expr, $has:expr, $text:expr, $new:expr $(,)?) => {
+        Row { words: $words, has: $has, out: Out::Text($text), new: $new, ..WELL }
+    };
 }
 
-/// One that is refused, with nothing printed.
-fn refused(words: Words, has: Has, status: u8, line: Line, new: New) -> Row {
-    Row {
-        words,
-        has,
-        status,
-        line,
-        new,
-        ..WELL
-    }
+// One that is refused, with nothing printed.
+macro_rules! refused {
+    ($words:expr, $has:expr, $status:expr, $line:expr, $new:expr $(,)?) => {
+        Row { words: $words, has: $has, status: $status, line: $line, new: $new, ..WELL }
+    };
+}
+
+// One whose new file is not made, for this cause.
+macro_rules! unmade {
+    ($words:expr, $fault:expr, $status:expr, $line:expr $(,)?) => {
+        Row {
+            words: $words,
+            disk: Disk { fault: Some($fault), ..WELL_MADE },
+            status: $status,
+            line: $line,
+            ..WELL
+        }
+    };
+}
+
+// One of which a call on the new file fails so.
+macro_rules! broken {
+    ($words:expr, $fails_at:expr, $why:expr, $status:expr, $line:expr, $new:expr $(,)?) => {
+        Row {
+            words: $words,
+            disk: Disk { fault: None, fails_at: $fails_at, why: $why },
+            status: $status,
+            line: $line,
+            new: $new,
+            ..WELL
+        }
+    };
+}
+
+// One of which a call on the file that is copied fails.
+macro_rules! unread {
+    ($words:expr, $fails_at:expr, $status:expr, $line:expr, $new:expr $(,)?) => {
+        Row { words: $words, fails_at: $fails_at, status: $status, line: $line, new: $new, ..WELL }
+    };
+}
+
+// The same rows of both forms.
+macro_rules! both {
+    ($row:ident: $(($($cell:expr),* $(,)?)),* $(,)?) => {
+        &[$($row!(SALVAGE, $($cell),*),)* $($row!(BACKUP, $($cell),*),)*]
+    };
 }
 
 /// The entries of the script end at byte 94, after the first, and at 182.
@@ -54,22 +86,20 @@ const BOTH_LOST: &str =
 const NO_ENTRY: &str =
     "entries 0\nlast commit 0\nlast time 0\nbytes lost 11 behind byte 22: Damaged: record 1: Short\n";
 
-const DONE: &[(Words, Has, &str, New)] = &[
-    (SALVAGE, Has::Entries, WHOLE, New::UpTo(182)),
-    (BACKUP, Has::Entries, WHOLE, New::UpTo(182)),
-    (SALVAGE, Has::Torn, TORN, New::UpTo(182)),
-    (BACKUP, Has::Torn, TORN, New::UpTo(182)),
-    (SALVAGE, Has::TornLong, TORN_LONG, New::UpTo(182)),
-    (SALVAGE, Has::Rot, SECOND_LOST, New::UpTo(94)),
-    (SALVAGE, Has::RotFirst, BOTH_LOST, New::UpTo(22)),
-    (SALVAGE, Has::NoEntry, NO_ENTRY, New::UpTo(22)),
+const DONE: &[Row] = &[
+    done!(SALVAGE, Has::Entries, WHOLE, New::UpTo(182)),
+    done!(BACKUP, Has::Entries, WHOLE, New::UpTo(182)),
+    done!(SALVAGE, Has::Torn, TORN, New::UpTo(182)),
+    done!(BACKUP, Has::Torn, TORN, New::UpTo(182)),
+    done!(SALVAGE, Has::TornLong, TORN_LONG, New::UpTo(182)),
+    done!(SALVAGE, Has::Rot, SECOND_LOST, New::UpTo(94)),
+    done!(SALVAGE, Has::RotFirst, BOTH_LOST, New::UpTo(22)),
+    done!(SALVAGE, Has::NoEntry, NO_ENTRY, New::UpTo(22)),
 ];
 
 #[test]
 fn what_is_whole_is_copied(rt: HostRuntime) {
-    for (words, has, text, new) in DONE {
-        run(&rt, rt.alloc(), done(words, *has, text, *new));
-    }
+    run_all(&rt, rt.alloc(), DONE);
 }
 
 const A_TEXT: Line =
@@ -83,28 +113,28 @@ const MISSING: Line = "tbd: Device: cannot find ledger\n";
 const TOO_TORN: Line =
     "tbd: Damaged: 4194305 bytes behind byte 182, more than one batch can have\n";
 
-const REFUSED: &[(Words, Has, u8, Line, New)] = &[
-    (SALVAGE, Has::Text, 5, A_TEXT, New::Unmade),
-    (BACKUP, Has::Text, 5, A_TEXT, New::Unmade),
-    (SALVAGE, Has::NoRecord, 5, NO_HEAD, New::Unmade),
-    (BACKUP, Has::NoHead, 5, NO_HEAD, New::Unmade),
-    (SALVAGE, Has::Nothing, 1, MISSING, New::Unmade),
-    (
+const REFUSED: &[Row] = &[
+    refused!(SALVAGE, Has::Text, 5, A_TEXT, New::Unmade),
+    refused!(BACKUP, Has::Text, 5, A_TEXT, New::Unmade),
+    refused!(SALVAGE, Has::NoRecord, 5, NO_HEAD, New::Unmade),
+    refused!(BACKUP, Has::NoHead, 5, NO_HEAD, New::Unmade),
+    refused!(SALVAGE, Has::Nothing, 1, MISSING, New::Unmade),
+    refused!(
         SALVAGE,
         Has::RotHead,
         6,
         "tbd: Damaged: at byte 8\n",
         New::Unmade,
     ),
-    (
+    refused!(
         BACKUP,
         Has::Rot,
         6,
         "tbd: Damaged: at byte 94\n",
         New::UpTo(94),
     ),
-    (BACKUP, Has::TornLong, 6, TOO_TORN, New::UpTo(182)),
-    (
+    refused!(BACKUP, Has::TornLong, 6, TOO_TORN, New::UpTo(182)),
+    refused!(
         BACKUP,
         Has::NoEntry,
         6,
@@ -115,31 +145,20 @@ const REFUSED: &[(Words, Has, u8, Line, New)] = &[
 
 #[test]
 fn a_file_is_not_copied(rt: HostRuntime) {
-    for (words, has, status, line, new) in REFUSED {
-        run(&rt, rt.alloc(), refused(words, *has, *status, line, *new));
-    }
+    run_all(&rt, rt.alloc(), REFUSED);
 }
+
+/// Why a new file is not made, and what is told of it.
+const UNMADE: &[Row] = both!(unmade:
+    (OpeningFault::Exists, 2, "tbd: Usage: new exists\n"),
+    (OpeningFault::Missing, 1, "tbd: Device: cannot find new\n"),
+    (OpeningFault::Locked, 4, LOCKED),
+);
 
 /// The new file is there already, or cannot be made: nothing is printed.
 #[test]
 fn a_new_file_is_not_made(rt: HostRuntime) {
-    for words in [SALVAGE, BACKUP] {
-        for (fault, status, line) in [
-            (OpeningFault::Exists, 2, "tbd: Usage: new exists\n"),
-            (OpeningFault::Missing, 1, "tbd: Device: cannot find new\n"),
-            (OpeningFault::Locked, 4, LOCKED),
-        ] {
-            let disk = Disk {
-                fault: Some(fault),
-                ..WELL_MADE
-            };
-            let row = Row {
-                disk,
-                ..refused(words, Has::Entries, status, line, New::Unmade)
-            };
-            run(&rt, rt.alloc(), row);
-        }
-    }
+    run_all(&rt, rt.alloc(), UNMADE);
 }
 
 const LOCKED: Line = "tbd: Locked: another program has the file open\n";
@@ -152,7 +171,7 @@ const SYNC: Line = "tbd: SyncFailed: restart the machine or copy the file before
 
 /// The calls on the new file: its length and a sync, a read, the first 9 bytes and a sync; then for the head, and for both entries, the
 /// batch, a sync, its latch and a sync.
-const CALLS: &[(u64, Fault, u8, Line, New)] = &[
+const CALLS: &[Row] = both!(broken:
     (1, Fault::Failed, 1, FAILED, New::Empty),
     (1, Fault::Full, 8, FULL, New::Empty),
     (2, Fault::Failed, 9, SYNC, New::Empty),
@@ -161,65 +180,48 @@ const CALLS: &[(u64, Fault, u8, Line, New)] = &[
     (10, Fault::Full, 8, FULL, New::UpTo(22)),
     (10, Fault::Failed, 1, FAILED, New::UpTo(22)),
     (10, Fault::Memory, 1, "tbd: NoMemory\n", New::UpTo(22)),
-];
+);
 
 #[test]
 fn a_call_on_the_new_file_fails(rt: HostRuntime) {
-    for words in [SALVAGE, BACKUP] {
-        for (fails_at, why, status, line, new) in CALLS {
-            let disk = Disk {
-                fault: None,
-                fails_at: *fails_at,
-                why: *why,
-            };
-            let row = Row {
-                disk,
-                ..refused(words, Has::Entries, *status, line, *new)
-            };
-            run(&rt, rt.alloc(), row);
-        }
-    }
+    run_all(&rt, rt.alloc(), CALLS);
 }
 
 const UNREAD: Line = "tbd: Device: ledger\n";
 
 /// The calls on the file: for its head a sync and a read; its length; and a sync and reads.
-const READS: &[(u64, u8, Line, New)] = &[
+const READS: &[Row] = both!(unread:
     (1, 9, SYNC, New::Unmade),
     (2, 1, UNREAD, New::Unmade),
     (3, 1, UNREAD, New::Empty),
     (4, 9, SYNC, New::Empty),
     (5, 1, UNREAD, New::Empty),
-];
+);
 
 #[test]
 fn a_read_of_the_file_fails(rt: HostRuntime) {
-    for words in [SALVAGE, BACKUP] {
-        for (fails_at, status, line, new) in READS {
-            let row = Row {
-                fails_at: *fails_at,
-                ..refused(words, Has::Entries, *status, line, *new)
-            };
-            run(&rt, rt.alloc(), row);
-        }
-    }
+    run_all(&rt, rt.alloc(), READS);
 }
+
+// A copy of which the output takes so many bytes.
+macro_rules! cut {
+    ($room:expr) => {
+        Row {
+            words: SALVAGE,
+            room: $room,
+            status: 1,
+            out: Out::Prefix(WHOLE),
+            line: "tbd: Device: standard output\n",
+            new: New::UpTo(182),
+            ..WELL
+        }
+    };
+}
+
+const CUT: &[Row] = &[cut!(0), cut!(9)];
 
 /// What was copied is in the new file, also where it is not printed.
 #[test]
 fn an_output_fails_behind_a_copy(rt: HostRuntime) {
-    for room in [0, 9] {
-        let row = Row {
-            room,
-            out: Out::Prefix(WHOLE),
-            ..refused(
-                SALVAGE,
-                Has::Entries,
-                1,
-                "tbd: Device: standard output\n",
-                New::UpTo(182),
-            )
-        };
-        run(&rt, rt.alloc(), row);
-    }
+    run_all(&rt, rt.alloc(), CUT);
 }

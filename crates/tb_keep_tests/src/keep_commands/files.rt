@@ -1,17 +1,16 @@
 //! Files in memory, and what opens and makes them and fails in each way.
 ghost use Rattle.std.specs.Prelude.{◌≡◌, true, Ok, IfOk};
 ghost use Rattle.tb_journal.specs.Memory.{memory_disk};
-ghost use Rattle.tb_keep.specs.Keeping.{IsFresh, IsUsable};
 
-use crate::keep_commands::frames::{dump, script};
+use crate::keep::scripts::kept as kept_of;
+use crate::keep_commands::frames::{DUMP, lines_of, script};
 use crate::keep_commands::news::{Disk, NewFile, Noted};
+use crate::steps::{copy_of, rot, sure};
 use std::alloc::Global;
 use std::cell::Cell;
 use std::process::Abort;
 use tb_journal::Memory;
-use tb_keep::{Keeper, Rules, keep};
 use tb_keep_commands::{Opener, OpeningFault};
-use tb_records::{ClientsMax, Counting, Profile};
 
 /// What a file has.
 #[derive(Clone, Copy, PartialEq, Eq)]
@@ -51,52 +50,19 @@ pub enum Has {
 /// More bytes than one batch can have.
 const TOO_LONG_BYTES: usize = 4194305;
 
-/// Profile 1 and two clients.
-fn rules(rt: &impl Abort) -> Rules {
-    Rules {
-        profile: Profile::One,
-        clients_max: ClientsMax::new(2).expect(rt, "2 is a number of clients"),
-    }
-}
-
-/// The value of a call that a test wants to succeed.
-fn sure<T: Drop, E: Drop>(rt: &impl Abort, answer: Result<T, E>) -> T
-    ensures { answer ≡ Ok result }
-{
-    answer.ok().expect(rt, "no fault")
-}
-
-/// A ledger over a new file.
-fn started(rt: &impl Abort, alloc: Global) -> Keeper<Memory>
-    ensures fresh { IsFresh memory_disk result }
-    ensures usable { IsUsable result }
-{
-    let file = sure(rt, Memory::new(alloc, Vec::new(alloc)));
-    sure(rt, Keeper::start(alloc, alloc, file, rules(rt)))
-}
-
 /// The bytes of the file that the script makes.
 fn kept(rt: &impl Abort, alloc: Global) -> Vec<u8> {
-    let mut keeper = started(rt, alloc);
     let script = script(rt, alloc);
-    let mut reader = Counting::new(script.as_slice());
-    let mut writer = Counting::new(Vec::new(alloc));
-    let kept = keep(alloc, &mut keeper, &mut reader, &mut writer).is_ok();
-    let bytes = Vec::from_slice(alloc, keeper.journal().device().bytes());
-    drop(keeper);
-    assert!(rt; kept);
-    sure(rt, bytes)
+    let (told, bytes) = kept_of(rt, alloc, &script);
+    drop(told);
+    drop(script);
+    bytes
 }
 
-/// The bytes of such a file.
-fn bytes_of(rt: &impl Abort, alloc: Global, has: Has) -> Vec<u8> {
-    let text: &[u8] = match has {
+/// The bytes of such a file, where they are not made by the script.
+fn text_of(has: Has) -> &'static [u8] {
+    match has {
         Has::Text => b"a text, and no journal",
-        Has::Dump => return dump(rt, alloc),
-        Has::Script => return script(rt, alloc),
-        Has::Entries | Has::Rot | Has::RotFirst | Has::RotHead | Has::Torn | Has::TornLong => {
-            return kept(rt, alloc);
-        }
         Has::Other => b"\x01\x02\x03\x04\x05\x06\x07\x08",
         Has::NoRecord => b"TBJRNL01\0",
         Has::NoEntry => {
@@ -104,26 +70,31 @@ fn bytes_of(rt: &impl Abort, alloc: Global, has: Has) -> Vec<u8> {
         }
         Has::NoHead => b"TBJRNL01\xff\x03\0\0\x34\xe6\xc2\xf2\x01\x02\x03\0",
         _ => b"",
-    };
-    Vec::from_slice(alloc, text).expect(rt, "memory")
+    }
+}
+
+/// The bytes of such a file.
+fn bytes_of(rt: &impl Abort, alloc: Global, has: Has) -> Vec<u8> {
+    match has {
+        Has::Dump => lines_of(rt, alloc, DUMP),
+        Has::Script => script(rt, alloc),
+        Has::Entries | Has::Rot | Has::RotFirst | Has::RotHead | Has::Torn | Has::TornLong => {
+            kept(rt, alloc)
+        }
+        _ => copy_of(rt, alloc, text_of(has)),
+    }
 }
 
 /// The bytes of such a file, with what was changed in it.
 pub fn file_of(rt: &impl Abort, alloc: Global, has: Has) -> Vec<u8> {
     let mut bytes = bytes_of(rt, alloc, has);
-    let rotten = match has {
-        Has::RotFirst => 40,
-        Has::RotHead => 20,
-        _ => bytes.len().saturating_sub(2),
-    };
-    match (has, bytes.get_mut(rotten)) {
-        (Has::Rot | Has::RotFirst | Has::RotHead, Some(byte)) => *byte = byte.wrapping_add(1),
-        (Has::Torn, _) => bytes
-            .extend_from_slice(b"\x01\x02\x03\x04\x05")
-            .expect(rt, "memory"),
-        (Has::TornLong, _) => bytes
-            .resize(bytes.len().saturating_add(TOO_LONG_BYTES), 7)
-            .expect(rt, "memory"),
+    let len = bytes.len();
+    match has {
+        Has::Rot => rot(&mut bytes, len.saturating_sub(2)),
+        Has::RotFirst => rot(&mut bytes, 40),
+        Has::RotHead => rot(&mut bytes, 20),
+        Has::Torn => sure(rt, bytes.extend_from_slice(b"\x01\x02\x03\x04\x05")),
+        Has::TornLong => sure(rt, bytes.resize(len.saturating_add(TOO_LONG_BYTES), 7)),
         _ => {}
     }
     bytes

@@ -1,8 +1,9 @@
 //! A file to which another program appends while it is read.
 use crate::keep_commands::files::{Has, file_of};
-use crate::keep_commands::frames::{dump, later};
+use crate::keep_commands::frames::{DUMP, LATER, lines_of};
 use crate::keep_commands::pipes::Pipe;
-use crate::keep_commands::rows::{NO_TERMINALS, cut_to, same, words_of};
+use crate::keep_commands::rows::{NO_TERMINALS, cut_to, words_of};
+use crate::steps::{copy_of, expect, expect_begin, expect_given, sure};
 use std::alloc::Global;
 use std::cell::Cell;
 use std::process::Abort;
@@ -40,19 +41,17 @@ const HEAD_END: usize = 22;
 
 const FIRST_END: usize = 94;
 
-/// A file with these bytes.
-fn memory(rt: &impl Abort, alloc: Global, bytes: Vec<u8>) -> Memory {
-    Memory::new(alloc, bytes).ok().expect(rt, "memory")
-}
-
 /// The ledger of the script, with its head at first, then an entry more, then all.
 fn growing_ledger(rt: &impl Abort, alloc: Global) -> Growth<Memory> {
-    let shown = memory(rt, alloc, cut_to(rt, alloc, Has::Entries, HEAD_END));
-    let next = memory(rt, alloc, cut_to(rt, alloc, Has::Entries, FIRST_END));
-    let last = memory(rt, alloc, file_of(rt, alloc, Has::Entries));
+    let head = cut_to(rt, alloc, Has::Entries, HEAD_END);
+    let shown = sure(rt, Memory::new(alloc, head));
+    let first = cut_to(rt, alloc, Has::Entries, FIRST_END);
+    let next = sure(rt, Memory::new(alloc, first));
+    let all = file_of(rt, alloc, Has::Entries);
+    let last = sure(rt, Memory::new(alloc, all));
     let mut stages = Vec::new(alloc);
-    stages.push(last).ok().expect(rt, "memory");
-    stages.push(next).ok().expect(rt, "memory");
+    sure(rt, stages.push(last));
+    sure(rt, stages.push(next));
     Growth {
         shown,
         stages,
@@ -115,8 +114,32 @@ fn written(rt: &impl Abort, alloc: Global, words: &[&str], pauses: u32) -> Vec<u
         &mut pipe,
         &mut lines,
     );
-    assert!(rt; status == 0);
-    Vec::from_slice(alloc, pipe.bytes()).expect(rt, "memory")
+    drop(words);
+    drop(folder);
+    drop(lines);
+    expect(rt, status == 0);
+    let found = copy_of(rt, alloc, pipe.bytes());
+    drop(pipe);
+    found
+}
+
+/// The words write so many bytes, the first ones of these.
+fn expect_first(
+    rt: &impl Abort,
+    alloc: Global,
+    words: &[&str],
+    pauses: u32,
+    (len, all): (usize, &[u8]),
+) {
+    let found = written(rt, alloc, words, pauses);
+    expect(rt, found.len() == len);
+    expect_begin(rt, all, found);
+}
+
+/// The words write these bytes.
+fn expect_written(rt: &impl Abort, alloc: Global, words: &[&str], pauses: u32, want: &[u8]) {
+    let found = written(rt, alloc, words, pauses);
+    expect_given(rt, found, want);
 }
 
 /// How many bytes of the dump went out where was waited so often: the head has 16, the entries 64 and 80.
@@ -126,38 +149,34 @@ const LENGTHS: &[(u32, usize)] = &[(0, 16), (1, 80), (2, 160), (3, 160)];
 #[test]
 fn a_followed_dump_goes_on(rt: HostRuntime) {
     let alloc = rt.alloc();
-    let all = dump(&rt, alloc);
-    let second = later(&rt, alloc);
+    let all = lines_of(&rt, alloc, DUMP);
+    let second = lines_of(&rt, alloc, LATER);
+    let words = &["dump", "ledger", "--follow"];
     for (pauses, len) in LENGTHS {
-        let found = written(&rt, alloc, &["dump", "ledger", "--follow"], *pauses);
-        assert!(rt; found.len() == *len && all.starts_with(&found));
+        expect_first(&rt, alloc, words, *pauses, (*len, &all));
     }
-    let found = written(
-        &rt,
-        alloc,
-        &["dump", "ledger", "--after", "1", "--follow"],
-        2,
-    );
-    assert!(rt; same(&found, &second));
+    let words = &["dump", "ledger", "--after", "1", "--follow"];
+    expect_written(&rt, alloc, words, 2, &second);
+    drop(second);
+    drop(all);
 }
 
 /// A dump that does not wait has what was there when it was opened.
 #[test]
 fn a_dump_has_one_moment(rt: HostRuntime) {
     let alloc = rt.alloc();
-    let all = dump(&rt, alloc);
-    let found = written(&rt, alloc, &["dump", "ledger"], 2);
-    assert!(rt; found.len() == 16 && all.starts_with(&found));
-    let found = written(&rt, alloc, &["dump", "ledger", "--after", "0"], 2);
-    assert!(rt; found.is_empty());
+    let all = lines_of(&rt, alloc, DUMP);
+    expect_first(&rt, alloc, &["dump", "ledger"], 2, (16, &all));
+    drop(all);
+    let words = &["dump", "ledger", "--after", "0"];
+    expect_written(&rt, alloc, words, 2, b"");
 }
 
 /// The first entry was committed while the file was read: it has 72 bytes.
 #[test]
 fn what_was_committed_meanwhile_is_behind(rt: HostRuntime) {
     let alloc = rt.alloc();
-    let found = written(&rt, alloc, &["check", "ledger"], 0);
     let text =
         "records 1\nentries 0\nprofile 1\nclients_max 2\nlast time 0\nbytes behind 72, not committed yet or torn\n";
-    assert!(rt; same(&found, text.as_bytes()));
+    expect_written(&rt, alloc, &["check", "ledger"], 0, text.as_bytes());
 }

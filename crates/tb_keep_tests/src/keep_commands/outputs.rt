@@ -1,12 +1,13 @@
 //! Outputs that fail at a byte, or at their flush, and calls on the file that fail.
 use crate::keep_commands::files::Has;
 use crate::keep_commands::pipes::{NoInput, Pipe};
-use crate::keep_commands::rows::{Out, Row, WELL, run, run_with};
-use tb_journal::{Device, Memory};
+use crate::keep_commands::rows::{Out, Row, WELL, run_all, run_with};
+use crate::steps::{expect_bytes, expect_same, file_of, sure};
+use std::alloc::Global;
+use std::process::Abort;
+use tb_journal::Device;
 use tb_keep_commands::Reported;
 use tb_records::Counting;
-
-type Words = &'static [&'static str];
 
 const LOST: &str = "tbd: Device: standard output\n";
 
@@ -16,63 +17,66 @@ const FAILED: &str = "tbd: Device: ledger\n";
 /// That of a file which was made before.
 const MADE: &str = "tbd: made ledger\ntbd: Device: standard output\n";
 
-/// A form whose output takes so many bytes.
-fn cut(words: Words, has: Has, room: usize, out: Out, line: &'static str) -> Row {
-    Row {
-        words,
-        has,
-        room,
-        status: 1,
-        out,
-        line,
-        ..WELL
-    }
+// A form whose output takes so many bytes.
+macro_rules! cut {
+    ($words:expr, $has:expr, $room:expr, $out:expr, $line:expr $(,)?) => {
+        Row { words: $words, has: $has, room: $room, status: 1, out: $out, line: $line, ..WELL }
+    };
 }
 
-/// A form whose output takes all, and answers its flush with an error.
-fn unflushed(words: Words, has: Has, out: Out, line: &'static str) -> Row {
-    Row {
-        words,
-        has,
-        flushes: false,
-        status: 1,
-        out,
-        line,
-        ..WELL
-    }
+// A form whose output takes all, and answers its flush with an error.
+macro_rules! unflushed {
+    ($words:expr, $has:expr, $out:expr, $line:expr $(,)?) => {
+        Row { words: $words, has: $has, flushes: false, status: 1, out: $out, line: $line, ..WELL }
+    };
+}
+
+// A form over a file whose call of a number fails.
+macro_rules! broken {
+    ($words:expr, $has:expr, $fails_at:expr, $status:expr, $out:expr, $line:expr $(,)?) => {
+        Row {
+            words: $words,
+            has: $has,
+            fails_at: $fails_at,
+            status: $status,
+            out: $out,
+            line: $line,
+            ..WELL
+        }
+    };
 }
 
 const SUMMARY: &str =
     "records 3\nentries 2\nprofile 1\nclients_max 2\nlast time 11\nbytes behind 0\n";
 
-const CUT: &[(Words, Has, usize, Out, &str)] = &[
-    (&["run", "ledger", "2"], Has::NoByte, 0, Out::Nothing, MADE),
-    (
+const CUT: &[Row] = &[
+    cut!(&["run", "ledger", "2"], Has::NoByte, 0, Out::Nothing, MADE),
+    cut!(
         &["run", "ledger", "2"],
         Has::NoByte,
         95,
         Out::SomeReplies,
         MADE,
     ),
-    (
+    cut!(
         &["run", "ledger", "2"],
         Has::NoRecord,
         95,
         Out::SomeReplies,
         LOST,
     ),
-    (&["dump", "ledger"], Has::Entries, 0, Out::Nothing, LOST),
-    (&["dump", "ledger"], Has::Entries, 159, Out::SomeDump, LOST),
-    (&["check", "ledger"], Has::Entries, 0, Out::Nothing, LOST),
-    (
+    cut!(&["dump", "ledger"], Has::Entries, 0, Out::Nothing, LOST),
+    cut!(&["dump", "ledger"], Has::Entries, 159, Out::SomeDump, LOST),
+    cut!(&["check", "ledger"], Has::Entries, 0, Out::Nothing, LOST),
+    cut!(
         &["check", "ledger"],
         Has::Entries,
         69,
         Out::Prefix(SUMMARY),
         LOST,
     ),
-    (&["--help"], Has::Nothing, 0, Out::Nothing, LOST),
-    (
+    cut!(&["--help"], Has::Nothing, 0, Out::Nothing, LOST),
+    cut!(
         &["--version"],
         Has::Nothing,
         9,
@@ -83,42 +87,19 @@ const CUT: &[(Words, Has, usize, Out, &str)] = &[
 
 #[test]
 fn an_output_fails_at_a_byte(rt: HostRuntime) {
-    for (words, has, room, out, line) in CUT {
-        run(&rt, rt.alloc(), cut(words, *has, *room, *out, line));
-    }
+    run_all(&rt, rt.alloc(), CUT);
 }
 
-const UNFLUSHED: &[(Words, Has, Out, &str)] = &[
-    (&["run", "ledger", "2"], Has::NoByte, Out::Replies, MADE),
-    (&["dump", "ledger"], Has::Entries, Out::Dump, LOST),
-    (&["check", "ledger"], Has::Entries, Out::Text(SUMMARY), LOST),
-    (&["--version"], Has::Nothing, Out::Text("tbd 0.1.0\n"), LOST),
+const UNFLUSHED: &[Row] = &[
+    unflushed!(&["run", "ledger", "2"], Has::NoByte, Out::Replies, MADE),
+    unflushed!(&["dump", "ledger"], Has::Entries, Out::Dump, LOST),
+    unflushed!(&["check", "ledger"], Has::Entries, Out::Text(SUMMARY), LOST),
+    unflushed!(&["--version"], Has::Nothing, Out::Text("tbd 0.1.0\n"), LOST),
 ];
 
 #[test]
 fn an_output_fails_at_its_flush(rt: HostRuntime) {
-    for (words, has, out, line) in UNFLUSHED {
-        run(&rt, rt.alloc(), unflushed(words, *has, *out, line));
-    }
-}
-
-/// A form over a file whose call of a number fails.
-fn broken(
-    words: Words,
-    has: Has,
-    (fails_at, status): (u64, u8),
-    out: Out,
-    line: &'static str,
-) -> Row {
-    Row {
-        words,
-        has,
-        fails_at,
-        status,
-        out,
-        line,
-        ..WELL
-    }
+    run_all(&rt, rt.alloc(), UNFLUSHED);
 }
 
 const SYNC: &str = "tbd: SyncFailed: restart the machine or copy the file before the next start\n";
@@ -128,8 +109,8 @@ const MADE_SYNC: &str =
     "tbd: made ledger\ntbd: SyncFailed: restart the machine or copy the file before the next start\n";
 
 /// The calls of a reading: a sync, and the file with its end. `run` and `check` ask for the length first, and `dump` reads twice.
-const BROKEN: &[(Words, Has, u64, u8, Out, &str)] = &[
-    (
+const BROKEN: &[Row] = &[
+    broken!(
         &["check", "ledger"],
         Has::Entries,
         1,
@@ -137,8 +118,8 @@ const BROKEN: &[(Words, Has, u64, u8, Out, &str)] = &[
         Out::Nothing,
         FAILED,
     ),
-    (&["check", "ledger"], Has::Entries, 2, 9, Out::Nothing, SYNC),
-    (
+    broken!(&["check", "ledger"], Has::Entries, 2, 9, Out::Nothing, SYNC),
+    broken!(
         &["check", "ledger"],
         Has::Entries,
         3,
@@ -146,8 +127,8 @@ const BROKEN: &[(Words, Has, u64, u8, Out, &str)] = &[
         Out::Nothing,
         FAILED,
     ),
-    (&["dump", "ledger"], Has::Entries, 1, 9, Out::Nothing, SYNC),
-    (
+    broken!(&["dump", "ledger"], Has::Entries, 1, 9, Out::Nothing, SYNC),
+    broken!(
         &["dump", "ledger"],
         Has::Entries,
         2,
@@ -155,7 +136,7 @@ const BROKEN: &[(Words, Has, u64, u8, Out, &str)] = &[
         Out::Nothing,
         FAILED,
     ),
-    (
+    broken!(
         &["dump", "ledger"],
         Has::Entries,
         3,
@@ -163,8 +144,8 @@ const BROKEN: &[(Words, Has, u64, u8, Out, &str)] = &[
         Out::Nothing,
         FAILED,
     ),
-    (&["dump", "ledger"], Has::Entries, 4, 9, Out::Nothing, SYNC),
-    (
+    broken!(&["dump", "ledger"], Has::Entries, 4, 9, Out::Nothing, SYNC),
+    broken!(
         &["run", "ledger", "2"],
         Has::NoByte,
         1,
@@ -172,7 +153,7 @@ const BROKEN: &[(Words, Has, u64, u8, Out, &str)] = &[
         Out::Nothing,
         FAILED,
     ),
-    (
+    broken!(
         &["run", "ledger", "2"],
         Has::Entries,
         2,
@@ -180,7 +161,7 @@ const BROKEN: &[(Words, Has, u64, u8, Out, &str)] = &[
         Out::Nothing,
         FAILED,
     ),
-    (
+    broken!(
         &["run", "ledger", "2"],
         Has::NoByte,
         3,
@@ -188,7 +169,7 @@ const BROKEN: &[(Words, Has, u64, u8, Out, &str)] = &[
         Out::Nothing,
         SYNC,
     ),
-    (
+    broken!(
         &["run", "ledger", "2"],
         Has::NoByte,
         12,
@@ -200,25 +181,34 @@ const BROKEN: &[(Words, Has, u64, u8, Out, &str)] = &[
 
 #[test]
 fn a_call_on_the_file_fails(rt: HostRuntime) {
-    for (words, has, fails_at, status, out, line) in BROKEN {
-        run(
-            &rt,
-            rt.alloc(),
-            broken(words, *has, (*fails_at, *status), *out, line),
-        );
-    }
+    run_all(&rt, rt.alloc(), BROKEN);
 }
+
+const NO_INPUT: Row = Row {
+    words: &["run", "ledger", "2"],
+    status: 1,
+    line: "tbd: Device: standard input\n",
+    ..WELL
+};
 
 /// It is reported that the input failed, and not the output.
 #[test]
 fn an_input_fails(rt: HostRuntime) {
-    let row = Row {
-        words: &["run", "ledger", "2"],
-        status: 1,
-        line: "tbd: Device: standard input\n",
-        ..WELL
-    };
-    run_with(&rt, rt.alloc(), row, NoInput {});
+    run_with(&rt, rt.alloc(), NO_INPUT, NoInput {});
+}
+
+/// The offsets of reads.
+const FAR: &[usize] = &[0, 63_999_999, 64_000_000, 127_999_999, 200_000_000];
+
+/// Reads at these offsets, reported to a pipe or not.
+fn read_far(rt: &impl Abort, alloc: Global, pipe: &mut Pipe, reports: bool) {
+    let memory = file_of(rt, alloc, &[]);
+    let file = Reported::new(alloc, memory, "ledger", Counting::new(pipe), reports);
+    let mut file = sure(rt, file);
+    for at in FAR {
+        expect_same(rt, file.read_at(*at, &mut [0; 8]), Ok(0));
+    }
+    drop(file);
 }
 
 /// Reads at these offsets are reported each 64 MB, and no others; none where nobody asked.
@@ -227,13 +217,9 @@ fn a_long_read_is_reported(rt: HostRuntime) {
     let alloc = rt.alloc();
     let mut pipe = Pipe::new(alloc, 4096, true);
     for reports in [false, true] {
-        let memory = Memory::new(alloc, Vec::new(alloc)).expect(&rt, "memory");
-        let file = Reported::new(alloc, memory, "ledger", Counting::new(&mut pipe), reports);
-        let mut file = file.expect(&rt, "no fault");
-        for at in [0, 63_999_999, 64_000_000, 127_999_999, 200_000_000] {
-            assert!(rt; file.read_at(at, &mut [0; 8]) == Ok(0));
-        }
+        read_far(&rt, alloc, &mut pipe, reports);
     }
     let told: &[u8] = b"tbd: reading ledger, 64 of 0 MB\ntbd: reading ledger, 200 of 0 MB\n";
-    assert!(rt; pipe.bytes() == told);
+    expect_bytes(&rt, pipe.bytes(), told);
+    drop(pipe);
 }

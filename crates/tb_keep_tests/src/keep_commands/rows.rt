@@ -1,8 +1,9 @@
 //! What a command is run on, and what it must answer.
 use crate::keep_commands::files::{Folder, Has, file_of};
-use crate::keep_commands::frames::{dump, empty_dump, later, replies, script};
+use crate::keep_commands::frames::{DUMP, EMPTY_DUMP, LATER, REPLIES, lines_of, script};
 use crate::keep_commands::news::{Disk, WELL_MADE};
 use crate::keep_commands::pipes::Pipe;
+use crate::steps::{copy_of, expect, expect_given, same, sure};
 use std::alloc::Global;
 use std::io::Read;
 use std::process::Abort;
@@ -98,42 +99,55 @@ pub const WELL: Row = Row {
     new: New::Unmade,
 };
 
-/// Says whether these bytes are those: compared here alone, since a comparison of bytes is dear to prove.
-pub fn same(found: &[u8], wanted: &[u8]) -> bool {
-    found == wanted
+/// All that may go out.
+fn whole(rt: &impl Abort, alloc: Global, out: Out) -> Vec<u8> {
+    match out {
+        Out::Nothing => Vec::new(alloc),
+        Out::Replies | Out::SomeReplies => lines_of(rt, alloc, REPLIES),
+        Out::Dump | Out::SomeDump => lines_of(rt, alloc, DUMP),
+        Out::Later => lines_of(rt, alloc, LATER),
+        Out::EmptyDump => lines_of(rt, alloc, EMPTY_DUMP),
+        Out::Text(text) | Out::Prefix(text) => copy_of(rt, alloc, text.as_bytes()),
+    }
 }
 
 /// Says whether what went out is what must go out.
 fn is_out(rt: &impl Abort, alloc: Global, out: Out, found: &[u8]) -> bool {
-    match out {
-        Out::Nothing => found.is_empty(),
-        Out::Replies => same(found, &replies(rt, alloc)),
-        Out::Dump => same(found, &dump(rt, alloc)),
-        Out::Later => same(found, &later(rt, alloc)),
-        Out::EmptyDump => same(found, &empty_dump(rt, alloc)),
-        Out::Text(text) => same(found, text.as_bytes()),
-        Out::Prefix(text) => text.as_bytes().starts_with(found),
-        Out::SomeReplies => replies(rt, alloc).starts_with(found),
-        Out::SomeDump => dump(rt, alloc).starts_with(found),
-    }
+    let whole = whole(rt, alloc, out);
+    let is_out = match out {
+        Out::Prefix(_) | Out::SomeReplies | Out::SomeDump => whole.starts_with(found),
+        _ => same(found, &whole),
+    };
+    drop(whole);
+    is_out
 }
 
 /// Says whether the new file has what it must have.
 fn is_new(rt: &impl Abort, alloc: Global, row: Row, folder: &Folder) -> bool {
     let bytes = folder.new.bytes(alloc);
-    match row.new {
+    let is_new = match row.new {
         New::Unmade => folder.new.count == 0,
         New::Empty => folder.new.count == 1 && bytes.is_empty(),
         New::NoRecord => same(&bytes, b"TBJRNL01\0"),
-        New::UpTo(end) => same(&bytes, &cut_to(rt, alloc, row.has, end)),
-    }
+        New::UpTo(end) => is_cut(rt, alloc, row.has, end, &bytes),
+    };
+    drop(bytes);
+    is_new
+}
+
+/// Says whether these are the bytes of a file up to an offset, and a closed latch.
+fn is_cut(rt: &impl Abort, alloc: Global, has: Has, end: usize, bytes: &[u8]) -> bool {
+    let cut = cut_to(rt, alloc, has, end);
+    let is_cut = same(bytes, &cut);
+    drop(cut);
+    is_cut
 }
 
 /// The bytes of a file up to an offset, and a closed latch.
 pub fn cut_to(rt: &impl Abort, alloc: Global, has: Has, end: usize) -> Vec<u8> {
     let mut bytes = file_of(rt, alloc, has);
     bytes.truncate(end);
-    bytes.push(0).expect(rt, "memory");
+    sure(rt, bytes.push(0));
     bytes
 }
 
@@ -141,8 +155,8 @@ pub fn cut_to(rt: &impl Abort, alloc: Global, has: Has, end: usize) -> Vec<u8> {
 pub fn words_of(rt: &impl Abort, alloc: Global, words: &[&str]) -> Vec<String> {
     let mut all = Vec::new(alloc);
     for word in words {
-        let word = String::from_str(alloc, word).expect(rt, "memory");
-        all.push(word).expect(rt, "memory");
+        let word = sure(rt, String::from_str(alloc, word));
+        sure(rt, all.push(word));
     }
     all
 }
@@ -154,10 +168,26 @@ pub fn run(rt: &impl Abort, alloc: Global, row: Row) -> u32 {
     } else {
         Vec::new(alloc)
     };
-    run_with(rt, alloc, row, script.as_slice())
+    let made = run_with(rt, alloc, row, script.as_slice());
+    drop(script);
+    made
 }
 
-/// The same of a row with this input.
+/// Runs rows.
+pub fn run_all(rt: &impl Abort, alloc: Global, rows: &[Row]) {
+    for row in rows {
+        run(rt, alloc, *row);
+    }
+}
+
+/// Runs rows of which each makes so many files.
+pub fn run_making(rt: &impl Abort, alloc: Global, rows: &[Row], made: u32) {
+    for row in rows {
+        expect(rt, run(rt, alloc, *row) == made);
+    }
+}
+
+/// Runs a row with this input.
 pub fn run_with<R: Read + Drop>(rt: &impl Abort, alloc: Global, row: Row, input: R) -> u32 {
     let mut folder = Folder::new(rt, alloc, row.has, row.fault, row.fails_at, row.disk);
     let words = words_of(rt, alloc, row.words);
@@ -172,11 +202,16 @@ pub fn run_with<R: Read + Drop>(rt: &impl Abort, alloc: Global, row: Row, input:
         &mut pipe,
         &mut lines,
     );
-    assert!(rt; status == row.status);
-    assert!(rt; is_out(rt, alloc, row.out, pipe.bytes()));
-    assert!(rt; same(&lines.into_inner(), row.line.as_bytes()));
+    drop(words);
+    expect(rt, status == row.status);
+    expect(rt, is_out(rt, alloc, row.out, pipe.bytes()));
+    drop(pipe);
+    let lines = lines.into_inner();
+    expect_given(rt, lines, row.line.as_bytes());
     if row.is_copy() {
-        assert!(rt; is_new(rt, alloc, row, &folder));
+        expect(rt, is_new(rt, alloc, row, &folder));
     }
-    folder.made
+    let made = folder.made;
+    drop(folder);
+    made
 }

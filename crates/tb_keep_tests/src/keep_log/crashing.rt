@@ -1,12 +1,11 @@
 //! Crashes at each moment of keeping a log, and files that fail at each of their calls: what was acknowledged is in the file.
-ghost use Rattle.std.specs.Prelude.{◌≡◌, true};
+ghost use Rattle.std.specs.Prelude.{◌≡◌};
 ghost use Rattle.tb_journal.specs.Memory.{memory_disk};
 ghost use Rattle.tb_journal.specs.Ready.{IsReady};
 ghost use Rattle.tb_keep_log.specs.Keeping.{IsUsable};
 
-use crate::keep_log::logs::{
-    answers, bytes_of, expect, file_of, kept, log, part, rules, started, sure,
-};
+use crate::keep_log::logs::{answers, bytes_of, kept, log, part, started};
+use crate::steps::{copy_of, expect, expect_end, expect_same, file_of, rules, sure};
 use std::alloc::Global;
 use std::process::Abort;
 use tb_journal::Memory;
@@ -27,7 +26,7 @@ fn goes_on(rt: &impl Abort, alloc: Global, left: &[u8], log: &[u8]) -> (u64, Vec
         .expect(rt, "at most 3 entries");
     let (answer, told) = kept(alloc, &mut keeper, part(log, *begin, log.len()));
     drop(keeper);
-    expect(rt, answer == Ok(3));
+    expect_same(rt, answer, Ok(3));
     (position, told)
 }
 
@@ -35,9 +34,12 @@ fn goes_on(rt: &impl Abort, alloc: Global, left: &[u8], log: &[u8]) -> (u64, Vec
 fn expect_crash(rt: &impl Abort, alloc: Global, left: &[u8], least: u64, most: u64) {
     let log = log(rt, alloc);
     let (position, told) = goes_on(rt, alloc, left, &log);
+    let whole = answers(rt, alloc, &log);
+    drop(log);
     expect(rt, least <= position);
     expect(rt, position <= most);
-    expect(rt, answers(rt, alloc, &log).ends_with(&told));
+    expect_end(rt, &whole, told);
+    drop(whole);
 }
 
 /// Crashes at a moment, with the last write torn in each way.
@@ -61,8 +63,11 @@ fn expect_crashes(
 fn a_crash_at_each_moment(rt: HostRuntime) {
     let alloc = rt.alloc();
     let mut keeper = started(&rt, alloc, &[]);
-    let (answer, _) = kept(alloc, &mut keeper, &log(&rt, alloc));
-    expect(&rt, answer == Ok(3));
+    let log = log(&rt, alloc);
+    let (answer, told) = kept(alloc, &mut keeper, &log);
+    drop(log);
+    drop(told);
+    expect_same(&rt, answer, Ok(3));
     let file = keeper.journal().device();
     // Three entries are committed one after another, in four calls each.
     let begin = file.moments().saturating_sub(12);
@@ -90,7 +95,9 @@ fn kept_by(rt: &impl Abort, alloc: Global, keeper: LogKeeper<Memory>) -> (Vec<u8
     requires ready { IsReady memory_disk keeper.journal }
 {
     let mut keeper = keeper;
-    let (_, told) = kept(alloc, &mut keeper, &log(rt, alloc));
+    let log = log(rt, alloc);
+    let (_, told) = kept(alloc, &mut keeper, &log);
+    drop(log);
     (bytes_of(rt, alloc, keeper), told)
 }
 
@@ -107,11 +114,22 @@ fn kept_failing(rt: &impl Abort, alloc: Global, number: u64) -> (Vec<u8>, Vec<u8
     match opened {
         Ok(keeper) => kept_by(rt, alloc, keeper),
         Err(failed) => {
-            let bytes = sure(rt, Vec::from_slice(alloc, failed.device.bytes()));
+            let bytes = copy_of(rt, alloc, failed.device.bytes());
             drop(failed);
             (bytes, Vec::new(alloc))
         }
     }
+}
+
+/// The call of a number fails: nothing was acknowledged that is not in the file, and the log goes on with the last answers.
+fn expect_failing(rt: &impl Abort, alloc: Global, number: u64, log: &[u8], whole: &[u8]) {
+    let (left, told) = kept_failing(rt, alloc, number);
+    let (position, more) = goes_on(rt, alloc, &left, log);
+    drop(left);
+    expect(rt, whole.starts_with(&told));
+    expect(rt, entries_told(told.len()) <= position);
+    drop(told);
+    expect_end(rt, whole, more);
 }
 
 #[test]
@@ -121,10 +139,8 @@ fn each_call_fails_once(rt: HostRuntime) {
     let whole = answers(&rt, alloc, &log);
     // Creating takes 5 calls, and keeping 12.
     for number in 1..=18u64 {
-        let (left, told) = kept_failing(&rt, alloc, number);
-        expect(&rt, whole.starts_with(&told));
-        let (position, more) = goes_on(&rt, alloc, &left, &log);
-        expect(&rt, entries_told(told.len()) <= position);
-        expect(&rt, whole.ends_with(&more));
+        expect_failing(&rt, alloc, number, &log, &whole);
     }
+    drop(log);
+    drop(whole);
 }

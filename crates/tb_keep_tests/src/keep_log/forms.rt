@@ -7,7 +7,8 @@ use crate::keep_commands::news::{NewFile, Noted, WELL_MADE};
 use crate::keep_commands::pipes::Pipe;
 use crate::keep_commands::rows::{NO_TERMINALS, words_of};
 use crate::keep_log::keeping::{dump_of_pairs, whole_file};
-use crate::keep_log::logs::{answers, expect, log, part, same, sure};
+use crate::keep_log::logs::{answers, log, part};
+use crate::steps::{copy_of, expect, expect_equal, expect_given, rot, same, sure};
 use std::alloc::Global;
 use std::process::Abort;
 use tb_journal::Memory;
@@ -52,6 +53,14 @@ impl OneFile {
         match Memory::new(self.alloc, copy) {
             Ok(file) => Ok(file),
             Err(_) => Err(OpeningFault::NoMemory),
+        }
+    }
+
+    /// Says whether it has these bytes.
+    fn has(&self, bytes: &[u8]) -> bool {
+        match &self.bytes {
+            Some(left) => same(left, bytes),
+            None => false,
         }
     }
 
@@ -101,8 +110,16 @@ fn served(
 ) -> u8 {
     let alloc = file.alloc;
     let words = words_of(rt, alloc, words);
-    let words = words.as_slice();
-    let status = serve_words(alloc, file, words, NO_TERMINALS, input, pipe, lines);
+    let status = serve_words(
+        alloc,
+        file,
+        words.as_slice(),
+        NO_TERMINALS,
+        input,
+        pipe,
+        lines,
+    );
+    drop(words);
     file.settle();
     status
 }
@@ -125,8 +142,36 @@ fn ran(
     let status = served(rt, file, words, input, &mut pipe, &mut lines);
     let (wanted, line) = ends;
     expect(rt, status == wanted);
-    expect(rt, same(&lines.into_inner(), line.as_bytes()));
-    sure(rt, Vec::from_slice(alloc, pipe.bytes()))
+    let lines = lines.into_inner();
+    expect_given(rt, lines, line.as_bytes());
+    let out = copy_of(rt, alloc, pipe.bytes());
+    drop(pipe);
+    out
+}
+
+/// The same, where just these bytes must go out.
+fn expect_out(
+    rt: &impl Abort,
+    file: &mut OneFile,
+    words: &[&str],
+    input: &[u8],
+    ends: Ends,
+    want: &[u8],
+) {
+    let out = ran(rt, file, words, input, ROOM, ends);
+    expect_given(rt, out, want);
+}
+
+/// The same, where anything may go out.
+fn expect_ends(
+    rt: &impl Abort,
+    file: &mut OneFile,
+    words: &[&str],
+    input: &[u8],
+    room: usize,
+    ends: Ends,
+) {
+    drop(ran(rt, file, words, input, room, ends));
 }
 
 /// The bytes that an output takes here.
@@ -152,12 +197,16 @@ fn followed_and_started_again(rt: HostRuntime) {
     let rest = part(&log, 385, log.len());
     let more = ran(&rt, &mut file, FOLLOW, rest, ROOM, (0, AT_ONE));
     sure(&rt, told.extend_from_slice(&more));
-    expect(&rt, same(&told, &answers(&rt, alloc, &log)));
+    drop(more);
+    let whole = answers(&rt, alloc, &log);
+    drop(log);
+    expect_equal(&rt, told, whole);
     let words = &["follow", "ledger", "2", "1"];
-    let none = ran(&rt, &mut file, words, &[], ROOM, (0, AT_THREE));
-    expect(&rt, none.is_empty());
-    let dumped = ran(&rt, &mut file, DUMP, &[], ROOM, (0, ""));
-    expect(&rt, same(&dumped, &dump_of_pairs(&rt, alloc)));
+    expect_out(&rt, &mut file, words, &[], (0, AT_THREE), &[]);
+    let dumped = dump_of_pairs(&rt, alloc);
+    expect_out(&rt, &mut file, DUMP, &[], (0, ""), &dumped);
+    drop(dumped);
+    drop(file);
 }
 
 const PLAIN: &str = "tbd: Plain: ledger is a ledger without positions; tbd run serves it\n";
@@ -167,36 +216,63 @@ const NO_HEAD: &str =
 
 /// Expects that words are refused over a file, with nothing written to the output or to the file.
 fn refused(rt: &impl Abort, alloc: Global, bytes: &[u8], words: &[&str], ends: Ends) {
-    let copy = sure(rt, Vec::from_slice(alloc, bytes));
+    let copy = copy_of(rt, alloc, bytes);
     let mut file = OneFile::new(rt, alloc, Some(copy));
-    expect(rt, ran(rt, &mut file, words, &[], ROOM, ends).is_empty());
-    match &file.bytes {
-        Some(left) => expect(rt, same(left, bytes)),
-        None => expect(rt, false),
+    expect_out(rt, &mut file, words, &[], ends, &[]);
+    expect(rt, file.has(bytes));
+    drop(file);
+}
+
+/// Words, and how they end.
+struct Refusal {
+    words: &'static [&'static str],
+    ends: Ends,
+}
+
+// Words that end so.
+macro_rules! refusal {
+    ($words:expr, $status:expr, $line:expr $(,)?) => {
+        Refusal { words: $words, ends: ($status, $line) }
+    };
+}
+
+/// Expects that each of these is refused over a file.
+fn all_refused(rt: &impl Abort, alloc: Global, bytes: &[u8], rows: &[Refusal]) {
+    for row in rows {
+        refused(rt, alloc, bytes, row.words, row.ends);
     }
 }
+
+/// Forms that want no plain ledger, and forms that want no log.
+const NO_LEDGERS: &[Refusal] = &[refusal!(FOLLOW, 5, PLAIN), refusal!(DUMP, 5, PLAIN)];
+
+const NO_LOGS: &[Refusal] = &[
+    refusal!(&["run", "ledger", "2"], 5, NO_HEAD),
+    refusal!(&["dump", "ledger"], 5, NO_HEAD),
+    refusal!(&["check", "ledger"], 5, NO_HEAD),
+];
 
 #[test]
 fn plain_ledgers_and_logs(rt: HostRuntime) {
     let alloc = rt.alloc();
     let ledger = ledger_of(&rt, alloc, Has::Entries);
-    refused(&rt, alloc, &ledger, FOLLOW, (5, PLAIN));
-    refused(&rt, alloc, &ledger, DUMP, (5, PLAIN));
+    all_refused(&rt, alloc, &ledger, NO_LEDGERS);
+    drop(ledger);
     let log = whole_file(&rt, alloc);
-    refused(&rt, alloc, &log, &["run", "ledger", "2"], (5, NO_HEAD));
-    refused(&rt, alloc, &log, &["dump", "ledger"], (5, NO_HEAD));
-    refused(&rt, alloc, &log, &["check", "ledger"], (5, NO_HEAD));
+    all_refused(&rt, alloc, &log, NO_LOGS);
+    drop(log);
 }
 
 #[test]
 fn a_log_without_entries(rt: HostRuntime) {
     let alloc = rt.alloc();
     let mut file = OneFile::new(&rt, alloc, None);
-    let _ = ran(&rt, &mut file, FOLLOW, &[], ROOM, (0, MADE));
+    expect_ends(&rt, &mut file, FOLLOW, &[], ROOM, (0, MADE));
     // It has no record, so a ledger may begin in it, and then it is no log's.
     let run = &["run", "ledger", "2"];
-    expect(&rt, ran(&rt, &mut file, run, &[], ROOM, (0, "")).is_empty());
-    let _ = ran(&rt, &mut file, FOLLOW, &[], ROOM, (5, PLAIN));
+    expect_out(&rt, &mut file, run, &[], (0, ""), &[]);
+    expect_ends(&rt, &mut file, FOLLOW, &[], ROOM, (5, PLAIN));
+    drop(file);
 }
 
 const OTHER_RULES: &str =
@@ -204,55 +280,68 @@ const OTHER_RULES: &str =
 
 const NONE: &str = "tbd: NotAJournal: ledger does not begin as a ledger's file\n";
 
+/// Forms over a log of other rules, over a text, and over a log of which a byte turned.
+const OTHERS: &[Refusal] = &[
+    refusal!(&["follow", "ledger", "3"], 7, OTHER_RULES),
+    refusal!(&["dump", "ledger", "2", "2"], 7, OTHER_RULES),
+];
+
+const TEXTS: &[Refusal] = &[refusal!(FOLLOW, 5, NONE), refusal!(DUMP, 5, NONE)];
+
+const ROT: &str = "tbd: Damaged: at byte 734\n";
+
+const ROTTEN: &[Refusal] = &[refusal!(FOLLOW, 6, ROT), refusal!(DUMP, 6, ROT)];
+
 #[test]
 fn logs_that_are_refused(rt: HostRuntime) {
     let alloc = rt.alloc();
     let mut log = whole_file(&rt, alloc);
-    refused(
-        &rt,
-        alloc,
-        &log,
-        &["follow", "ledger", "3"],
-        (7, OTHER_RULES),
-    );
-    let two = &["dump", "ledger", "2", "2"];
-    refused(&rt, alloc, &log, two, (7, OTHER_RULES));
-    refused(&rt, alloc, b"a text, and no journal", FOLLOW, (5, NONE));
-    refused(&rt, alloc, b"a text, and no journal", DUMP, (5, NONE));
+    all_refused(&rt, alloc, &log, OTHERS);
+    all_refused(&rt, alloc, b"a text, and no journal", TEXTS);
     // A byte of the last record.
     let last = log.len().saturating_sub(2);
-    if let Some(byte) = log.get_mut(last) {
-        *byte = byte.wrapping_add(1);
-    }
-    let rot = "tbd: Damaged: at byte 734\n";
-    refused(&rt, alloc, &log, FOLLOW, (6, rot));
-    refused(&rt, alloc, &log, DUMP, (6, rot));
+    rot(&mut log, last);
+    all_refused(&rt, alloc, &log, ROTTEN);
+    drop(log);
 }
 
 /// Expects that an item behind the first one ends a log so, and that a start finds the file as it was.
-fn ended(rt: &impl Abort, alloc: Global, item: &[u8], line: &str) {
+fn ended(rt: &impl Abort, alloc: Global, item: &[u8], line: &'static str) {
     let log = log(rt, alloc);
     let mut file = OneFile::new(rt, alloc, None);
-    let _ = ran(rt, &mut file, FOLLOW, part(&log, 0, 385), ROOM, (0, MADE));
-    let mut lines = sure(rt, String::from_str(alloc, AT_ONE));
-    sure(rt, lines.push_str(line));
-    let mut pipe = Pipe::new(alloc, ROOM, true);
-    let mut told = Counting::new(Vec::new(alloc));
-    let status = served(rt, &mut file, FOLLOW, item, &mut pipe, &mut told);
-    expect(rt, status == 2);
-    expect(rt, pipe.bytes().is_empty());
-    expect(rt, same(&told.into_inner(), lines.as_bytes()));
-    let _ = ran(rt, &mut file, FOLLOW, &[], ROOM, (0, AT_ONE));
+    expect_ends(rt, &mut file, FOLLOW, part(&log, 0, 385), ROOM, (0, MADE));
+    drop(log);
+    expect_out(rt, &mut file, FOLLOW, item, (2, line), &[]);
+    expect_ends(rt, &mut file, FOLLOW, &[], ROOM, (0, AT_ONE));
+    drop(file);
 }
+
+/// Where in the log items are that are refused behind the first entry, and what is told then.
+const ITEMS: &[(usize, usize, &str)] = &[
+    (
+        0,
+        385,
+        "tbd: has the log up to position 1\ntbd: Repeat at 1\n",
+    ),
+    (
+        587,
+        860,
+        "tbd: has the log up to position 1\ntbd: Gap at 3\n",
+    ),
+    (386, 586, "tbd: has the log up to position 1\ntbd: Short\n"),
+];
+
+const UNKNOWN: &str = "tbd: has the log up to position 1\ntbd: UnknownKind 7\n";
 
 #[test]
 fn items_that_are_refused(rt: HostRuntime) {
     let alloc = rt.alloc();
     let log = log(&rt, alloc);
-    ended(&rt, alloc, part(&log, 0, 385), "tbd: Repeat at 1\n");
-    ended(&rt, alloc, part(&log, 587, 860), "tbd: Gap at 3\n");
-    ended(&rt, alloc, part(&log, 386, 586), "tbd: Short\n");
-    ended(&rt, alloc, &[7], "tbd: UnknownKind 7\n");
+    for (begin, end, line) in ITEMS {
+        ended(&rt, alloc, part(&log, *begin, *end), line);
+    }
+    drop(log);
+    ended(&rt, alloc, &[7], UNKNOWN);
 }
 
 const LOST: &str =
@@ -263,58 +352,67 @@ fn openings_and_outputs_that_fail(rt: HostRuntime) {
     let alloc = rt.alloc();
     let mut file = OneFile::new(&rt, alloc, None);
     let missing = "tbd: Device: cannot find ledger\n";
-    let _ = ran(&rt, &mut file, DUMP, &[], ROOM, (1, missing));
+    expect_ends(&rt, &mut file, DUMP, &[], ROOM, (1, missing));
     let log = log(&rt, alloc);
     let told = ran(&rt, &mut file, FOLLOW, part(&log, 0, 385), 10, (1, LOST));
+    drop(log);
     expect(&rt, told.len() == 10);
+    drop(told);
     // What was not told whole is in the file.
-    let _ = ran(&rt, &mut file, FOLLOW, &[], ROOM, (0, AT_ONE));
+    expect_ends(&rt, &mut file, FOLLOW, &[], ROOM, (0, AT_ONE));
     let full = "tbd: Device: standard output\n";
-    let _ = ran(&rt, &mut file, DUMP, &[], 10, (1, full));
+    expect_ends(&rt, &mut file, DUMP, &[], 10, (1, full));
     file.fault = Some(OpeningFault::Locked);
     let locked = "tbd: Locked: another program has the file open\n";
-    let _ = ran(&rt, &mut file, FOLLOW, &[], ROOM, (4, locked));
+    expect_ends(&rt, &mut file, FOLLOW, &[], ROOM, (4, locked));
+    drop(file);
 }
 
 /// Words that are no form, and what is told of them.
-const WRONG: &[(&[&str], &str)] = &[
-    (
+const WRONG: &[Refusal] = &[
+    refusal!(
         &["folow", "ledger", "2"],
+        2,
         "tbd: Usage: folow: unknown; tbd --help shows the forms\n",
     ),
-    (
+    refusal!(
         &["follow"],
+        2,
         "tbd: Usage: follow: FILE and CLIENTS_MAX are missing\n",
     ),
-    (
+    refusal!(
         &["follow", "ledger"],
+        2,
         "tbd: Usage: follow ledger: CLIENTS_MAX is missing, 1 to 64\n",
     ),
-    (
+    refusal!(
         &["follow", "ledger", "65"],
+        2,
         "tbd: Usage: follow ledger 65: CLIENTS_MAX is 1 to 64\n",
     ),
-    (
+    refusal!(
         &["follow", "ledger", "2", "3"],
+        2,
         "tbd: Usage: follow ledger 2 3: PROFILE is 1 or 2\n",
     ),
-    (
+    refusal!(
         &["follow", "ledger", "2", "1", "--progress"],
+        2,
         "tbd: Usage: follow: too many words\n",
     ),
-    (
+    refusal!(
         &["follow", "64", "2"],
+        2,
         "tbd: Usage: follow 64: FILE is a number or begins with -; write ./FILE\n",
     ),
-    (
+    refusal!(
         &["dump", "ledger", "65"],
+        2,
         "tbd: Usage: dump: only --after COMMIT, --follow, or CLIENTS_MAX and PROFILE may follow FILE\n",
     ),
 ];
 
 #[test]
 fn words_that_are_wrong(rt: HostRuntime) {
-    for (words, line) in WRONG {
-        refused(&rt, rt.alloc(), &[], words, (2, line));
-    }
+    all_refused(&rt, rt.alloc(), &[], WRONG);
 }

@@ -4,13 +4,14 @@ ghost use Rattle.tb_journal.specs.Memory.{memory_disk};
 ghost use Rattle.tb_journal.specs.Ready.{IsReady};
 ghost use Rattle.tb_keep_log.specs.Keeping.{IsUsable};
 
+use crate::steps::{file_of, rules, sure};
 use std::alloc::Global;
 use std::process::Abort;
 use tb_journal::Memory;
 use tb_keep::Rules;
 use tb_keep_log::{KeepLogFault, LogKeeper, LogStartFault, NotStarted, keep_log};
 use tb_log::follow;
-use tb_records::{ClientsMax, Counting, Profile};
+use tb_records::Counting;
 
 /// The log: an entry of a register and of the creation of accounts 1 and 2, a question, an entry of a transfer, an entry of the same
 /// transfer again and of a lookup, and a question.
@@ -80,25 +81,6 @@ pub const ENDS: [usize; 5] = [385, 386, 587, 860, 861];
 /// The position behind each of them.
 pub const POSITIONS: [u64; 5] = [1, 1, 2, 3, 3];
 
-/// The value of a call that a test wants to succeed.
-pub fn sure<T: Drop, E: Drop>(rt: &impl Abort, answer: Result<T, E>) -> T
-    ensures { answer ≡ Ok result }
-{
-    answer.ok().expect(rt, "no fault")
-}
-
-/// What a test wants to hold.
-pub fn expect(rt: &impl Abort, holds: bool)
-    ensures { holds ≡ true }
-{
-    assert!(rt; holds);
-}
-
-/// Says whether these bytes are those.
-pub fn same(found: &[u8], wanted: &[u8]) -> bool {
-    found == wanted
-}
-
 /// The log.
 pub fn log(rt: &impl Abort, alloc: Global) -> Vec<u8> {
     let mut bytes = Vec::new(alloc);
@@ -112,19 +94,6 @@ pub fn log(rt: &impl Abort, alloc: Global) -> Vec<u8> {
 /// The bytes from one place to another.
 pub fn part(bytes: &[u8], begin: usize, end: usize) -> &[u8] {
     bytes.get(begin..end).unwrap_or_default()
-}
-
-/// Profile 1, and this number of clients.
-pub fn rules_for(rt: &impl Abort, clients_max: u32) -> Rules {
-    Rules {
-        profile: Profile::One,
-        clients_max: ClientsMax::new(clients_max).expect(rt, "a number of clients"),
-    }
-}
-
-/// Profile 1 and two clients.
-pub fn rules(rt: &impl Abort) -> Rules {
-    rules_for(rt, 2)
 }
 
 /// What a follower without a file answers a log.
@@ -141,14 +110,6 @@ pub fn answers(rt: &impl Abort, alloc: Global, log: &[u8]) -> Vec<u8> {
     );
     sure(rt, followed);
     writer.into_inner()
-}
-
-/// A file in memory with these bytes.
-pub fn file_of(rt: &impl Abort, alloc: Global, bytes: &[u8]) -> Memory
-    ensures { (memory_disk result).sound ≡ true }
-{
-    let copy = sure(rt, Vec::from_slice(alloc, bytes));
-    sure(rt, Memory::new(alloc, copy))
 }
 
 /// The keeper of a file.

@@ -1,25 +1,29 @@
 //! Logs that are followed, and logs that are refused.
 use crate::log::logs::{
-    ONE, TWO, answers, entry, expect, first, first_answers, followed, log, put_entry, same, second,
-    sure,
+    ONE, TWO, answers, entry, first, first_answers, followed, log, put_entry, second,
 };
+use crate::steps::{change, expect, expect_given, expect_same, sure};
 use std::alloc::Global;
 use std::process::Abort;
 use tb_log::{Chain, LogFault};
 use tb_records::FrameFault;
 
-/// Changes a byte.
-fn change(bytes: &mut [u8], at: usize, value: u8) {
-    if let Some(byte) = bytes.get_mut(at) {
-        *byte = value;
-    }
-}
-
 /// Wants a log to be refused by a fault before anything is answered.
 fn expect_fault(rt: &impl Abort, alloc: Global, log: &[u8], fault: LogFault) {
+    expect_answers(rt, alloc, log, Err(fault), &[]);
+}
+
+/// Wants this answer to a log, and these bytes.
+fn expect_answers(
+    rt: &impl Abort,
+    alloc: Global,
+    log: &[u8],
+    want: Result<u64, LogFault>,
+    out: &[u8],
+) {
     let (answer, written) = followed(rt, alloc, log);
-    expect(rt, answer == Err(fault));
-    expect(rt, written.is_empty());
+    expect_same(rt, answer, want);
+    expect_given(rt, written, out);
 }
 
 /// Wants the first entry to be refused by a fault where one byte of it has another value.
@@ -27,29 +31,29 @@ fn expect_changed(rt: &impl Abort, alloc: Global, at: usize, value: u8, fault: L
     let mut log = entry(rt, alloc, 1);
     change(&mut log, at, value);
     expect_fault(rt, alloc, &log, fault);
+    drop(log);
 }
 
 #[test]
 fn log_is_followed(rt: HostRuntime) {
     let alloc = rt.alloc();
-    let (answer, written) = followed(&rt, alloc, &log(&rt, alloc));
-    expect(&rt, answer == Ok(3));
-    expect(&rt, same(&written, &answers(&rt, alloc)));
+    let log = log(&rt, alloc);
+    let want = answers(&rt, alloc);
+    expect_answers(&rt, alloc, &log, Ok(3), &want);
+    drop(want);
+    drop(log);
 }
 
 #[test]
 fn empty_log(rt: HostRuntime) {
-    let alloc = rt.alloc();
-    let (answer, written) = followed(&rt, alloc, &[]);
-    expect(&rt, answer == Ok(0));
-    expect(&rt, written.is_empty());
+    expect_answers(&rt, rt.alloc(), &[], Ok(0), &[]);
 }
 
 #[test]
 fn question_before_any_entry(rt: HostRuntime) {
     let alloc = rt.alloc();
     let (answer, written) = followed(&rt, alloc, &[2]);
-    expect(&rt, answer == Ok(0));
+    expect_same(&rt, answer, Ok(0));
     expect(&rt, written.len() == 73 && written.first() == Some(&2));
     expect(&rt, written.iter().skip(1).all(|byte| *byte == 0));
 }
@@ -66,9 +70,10 @@ fn entry_that_comes_twice(rt: HostRuntime) {
     let alloc = rt.alloc();
     let mut log = entry(&rt, alloc, 1);
     sure(&rt, log.extend_from_slice(&entry(&rt, alloc, 1)));
-    let (answer, written) = followed(&rt, alloc, &log);
-    expect(&rt, answer == Err(LogFault::Repeat(1)));
-    expect(&rt, same(&written, &first_answers(&rt, alloc)));
+    let want = first_answers(&rt, alloc);
+    expect_answers(&rt, alloc, &log, Err(LogFault::Repeat(1)), &want);
+    drop(want);
+    drop(log);
 }
 
 #[test]

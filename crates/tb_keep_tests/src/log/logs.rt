@@ -1,4 +1,5 @@
 //! A log, what it is answered, and what follows it. Checksums and hashes were computed by Python.
+use crate::steps::sure;
 use std::alloc::Global;
 use std::process::Abort;
 use tb_fixtures::{account, creation, found, lookup, transfer, transfers};
@@ -31,21 +32,6 @@ const THIRD_HASHES: [u128; 4] = [
     0x6df0040aba65e6fcdd546f60d2aa6c94,
     0x15f6a9815624f85365620e13f233e3a5,
 ];
-
-/// The value of a call that a test wants to succeed.
-pub fn sure<T: Drop, E: Drop>(rt: &impl Abort, answer: Result<T, E>) -> T {
-    answer.ok().expect(rt, "no fault")
-}
-
-/// What a test wants to hold.
-pub fn expect(rt: &impl Abort, holds: bool) {
-    assert!(rt; holds);
-}
-
-/// Says whether these bytes are those.
-pub fn same(found: &[u8], wanted: &[u8]) -> bool {
-    found == wanted
-}
 
 /// Appends the pair of a request of client 7 at moment 10.
 fn put_pair(rt: &impl Abort, out: &mut Vec<u8>, session: u64, request: u32, body: Body) {
