@@ -48,8 +48,8 @@ HEADS = ("-- Cited by", "-- Public contracts reach it", "-- No contract cites it
 # for inputs of another kind and the laws of `explain` of a dump), and of later crates
 # (tb_keep_commands: 212 for live files, salvage and backup; tb_keep_log: 34 for the faults of a
 # dump and the end of the process; tb_log: 16 for an input that ends within an item).
-LINES_MAX = 5419
-LATER = {"tb_keep_commands": 718, "tb_log": 274, "tb_keep_log": 262, "tb_keep_follow": 227}
+LINES_MAX = 5435
+LATER = {"tb_keep_commands": 719, "tb_log": 280, "tb_keep_log": 280, "tb_keep_follow": 227}
 TOOLS = (
     "tb_uses",
     "tb_bench",
