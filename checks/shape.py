@@ -49,9 +49,9 @@ COLUMNS = (
 CLAUSES_OVER_100 = 0.203  # wanted: 0.10
 # Each figure with a bound: what it has today, and what is wanted.
 BOUNDS = {
-    "lines": (115130, 74500),
-    "imports": (11633, 4700),
-    ">160": (127, 0),
+    "lines": (116579, 74500),
+    "imports": (11829, 4700),
+    ">160": (115, 0),
     "ghost >160": (8, 0),
     ">8 clauses": (12, 0),
     ">=40 lines": (1, 0),
