@@ -49,9 +49,9 @@ COLUMNS = (
 CLAUSES_OVER_100 = 0.203  # wanted: 0.10
 # Each figure with a bound: what it has today, and what is wanted.
 BOUNDS = {
-    "lines": (116220, 74500),
-    "imports": (11788, 4700),
-    ">160": (128, 0),
+    "lines": (117669, 74500),
+    "imports": (11984, 4700),
+    ">160": (116, 0),
     "ghost >160": (8, 0),
     ">8 clauses": (12, 0),
     ">=40 lines": (1, 0),

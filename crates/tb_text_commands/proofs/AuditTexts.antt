@@ -1,15 +1,26 @@
 -- Texts of lines: they go on, they have their parts, and without their line feeds they have them still.
-use Rattle.std.proofs.Common.{◌≡◌, ◌≢◌, ℕ, zero, suc, ◌+◌, ◌/◌, ◌%◌, ◌==◌, Bool, true, false, not, cond, eqb, nat_lt, All, List, [], ◌∷◌, ◌++◌, Option, Some, None, filter, refl, sym, ap, subst, ◌∙◌, append_assoc, append-nil, arith, codes, decimal}
+use Rattle.std.proofs.Common.{◌≡◌, ◌≢◌, ℕ, zero, suc, ◌+◌, ◌/◌, ◌%◌, ◌==◌, Bool, true, false, not, cond, nat_lt, List, [], ◌∷◌, ◌++◌, Option, Some, None, filter, find, nat_eq, refl, sym, ap, subst, ◌∙◌, append_assoc, append-nil, arith, codes, decimal}
 use Rattle.std.proofs.lemmas.Bool.{false≢true, ne_eqb}
 use Rattle.std.specs.Fmt.{digit_glyph, digits, digits_onto}
 use Rattle.std.proofs.lemmas.List.Elements.{filter-append, filter_passes}
+use Rattle.tb_records.specs.declared.bodies.Body.{Body}
+use Rattle.tb_records.specs.declared.bodies.Body.TheVariants as body
 use Rattle.tb_records.specs.declared.dumps.DumpHead.{DumpHead}
+use Rattle.tb_records.specs.declared.operations.Operation.{Operation}
+use Rattle.tb_records.specs.declared.operations.Operation.TheVariants as op
 use Rattle.tb_records.specs.declared.records.Account.{Account}
 use Rattle.tb_records.specs.declared.records.EventResult.{EventResult}
 use Rattle.tb_records.specs.declared.records.Transfer.{Transfer}
+use Rattle.tb_records.specs.AccountResults.{account_result_code, account_result_name, account_results}
 use Rattle.tb_records.specs.DumpBytes.{profile_number}
+use Rattle.tb_records.specs.Messages.{operation}
+use Rattle.tb_records.specs.Operations.{operation_code, operation_name}
+use Rattle.tb_records.specs.TransferResults.{transfer_result_code, transfer_result_name, transfer_results}
 use Rattle.tb_machine.specs.declared.entries.Entry.{Entry}
-use Rattle.tb_text_commands.specs.AuditLines.{AreIn, Extends, HasParts, IsLineOf, asked_by, digits_field, entry_begin, event_parts, in_quotes, key, number_field, object_field, one_line, parts, place_field, result_begin}
+use Rattle.tb_text_commands.specs.AuditLines.{AreIn, Extends, HasParts, IsLineOf, IsWord, ShowsField, account_word, asked_by, digits_field, entry_begin, event_parts, in_quotes, key, name_field, number_field, object_field, one_line, operation_word, outcome_word, parts, place_field, transfer_word, word_or}
+use Rattle.tb_text_commands.specs.declared.objects.Shown.{Shown}
+use Rattle.tb_text_commands.specs.declared.objects.Shown.TheVariants as shown
+use Rattle.tb_text_commands.proofs.ResultWords.{plain_account_name, plain_transfer_name}
 use Rattle.tb_text_commands.specs.Wanted.{Told, begins, enters, expires, moves, opens, settles, stands}
 
 -- texts that go on
@@ -98,9 +109,26 @@ plain_object name id h = plain_join (key 44 name) (digits_field 123 (codes "id")
 plain_begin : (e : Entry) → Plain (entry_begin e)
 plain_begin e = plain_join (digits_field 123 (codes "commit") e.commit) (digits_field 44 (codes "time") e.time) (plain_digits 123 (codes "commit") e.commit refl) (plain_digits 44 (codes "time") e.time refl)
 
-plain_result : (outcome : Option EventResult) → Plain (result_begin outcome)
-plain_result None = refl
-plain_result (Some refused) = refl
+plain_found : {V : Type 0} (name : V → List ℕ) (code : ℕ) → ((v : V) → Plain (name v)) → (found : Option V) → Plain (word_or name code found)
+plain_found name code each None = plain_decimal code
+plain_found name code each (Some v) = each v
+
+plain_word : (number : ℕ) (outcome : Option EventResult) → Plain (outcome_word number outcome)
+plain_word number None = refl
+plain_word number (Some refused) =
+    plain_either (number == operation_code op.CreateAccounts) (account_word refused.result) (transfer_word refused.result)
+    (plain_found account_result_name refused.result plain_account_name (find (λ v. nat_eq (account_result_code v) refused.result) account_results))
+    (plain_found transfer_result_name refused.result plain_transfer_name (find (λ v. nat_eq (transfer_result_code v) refused.result) transfer_results))
+
+plain_named : (name word : List ℕ) → Plain (key 44 name) → Plain word → Plain (name_field 44 name word)
+plain_named name word one two = plain_join (key 44 name) (in_quotes word) one (plain_quoted word two)
+
+plain_operation : (b : Body) → Plain (operation_word b)
+plain_operation body.Register = refl
+plain_operation (body.CreateAccounts events) = refl
+plain_operation (body.CreateTransfers events) = refl
+plain_operation (body.LookupAccounts ids) = refl
+plain_operation (body.LookupTransfers ids) = refl
 
 plain_asked : (e : Entry) → Plain (asked_by e)
 plain_asked e =
@@ -111,9 +139,14 @@ abbrev ArePlain : List (List ℕ) → Type 0
 ArePlain [] = Unit {0}
 ArePlain (p ∷ ps) = Plain p × ArePlain ps
 
+plain_placed : (number place : ℕ) (outcome : Option EventResult) → Plain (place_field number place outcome)
+plain_placed number place outcome =
+    plain_join (number_field 44 (codes "place") place) (name_field 44 (codes "result") (outcome_word number outcome)) (plain_number 44 (codes "place") place refl)
+    (plain_named (codes "result") (outcome_word number outcome) refl (plain_word number outcome))
+
 plain_event : (e : Entry) (place : ℕ) (outcome : Option EventResult) (id : ℕ) → ArePlain (event_parts e place outcome id)
 plain_event e place outcome id =
-    (plain_begin e, (plain_join (number_field 44 (codes "place") place) (result_begin outcome) (plain_number 44 (codes "place") place refl) (plain_result outcome), (plain_object (codes "event") id refl, tt)))
+    (plain_begin e, (plain_placed (operation e.request.body) place outcome, (plain_object (codes "event") id refl, tt)))
 
 plain_head : (n m : ℕ) → Plain (number_field 123 (codes "profile") n ++ number_field 44 (codes "clients_max") m)
 plain_head n m = plain_join (number_field 123 (codes "profile") n) (number_field 44 (codes "clients_max") m) (plain_number 123 (codes "profile") n refl) (plain_number 44 (codes "clients_max") m refl)
@@ -121,7 +154,7 @@ plain_head n m = plain_join (number_field 123 (codes "profile") n) (number_field
 plain_parts : (t : Told) → ArePlain (parts t)
 plain_parts (begins head) = (plain_head (profile_number head.profile) head.clients_max, tt)
 plain_parts (expires e end t) = (plain_digits 123 (codes "time") end refl, (plain_object (codes "expired") t.id refl, tt))
-plain_parts (enters e) = (plain_begin e, (plain_asked e, tt))
+plain_parts (enters e) = (plain_begin e, (plain_asked e, (plain_named (codes "operation") (operation_word e.request.body) refl (plain_operation e.request.body), tt)))
 plain_parts (opens e place outcome a) = plain_event e place outcome a.id
 plain_parts (settles e place outcome t pending) = plain_event e place outcome t.id
 plain_parts moves = (plain_number 123 (codes "profile") 2 refl, tt)
@@ -180,19 +213,26 @@ asked_text e x y z a b d f client session request one two three =
     ∙ (ap (λ (n : ℕ). a ++ (digits_field 44 (codes "client") e.request.client ++ (digits_field 44 (codes "session") n ++ number_field 44 (codes "request") z))) session
     ∙ ap (λ (n : ℕ). a ++ (digits_field 44 (codes "client") e.request.client ++ (digits_field 44 (codes "session") e.request.session ++ number_field 44 (codes "request") n))) request)))))
 
-pub created_text : (outcome : Option EventResult) (n : ℕ) (a b d f g : List ℕ) → outcome ≡ None
-    → b ≡ a ++ key 44 (codes "place") → d ≡ b ++ decimal n → f ≡ d ++ key 44 (codes "result") → g ≡ f ++ in_quotes (codes "created")
-    → Extends (a ++ place_field n outcome) g
-created_text outcome n a b d f g none one two three four = record {
-  more = [];
-  is =
-      four
-      ∙ (ap (λ (l : List ℕ). l ++ in_quotes (codes "created")) (three ∙ ap (λ (l : List ℕ). l ++ key 44 (codes "result")) (two ∙ ap (λ (l : List ℕ). l ++ decimal n) one))
-      ∙ (append_assoc ((a ++ key 44 (codes "place")) ++ decimal n) (key 44 (codes "result")) (in_quotes (codes "created"))
-      ∙ (ap (λ (l : List ℕ). l ++ result_begin None) (append_assoc a (key 44 (codes "place")) (decimal n))
-      ∙ (append_assoc a (number_field 44 (codes "place") n) (result_begin None)
-      ∙ (ap (λ (o : Option EventResult). a ++ place_field n o) (sym none) ∙ sym (append-nil (a ++ place_field n outcome)))))));
-}
+shown_word : (name : List ℕ) (shown : Shown) (word a b : List ℕ) → IsWord shown word → ShowsField 44 name shown a b → b ≡ a ++ name_field 44 name word
+shown_word name (shown.Digits n) word a b is put = put ∙ ap (λ (w : List ℕ). a ++ name_field 44 name w) (sym is)
+shown_word name (shown.Name text) word a b is put = put ∙ ap (λ (w : List ℕ). a ++ name_field 44 name w) (sym is)
+shown_word name (shown.Number n) word a b is put = absurd is
+shown_word name (shown.AccountFlags flags) word a b is put = absurd is
+shown_word name (shown.TransferFlags flags) word a b is put = absurd is
+
+pub placed_text : (number place : ℕ) (outcome : Option EventResult) (result : Shown) (a b d f : List ℕ) → b ≡ a ++ key 44 (codes "place") → d ≡ b ++ decimal place
+    → IsWord result (outcome_word number outcome) → ShowsField 44 (codes "result") result d f → f ≡ a ++ place_field number place outcome
+placed_text number place outcome result a b d f one two is put =
+    shown_word (codes "result") result (outcome_word number outcome) d f is put
+    ∙ (ap (λ (l : List ℕ). l ++ name_field 44 (codes "result") (outcome_word number outcome)) (two ∙ ap (λ (l : List ℕ). l ++ decimal place) one ∙ append_assoc a (key 44 (codes "place")) (decimal place))
+    ∙ append_assoc a (number_field 44 (codes "place") place) (name_field 44 (codes "result") (outcome_word number outcome)))
+
+pub known_operation : (b : Body) (text : List ℕ) → ((known : Operation) → operation_code known ≡ operation b → text ≡ operation_name known) → text ≡ operation_word b
+known_operation body.Register text named = named op.Register refl
+known_operation (body.CreateAccounts events) text named = named op.CreateAccounts refl
+known_operation (body.CreateTransfers events) text named = named op.CreateTransfers refl
+known_operation (body.LookupAccounts ids) text named = named op.LookupAccounts refl
+known_operation (body.LookupTransfers ids) text named = named op.LookupTransfers refl
 
 pub head_has : (head : DumpHead) (n m : ℕ) (l0 l1 l2 text x : List ℕ) → n ≡ profile_number head.profile → m ≡ head.clients_max → l0 ≡ []
     → l1 ≡ l0 ++ number_field 123 (codes "profile") n → l2 ≡ l1 ++ number_field 44 (codes "clients_max") m → text ≡ l2 ++ x → HasParts (parts (begins head)) text
@@ -209,17 +249,20 @@ head_has head n m l0 l1 l2 text x profile clients none one two three = (
 pub mark_has : (l0 l1 text x : List ℕ) → l0 ≡ [] → l1 ≡ l0 ++ number_field 123 (codes "profile") 2 → text ≡ l1 ++ x → HasParts (parts moves) text
 mark_has l0 l1 text x none one two = (x, two ∙ ap (λ (l : List ℕ). l ++ x) (one ∙ ap (λ (l : List ℕ). l ++ number_field 123 (codes "profile") 2) none), tt)
 
-pub enters_has : (e : Entry) (l0 l1 l2 l3 text x : List ℕ) → Extends (entry_begin e) l0 → l1 ≡ l0 ++ asked_by e → Extends l1 l2 → Extends l2 l3 → text ≡ l3 ++ x
-    → HasParts (parts (enters e)) text
-enters_has e l0 l1 l2 l3 text x begun asked two three four =
-    has_part (entry_begin e) [] (asked_by e) l0 text (has_first (entry_begin e) l0 begun)
-    (subst (λ (l : List ℕ). Extends l text) asked (extends_join l1 l2 text two (extends_join l2 l3 text three (extends_by l3 text x four))))
+pub enters_has : (e : Entry) (word l0 l1 l2 l3 text x : List ℕ) → word ≡ operation_word e.request.body → Extends (entry_begin e) l0 → l1 ≡ l0 ++ asked_by e
+    → l2 ≡ l1 ++ name_field 44 (codes "operation") word → Extends l2 l3 → text ≡ l3 ++ x → HasParts (parts (enters e)) text
+enters_has e word l0 l1 l2 l3 text x named begun asked two three four =
+    has_part (entry_begin e) (asked_by e ∷ []) (name_field 44 (codes "operation") (operation_word e.request.body)) l1 text
+    (has_part (entry_begin e) [] (asked_by e) l0 l1 (has_first (entry_begin e) l0 begun) (extends_by (l0 ++ asked_by e) l1 [] (asked ∙ sym (append-nil (l0 ++ asked_by e)))))
+    (subst (λ (l : List ℕ). Extends l text) (two ∙ ap (λ (w : List ℕ). l1 ++ name_field 44 (codes "operation") w) named) (extends_join l2 l3 text three (extends_by l3 text x four)))
 
-pub event_has : (e : Entry) (place : ℕ) (outcome : Option EventResult) (id k : ℕ) (l0 l1 text : List ℕ) → k ≡ id → Extends (entry_begin e) l0
-    → Extends (l0 ++ place_field place outcome) l1 → Extends (l1 ++ object_field (codes "event") k) text → HasParts (event_parts e place outcome id) text
-event_has e place outcome id k l0 l1 text same begun placed last =
-    has_part (entry_begin e) (place_field place outcome ∷ []) (object_field (codes "event") id) l1 text
-    (has_part (entry_begin e) [] (place_field place outcome) l0 l1 (has_first (entry_begin e) l0 begun) placed)
+pub event_has : (e : Entry) (place : ℕ) (outcome : Option EventResult) (id k number : ℕ) (l0 l1 text : List ℕ) → k ≡ id → number ≡ operation e.request.body → Extends (entry_begin e) l0
+    → l1 ≡ l0 ++ place_field number place outcome → Extends (l1 ++ object_field (codes "event") k) text → HasParts (event_parts e place outcome id) text
+event_has e place outcome id k number l0 l1 text same asked begun placed last =
+    has_part (entry_begin e) (place_field (operation e.request.body) place outcome ∷ []) (object_field (codes "event") id) l1 text
+    (has_part (entry_begin e) [] (place_field (operation e.request.body) place outcome) l0 l1 (has_first (entry_begin e) l0 begun)
+    (extends_by (l0 ++ place_field (operation e.request.body) place outcome) l1 []
+    (placed ∙ ap (λ (n : ℕ). l0 ++ place_field n place outcome) asked ∙ sym (append-nil (l0 ++ place_field (operation e.request.body) place outcome)))))
     (subst (λ (n : ℕ). Extends (l1 ++ object_field (codes "event") n) text) same last)
 
 pub expires_has : (e : Entry) (end : ℕ) (t : Transfer) (l0 l1 text : List ℕ) → l0 ≡ [] → Extends (l0 ++ digits_field 123 (codes "time") end) l1

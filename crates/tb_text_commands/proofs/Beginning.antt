@@ -9,12 +9,14 @@ use Rattle.tb_records.specs.declared.dumps.DumpHead.{DumpHead}
 use Rattle.tb_records.specs.declared.faults.FrameFault.TheVariants as frame
 use Rattle.tb_records.specs.DumpBytes.{HeadAnswered, HeadAnswers, HeadCounts}
 use Rattle.tb_records.specs.Transport.{Input, Output, risen}
+use Rattle.tb_text_commands.specs.declared.arguments.Form.{Form}
 use Rattle.tb_text_commands.specs.declared.faults.Fault.{Fault}
 use Rattle.tb_text_commands.specs.declared.faults.Fault.TheVariants.{Device}
+use Rattle.tb_text_commands.specs.declared.kinds.Awaited.{Awaited}
 use Rattle.tb_text_commands.specs.declared.kinds.Kind.{Kind}
 use Rattle.tb_text_commands.specs.AuditRuns.{AuditRan, Audits, HeadFails, HeadTold}
 use Rattle.tb_text_commands.specs.Ends.{Converts, Ended, IsWhole, StopsBy}
-use Rattle.tb_text_commands.specs.Kinds.{BeginsAs, Lacks, Waits, kind_of}
+use Rattle.tb_text_commands.specs.Kinds.{BeginsAs, Finds, IsForeign, Lacks, Waits, kind_of}
 use Rattle.tb_text_commands.specs.Wanted.{Told}
 use Rattle.tb_text_commands.specs.Whole.{WasWhole}
 
@@ -43,6 +45,10 @@ begins_as n (Some x) (Some y) hand kind k h e = (
   subst (λ (l : List ℕ). StartsWith l (take n hand)) k (starts_with_trans y hand (take n hand) h (starts_with_of_append hand (take n hand) (drop n hand) (sym (take-append-drop n hand)))),
   e,
 )
+
+pub found_foreign : (form : Form) (talks : Bool) (found : Option (Awaited × Kind)) (left : Option (List ℕ)) → Finds form talks found left → IfSome found (λ it. IsForeign form talks it.0 it.1 left)
+found_foreign form talks None left own = tt
+found_foreign form talks (Some it) left is = is
 
 -- ends
 

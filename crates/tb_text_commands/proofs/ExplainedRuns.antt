@@ -1,10 +1,10 @@
 -- A script is read one way: what `explain` reads of it is what a run reads.
-use Rattle.std.proofs.Common.{◌≡◌, ℕ, ◌+◌, ◌-◌, ◌^◌, ◌≤◌, ◌<◌, ◌⊎◌, List, [], ◌∷◌, ◌++◌, length, drop, flat_map, Option, Some, None, Result, Ok, Err, inl, inr, ⊎_elim, refl, sym, ap, subst, ◌∙◌, append_assoc, append-nil, arith, length-append}
+use Rattle.std.proofs.Common.{◌≡◌, ℕ, ◌+◌, ◌-◌, ◌^◌, ◌≤◌, ◌<◌, ◌⊎◌, List, [], ◌∷◌, ◌++◌, length, drop, flat_map, Option, Some, None, Ok, Err, inl, inr, ⊎_elim, refl, sym, ap, subst, ◌∙◌, append_assoc, append-nil, arith, length-append}
 use Rattle.std.proofs.lemmas.List.{drop_at}
 use Rattle.tb_records.specs.declared.faults.FrameFault.{FrameFault}
 use Rattle.tb_records.specs.declared.faults.FrameFault.TheVariants as frame
 use Rattle.tb_records.specs.declared.limits.Profile.{Profile}
-use Rattle.tb_records.specs.Frames.{IsRequest, request_bytes, request_fault}
+use Rattle.tb_records.specs.Frames.{request_bytes, request_fault}
 use Rattle.tb_records.specs.Inputs.{IsTimed, TimedAnswers, TimedFaulted, timed_bytes}
 use Rattle.tb_records.specs.Messages.{Message}
 use Rattle.tb_records.specs.Numbers.{le_bytes}
@@ -17,10 +17,9 @@ use Rattle.tb_machine.proofs.Rows.{some_one}
 use Rattle.tb_machine.specs.declared.serving.RunFault.TheVariants as fault
 use Rattle.tb_machine.specs.Runs.{Ran, Spell}
 use Rattle.tb_machine.specs.Scripts.{Pair}
-use Rattle.tb_text_commands.specs.declared.stops.Place.{Place}
 use Rattle.tb_text_commands.specs.declared.stops.ScriptEnd.{ScriptEnd}
 use Rattle.tb_text_commands.specs.declared.stops.ScriptEnd.TheVariants as script_end
-use Rattle.tb_text_commands.specs.Explained.{IsInTime, IsLate, IsNoPair, ComesOfBytes, IsPlace, Leads, ScriptEnds}
+use Rattle.tb_text_commands.specs.Explained.{IsInTime, IsLate, ComesOfBytes, ScriptEnds}
 use Rattle.tb_text_commands.specs.ExplainLaws.{EndsWellAs, StopsAs}
 
 -- one pair

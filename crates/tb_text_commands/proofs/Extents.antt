@@ -9,7 +9,7 @@ use Rattle.tb_records.specs.Inputs.{timed_bytes}
 use Rattle.tb_ledger.specs.Verdicts.{max_time}
 use Rattle.tb_machine.specs.Histories.{State}
 use Rattle.tb_machine.specs.Scripts.{Pair}
-use Rattle.tb_text_commands.specs.Explained.{Follows, IsInTime, IsLate, IsNextPair, Leads, LeadsTo, TakesAll, item_bytes}
+use Rattle.tb_text_commands.specs.Explained.{Follows, IsDumpedItem, IsInTime, IsLate, IsNextPair, Leads, LeadsTo, TakesAll, item_bytes}
 
 -- a script
 
@@ -44,7 +44,11 @@ takes_snoc : (items : List DumpItem) (more : DumpItem) (S T U : State) → Takes
 takes_snoc [] more S T U same takes = (U, subst (λ (V : State). Follows None more V U) same takes, refl)
 takes_snoc (first ∷ items) more S T U all takes = (all.0, all.1, takes_snoc items more all.0 T U all.2 takes)
 
-read_bytes : (read : DumpItem) (rest behind : List ℕ) → ItemAnswered (Ok (Some read)) rest behind → rest ≡ item_bytes read ++ behind
+pub read_fits : (read : DumpItem) (rest behind : List ℕ) → ItemAnswered (Ok (Some read)) rest behind → IsDumpedItem read
+read_fits (item.Entry commit time request) rest behind h = h.1
+read_fits item.Mark rest behind h = tt
+
+pub read_bytes : (read : DumpItem) (rest behind : List ℕ) → ItemAnswered (Ok (Some read)) rest behind → rest ≡ item_bytes read ++ behind
 read_bytes (item.Entry commit time request) rest behind h = h.0
 read_bytes item.Mark rest behind h = h
 
@@ -56,6 +60,7 @@ leads_to_more n S T U bytes rest behind read h next takes = record {
       h.bytes_are
       ∙ (ap (λ (t : List ℕ). flat_map item_bytes h.items ++ t) (read_bytes read rest behind next)
       ∙ (sym (append_assoc (flat_map item_bytes h.items) (item_bytes read) behind) ∙ ap (λ (t : List ℕ). t ++ behind) (flat_map_more item_bytes [] h.items read)));
+  each = each_snoc IsDumpedItem h.items read h.each (read_fits read rest behind next);
   taken = takes_snoc h.items read S T U h.taken takes;
   counted = omega (arith, h.counted, length_push h.items read);
 }

@@ -1,10 +1,10 @@
 -- What is typed on a terminal, part by part.
-use Rattle.std.proofs.Common.{◌≡◌, ℕ, ◌≤◌, Bool, true, false, cond, List, [], ◌∷◌, ◌++◌, length, take, drop, flat_map, Option, Some, None, Result, Ok, Err, inl, inr, refl, sym, ap, subst, ◌∙◌, append_assoc, append-nil, take-append-drop}
+use Rattle.std.proofs.Common.{◌≡◌, ℕ, Bool, true, false, cond, List, [], ◌++◌, length, take, drop, Option, Some, None, Result, Ok, Err, inl, inr, refl, sym, ap, subst, ◌∙◌, append_assoc, arith, take-append-drop, take_all}
 use Rattle.std.proofs.lemmas.Bool.{false≢true}
 use Rattle.std.specs.Io.KnownBytes.{prepend_known}
 use Rattle.tb_records.specs.Messages.{Message}
 use Rattle.tb_records.specs.Transport.{Input}
-use Rattle.tb_text.specs.Steps.{Means, Stops}
+use Rattle.tb_text.specs.Steps.{Stops}
 use Rattle.tb_text.proofs.Faults.{no_meaning}
 use Rattle.tb_text_commands.specs.declared.completing.Standing.{Standing}
 use Rattle.tb_text_commands.specs.declared.asking.Ask.TheVariants.{Leave}
@@ -15,9 +15,9 @@ use Rattle.tb_text_commands.specs.declared.typing.Typed.{Typed}
 use Rattle.tb_text_commands.specs.declared.typing.Typed.TheVariants as typed
 use Rattle.tb_text_commands.specs.Completed.{completed}
 use Rattle.tb_text_commands.specs.Ends.{is_passing}
-use Rattle.tb_text_commands.specs.Taken.{EndsHere, HoldsEnd, Stays, TakenIfPassing, TakenOf, TakesEnd, TakesIfPassing, TakesIfWrong, TakesNextTyped, TakesOne, TakesPart, TakesParts, TakesTyped, TypedOfRest, goes_on, rest_of, waiting}
-use Rattle.tb_text_commands.specs.Typed.{IsTyped, IsTypedPart, IsWrong, Leaves, ask_in}
-use Rattle.tb_text_commands.specs.Whole.{IsStatement, WasWhole}
+use Rattle.tb_text_commands.specs.Taken.{EndsHere, HoldsEnd, Stays, TakenIfPassing, TakenOf, TakesEnd, TakesIfPassing, TakesIfWrong, TakesNextTyped, TakesPart, TakesParts, TakesTyped, TypedOfRest, goes_on, rest_of, waiting}
+use Rattle.tb_text_commands.specs.Typed.{IsTyped, IsTypedPart, IsWrong, Leaves, ask_in, ends_with_cut_line}
+use Rattle.tb_text_commands.specs.Whole.{WasWhole}
 use Rattle.tb_text_commands.proofs.Taking.{part_waits, stays_then_one, takes_more}
 
 -- a part of one kind is one of another
@@ -55,6 +55,10 @@ wrong_taken fault.TooLong i j t = tt
 wrong_taken (fault.Frame f) i j t = tt
 wrong_taken (fault.Dump f) i j t = tt
 wrong_taken (fault.Arguments lines) i j t = tt
+
+-- a line that a terminal may have cut was taken with all before it
+pub cut_taken : (i j : Intake) (n : ℕ) → n ≡ length (rest_of i) → ends_with_cut_line (rest_of i) ≡ true → rest_of j ≡ drop n (rest_of i) → j.ended ≡ i.ended → TakesPart IsTypedPart i j
+cut_taken i j n all cut later same = part_taken IsTypedPart i j n later same (inr (inr (inr (ap ends_with_cut_line (take_all n (rest_of i) (omega (arith, all))) ∙ cut))))
 
 -- a word that ends the conversation stays
 pub end_held : (i : Intake) (n : ℕ) → ask_in (take n (rest_of i)) ≡ Some Leave → HoldsEnd i i

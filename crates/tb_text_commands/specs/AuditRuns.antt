@@ -23,11 +23,14 @@ use Rattle.tb_machine.specs.declared.entries.Entry.{Entry}
 use Rattle.tb_machine.specs.Histories as histories
 use Rattle.tb_machine.specs.Histories.{State, body_at, fits, step, to_two}
 use Rattle.tb_machine.specs.Replays.{ReadsNext}
+use Rattle.tb_text_commands.specs.declared.arguments.Form.{Form}
+use Rattle.tb_text_commands.specs.declared.arguments.Form.TheVariants as form
 use Rattle.tb_text_commands.specs.declared.faults.Fault.{Fault}
 use Rattle.tb_text_commands.specs.declared.faults.Fault.TheVariants.{Arguments, Device, Dump, NoMemory, TooLong}
 use Rattle.tb_text_commands.specs.AuditLines.{IsJsonLine}
 use Rattle.tb_text_commands.specs.Audits.{NoneIsDue, Waiting, waits_behind}
 use Rattle.tb_text_commands.specs.Ends.{outcome_status}
+use Rattle.tb_text_commands.specs.Forms.{form_of}
 use Rattle.tb_text_commands.specs.Results.{result_at, results_in}
 use Rattle.tb_text_commands.specs.Statuses.{dump_fault_of}
 use Rattle.tb_text_commands.specs.Wanted.{Told, begins, enters, expires, is_wanted, moves, opening_of, settling_of, stands}
@@ -285,6 +288,10 @@ module _ (IsLine : Told → List ℕ → Type 0) (wants : Told → Bool) where
   abbrev pub HeadFails : Fault → Input → Input → Output → Output → Type 0
   HeadFails fault before after start written = Headless fault before after start written ⊎ ((head : DumpHead) × HeadTold (Err fault) head before after start written)
 
+  abbrev pub ReadsHead : Result DumpHead Fault → Input → Input → Output → Output → Type 0
+  ReadsHead (Ok head) before after start written = HeadTold (Ok tt) head before after start written
+  ReadsHead (Err fault) before after start written = HeadFails fault before after start written
+
   abbrev pub AuditRan : Result (Unit {0}) Fault → Option ℕ → Input → Input → Output → Output → Type 0
   AuditRan (Ok done) account before after start written = Audits (Ok done) account before after start written
   AuditRan (Err fault) account before after start written = HeadFails fault before after start written ⊎ Audits (Err fault) account before after start written
@@ -294,3 +301,13 @@ pub record AuditedBy (wanted : Wanted) (status : ℕ) (before after : Input) (st
   pub outcome : Result (Unit {0}) Fault
   pub status_is : status ≡ outcome_status outcome
   pub ran : AuditRan IsJsonLine (is_wanted wanted) outcome wanted.account before after start written
+
+-- a form that is an audit ran as one
+abbrev pub AuditsBy : Form → Result (Unit {0}) Fault → Input → Input → Output → Output → Type 0
+AuditsBy asked result before after start written =
+    (wanted : Wanted) → asked ≡ form.Audit wanted → AuditRan IsJsonLine (is_wanted wanted) result wanted.account before after start written
+
+-- words that ask for an audit: it ended with a status
+abbrev pub AuditedWhere : List (List ℕ) → ℕ → Input → Input → Output → Output → Type 0
+AuditedWhere words status before after start written =
+    (wanted : Wanted) → form_of words ≡ Some (form.Audit wanted) → AuditedBy wanted status before after start written

@@ -117,6 +117,15 @@ written x =
 abbrev pub completed : Option ℕ → Option ℕ → (ℕ → Standing) → List ℕ → List ℕ
 completed clock last standing text = written (left_out_in clock last standing text) ++ text
 
+-- in rows: client 7 was named last, and has session 3 with a number for its next request; or no client is known, behind three
+-- entries
+
+abbrev pub of_seven : Option ℕ → ℕ → List ℕ → List ℕ
+of_seven clock next text = completed clock (Some 7) (λ c. Open 3 next) text
+
+abbrev pub of_nobody : Option ℕ → List ℕ → List ℕ
+of_nobody clock text = completed clock None (λ c. Closed 4) text
+
 -- what is reported of a text by itself
 
 abbrev pub NamesMoment : List ℕ → Type 0

@@ -10,7 +10,7 @@ use Rattle.tb_text_commands.specs.declared.arguments.Form.TheVariants as forms
 use Rattle.tb_text_commands.specs.declared.kinds.Awaited.{Awaited}
 use Rattle.tb_text_commands.specs.declared.kinds.Kind.{Kind}
 use Rattle.tb_text_commands.specs.Explanations.{Explained}
-use Rattle.tb_text_commands.specs.Kinds.{IsForeign, foreign_line, is_of_bytes}
+use Rattle.tb_text_commands.specs.Kinds.{IsForeign, IsNotForeign, awaited_by, foreign_line, is_of_bytes}
 use Rattle.tb_text_commands.specs.Statuses.{device_named, fault_status, TellsOf}
 use Rattle.tb_text_commands.specs.Typed.{IsReadBy, is_typed}
 use Rattle.tb_text_commands.specs.Whole.{WasWhole}
@@ -83,6 +83,11 @@ abbrev pub outcome_status : Result (Unit {0}) Fault → ℕ
 outcome_status (Ok done) = 0
 outcome_status (Err fault) = fault_status fault
 
+-- a fault of what was read
+abbrev pub IsOfRead : Result (Unit {0}) Fault → Type 0
+IsOfRead (Ok done) = ⊥
+IsOfRead (Err fault) = is_of_bytes fault ≡ true
+
 -- the outcome as it is reported: of a device that failed, which one, by the reader's errors
 abbrev pub named : Result (Unit {0}) Fault → ℕ → ℕ → Result (Unit {0}) Fault
 named (Ok done) before after = Ok done
@@ -105,7 +110,8 @@ Tells foreign (Err fault) quiet told = TellsAs foreign fault quiet told
 
 -- a form of the program was done, or a fault ended it: the status is the outcome's, and a device failed exactly where that
 -- says so; with status 0 a whole input was read, and `explain` says where `tbs` stops in it; where no statements are typed,
--- nothing but its line is reported, and the input is of another kind than the form reads where that line says so
+-- nothing but its line is reported; that names the kind of an input exactly where it is another kind than the form reads, if the
+-- fault is one of what was read
 pub record Exits (form : Form) (talks : Bool) (status : ℕ) (before after : Input) (start written quiet told : Output) : Type 0 where
   pub outcome : Result (Unit {0}) Fault
   pub ended : Ended outcome before after start written
@@ -113,5 +119,6 @@ pub record Exits (form : Form) (talks : Bool) (status : ℕ) (before after : Inp
   pub whole : status ≡ 0 → WasWhole (IsReadBy form talks) before.left
   pub foreign : Option (Awaited × Kind)
   pub is_foreign : IfSome foreign (λ it. IsForeign form talks it.0 it.1 before.left)
+  pub own : IsOfRead outcome → foreign ≡ None → IsNotForeign (awaited_by form talks) before.left
   pub line : is_typed form talks ≡ false → Tells foreign (named outcome before.failed after.failed) quiet told
   pub explained : form ≡ forms.Explain → status ≡ 0 → Explained before start written

@@ -1,14 +1,15 @@
 -- What `explain` says: how far `tbs` reads a script, and how far it replays a dump.
 -- Public contracts reach it through: ExplainLaws, Explanations.
-use Rattle.std.specs.Prelude.{ℕ, false, true, ◌≡◌, ◌+◌, ◌≤◌, ◌-◌, ◌^◌, ◌≢◌, IsTrue, min, List, [], ◌∷◌, ◌++◌, length, flat_map, Option, Some, None, Ok, Err}
+use Rattle.std.specs.Prelude.{ℕ, false, true, ◌≡◌, ◌+◌, ◌<◌, ◌≤◌, ◌-◌, ◌^◌, ◌≢◌, ◌⊎◌, IsTrue, min, List, [], ◌∷◌, ◌++◌, length, flat_map, replicate, Option, Some, None, Ok, Err}
 use Rattle.tb_records.specs.declared.dumps.DumpFault.{DumpFault}
+use Rattle.tb_records.specs.declared.dumps.DumpFault.TheVariants as dump
 use Rattle.tb_records.specs.declared.dumps.DumpItem.{DumpItem}
 use Rattle.tb_records.specs.declared.dumps.DumpItem.TheVariants as item
 use Rattle.tb_records.specs.declared.faults.FrameFault.{FrameFault}
 use Rattle.tb_records.specs.declared.faults.FrameFault.TheVariants as frame
 use Rattle.tb_records.specs.declared.limits.Profile.{Profile}
 use Rattle.tb_records.specs.declared.limits.Profile.TheVariants.{One, Two}
-use Rattle.tb_records.specs.DumpBytes.{HeadAnswered, ItemAnswered, entry_bytes, head_bytes, mark_bytes}
+use Rattle.tb_records.specs.DumpBytes.{HasNoHead, IsClients, IsDumped, ItemAnswered, entry_bytes, head_bytes, mark_bytes}
 use Rattle.tb_records.specs.Inputs.{IsTimed, TimedAnswered, timed_bytes}
 use Rattle.tb_records.specs.Messages.{Message}
 use Rattle.tb_records.specs.Ordered.{Each}
@@ -18,6 +19,7 @@ use Rattle.tb_sessions.specs.Judged.{class_of}
 use Rattle.tb_machine.specs.declared.entries.Entry.{Entry}
 use Rattle.tb_machine.specs.Histories.{State, fits, is_new, least_time, start, step, to_two}
 use Rattle.tb_machine.specs.Scripts.{Pair, has_time}
+use Rattle.tb_text_commands.specs.Kinds.{begins_with}
 use Rattle.tb_text_commands.specs.declared.stops.Cause.{Cause}
 use Rattle.tb_text_commands.specs.declared.stops.Cause.TheVariants as cause
 use Rattle.tb_text_commands.specs.declared.stops.DumpEnd.{DumpEnd}
@@ -109,10 +111,15 @@ abbrev pub item_bytes : DumpItem → List ℕ
 item_bytes (item.Entry commit time request) = entry_bytes commit time request
 item_bytes item.Mark = mark_bytes
 
+abbrev pub IsDumpedItem : DumpItem → Type 0
+IsDumpedItem (item.Entry commit time request) = IsDumped commit time request
+IsDumpedItem item.Mark = Unit {0}
+
 -- bytes begin with so many items that lead from a state to another, and others follow them
 pub record LeadsTo (count : ℕ) (S T : State) (bytes rest : List ℕ) : Type 0 where
   pub items : List DumpItem
   pub bytes_are : bytes ≡ flat_map item_bytes items ++ rest
+  pub each : Each IsDumpedItem items
   pub taken : TakesAll items S T
   pub counted : count ≡ length items
 
@@ -128,6 +135,12 @@ IsNextItem item rest behind = ItemAnswered (Ok (Some item)) rest behind
 abbrev pub IsNoItem : DumpFault → List ℕ → Type 0
 IsNoItem fault rest = (behind : List ℕ) × ItemAnswered (Err fault) rest behind
 
+-- it is a fault of a mark, or of an entry: then the bytes end within its two numbers, or no eight zero bytes begin it
+abbrev pub ComesOfItem : DumpFault → List ℕ → Type 0
+ComesOfItem dump.Mark rest = Unit {0}
+ComesOfItem (dump.Frame f) rest = ComesOfBytes f × ((length rest < 16) ⊎ (begins_with (replicate 8 0) rest ≡ false))
+ComesOfItem fault rest = ⊥
+
 -- the next item is read, and not taken
 pub record IsRefused (stop : Stop) (T : State) (rest : List ℕ) : Type 0 where
   pub item : DumpItem
@@ -140,7 +153,7 @@ abbrev pub EndsBehind : State → DumpEnd → List ℕ → List ℕ → Type 0
 EndsBehind S (dump_end.NoHead fault) bytes items = ⊥
 EndsBehind S (dump_end.Whole entries) bytes items = (count : ℕ) × (T : State) × LeadsTo count S T items [] × (entries ≡ T.commit)
 EndsBehind S (dump_end.Wrong place fault) bytes items =
-    (count : ℕ) × (T : State) × (rest : List ℕ) × LeadsTo count S T items rest × IsNextPlace place T bytes rest × IsNoItem fault rest
+    (count : ℕ) × (T : State) × (rest : List ℕ) × LeadsTo count S T items rest × IsNextPlace place T bytes rest × IsNoItem fault rest × ComesOfItem fault rest
 EndsBehind S (dump_end.Refused place stop) bytes items =
     (count : ℕ) × (T : State) × (rest : List ℕ) × LeadsTo count S T items rest × IsNextPlace place T bytes rest × IsRefused stop T rest
 EndsBehind S dump_end.TooLong bytes items = (T : State) × (rest : List ℕ) × LeadsTo (2 ^ 64 - 1) S T items rest
@@ -151,9 +164,10 @@ pub record EndsHeaded (end : DumpEnd) (bytes : List ℕ) : Type 0 where
   pub clients_max : ℕ
   pub items : List ℕ
   pub bytes_are : bytes ≡ head_bytes profile clients_max ++ items
+  pub clients : IsClients clients_max
   pub ends : EndsBehind (start profile clients_max) end bytes items
 
 -- how far a dump is replayed
 abbrev pub DumpEnds : DumpEnd → List ℕ → Type 0
-DumpEnds (dump_end.NoHead fault) bytes = (rest : List ℕ) × HeadAnswered (Err fault) bytes rest
+DumpEnds (dump_end.NoHead fault) bytes = (fault ≡ dump.Head) × HasNoHead bytes
 DumpEnds end bytes = EndsHeaded end bytes

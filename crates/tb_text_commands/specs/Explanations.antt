@@ -1,6 +1,6 @@
 -- What `explain` prints: the place and the name of the fault at which `tbs` stops over the same bytes, or that it ends well.
 -- Public contracts reach it through: Ends.
-use Rattle.std.specs.Prelude.{ℕ, Bool, true, false, ◌≡◌, List, [], ◌++◌, length, codes}
+use Rattle.std.specs.Prelude.{ℕ, Bool, true, false, ◌≡◌, List, ◌++◌, length, codes}
 use Rattle.std.specs.Fmt.{decimal}
 use Rattle.tb_records.specs.Faults.{fault_name}
 use Rattle.tb_records.specs.DumpFaults.{dump_fault_name}

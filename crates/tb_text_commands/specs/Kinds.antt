@@ -1,6 +1,6 @@
 -- What an input is that a form of the program does not read, by its first bytes, and the line that says so.
 -- Cited by public contracts of: faults.
-use Rattle.std.specs.Prelude.{ℕ, Bool, true, false, ◌≡◌, not, nat_eq, nat_le, nat_lt, ◌&&◌, ◌||◌, IfSome, IsTrue, List, [], ◌∷◌, ◌++◌, length, take, drop, Option, Some, None, Result, Ok, Err, if◌then◌else◌, codes}
+use Rattle.std.specs.Prelude.{ℕ, Bool, true, false, ◌≡◌, not, nat_eq, nat_le, nat_lt, ◌&&◌, ◌||◌, IsTrue, List, [], ◌∷◌, ◌++◌, length, take, drop, Option, Some, None, Result, Ok, Err, if◌then◌else◌, codes}
 use Rattle.std.specs.Cmp.Lexicographic.{pointwise}
 use Rattle.std.specs.Io.{StartsWith}
 use Rattle.std.specs.Io.KnownBytes.{Keeps}
@@ -65,6 +65,22 @@ pub record IsForeign (form : Form) (talks : Bool) (awaited : Awaited) (kind : Ki
   pub foreign : IsTrue (is_foreign awaited kind)
   pub begins : WasWhole (BeginsAs kind) left
 
+-- the input is not of another kind than is awaited
+pub record IsOwn (awaited : Awaited) (left : Option (List ℕ)) : Type 0 where
+  pub kind : Kind
+  pub own : is_foreign awaited kind ≡ false
+  pub begins : WasWhole (BeginsAs kind) left
+
+-- nothing is awaited, or nothing foreign is there
+abbrev pub IsNotForeign : Option Awaited → Option (List ℕ) → Type 0
+IsNotForeign None left = Unit {0}
+IsNotForeign (Some awaited) left = IsOwn awaited left
+
+-- what is awaited and what is there, where that is foreign
+abbrev pub Finds : Form → Bool → Option (Awaited × Kind) → Option (List ℕ) → Type 0
+Finds form talks None left = IsNotForeign (awaited_by form talks) left
+Finds form talks (Some it) left = IsForeign form talks it.0 it.1 left
+
 -- the line that says so
 
 abbrev pub blame_text : Awaited → List ℕ
@@ -106,5 +122,5 @@ LooksAt (Ok kind) before after = Waits before after × WasWhole (BeginsAs kind) 
 LooksAt (Err f) before after = Lacks f before after
 
 abbrev pub Begins : Form → Bool → Result (Option (Awaited × Kind)) Fault → Input → Input → Type 0
-Begins form talks (Ok found) before after = Waits before after × IfSome found (λ it. IsForeign form talks it.0 it.1 before.left)
+Begins form talks (Ok found) before after = Waits before after × Finds form talks found before.left
 Begins form talks (Err f) before after = Lacks f before after

@@ -12,7 +12,9 @@ pub mod Heads
 pub mod Forms
 pub mod Kinds
 pub mod Names
+pub mod Noted
 pub mod Options
+pub mod Putting
 pub mod Refusals
 pub mod Results
 pub mod Statuses

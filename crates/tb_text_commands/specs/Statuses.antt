@@ -1,7 +1,7 @@
 -- The exit status of each fault: 1 a device or memory failed, 2 the input or the arguments are wrong. And the line that a
 -- fault is reported by.
 -- Cited by public contracts of: faults, host.
-use Rattle.std.specs.Prelude.{ℕ, not, ◌==◌, ◌-◌, ◌^◌, nat_lt, ◌++◌, List, [], if◌then◌else◌, codes}
+use Rattle.std.specs.Prelude.{ℕ, not, ◌≡◌, ◌⊎◌, ◌==◌, ◌-◌, ◌^◌, nat_lt, ◌++◌, List, [], if◌then◌else◌, codes}
 use Rattle.tb_records.specs.declared.faults.FrameFault.{FrameFault}
 use Rattle.tb_records.specs.declared.faults.FrameFault.TheVariants as frame
 use Rattle.tb_records.specs.declared.dumps.DumpFault.{DumpFault}
@@ -69,3 +69,7 @@ fault_line (Late line) = line.bytes.items
 abbrev pub TellsOf : Fault → Output → Output → Type 0
 TellsOf Usage before after = (page : List ℕ) × TellsLine page before after
 TellsOf fault before after = TellsLine (fault_line fault) before after
+
+-- a command's line is printed and its status is the program's, or what is left of the output is lost
+abbrev pub Finishes : ℕ → List ℕ → ℕ → Output → Output → Type 0
+Finishes status line result before after = ((result ≡ status) × TellsLine line before after) ⊎ ((result ≡ 1) × TellsOf Writer before after)

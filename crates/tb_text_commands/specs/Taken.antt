@@ -1,6 +1,6 @@
 -- What is taken of an input part by part, of what an intake holds, and of what its reader has left: for private functions alone.
 -- Cited by private contracts alone, of: auditing, converting, dumps, intake, running, scripts, statements, typing.
-use Rattle.std.specs.Prelude.{ℕ, Bool, true, false, ◌≡◌, ◌⊎◌, List, [], ◌++◌, drop, flat_map, Option, Some, None, Result, Ok, Err, if◌then◌else◌}
+use Rattle.std.specs.Prelude.{ℕ, Bool, true, false, not, ◌≡◌, ◌+◌, ◌-◌, ◌⊎◌, ◌&&◌, ◌==◌, nat_lt, List, [], ◌∷◌, ◌++◌, drop, flat_map, length, Option, Some, None, Result, Ok, Err, if◌then◌else◌}
 use Rattle.std.specs.Io.KnownBytes.{prepend_known}
 use Rattle.tb_records.specs.Ordered.{Each}
 use Rattle.tb_records.specs.Transport.{Input}
@@ -10,7 +10,7 @@ use Rattle.tb_text_commands.specs.declared.intake.Intake.{Intake}
 use Rattle.tb_text_commands.specs.declared.typing.Typed.{Typed}
 use Rattle.tb_text_commands.specs.declared.typing.Typed.TheVariants as typed
 use Rattle.tb_text_commands.specs.Ends.{is_passing}
-use Rattle.tb_text_commands.specs.Typed.{IsTypedPart, IsWrong, Leaves}
+use Rattle.tb_text_commands.specs.Typed.{IsTypedPart, IsWrong, Leaves, ends_with_cut_line}
 use Rattle.tb_text_commands.specs.Whole.{WasWhole}
 
 -- what was read and not taken yet
@@ -77,6 +77,22 @@ pub record HoldsAsBefore (before after : Intake) : Type 0 where
   pub rest : rest_of after ≡ rest_of before
   pub same : after.ended ≡ before.ended
 
+-- the number of bytes before the first `;` outside a comment, or of all
+abbrev pub before_semicolon : Bool → List ℕ → ℕ
+before_semicolon in_comment [] = 0
+before_semicolon in_comment (b ∷ bs) =
+    if b == 10 then before_semicolon false bs + 1
+    else if b == 35 then before_semicolon true bs + 1
+    else if b == 59 && not in_comment then 0
+    else before_semicolon in_comment bs + 1
+
+-- the length of the next statement, by what was not searched yet
+abbrev pub statement_in : Intake → Option ℕ
+statement_in intake =
+    let further = drop intake.searched intake.bytes.items in
+    let length_before = before_semicolon intake.in_comment further in
+    if nat_lt length_before (length further) then Some (intake.searched + length_before + 1 - intake.at) else None
+
 -- on a terminal, of what an intake holds
 
 -- the first bytes were taken as a part, or end the conversation and stay
@@ -103,7 +119,7 @@ TypedOfRest (Ok typed) before after = TakenOf typed before after
 TypedOfRest (Err fault) before after = TakenIfPassing (is_passing fault) before after
 
 abbrev pub CutRefused : Result (Unit {0}) Fault → Intake → Intake → Type 0
-CutRefused (Ok done) before after = after ≡ before
+CutRefused (Ok done) before after = (after ≡ before) × (ends_with_cut_line (rest_of before) ≡ false)
 CutRefused (Err fault) before after = TakenIfPassing (is_passing fault) before after
 
 -- on a terminal, of an intake and its reader

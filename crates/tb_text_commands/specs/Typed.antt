@@ -1,8 +1,9 @@
 -- What is typed on a terminal: statements, and words besides them that ask for help or end the conversation. A mistake is reported
 -- when it comes, and the next statement is read.
 -- Public contracts reach it through: Ends.
-use Rattle.std.specs.Prelude.{ℕ, Bool, true, false, ◌≡◌, ◌≤◌, ◌⊎◌, ◌||◌, ◌==◌, nat_eq, List, [], ◌∷◌, ◌++◌, flat_map, length, Option, Some, None, if◌then◌else◌, codes}
+use Rattle.std.specs.Prelude.{ℕ, Bool, true, false, not, ◌≡◌, ◌-◌, ◌⊎◌, ◌&&◌, ◌||◌, ◌==◌, nat_eq, nat_le, List, [], ◌∷◌, ◌++◌, drop, flat_map, length, take, Option, Some, None, if◌then◌else◌, codes}
 use Rattle.std.specs.Cmp.Lexicographic.{pointwise}
+use Rattle.std.specs.List.{list_all}
 use Rattle.tb_records.specs.Messages.{Message}
 use Rattle.tb_records.specs.Ordered.{Each}
 use Rattle.tb_text.specs.Steps.{Means}
@@ -45,9 +46,16 @@ pub record IsWrong (text : List ℕ) : Type 0 where
   pub standing : ℕ → Standing
   pub none : (pairs : List (ℕ × Message)) → Means (completed clock last standing text) pairs → ⊥
 
--- it has a line at whose 4,096th byte a terminal may have cut it
+-- 4,096 bytes that are a line with its end
+abbrev pub is_longest_line : List ℕ → Bool
+is_longest_line line = pointwise nat_eq (drop 4095 line) (10 ∷ []) && list_all (λ byte. not (byte == 10)) (take 4095 line)
+
+-- it ends with a line that a terminal may have cut
+abbrev pub ends_with_cut_line : List ℕ → Bool
+ends_with_cut_line text = nat_le 4096 (length text) && is_longest_line (drop (length text - 4096) text)
+
 abbrev pub IsCut : List ℕ → Type 0
-IsCut text = 4096 ≤ length text
+IsCut text = ends_with_cut_line text ≡ true
 
 abbrev pub IsTypedPart : List ℕ → Type 0
 IsTypedPart text = IsStatement text ⊎ (IsHelp text ⊎ (IsWrong text ⊎ IsCut text))

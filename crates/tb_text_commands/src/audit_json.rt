@@ -2,7 +2,7 @@
 ghost use Rattle.std.specs.Prelude.{◌≡◌, ◌==◌, ◌++◌, [], IfOk, OnOk, codes, decimal, filter, not};
 ghost use Rattle.tb_records.specs.DumpBytes.{profile_number};
 ghost use Rattle.tb_machine.specs.declared.entries.Entry.{Entry};
-ghost use Rattle.tb_text_commands.specs.AuditLines.{Extends, IsJsonLine, IsLineOf, Shows, ShowsField, asked_by, digits_field, entry_begin, event_parts, in_quotes, key, object_field, one_line, place_field};
+ghost use Rattle.tb_text_commands.specs.AuditLines.{Extends, IsJsonLine, IsLineOf, IsWord, Shows, ShowsField, asked_by, digits_field, entry_begin, event_parts, in_quotes, key, object_field, one_line, outcome_word, place_field};
 ghost use Rattle.tb_text_commands.specs.Wanted.{begins, enters, expires, moves, stands};
 
 use crate::lines::operation_name;
@@ -210,14 +210,20 @@ fn put_place(
     place: usize,
     outcome: Option<EventResult>,
 ) -> Result<(), AllocError>
-    ensures { OnOk result (Extends (line.old.items ++ place_field place outcome) line.new.items) }
+    ensures { OnOk result (line.new.items ≡ line.old.items ++ place_field operation place outcome) }
 {
     put_key(line, b',', "place")?;
     put_number(line, place as u128)?;
-    put_key(line, b',', "result")?;
+    put_field(line, b',', "result", outcome_shown(operation, outcome))
+}
+
+/// The result of an event by its name.
+fn outcome_shown(operation: u8, outcome: Option<EventResult>) -> Shown
+    ensures { IsWord result (outcome_word operation outcome) }
+{
     match outcome {
-        Some(judged) => put_shown(line, result_shown(operation, judged.result)),
-        None => put_text(line, "created"),
+        Some(judged) => result_shown(operation, judged.result),
+        None => Shown::Name("created"),
     }
 }
 

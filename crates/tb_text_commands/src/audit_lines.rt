@@ -3,7 +3,7 @@ ghost use Rattle.std.specs.Prelude.{[], ◌∷◌, Bool, List, ℕ};
 ghost use Rattle.tb_text_commands.specs.AuditLines.{IsJsonLine};
 ghost use Rattle.tb_text_commands.specs.AuditRuns.{Telling};
 ghost use Rattle.tb_text_commands.specs.Ends.{Written};
-ghost use Rattle.tb_text_commands.specs.Wanted.{Told, begins, enters, expires, is_wanted, moves, opens, resolved_by, settles, stands};
+ghost use Rattle.tb_text_commands.specs.Wanted.{Told, begins, enters, expires, is_wanted, moves, opens, settling_by, stands};
 
 use crate::audit_json::{Times, head_line, mark_line};
 use crate::faults::Fault;
@@ -72,9 +72,8 @@ pub trait Teller {
     ) -> Result<(), Fault>
         ensures written { Written result (W.output writer.old) (W.output writer.new) }
         ensures told { Telling IsLine (wants self.now) result
-            (settles entry.now place outcome transfer.now
-            (resolved_by machine.now.books transfer.now) ∷ []) (W.output writer.old)
-            (W.output writer.new) };
+            (settling_by machine.now.books entry.now place outcome transfer.now ∷ [])
+            (W.output writer.old) (W.output writer.new) };
 
     /// Prints a mark.
     fn tell_mark<W: Sink>(&self, writer: &mut W) -> Result<(), Fault>

@@ -1,12 +1,11 @@
 //! A dump joined with what its replay gives: who asked, what became of each event, expiries, and the balances of an account.
-ghost use Rattle.std.specs.Prelude.{◌≡◌, [], IfErr, IfOk, MatchResult, Ok, OnOk};
+ghost use Rattle.std.specs.Prelude.{◌≡◌, [], IfErr, IfOk, OnOk};
 ghost use Rattle.tb_machine.specs.Histories.{start};
 ghost use Rattle.avl_tree.specs.Map.{entries};
-ghost use Rattle.tb_text_commands.specs.Audits.{Enters, GoesOver, NoneIsDue, waits_behind, watched_of};
-ghost use Rattle.tb_text_commands.specs.Results.{stored_results};
+ghost use Rattle.tb_text_commands.specs.Audits.{Enters, GoesOver, NoneIsDue, waits_behind};
 ghost use Rattle.tb_text_commands.specs.AuditLines.{IsJsonLine};
-ghost use Rattle.tb_text_commands.specs.AuditRuns.{AuditRan, AuditsEntry, AuditsItem, AuditsItems, AuditsMark, AuditsNext, Changes, Finds, HeadFails, HeadTold, RefusesEntry, Telling, TellsAccount, TellsDue, account_of, audited_from, batch_told, entry_told, events_told};
-ghost use Rattle.tb_text_commands.specs.Audited.{audited};
+ghost use Rattle.tb_text_commands.specs.AuditRuns.{AuditRan, AuditsEntry, AuditsItem, AuditsItems, AuditsMark, AuditsNext, Changes, Finds, ReadsHead, RefusesEntry, Telling, TellsAccount, TellsDue, account_of, audited_from};
+ghost use Rattle.tb_text_commands.specs.Audited.{audited, batch_of, events_of, told_of, waiting_of, waits_now};
 ghost use Rattle.tb_text_commands.specs.Ends.{Converts, Ended, IsOfInput, Written};
 ghost use Rattle.tb_text_commands.specs.Taken.{TakesIf};
 ghost use Rattle.tb_text_commands.specs.Wanted.{is_wanted};
@@ -60,10 +59,8 @@ impl Replay {
         ensures machine { self.new.machine ≡ self.old.machine }
         ensures account { self.new.account ≡ self.old.account }
         ensures told { self.new.told ≡ self.old.told }
-        ensures waits { OnOk result (entries self.new.waits.by_end
-            ≡ watched_of self.old.machine.books
-            (stored_results self.old.machine.rows entry.now.request.client) entry.now.request.body
-            (entries self.old.waits.by_end)) }
+        ensures waits { OnOk result (waiting_of self.new
+            ≡ waits_now self.old.machine entry.now (waiting_of self.old)) }
     {
         match entry.request.body() {
             Body::CreateTransfers(events) => {
@@ -126,7 +123,7 @@ impl Replay {
         ensures account { self.new.account ≡ self.old.account }
         ensures shown { self.new.told ≡ self.old.told }
         ensures told { TellsDue T.IsLine (T.wants teller.now) result entry.now
-            (entries self.old.waits.by_end) (entries self.new.waits.by_end)
+            (waiting_of self.old) (waiting_of self.new)
             (W.output writer.old) (W.output writer.new) }
     {
         for _ in 0..u64::MAX {
@@ -148,7 +145,7 @@ impl Replay {
     ) -> Result<(), Fault>
         ensures written { Written result (W.output writer.old) (W.output writer.new) }
         ensures told { Telling T.IsLine (T.wants teller.now) result
-            (events_told (E.told self.now.machine entry.now) (stored_results self.now.machine.rows entry.now.request.client) 0 events.now)
+            (events_of E.told self.now.machine entry.now events.now)
             (W.output writer.old) (W.output writer.new) }
     {
         let results = results_of(&self.machine, entry.request.client());
@@ -169,7 +166,7 @@ impl Replay {
     ) -> Result<(), Fault>
         ensures written { Written result (W.output writer.old) (W.output writer.new) }
         ensures told { Telling T.IsLine (T.wants teller.now) result
-            (batch_told self.now.machine (stored_results self.now.machine.rows entry.now.request.client) entry.now entry.now.request.body)
+            (batch_of self.now.machine entry.now)
             (W.output writer.old) (W.output writer.new) }
     {
         match entry.request.body() {
@@ -194,7 +191,7 @@ impl Replay {
     ) -> Result<(), Fault>
         ensures written { Written result (W.output writer.old) (W.output writer.new) }
         ensures told { Telling T.IsLine (T.wants teller.now) result
-            (entry_told self.now.machine (stored_results self.now.machine.rows entry.now.request.client) entry.now)
+            (told_of self.now.machine entry.now)
             (W.output writer.old) (W.output writer.new) }
     {
         teller.tell_entry(writer, entry)?;
@@ -285,7 +282,9 @@ impl Replay {
                     time,
                     request,
                 };
-                self.put_entry(teller, writer, &entry)
+                let done = self.put_entry(teller, writer, &entry);
+                drop(entry);
+                done
             }
         }
     }
@@ -366,11 +365,8 @@ fn put_head<T: Teller, R: Source, W: Sink>(
 ) -> Result<DumpHead, Fault>
     ensures ended { Ended result (R.input reader.old) (R.input reader.new) (W.output writer.old)
         (W.output writer.new) }
-    ensures told { MatchResult result
-        (λ head. HeadTold T.IsLine (T.wants teller.now) (Ok tt) head (R.input reader.old) (R.input reader.new)
-        (W.output writer.old) (W.output writer.new))
-        (λ fault. HeadFails T.IsLine (T.wants teller.now) fault (R.input reader.old) (R.input reader.new)
-        (W.output writer.old) (W.output writer.new)) }
+    ensures told { ReadsHead T.IsLine (T.wants teller.now) result (R.input reader.old) (R.input reader.new)
+        (W.output writer.old) (W.output writer.new) }
 {
     let head = read_head_from(reader)?;
     teller.tell_head(writer, &head)?;
@@ -393,7 +389,9 @@ fn audit_by<T: Teller, R: Source, W: Sink>(
 {
     let head = put_head(teller, reader, writer)?;
     let mut replay = Replay::new(alloc, &head, account)?;
-    replay.put_all(alloc, teller, reader, writer)
+    let done = replay.put_all(alloc, teller, reader, writer);
+    drop(replay);
+    done
 }
 
 /// Writes what a dump's entries did, as far as it is wanted, in lines of JSON. Where an account's lines are wanted and the

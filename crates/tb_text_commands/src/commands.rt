@@ -1,16 +1,13 @@
 //! The program's forms, over any reader and writer.
-ghost use Rattle.std.specs.Prelude.{◌≡◌, ◌<◌, false, IfErr, IfSome, None, OnOk, Option, Some, map, string_bytes, ℕ};
+ghost use Rattle.std.specs.Prelude.{◌≡◌, ◌<◌, false, IfErr, IfSome, None, OnOk, Option, Some, map, string_bytes, true, ℕ};
 ghost use Rattle.tb_text_commands.specs.declared.arguments.Form.{Form};
-ghost use Rattle.tb_text_commands.specs.declared.wanted.Wanted.{Wanted};
-ghost use Rattle.tb_text_commands.specs.AuditLines.{IsJsonLine};
-ghost use Rattle.tb_text_commands.specs.AuditRuns.{AuditRan, AuditedBy};
+ghost use Rattle.tb_text_commands.specs.AuditRuns.{AuditedWhere, AuditsBy};
 ghost use Rattle.tb_text_commands.specs.Ends.{Converts, Exits, TellsAs};
 ghost use Rattle.tb_text_commands.specs.Explanations.{Explained};
 ghost use Rattle.tb_text_commands.specs.Forms.{form_of};
-ghost use Rattle.tb_text_commands.specs.Kinds.{IsForeign};
+ghost use Rattle.tb_text_commands.specs.Kinds.{IsForeign, IsNotForeign, awaited_by, is_of_bytes};
 ghost use Rattle.tb_text_commands.specs.Refusals.{fault_in};
 ghost use Rattle.tb_text_commands.specs.Typed.{IsReadBy, is_typed};
-ghost use Rattle.tb_text_commands.specs.Wanted.{is_wanted};
 ghost use Rattle.tb_text_commands.specs.Whole.{IsInputOf};
 
 use crate::arguments::{Form, read_form, wrong_words};
@@ -43,9 +40,8 @@ fn perform<C: Clock, R: Source, W: Sink, E: Sink>(
     ensures done { Converts (IsReadBy form talks) result (R.input reader.old) (R.input reader.new)
         (W.output writer.old) (W.output writer.new) }
     ensures silent { is_typed form talks ≡ false → faults.new ≡ faults.old }
-    ensures audited { (wanted : Wanted) → form ≡ Form.Audit wanted
-        → AuditRan IsJsonLine (is_wanted wanted) result wanted.account
-        (R.input reader.old) (R.input reader.new) (W.output writer.old) (W.output writer.new) }
+    ensures audited { AuditsBy form result (R.input reader.old) (R.input reader.new)
+        (W.output writer.old) (W.output writer.new) }
     ensures explained { form ≡ Form.Explain → OnOk result
         (Explained (R.input reader.old) (W.output writer.old) (W.output writer.new)) }
 {
@@ -102,7 +98,7 @@ struct Refused {
 }
 
 /// Looks what the input is, and does what the form asks for.
-#[tactic(auto, using(crate::proofs::Beginning::converts_begun, crate::proofs::Beginning::converts_none, crate::proofs::Beginning::audit_begun, crate::proofs::Beginning::audit_none, crate::proofs::Beginning::keeps_whole))]
+#[tactic(auto, using(crate::proofs::Beginning::converts_begun, crate::proofs::Beginning::converts_none, crate::proofs::Beginning::audit_begun, crate::proofs::Beginning::audit_none, crate::proofs::Beginning::found_foreign, crate::proofs::Beginning::keeps_whole))]
 fn perform_known<C: Clock, R: Source, W: Sink, E: Sink>(
     alloc: Global,
     clock: &C,
@@ -115,13 +111,14 @@ fn perform_known<C: Clock, R: Source, W: Sink, E: Sink>(
     ensures done { Converts (IsReadBy form talks) (fault_in result) (R.input reader.old) (R.input reader.new)
         (W.output writer.old) (W.output writer.new) }
     ensures silent { is_typed form talks ≡ false → faults.new ≡ faults.old }
-    ensures audited { (wanted : Wanted) → form ≡ Form.Audit wanted
-        → AuditRan IsJsonLine (is_wanted wanted) (fault_in result) wanted.account
-        (R.input reader.old) (R.input reader.new) (W.output writer.old) (W.output writer.new) }
+    ensures audited { AuditsBy form (fault_in result) (R.input reader.old) (R.input reader.new)
+        (W.output writer.old) (W.output writer.new) }
     ensures explained { form ≡ Form.Explain → OnOk result
         (Explained (R.input reader.old) (W.output writer.old) (W.output writer.new)) }
     ensures foreign { IfErr result (λ refused. IfSome refused.foreign
         (λ it. IsForeign form talks it.0 it.1 (R.input reader.old).left)) }
+    ensures own { IfErr result (λ refused. is_of_bytes refused.fault ≡ true → refused.foreign ≡ None
+        → IsNotForeign (awaited_by form talks) (R.input reader.old).left) }
 {
     let foreign = match foreign_in(&form, talks, reader) {
         Ok(foreign) => foreign,
@@ -169,9 +166,8 @@ pub fn command<C: Clock, R: Source, W: Sink, E: Sink>(
     ensures ended { (form : Form) → form_of (map string_bytes words.now) ≡ Some form
         → Exits form talks result (R.input reader.old) (R.input reader.new) (W.output writer.old)
         (W.output writer.new) (E.output faults.old) (E.output faults.new) }
-    ensures audited { (wanted : Wanted) → form_of (map string_bytes words.now) ≡ Some (Form.Audit wanted)
-        → AuditedBy wanted result (R.input reader.old) (R.input reader.new) (W.output writer.old)
-        (W.output writer.new) }
+    ensures audited { AuditedWhere (map string_bytes words.now) result (R.input reader.old) (R.input reader.new)
+        (W.output writer.old) (W.output writer.new) }
 {
     let Some(form) = read_form(words) else {
         usage_fault(alloc, words).tell(faults);

@@ -1,7 +1,7 @@
 //! What holds of every statement that is completed, and rows of it.
 ghost use Rattle.std.specs.Prelude.{◌≡◌, List, Option, ℕ, Some, None, codes};
-ghost use Rattle.tb_text_commands.specs.Completed.{completed, IsRegister, NamesClient, NamesMoment, NamesRequest, StandsForItself};
-ghost use Rattle.tb_text_commands.specs.declared.completing.Standing.TheVariants.{Open, Closed, Unknown};
+ghost use Rattle.tb_text_commands.specs.Completed.{IsRegister, NamesClient, NamesMoment, NamesRequest, StandsForItself, completed, of_nobody, of_seven};
+ghost use Rattle.tb_text_commands.specs.declared.completing.Standing.TheVariants.{Unknown};
 
 /// Nothing is put before a statement that gives client and request, nor before a register that gives a client, but
 /// for the clock's moment: where there is no clock, as in `script`, or a moment is given too, what had a meaning keeps it.
@@ -19,25 +19,25 @@ pub fn whole_statement_stays()
 
 /// A lookup alone, of client 7, which has session 3 and made two requests there.
 pub fn lookup_alone()
-    ensures { completed None (Some 7) (λ c. Open 3 3) (codes "lookup_accounts id=1;")
+    ensures { of_seven None 3 (codes "lookup_accounts id=1;")
         ≡ codes "client=7\nsession=3\nrequest=3\nlookup_accounts id=1;" }
 {}
 
 /// A client that has no session is registered first.
 pub fn registered_first()
-    ensures { completed None None (λ c. Closed 4) (codes "client=0x1F lookup_accounts id=1;")
+    ensures { of_nobody None (codes "client=0x1F lookup_accounts id=1;")
         ≡ codes "client=31 register;\nsession=4\nrequest=1\nclient=0x1F lookup_accounts id=1;" }
 {}
 
 /// A lookup at the clock's moment.
 pub fn by_the_clock()
-    ensures { completed (Some 50) (Some 7) (λ c. Open 3 3) (codes "request=4 lookup_accounts id=1;")
+    ensures { of_seven (Some 50) 3 (codes "request=4 lookup_accounts id=1;")
         ≡ codes "at=50\nclient=7\nsession=3\nrequest=4 lookup_accounts id=1;" }
 {}
 
 /// A client is registered at the moment of the statement, not at the clock's.
 pub fn registered_at()
-    ensures { completed (Some 50) None (λ c. Closed 4) (codes "at=9 client=8 lookup_accounts;")
+    ensures { of_nobody (Some 50) (codes "at=9 client=8 lookup_accounts;")
         ≡ codes "at=9 client=8 register;\nsession=4\nrequest=1\nat=9 client=8 lookup_accounts;" }
 {}
 
@@ -49,21 +49,21 @@ pub fn register_alone()
 
 /// The next request in a session that is named, behind a comment.
 pub fn next_request()
-    ensures { completed None (Some 7) (λ c. Open 3 9) (codes "# request=4\n session=3 lookup_accounts;")
+    ensures { of_seven None 9 (codes "# request=4\n session=3 lookup_accounts;")
         ≡ codes "client=7\nrequest=9\n# request=4\n session=3 lookup_accounts;" }
 {}
 
 /// An operation that is misspelled is completed too, so that its fault reports what could be there.
 pub fn misspelled()
-    ensures { completed None (Some 7) (λ c. Open 3 3) (codes "lookup_acounts id=1;")
+    ensures { of_seven None 3 (codes "lookup_acounts id=1;")
         ≡ codes "client=7\nsession=3\nrequest=3\nlookup_acounts id=1;" }
 {}
 
 /// Before a field that is misspelled nothing is put, nor where a statement ends before its operation, or within a word
 /// that is none yet.
 pub fn no_operation()
-    ensures field { completed None (Some 7) (λ c. Open 3 3) (codes "at=5 clint=7 register;")
+    ensures field { of_seven None 3 (codes "at=5 clint=7 register;")
         ≡ codes "at=5 clint=7 register;" }
-    ensures cut { completed None (Some 7) (λ c. Open 3 3) (codes "client=7 req") ≡ codes "client=7 req" }
-    ensures end { completed None (Some 7) (λ c. Open 3 3) (codes " # all\n") ≡ codes " # all\n" }
+    ensures cut { of_seven None 3 (codes "client=7 req") ≡ codes "client=7 req" }
+    ensures end { of_seven None 3 (codes " # all\n") ≡ codes " # all\n" }
 {}

@@ -1,6 +1,7 @@
 //! An input that is taken part by part, and what is written for each part.
-ghost use Rattle.std.specs.Prelude.{◌≡◌, IfOk, List, OnOk, Option, ℕ};
-ghost use Rattle.tb_records.specs.Transport.{Input};
+ghost use Rattle.std.specs.Prelude.{◌≡◌, IfOk, List, OnOk, Option, Result, ℕ, ⊤};
+ghost use Rattle.tb_records.specs.Transport.{Input, Output};
+ghost use Rattle.tb_text_commands.specs.declared.faults.Fault.{Fault};
 ghost use Rattle.tb_text_commands.specs.Ends.{Ended, Written};
 ghost use Rattle.tb_text_commands.specs.Taken.{TakesIf, TakesNext};
 ghost use Rattle.tb_text_commands.specs.Whole.{Parts, WasWhole};
@@ -22,6 +23,12 @@ pub trait Converter {
     // What is left to take.
     ghost remaining: { Self → Input → Option (List ℕ) };
 
+    // What is read, where a part waits in the reader alone, or why not.
+    ghost Reads: { Self → Result (Option Self.Piece) Fault → Input → Input → Type 0 } = { λ _ _ _ _. ⊤ };
+
+    // How a part is written; nothing is said where it is served.
+    ghost Puts: { Self → Self.Piece → Result (Unit {0}) Fault → Output → Output → Type 0 } = { λ _ _ _ _ _. ⊤ };
+
     /// Takes the next part: None where there is none. What was written is passed on first, where the part may have to be
     /// waited for.
     fn next<R: Source, W: Sink>(&mut self, reader: &mut R, writer: &mut W) -> Next<Self::Piece>
@@ -29,11 +36,13 @@ pub trait Converter {
             (W.output writer.new) }
         ensures taken { IfOk result (λ next.
             TakesNext Part next (remaining self.old (R.input reader.old))
-            (remaining self.new (R.input reader.new))) };
+            (remaining self.new (R.input reader.new))) }
+        ensures read { Reads self.old result (R.input reader.old) (R.input reader.new) };
 
     /// Writes what a part represents.
     fn put<W: Sink>(&mut self, writer: &mut W, piece: Self::Piece) -> Result<(), Fault>
         ensures written { Written result (W.output writer.old) (W.output writer.new) }
+        ensures put { Puts self.old piece result (W.output writer.old) (W.output writer.new) }
         ensures kept { (input : Input) → remaining self.new input ≡ remaining self.old input };
 }
 

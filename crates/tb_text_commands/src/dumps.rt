@@ -1,10 +1,16 @@
 //! The forms that read a dump: its lines, and the script that makes its history.
-ghost use Rattle.std.specs.Prelude.{[], IfOk, Ok};
+ghost use Rattle.std.specs.Prelude.{◌≡◌, [], IfOk, Ok, Result};
 ghost use Rattle.tb_records.specs.DumpBytes.{HeadAnswers};
-ghost use Rattle.tb_records.specs.Transport.{Sent};
+ghost use Rattle.tb_records.specs.Inputs.{timed_bytes};
+ghost use Rattle.tb_records.specs.Transport.{Output, Sent};
+ghost use Rattle.tb_machine.specs.declared.entries.Entry.{Entry};
+ghost use Rattle.tb_text_commands.specs.declared.faults.Fault.{Fault};
+ghost use Rattle.tb_text_commands.specs.AuditLines.{IsJsonLine};
 ghost use Rattle.tb_text_commands.specs.AuditRuns.{ReadsItem};
 ghost use Rattle.tb_text_commands.specs.Ends.{Converts, Ended, Written};
+ghost use Rattle.tb_text_commands.specs.Putting.{IsLine, PutsItem, PutsSome, entry_of};
 ghost use Rattle.tb_text_commands.specs.Taken.{TakesNext};
+ghost use Rattle.tb_text_commands.specs.Wanted.{moves};
 ghost use Rattle.tb_text_commands.specs.Whole.{IsDump, IsItem, Parts};
 
 use crate::audit_json::{head_line, mark_line};
@@ -18,8 +24,11 @@ use tb_records::dumps::{holds_item, read_head_from, read_item_from};
 use tb_records::{DumpHead, DumpItem, Sink, Source};
 
 /// The entry that is in a dump; None of a mark.
-pub fn entry_of(item: DumpItem) -> Option<Entry> {
+pub fn entry_of(item: DumpItem) -> Option<Entry>
+    ensures { result ≡ entry_of item }
+{
     match item {
+        DumpItem::Mark => None,
         DumpItem::Entry {
             commit,
             time,
@@ -29,7 +38,6 @@ pub fn entry_of(item: DumpItem) -> Option<Entry> {
             time,
             request,
         }),
-        DumpItem::Mark => None,
     }
 }
 
@@ -70,13 +78,20 @@ pub fn next_item<R: Source, W: Sink>(
 
 /// What writes for each item of a dump: an entry, or a mark.
 pub trait ItemWriter {
+    // How an entry is written, and a mark.
+    ghost PutsEntry: { Self → Entry → Result (Unit {0}) Fault → Output → Output → Type 0 };
+
+    ghost PutsMark: { Self → Result (Unit {0}) Fault → Output → Output → Type 0 };
+
     /// Writes what an entry represents.
     fn put_entry<W: Sink>(&mut self, writer: &mut W, entry: &Entry) -> Result<(), Fault>
-        ensures { Written result (W.output writer.old) (W.output writer.new) };
+        ensures written { Written result (W.output writer.old) (W.output writer.new) }
+        ensures put { PutsEntry self.old entry.now result (W.output writer.old) (W.output writer.new) };
 
     /// Writes what a mark represents.
     fn put_mark<W: Sink>(&mut self, writer: &mut W) -> Result<(), Fault>
-        ensures { Written result (W.output writer.old) (W.output writer.new) };
+        ensures written { Written result (W.output writer.old) (W.output writer.new) }
+        ensures put { PutsMark self.old result (W.output writer.old) (W.output writer.new) };
 }
 
 /// The items behind the head of a dump, and what writes for each.
@@ -93,13 +108,21 @@ impl<T: ItemWriter> Converter for DumpItems<T> {
 
     ghost remaining = { λ items input. input.left };
 
+    ghost Reads = { λ items. ReadsItem };
+
+    ghost Puts = { λ items item. PutsItem (T.PutsEntry items.item_writer) (T.PutsMark items.item_writer) item };
+
     fn next<R: Source, W: Sink>(&mut self, reader: &mut R, writer: &mut W) -> Next<Self::Piece> {
         next_item(self.alloc, reader, writer)
     }
 
     fn put<W: Sink>(&mut self, writer: &mut W, item: DumpItem) -> Result<(), Fault> {
         match entry_of(item) {
-            Some(entry) => self.item_writer.put_entry(writer, &entry),
+            Some(entry) => {
+                let done = self.item_writer.put_entry(writer, &entry);
+                drop(entry);
+                done
+            }
             None => self.item_writer.put_mark(writer),
         }
     }
@@ -125,6 +148,10 @@ struct ItemLines {
 }
 
 impl ItemWriter for ItemLines {
+    ghost PutsEntry = { λ lines entry. PutsSome IsLine };
+
+    ghost PutsMark = { λ lines. PutsSome (IsJsonLine moves) };
+
     fn put_entry<W: Sink>(&mut self, writer: &mut W, entry: &Entry) -> Result<(), Fault> {
         put_line(writer, entry_line(self.alloc, entry))
     }
@@ -148,6 +175,10 @@ pub fn dump<R: Source, W: Sink>(alloc: Global, reader: &mut R, writer: &mut W) -
 struct EntryPairs {}
 
 impl ItemWriter for EntryPairs {
+    ghost PutsEntry = { λ pairs entry. PutsSome (λ bytes. bytes ≡ timed_bytes (entry.time, entry.request)) };
+
+    ghost PutsMark = { λ pairs. PutsSome (λ bytes. bytes ≡ []) };
+
     fn put_entry<W: Sink>(&mut self, writer: &mut W, entry: &Entry) -> Result<(), Fault> {
         put_pair(writer, entry.time, &entry.request)
     }

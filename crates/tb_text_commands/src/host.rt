@@ -1,6 +1,7 @@
 //! The forms between a program's arguments, its input and its output.
-ghost use Rattle.std.specs.Prelude.{◌≡◌, ◌<◌};
-ghost use Rattle.tb_text_commands.specs.Statuses.{TellsOf, fault_status};
+ghost use Rattle.std.specs.Prelude.{◌≡◌, ◌<◌, ◌⊎◌, None, map, string_bytes};
+ghost use Rattle.tb_text_commands.specs.Forms.{form_of};
+ghost use Rattle.tb_text_commands.specs.Statuses.{Finishes, TellsOf, fault_status};
 
 use crate::commands::command;
 use crate::faults::Fault;
@@ -34,7 +35,8 @@ pub fn refuse<E: Sink>(fault: &Fault, faults: &mut E) -> u8
 /// The status of a command whose output is left to its buffer. What is lost there is a fault that comes before any other.
 fn finish<W: Write + Drop, E: Sink>(mut output: W, status: u8, line: &[u8], faults: &mut E) -> u8
     requires { status < 3 }
-    ensures { result < 3 }
+    ensures known { result < 3 }
+    ensures told { Finishes status line.now result (E.output faults.old) (E.output faults.new) }
 {
     if output.flush().is_err() {
         return refuse(&Fault::Writer, faults);
@@ -55,6 +57,7 @@ pub fn serve<C: Clock, R: Read + Drop, W: Write + Drop, E: Sink>(
     faults: &mut E,
 ) -> u8
     ensures known { result < 3 }
+    ensures wrong { form_of (map string_bytes words.now) ≡ None → (result ≡ 2) ⊎ (result ≡ 1) }
 {
     let input = BufReader::with_capacity(alloc, BUFFER, input);
     let output = BufWriter::with_capacity(alloc, BUFFER, output);

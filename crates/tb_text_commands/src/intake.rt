@@ -1,11 +1,14 @@
 //! Bytes that were read and wait to be taken: statements, or replies, one by one.
-ghost use Rattle.std.specs.Prelude.{◌≡◌, ◌≤◌, [], IfErr, IfOk, OnOk, Some, drop, false, length, take, true};
+ghost use Rattle.std.specs.List.{list_all};
+ghost use Rattle.std.specs.Prelude.{◌==◌, ◌≡◌, [], IfErr, IfOk, OnOk, Some, drop, false, not, take, true};
 ghost use Rattle.tb_records.specs.Transport.{Input, Sent};
 ghost use Rattle.tb_text_commands.specs.Ends.{Ended, is_passing};
-ghost use Rattle.tb_text_commands.specs.Taken.{HoldsAsBefore, Stays, rest_of, waiting};
+ghost use Rattle.tb_text_commands.specs.Taken.{HoldsAsBefore, Stays, rest_of, statement_in, waiting};
+ghost use Rattle.tb_text_commands.specs.Typed.{ends_with_cut_line, is_longest_line};
 
 use crate::faults::Fault;
 use crate::heads::gap_length;
+use crate::kinds::{behind, first_of};
 use std::alloc::Global;
 use tb_records::{Sink, Source};
 use tb_text::position;
@@ -15,6 +18,20 @@ const CHUNK: usize = 4096;
 
 /// The bytes of the longest line that a terminal gives, with its end. It drops those of a longer one, and keeps its end.
 const LINE_MAX: usize = 4096;
+
+/// Says that none of these bytes ends a line.
+fn has_no_end(bytes: &[u8]) -> bool
+    ensures { result ≡ list_all (λ byte. not (byte == 10)) bytes.now }
+{
+    bytes.iter().all(|byte| *byte != b'\n')
+}
+
+/// Says that so many bytes as a terminal's longest line has are a line with its end.
+fn is_longest_line(line: &[u8]) -> bool
+    ensures { result ≡ is_longest_line line.now }
+{
+    behind(line, LINE_MAX - 1) == b"\n".as_slice() && has_no_end(first_of(line, LINE_MAX - 1))
+}
 
 /// Bytes that were read and not taken yet.
 #[derive(Drop)]
@@ -92,14 +109,13 @@ impl Intake {
 
     /// Says that the last line of the rest ended, and is as long as a terminal's longest: more may have been typed.
     pub fn ends_with_cut_line(&self) -> bool
-        ensures { result ≡ true → 4096 ≤ length (rest_of self.now) }
+        ensures { result ≡ ends_with_cut_line (rest_of self.now) }
     {
         let rest = self.rest();
         let Some(before) = rest.len().checked_sub(LINE_MAX) else {
             return false;
         };
-        let line = rest.get(before..).unwrap_or(rest);
-        line.iter().position(|byte| *byte == b'\n') == Some(LINE_MAX - 1)
+        is_longest_line(behind(rest, before))
     }
 
     /// The line and the column of what was taken last, both from 1.
@@ -123,14 +139,16 @@ impl Intake {
 
     /// The number of bytes as far as the `;` of the next statement, where it was read.
     pub fn statement(&mut self) -> Option<usize>
-        ensures { HoldsAsBefore self.old self.new }
+        ensures kept { HoldsAsBefore self.old self.new }
+        ensures found { result ≡ statement_in self.old }
     {
         let rest = self.bytes.get(self.searched..).unwrap_or(&[]);
+        let mut in_comment = self.in_comment;
         for (place, byte) in rest.iter().enumerate() {
             match *byte {
-                b'\n' => self.in_comment = false,
-                b'#' => self.in_comment = true,
-                b';' if !self.in_comment => {
+                b'\n' => in_comment = false,
+                b'#' => in_comment = true,
+                b';' if !in_comment => {
                     let end = self.searched.saturating_add(place).saturating_add(1);
                     return Some(end.saturating_sub(self.at));
                 }
@@ -138,6 +156,7 @@ impl Intake {
             }
         }
         self.searched = self.bytes.len();
+        self.in_comment = in_comment;
         None
     }
 

@@ -69,14 +69,14 @@ fn is_all_text(first: &[u8]) -> bool
 }
 
 /// So many first bytes, or all.
-fn first_of(bytes: &[u8], count: usize) -> &[u8]
+pub fn first_of(bytes: &[u8], count: usize) -> &[u8]
     ensures { result.now ≡ take count bytes.now }
 {
     bytes.get(..count).unwrap_or(bytes)
 }
 
 /// What follows so many bytes.
-fn behind(bytes: &[u8], count: usize) -> &[u8]
+pub fn behind(bytes: &[u8], count: usize) -> &[u8]
     ensures { result.now ≡ drop count bytes.now }
 {
     bytes.get(count..).unwrap_or(&[])

@@ -1,8 +1,9 @@
 //! Replies and entries as lines of JSON.
-ghost use Rattle.std.specs.Prelude.{◌≡◌, codes, false};
+ghost use Rattle.std.specs.Prelude.{◌≡◌, IfOk, codes, false};
 ghost use Rattle.tb_records.specs.Messages.{is_operation};
 ghost use Rattle.tb_records.specs.Operations.{operation_code, operation_name};
 ghost use Rattle.tb_text_commands.specs.Names.{status_word};
+ghost use Rattle.tb_text_commands.specs.Putting.{IsLine};
 
 use crate::lists::{EventResults, Ids, List, Records};
 use crate::objects::{Object, Shown};
@@ -15,7 +16,9 @@ use tb_records::{Body, Operation, Reply, ReplyBody, Status};
 const NO_IDS: &[u128] = &[];
 
 /// The line of an object.
-fn line<T: Serialize>(alloc: Global, object: &T) -> Result<Vec<u8>, AllocError> {
+fn line<T: Serialize>(alloc: Global, object: &T) -> Result<Vec<u8>, AllocError>
+    ensures { IfOk result (λ line. IsLine line.items) }
+{
     let mut line = serde_json::to_vec(alloc, object).map_err(|_| AllocError)?;
     line.push(b'\n')?;
     Ok(line)
@@ -69,7 +72,9 @@ impl Serialize for Results<'_> {
 }
 
 /// The line of a reply.
-pub fn reply_line(alloc: Global, reply: &Reply) -> Result<Vec<u8>, AllocError> {
+pub fn reply_line(alloc: Global, reply: &Reply) -> Result<Vec<u8>, AllocError>
+    ensures { IfOk result (λ line. IsLine line.items) }
+{
     let fields = [
         ("client", Shown::Digits(reply.client())),
         ("session", Shown::Digits(u128::from(reply.session()))),
@@ -105,7 +110,9 @@ impl Serialize for Events<'_> {
 }
 
 /// The line of an entry.
-pub fn entry_line(alloc: Global, entry: &Entry) -> Result<Vec<u8>, AllocError> {
+pub fn entry_line(alloc: Global, entry: &Entry) -> Result<Vec<u8>, AllocError>
+    ensures { IfOk result (λ line. IsLine line.items) }
+{
     let request = &entry.request;
     let fields = [
         ("commit", Shown::Digits(u128::from(entry.commit))),

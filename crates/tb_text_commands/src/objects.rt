@@ -2,6 +2,7 @@
 //! results by name.
 ghost use Rattle.std.specs.Prelude.{◌≡◌, Option, ℕ};
 ghost use Rattle.tb_machine.specs.Histories.{State};
+ghost use Rattle.tb_text_commands.specs.AuditLines.{IsWord, account_word, result_word, transfer_word};
 
 use serde::{Described, Serialize, Serializer};
 use std::alloc::Global;
@@ -204,11 +205,32 @@ impl Record for Transfer {
 }
 
 /// The result of an event of an operation by its name, or by its number where it has none.
-pub fn result_shown(operation: u8, code: u32) -> Shown {
-    let name = if operation == Operation::CreateAccounts.code() {
-        CreateAccountResult::from_code(code).map(|verdict| verdict.name())
+pub fn result_shown(operation: u8, code: u32) -> Shown
+    ensures { IsWord result (result_word operation code) }
+{
+    if operation == Operation::CreateAccounts.code() {
+        account_result_shown(code)
     } else {
-        CreateTransferResult::from_code(code).map(|verdict| verdict.name())
-    };
-    name.map_or(Shown::Digits(u128::from(code)), |name| Shown::Name(name))
+        transfer_result_shown(code)
+    }
+}
+
+/// The result of an event that asks for an account.
+fn account_result_shown(code: u32) -> Shown
+    ensures { IsWord result (account_word code) }
+{
+    match CreateAccountResult::from_code(code) {
+        Some(verdict) => Shown::Name(verdict.name()),
+        None => Shown::Digits(u128::from(code)),
+    }
+}
+
+/// The result of an event that asks for a transfer.
+fn transfer_result_shown(code: u32) -> Shown
+    ensures { IsWord result (transfer_word code) }
+{
+    match CreateTransferResult::from_code(code) {
+        Some(verdict) => Shown::Name(verdict.name()),
+        None => Shown::Digits(u128::from(code)),
+    }
 }

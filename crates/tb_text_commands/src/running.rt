@@ -150,11 +150,12 @@ impl<'a, C: Clock> Conversation<'a, C> {
         ensures { IfOk result (λ begun. (input : Input) → waiting begun.intake input ≡ input.left) }
     {
         let (clients_max, profile) = rules;
+        let machine = Machine::new_in(alloc, alloc, profile, clients_max)?;
         Ok(Conversation {
             intake: Intake::new(alloc),
             server: Server {
                 alloc,
-                machine: Machine::new_in(alloc, alloc, profile, clients_max)?,
+                machine,
                 last: FIRST_CLIENT,
                 clock,
             },
@@ -247,6 +248,26 @@ fn serve_turn<C: Clock, R: Source, W: Sink, E: Sink>(
     }
 }
 
+/// Serves what is typed, to the end of the input or a word that ends the conversation.
+fn serve_turns<C: Clock, R: Source, W: Sink, E: Sink>(
+    conversation: &mut Conversation<'_, C>,
+    reader: &mut R,
+    writer: &mut W,
+    faults: &mut E,
+) -> Result<(), Fault>
+    ensures whole { OnOk result
+        (WasWhole IsTyped (waiting conversation.old.intake (R.input reader.old))) }
+    ensures ended { Ended result (R.input reader.old) (R.input reader.new) (W.output writer.old)
+        (W.output writer.new) }
+{
+    for _ in 0..u64::MAX {
+        if !serve_turn(conversation, reader, writer, faults)? {
+            return Ok(());
+        }
+    }
+    Err(Fault::TooLong)
+}
+
 /// Serves statements that are typed on a terminal, to the end of the input or a word that ends the conversation. A wrong one is
 /// reported at once, and the next one is read.
 pub fn converse<C: Clock, R: Source, W: Sink, E: Sink>(
@@ -261,10 +282,7 @@ pub fn converse<C: Clock, R: Source, W: Sink, E: Sink>(
         (WasWhole IsTyped (waiting conversation.entry.intake (R.input reader.old))) }
 {
     put_line(GREETING.as_bytes(), faults);
-    for _ in 0..u64::MAX {
-        if !serve_turn(&mut conversation, reader, writer, faults)? {
-            return Ok(());
-        }
-    }
-    Err(Fault::TooLong)
+    let done = serve_turns(&mut conversation, reader, writer, faults);
+    drop(conversation);
+    done
 }

@@ -1,10 +1,10 @@
 //! What statements say of clients: the one named last, their sessions, and the numbers of their requests.
-ghost use Rattle.std.specs.BTreeMap.{Updates, get};
+ghost use Rattle.std.specs.BTreeMap.{get};
 ghost use Rattle.std.specs.Ordering.{nat_cmp};
-ghost use Rattle.std.specs.Prelude.{◌≡◌, IfErr, OnOk, Some, unwrap_or};
-ghost use Rattle.tb_text_commands.specs.Completed.{standing_told};
+ghost use Rattle.std.specs.Prelude.{◌≡◌, IfErr, OnOk, unwrap_or};
 ghost use Rattle.tb_text_commands.specs.declared.completing.Standing.TheVariants.{Unknown};
-ghost use Rattle.tb_text_commands.specs.Ends.{IsOfInput};
+ghost use Rattle.tb_text_commands.specs.declared.faults.Fault.TheVariants.{NoMemory};
+ghost use Rattle.tb_text_commands.specs.Noted.{Notes, NotesAll};
 
 use crate::completing::{Standing, Standings};
 use crate::faults::Fault;
@@ -52,10 +52,8 @@ impl ScriptStandings {
 
     /// Notes a request: its client is the one named last, and has its session, but for a register, whose reply gives that.
     fn note_one(&mut self, request: &Request) -> Result<(), Fault>
-        ensures fault { IfErr result IsOfInput }
-        ensures last { self.new.last ≡ Some request.now.client }
-        ensures noted { OnOk result (Updates nat_cmp self.old.clients self.new.clients request.now.client
-            (Some (standing_told request.now))) }
+        ensures fault { IfErr result (λ fault. fault ≡ NoMemory) }
+        ensures noted { OnOk result (Notes request.now self.old self.new) }
     {
         let standing = match request.session() {
             0 => Standing::Unknown,
@@ -68,7 +66,8 @@ impl ScriptStandings {
 
     /// Notes requests.
     pub fn note(&mut self, pairs: &[(u64, Request)]) -> Result<(), Fault>
-        ensures { IfErr result IsOfInput }
+        ensures fault { IfErr result (λ fault. fault ≡ NoMemory) }
+        ensures noted { OnOk result (NotesAll pairs.now self.old self.new) }
     {
         for (_, request) in pairs {
             self.note_one(request)?;

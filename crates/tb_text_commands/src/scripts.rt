@@ -1,7 +1,11 @@
 //! The forms between statements, scripts and replies.
-ghost use Rattle.std.specs.Prelude.{IfErr, IfOk};
+ghost use Rattle.std.specs.Prelude.{◌≡◌, IfErr, IfOk, flat_map};
+ghost use Rattle.tb_records.specs.Inputs.{timed_bytes};
+ghost use Rattle.tb_records.specs.Transport.{IsSent};
+ghost use Rattle.tb_text.specs.Printed.{statement_text};
 ghost use Rattle.tb_text_commands.specs.AuditRuns.{PutsAll, PutsNothing};
 ghost use Rattle.tb_text_commands.specs.Ends.{Written};
+ghost use Rattle.tb_text_commands.specs.Putting.{IsLine, PutsSome, ReadsPair};
 ghost use Rattle.tb_text_commands.specs.Taken.{waiting};
 ghost use Rattle.tb_text_commands.specs.Whole.{IsPair, IsReplyFrame, IsStatement};
 
@@ -37,17 +41,28 @@ pub fn put_line<W: Sink>(writer: &mut W, line: Result<Vec<u8>, AllocError>) -> R
     put(writer, line?.as_slice())
 }
 
+/// Sends a moment and the frame of a request.
+fn send_timed<W: Sink>(writer: &mut W, moment: u64, request: &Request) -> Result<(), FrameFault>
+    ensures { IsSent result (timed_bytes (moment, request.now)) (W.output writer.old) (W.output writer.new) }
+{
+    put_all(writer, &moment.to_le_bytes())?;
+    send_request(writer, request)
+}
+
 /// Writes a pair of a script.
 pub fn put_pair<W: Sink>(writer: &mut W, moment: u64, request: &Request) -> Result<(), Fault>
-    ensures { Written result (W.output writer.old) (W.output writer.new) }
+    ensures written { Written result (W.output writer.old) (W.output writer.new) }
+    ensures put { PutsAll result (timed_bytes (moment, request.now)) (W.output writer.old)
+        (W.output writer.new) }
 {
-    put(writer, &moment.to_le_bytes())?;
-    Ok(send_request(writer, request)?)
+    Ok(send_timed(writer, moment, request)?)
 }
 
 /// Writes pairs of a script.
 fn put_pairs<W: Sink>(writer: &mut W, pairs: &[(u64, Request)]) -> Result<(), Fault>
-    ensures { Written result (W.output writer.old) (W.output writer.new) }
+    ensures written { Written result (W.output writer.old) (W.output writer.new) }
+    ensures put { PutsAll result (flat_map timed_bytes pairs.now) (W.output writer.old)
+        (W.output writer.new) }
 {
     for (moment, request) in pairs {
         put_pair(writer, *moment, request)?;
@@ -70,6 +85,8 @@ impl Converter for Script {
 
     ghost remaining = { λ script input. waiting script.intake input };
 
+    ghost Puts = { λ script pairs. PutsSome (λ bytes. bytes ≡ flat_map timed_bytes pairs) };
+
     fn next<R: Source, W: Sink>(&mut self, reader: &mut R, writer: &mut W) -> Next<Self::Piece> {
         next_statement(&mut self.intake, &self.told, reader, writer)
     }
@@ -81,7 +98,9 @@ impl Converter for Script {
 }
 
 /// The statement of a pair.
-fn statement_of(alloc: Global, moment: u64, request: &Request) -> Result<Vec<u8>, AllocError> {
+fn statement_of(alloc: Global, moment: u64, request: &Request) -> Result<Vec<u8>, AllocError>
+    ensures { IfOk result (λ text. text.items ≡ statement_text (moment, request.now)) }
+{
     let mut text = Vec::new(alloc);
     print_request(alloc, &mut text, moment, request)?;
     Ok(text)
@@ -100,6 +119,10 @@ impl Converter for Statements {
 
     ghost remaining = { λ statements input. input.left };
 
+    ghost Reads = { λ statements. ReadsPair };
+
+    ghost Puts = { λ statements pair. PutsSome (λ bytes. bytes ≡ statement_text pair) };
+
     fn next<R: Source, W: Sink>(&mut self, reader: &mut R, writer: &mut W) -> Next<Self::Piece> {
         if !holds_pair(reader.at_hand()) {
             writer.pass_on();
@@ -109,7 +132,9 @@ impl Converter for Statements {
 
     fn put<W: Sink>(&mut self, writer: &mut W, pair: (u64, Request)) -> Result<(), Fault> {
         let (moment, request) = pair;
-        put_line(writer, statement_of(self.alloc, moment, &request))
+        let text = statement_of(self.alloc, moment, &request);
+        drop(request);
+        put_line(writer, text)
     }
 }
 
@@ -125,6 +150,8 @@ impl Converter for Replies {
     ghost Part = { IsReplyFrame };
 
     ghost remaining = { λ replies input. waiting replies.intake input };
+
+    ghost Puts = { λ replies reply. PutsSome IsLine };
 
     fn next<R: Source, W: Sink>(&mut self, reader: &mut R, writer: &mut W) -> Next<Self::Piece> {
         for _ in 0..u64::MAX {
@@ -149,6 +176,8 @@ impl Converter for Replies {
     }
 
     fn put<W: Sink>(&mut self, writer: &mut W, reply: Reply) -> Result<(), Fault> {
-        put_line(writer, reply_line(self.intake.alloc, &reply))
+        let line = reply_line(self.intake.alloc, &reply);
+        drop(reply);
+        put_line(writer, line)
     }
 }

@@ -1,7 +1,9 @@
 //! How far `tbs` reads a script or replays a dump, and why no further.
 ghost use Rattle.std.specs.Prelude.{◌≡◌, ◌++◌, [], IfOk, MatchOption, MatchResult, List, ℕ};
-ghost use Rattle.tb_text_commands.specs.Explained.{DumpEnds, EndsBehind, Follows, FollowsEntry, FollowsMark, IsCause, IsNextItem, IsNextPair, IsNoItem, IsNoPair, ScriptEnds};
+ghost use Rattle.tb_text_commands.specs.Explained.{ComesOfItem, DumpEnds, EndsBehind, Follows, FollowsEntry, FollowsMark, IsCause, IsNextItem, IsNextPair, IsNoItem, IsNoPair, ScriptEnds};
+ghost use Rattle.tb_text_commands.specs.declared.stops.DumpEnd.TheVariants as DumpEnd;
 
+use crate::kinds::begins_with;
 use std::alloc::{AllocError, Global};
 use tb_machine::{Entry, Machine};
 use tb_records::dumps::{read_head_from, read_item_from};
@@ -182,6 +184,31 @@ fn next_item(alloc: Global, rest: &[u8]) -> Result<Option<(DumpItem, &[u8])>, Du
     }
 }
 
+/// The bytes that a mark begins with.
+const ZEROS: &[u8] = b"\0\0\0\0\0\0\0\0";
+
+/// The bytes of a mark, and of an entry before its request.
+const NUMBERS: usize = 16;
+
+/// The end at an item that cannot be read. AllocError where there is no memory; bytes in memory have no device that fails,
+/// and no entry has the number of a mark.
+fn end_at(place: Place, fault: DumpFault, rest: &[u8]) -> Result<DumpEnd, AllocError>
+    ensures { IfOk result (λ end. (end ≡ DumpEnd.Wrong place fault) × ComesOfItem fault rest.now) }
+{
+    match fault {
+        DumpFault::Mark => Ok(DumpEnd::Wrong(place, fault)),
+        DumpFault::Frame(FrameFault::Device | FrameFault::NoMemory) => Err(AllocError),
+        DumpFault::Frame(_) if rest.len() < NUMBERS => Ok(DumpEnd::Wrong(place, fault)),
+        DumpFault::Frame(_) => {
+            if begins_with(rest, ZEROS) {
+                return Err(AllocError);
+            }
+            Ok(DumpEnd::Wrong(place, fault))
+        }
+        DumpFault::Head | DumpFault::NotLegal | DumpFault::NoMemory => Err(AllocError),
+    }
+}
+
 /// How far the items of a dump are replayed, which are behind its head. Entries are counted without a mark.
 fn items_end(
     alloc: Global,
@@ -212,7 +239,7 @@ fn items_end(
             ) => {
                 return Err(AllocError);
             }
-            Err(fault) => return Ok(DumpEnd::Wrong(place, fault)),
+            Err(fault) => return end_at(place, fault, rest),
         }
     }
     Ok(DumpEnd::TooLong)
@@ -226,8 +253,11 @@ pub fn dump_end(alloc: Global, bytes: &[u8]) -> Result<DumpEnd, AllocError>
     match read_head_from(&mut reader) {
         Ok(head) => {
             let mut machine = Machine::new_in(alloc, alloc, head.profile, head.clients_max)?;
-            items_end(alloc, &mut machine, bytes, reader.into_inner())
+            let end = items_end(alloc, &mut machine, bytes, reader.into_inner());
+            drop(machine);
+            end
         }
-        Err(fault) => Ok(DumpEnd::NoHead(fault)),
+        Err(DumpFault::Head) => Ok(DumpEnd::NoHead(DumpFault::Head)),
+        Err(_) => Err(AllocError),
     }
 }

@@ -2,7 +2,7 @@
 ghost use Rattle.std.specs.Prelude.{◌≡◌, Option, ℕ};
 ghost use Rattle.tb_records.specs.declared.dumps.DumpHead.{DumpHead};
 ghost use Rattle.tb_records.specs.declared.records.EventResult.{EventResult};
-ghost use Rattle.tb_text_commands.specs.Wanted.{begins, enters, expires, is_of_either, is_wanted, is_within, moves, names, opens, resolved_by, settles, stands};
+ghost use Rattle.tb_text_commands.specs.Wanted.{begins, enters, expires, is_of_either, is_wanted, is_within, moves, names, opens, resolved_by, settling_by, stands};
 
 use std::alloc::Global;
 use tb_machine::{Entry, Machine};
@@ -121,8 +121,8 @@ impl Wanted {
         transfer: &Transfer,
     ) -> bool
         ensures { (place : ℕ) (outcome : Option EventResult)
-            → result ≡ is_wanted self.now (settles entry.now place outcome transfer.now
-            (resolved_by machine.now.books transfer.now)) }
+            → result ≡ is_wanted self.now
+            (settling_by machine.now.books entry.now place outcome transfer.now) }
     {
         self.takes(entry)
             && match self.account {

@@ -1,4 +1,4 @@
-use Rattle.std.proofs.Common.{codes, rules}
+use Rattle.std.proofs.Common.{codes}
 use Rattle.std.proofs.lemmas.Result.{IfOk-weaker}
 use Rattle.tb_text_commands.specs.Wanted.{begins}
 use Rattle.tb_text_commands.proofs.AuditTexts.{head_has, line_of}

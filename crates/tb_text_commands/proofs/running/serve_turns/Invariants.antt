@@ -1,7 +1,7 @@
 use Rattle.tb_text_commands.specs.Ends.{IsWhole}
 use Rattle.tb_text_commands.specs.Taken.{TakesParts, waiting}
 use Rattle.tb_text_commands.specs.Typed.{IsTypedPart}
-use Rattle.tb_text_commands.proofs.running.converse.Given as goal
+use Rattle.tb_text_commands.proofs.running.serve_turns.Given as goal
 
 abbrev pub invariant-loop : goal.invariant-loop
 invariant-loop g l = record {

@@ -1,6 +1,6 @@
 use Rattle.std.proofs.Common.{rules}
 use Rattle.tb_text_commands.proofs.TypedParts.{typed_on}
-use Rattle.tb_text_commands.proofs.running.converse.Goals as goal
+use Rattle.tb_text_commands.proofs.running.serve_turns.Goals as goal
 
 pub loop-preserved : goal.loop-preserved
 loop-preserved g c = record {
