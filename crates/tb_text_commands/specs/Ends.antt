@@ -110,8 +110,8 @@ Tells foreign (Err fault) quiet told = TellsAs foreign fault quiet told
 
 -- a form of the program was done, or a fault ended it: the status is the outcome's, and a device failed exactly where that
 -- says so; with status 0 a whole input was read, and `explain` says where `tbs` stops in it; where no statements are typed,
--- nothing but its line is reported; that names the kind of an input exactly where it is another kind than the form reads, if the
--- fault is one of what was read
+-- nothing but its line is reported, and the input is of another kind than the form reads where that line says so; `own` says
+-- little, since bytes may be of several kinds by how many of them are looked at
 pub record Exits (form : Form) (talks : Bool) (status : ℕ) (before after : Input) (start written quiet told : Output) : Type 0 where
   pub outcome : Result (Unit {0}) Fault
   pub ended : Ended outcome before after start written

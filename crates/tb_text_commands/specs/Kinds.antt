@@ -65,7 +65,7 @@ pub record IsForeign (form : Form) (talks : Bool) (awaited : Awaited) (kind : Ki
   pub foreign : IsTrue (is_foreign awaited kind)
   pub begins : WasWhole (BeginsAs kind) left
 
--- the input is not of another kind than is awaited
+-- some first bytes of the input are of no kind but the one that is awaited
 pub record IsOwn (awaited : Awaited) (left : Option (List ℕ)) : Type 0 where
   pub kind : Kind
   pub own : is_foreign awaited kind ≡ false
