@@ -1,6 +1,7 @@
 -- A room for the bytes of a reply: how far it is filled, and how long the reply is.
--- Cited by private contracts alone, of: replies, serving.
-use Rattle.std.specs.Prelude.{ℕ, true, false, ◌≡◌, ◌≤◌, List, length, take, Option, Some, Result, Ok, Err}
+-- Cited by private contracts alone, of: replies, rooms, serving.
+use Rattle.std.specs.Prelude.{ℕ, true, false, ◌≡◌, ◌≤◌, Bool, List, ◌∷◌, length, take, Option, Some, Result, Ok, Err}
+use Rattle.tb_records.specs.Transport.{Output}
 use Rattle.tb_records.specs.ReplyFrames.{reply_bytes, IsReply, SpellsReply}
 use Rattle.tb_sessions.specs.declared.rows.Row.{Row}
 use Rattle.tb_sessions.specs.declared.classes.Class.{Class}
@@ -10,6 +11,10 @@ use Rattle.tb_machine.specs.declared.serving.RunFault.TheVariants as fault
 use Rattle.tb_machine.specs.Histories.{State, answer_to}
 use Rattle.tb_machine.specs.Scripts.{Pair, has_time, after_pair}
 use Rattle.tb_machine.specs.Runs.{is_new_in, IsTimely, answer_bytes}
+
+-- a room as an output: what was written begins with its name, and no write fails
+abbrev pub room_output : ℕ → ℕ → List ℕ → ℕ → Bool → Bool → Output
+room_output name at bytes stalls halted held = record { written = Some (name ∷ take at bytes); failed = 0; stalled = stalls; halted = halted; held = held }
 
 -- the answer fills so many bytes of the room, which are read as no other; or a prefix of the answer fills the room
 abbrev pub Fills : Result ℕ RunFault → State → State → Pair → List ℕ → Type 0

@@ -83,8 +83,7 @@ pub(crate) fn serve(
     frame: &[u8],
     reply: &mut [u8],
 ) -> Outcome
-    ensures { ServesFrame result (standing server.old.held.state) (standing server.new.held.state) moment
-        frame.now reply.new }
+    ensures { ServesFrame (standing server.old) (standing server.new) moment frame.now reply.new result }
 {
     let Some(mut held) = server.take(alloc) else {
         return Outcome::Closed
