@@ -1,6 +1,7 @@
 pub mod Words
 pub mod Entries
 pub mod Scan
+pub mod Scanning
 pub mod Steps
 pub mod Awaited
 pub mod Grammar
