@@ -1,8 +1,7 @@
 //! The forms `run`, `dump` and `replay`, over any reader and writer, and the exit status of each outcome.
-ghost use Rattle.std.specs.Prelude.{◌≡◌, ◌<◌, None, Some, map, string_bytes};
-ghost use Rattle.tb_commands.specs.declared.arguments.Form.{Form};
+ghost use Rattle.std.specs.Prelude.{◌≡◌, ◌<◌, None, map, string_bytes};
 ghost use Rattle.tb_commands.specs.Forms.{form_of};
-ghost use Rattle.tb_commands.specs.Statuses.{fault_status, fault_name, fault_line, TellsLine, Performs, Exits};
+ghost use Rattle.tb_commands.specs.Statuses.{fault_status, fault_name, fault_line, On, TellsLine, Performs, ServesWords};
 
 use crate::arguments::{Form, read_form};
 use crate::lines::{line_of, put_line};
@@ -105,12 +104,12 @@ pub fn command<R: Source, W: Sink, E: Sink>(
     ensures usage { form_of (map string_bytes words.now) ≡ None
         → (result ≡ 2)
         × (reader.new ≡ reader.old)
-        × (writer.new ≡ writer.old)
-        × TellsLine (fault_line Fault.Usage) (E.output faults.old) (E.output faults.new) }
+        × (writer.new ≡ writer.old) }
+    ensures told { form_of (map string_bytes words.now) ≡ None
+        → TellsLine (fault_line Fault.Usage) (E.output faults.old) (E.output faults.new) }
     ensures quiet { result ≡ 0 → faults.new ≡ faults.old }
-    ensures served { (form : Form) → form_of (map string_bytes words.now) ≡ Some form
-        → Exits form result (R.input reader.old) (R.input reader.new) (W.output writer.old)
-        (W.output writer.new) (E.output faults.old) (E.output faults.new) }
+    ensures served { On R.Source W.Sink E.Sink (ServesWords (map string_bytes words.now) result)
+        reader.old reader.new writer.old writer.new faults.old faults.new }
 {
     let Some(form) = read_form(words) else {
         tell(Fault::Usage, faults);
