@@ -1,6 +1,7 @@
 -- What becomes of a request that is entered by the state S of a history h, which are T and m then.
 -- Cited by private contracts alone, of: entering.
-use Rattle.std.specs.Prelude.{ℕ, true, false, ◌≡◌, ◌≢◌, List, [], ◌∷◌, ◌++◌, Result, Ok, Err}
+use Rattle.std.specs.Prelude.{ℕ, true, false, ◌≡◌, ◌≢◌, List, [], ◌∷◌, ◌++◌, Result, Ok, Err, MatchResult}
+use Rattle.std.specs.declared.alloc.AllocError.{AllocError}
 use Rattle.tb_records.specs.Messages.{Message, IsLawful}
 use Rattle.tb_sessions.specs.declared.classes.Class.TheVariants.{New, Repeat}
 use Rattle.tb_sessions.specs.Judged.{class_of}
@@ -17,6 +18,10 @@ abbrev pub IsKnown : State → Message → Taken → Type 0
 IsKnown S r (taken.Committed c) = ⊥
 IsKnown S r (taken.Repeat c) = (class_of S.rows r ≡ Repeat) × (c ≡ (answer_to S r).commit) × IsLawful r
 IsKnown S r (taken.Refused s) = (class_of S.rows r ≢ New) × (class_of S.rows r ≢ Repeat) × (s ≡ status_of (class_of S.rows r))
+
+-- an entry comes behind the history and into the state, and its commit number is the answer; where there is no memory, both stay
+abbrev pub AddsEntry : State → List Entry → Entry → Result ℕ AllocError → State → List Entry → Type 0
+AddsEntry S h e result T m = MatchResult result (λ c. (c ≡ e.commit) × (T ≡ step S e) × (m ≡ h ++ e ∷ [])) (λ _. (T ≡ S) × (m ≡ h))
 
 -- a new one has the next commit number, and the state is the one after its entry
 abbrev pub EntersBy : State → List Entry → Message → ℕ → Result Taken TakeFault → State → List Entry → Type 0

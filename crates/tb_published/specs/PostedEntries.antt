@@ -1,7 +1,8 @@
 -- Posted entries: each brings the copies an entry, and the front that a copy has with it.
--- Cited by private contracts alone, of: copies, publisher, replica.
-use Rattle.std.specs.Prelude.{◌≡◌, ◌+◌, ◌==◌, List, [], ◌∷◌, ◌++◌, length, if◌then◌else◌, fold, Option, Some}
+-- Cited by private contracts alone, of: copies, offering, publisher, replica.
+use Rattle.std.specs.Prelude.{◌≡◌, ◌+◌, ◌==◌, List, [], ◌∷◌, ◌++◌, length, if◌then◌else◌, fold, Option, Some, MatchOption}
 use Rattle.std.specs.Option.{option_to_list}
+use mathlib.Core.List.{IsPrefix}
 use Rattle.tb_machine.specs.declared.entries.Entry.{Entry}
 use Rattle.tb_published.specs.Prefixes.{Prefix, with_entry}
 
@@ -12,6 +13,11 @@ pub record PostedEntry : Type 0 where
 -- a copy takes in the front that has one entry more
 abbrev pub absorbed : Prefix → PostedEntry → Prefix
 absorbed x o = if length o.front.list == length x.list + 1 then o.front else x
+
+-- the next entry of the history is posted: its head counts it, and the posted front has it; or nothing is posted, and the head stays
+abbrev pub PostsNext : Prefix → Prefix → List Entry → Option PostedEntry → Type 0
+PostsNext before after history posted =
+    MatchOption posted (after ≡ before) (λ o. (o.front ≡ after) × (after ≡ with_entry before o.entry) × IsPrefix after.list history)
 
 -- posted entries behind a prefix, one after another
 abbrev pub Follows : Prefix → List PostedEntry → Type 0

@@ -1,7 +1,7 @@
 //! The two copies, and how the writer shows what they have taken in.
-ghost use Rattle.std.specs.Prelude.{◌≡◌, ◌++◌, ◌∷◌, [], IfOk, MatchResult};
+ghost use Rattle.std.specs.Prelude.{◌≡◌, [], Some, IfOk, MatchResult};
 ghost use Rattle.left_right.specs.Sides.{view};
-ghost use Rattle.tb_published.specs.PostedEntries.{Follows, showing};
+ghost use Rattle.tb_published.specs.PostedEntries.{Follows, and_waiting, showing};
 ghost use Rattle.tb_published.specs.Sharing.{Swapped};
 
 use crate::front::Front;
@@ -104,7 +104,7 @@ impl<J: Naming> Copies<J> {
     /// One posted entry more; it comes back where there is no capacity for it.
     pub(crate) fn append(&mut self, posted: Posted<J>) -> Result<(), Posted<J>>
         ensures { MatchResult result
-            (λ _. self.new ≡ record self.old { posted = self.old.posted ++ posted ∷ [] })
+            (λ _. self.new ≡ and_waiting self.old (Some posted))
             (λ back. (back ≡ posted) × (self.new ≡ self.old)) }
     {
         self.writer.append(posted)

@@ -5,10 +5,9 @@ ghost use Rattle.std.specs.Fn.{FnOnceReturnsAt};
 ghost use Rattle.left_right.specs.Sides.{view as known};
 ghost use Rattle.tb_records.specs.Messages.{IsLawful};
 ghost use Rattle.tb_sessions.specs.Judged.{class_of};
-ghost use Rattle.tb_ledger.specs.Books.{found_accounts, found_transfers};
 ghost use Rattle.tb_machine.specs.Histories.{answer_to};
 ghost use Rattle.tb_published.specs.declared.faults.SeatFault.TheVariants as seat_fault;
-ghost use Rattle.tb_published.specs.Openings.{LegalIn, IsAnswerIn, after_in, longer_of, OneBegins};
+ghost use Rattle.tb_published.specs.Openings.{LegalIn, AnswersIn, FindsAccounts, FindsTransfers, HasStatusIn, after_in, longer_of, OneBegins};
 ghost use Rattle.tb_published.specs.Sharing.{Knows};
 
 use crate::faults::SeatFault;
@@ -94,10 +93,7 @@ impl<J: Naming> Seat<J> {
     /// its refusal. It takes no memory.
     pub fn status(&mut self, request: &Request) -> Result<Status, SeatFault>
         ensures begins { IsPrefix self.old self.new }
-        ensures status { IfOk result
-            (λ status.
-            LegalIn J.opening self.new
-            × (status ≡ (answer_to (after_in J.opening self.new) request.now).status)) }
+        ensures status { IfOk result (HasStatusIn J.opening self.new request.now) }
         ensures fault { IfErr result (λ f. (f ≡ seat_fault.NoCopy) × (self.new ≡ self.old)) }
     {
         let class = self.ask(
@@ -112,9 +108,7 @@ impl<J: Naming> Seat<J> {
     /// the copy of a reply's body finds none; the seat has then seen what is shown all the same.
     pub fn answer(&mut self, request: &Request) -> Result<Reply, SeatFault>
         ensures begins { IsPrefix self.old self.new }
-        ensures answer { IfOk result
-            (λ reply.
-            LegalIn J.opening self.new × IsAnswerIn J.opening self.new request.now reply) }
+        ensures answer { IfOk result (AnswersIn J.opening self.new request.now) }
         ensures fault { IfErr result (λ f. f ≡ seat_fault.NoCopy → self.new ≡ self.old) }
     {
         let global = self.global;
@@ -132,11 +126,7 @@ impl<J: Naming> Seat<J> {
     /// number of those entries.
     pub fn lookup_accounts(&mut self, ids: &[u128]) -> Result<(u64, Vec<Account>), SeatFault>
         ensures begins { IsPrefix self.old self.new }
-        ensures found { IfOk result
-            (λ t.
-            LegalIn J.opening self.new
-            × (t.0 ≡ length self.new)
-            × (t.1.items ≡ found_accounts (after_in J.opening self.new).books ids.now)) }
+        ensures found { IfOk result (λ t. FindsAccounts J.opening self.new ids.now t.0 t.1.items) }
         ensures fault { IfErr result (λ f. f ≡ seat_fault.NoCopy → self.new ≡ self.old) }
     {
         match self.ask(|machine| machine.lookup_accounts(ids))? {
@@ -149,11 +139,7 @@ impl<J: Naming> Seat<J> {
     /// are shown.
     pub fn lookup_transfers(&mut self, ids: &[u128]) -> Result<(u64, Vec<Transfer>), SeatFault>
         ensures begins { IsPrefix self.old self.new }
-        ensures found { IfOk result
-            (λ t.
-            LegalIn J.opening self.new
-            × (t.0 ≡ length self.new)
-            × (t.1.items ≡ found_transfers (after_in J.opening self.new).books ids.now)) }
+        ensures found { IfOk result (λ t. FindsTransfers J.opening self.new ids.now t.0 t.1.items) }
         ensures fault { IfErr result (λ f. f ≡ seat_fault.NoCopy → self.new ≡ self.old) }
     {
         match self.ask(|machine| machine.lookup_transfers(ids))? {
