@@ -12,4 +12,5 @@ pub mod OfferedLaws
 pub mod ToldLaws
 -- what private contracts alone cite
 pub mod Rule
+pub mod Inboxes
 pub mod Desks

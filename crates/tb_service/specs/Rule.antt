@@ -1,6 +1,6 @@
 -- The rule of the queue: the orders taken and then those queued are all that were sent, and each pass knows its part of them.
 -- Cited by private contracts alone, of: ports, rule, sending.
-use Rattle.std.specs.Prelude.{ℕ, Bool, true, false, ◌≡◌, ◌<◌, ◌≤◌, List, [], ◌++◌}
+use Rattle.std.specs.Prelude.{ℕ, Bool, true, false, ◌≡◌, ◌<◌, ◌≤◌, List, [], ◌++◌, Result, MatchResult}
 use mathlib.Core.Option.{some}
 use lib.ListN.{get_elem?}
 use Rattle.tb_records.specs.Messages.{Message}
@@ -26,6 +26,10 @@ server_with v ports taken = record v { ports = ports; taken = taken }
 -- the port sent an order
 abbrev pub sent : View → Order → View
 sent v o = record v { offered = v.offered ++ requests_in o.what; closed = closes o.what }
+
+-- an order was sent; or it comes back, and nothing was sent
+abbrev pub SentOrBack : Result (Unit {0}) Order → Order → View → View → Type 0
+SentOrBack result order before after = MatchResult result (λ _. after ≡ sent before order) (λ back. (back ≡ order) × (after ≡ before))
 
 -- the server took the pass of a port in
 abbrev pub taken_in : View → View → View

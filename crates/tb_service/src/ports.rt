@@ -63,12 +63,12 @@ impl Model for Closed {
 }
 
 impl Port {
-    ghost use Rattle.std.specs.Prelude.{◌++◌, ◌∷◌, ◌<◌, ◌≤◌, ◌⊎◌, false, IfOk, MatchResult};
+    ghost use Rattle.std.specs.Prelude.{◌∷◌, ◌<◌, ◌≤◌, false, IfOk};
     ghost use mathlib.Core.List.{IsPrefix};
-    ghost use Rattle.tb_published.specs.Openings.{LegalIn, IsAnswerIn};
+    ghost use Rattle.tb_published.specs.Openings.{AnswersIn};
     ghost use Rattle.tb_service.specs.Rule.{port_view};
-    ghost use Rattle.tb_service.specs.Ports.{offers_of};
-    ghost use Rattle.tb_service.specs.Calls.{WasNotYet};
+    ghost use Rattle.tb_service.specs.Ports.{SendsOrReturns, offers_of};
+    ghost use Rattle.tb_service.specs.Calls.{OffersOnce};
 
     pub(crate) fn new(sender: Sender, pass: Pass<Order, View>, number: u32, alloc: Global) -> Port
         requires seated { IsSeatAt (sends_on sender) pass }
@@ -86,8 +86,7 @@ impl Port {
 
     /// Sends a request. It comes back only where the server is gone, or the port sent 2^64 - 1 requests.
     pub fn offer<R: Wait>(&mut self, rt: &R, request: Request) -> Result<(), Request>
-        ensures offered { MatchResult result (λ _. self.new.offered ≡ self.old.offered ++ request ∷ [])
-            (λ back. (back ≡ request) × (self.new.offered ≡ self.old.offered)) }
+        ensures offered { SendsOrReturns result request (request ∷ []) self.old self.new }
         ensures same { (self.new.service ≡ self.old.service) × (self.new.number ≡ self.old.number) }
     {
         if self.count == u64::MAX {
@@ -118,8 +117,7 @@ impl Port {
     ) -> Result<(), Vec<Request>>
         requires some { 0 < length requests.items }
         requires few { length requests.items ≤ 8 }
-        ensures offered { MatchResult result (λ _. self.new.offered ≡ self.old.offered ++ requests.items)
-            (λ back. (back ≡ requests) × (self.new.offered ≡ self.old.offered)) }
+        ensures offered { SendsOrReturns result requests requests.items self.old self.new }
         ensures same { (self.new.service ≡ self.old.service) × (self.new.number ≡ self.old.number) }
     {
         let more = requests.len() as u64;
@@ -153,12 +151,8 @@ impl Port {
         turns: u32,
     ) -> Result<Reply, SeatFault>
         ensures begins { IsPrefix seat.old seat.new }
-        ensures answer { IfOk result
-            (λ reply.
-            LegalIn J.opening seat.new × IsAnswerIn J.opening seat.new request.now reply) }
-        ensures offered { (self.new.offered ≡ self.old.offered)
-            ⊎ ((self.new.offered ≡ self.old.offered ++ request.now ∷ [])
-            × WasNotYet J.opening seat.old seat.new request.now) }
+        ensures answer { IfOk result (AnswersIn J.opening seat.new request.now) }
+        ensures offered { OffersOnce J.opening seat.old seat.new request.now self.old self.new }
         ensures same { (self.new.service ≡ self.old.service) × (self.new.number ≡ self.old.number) }
     {
         let reply = seat.answer(request)?;

@@ -1,8 +1,8 @@
 //! How a port sends an order.
-ghost use Rattle.std.specs.Prelude.{◌≡◌, true, false, MatchResult};
+ghost use Rattle.std.specs.Prelude.{◌≡◌, true, false};
 ghost use Rattle.crossbeam_channel.specs.Claims.{view, IsSeatAt};
 ghost use Rattle.crossbeam_channel.specs.Ends.{sends_on};
-ghost use Rattle.tb_service.specs.Rule.{sent};
+ghost use Rattle.tb_service.specs.Rule.{SentOrBack};
 
 use crate::orders::{Order, What};
 use crate::rule::{Sender, Sends, View};
@@ -43,8 +43,7 @@ pub(crate) fn send<R: Wait>(
     requires own { order.port ≡ (view pass.old).port }
     requires fresh { (view pass.old).closed ≡ false }
     ensures seated { IsSeatAt (sends_on sender.now) pass.new × (pass.new.id ≡ pass.old.id) }
-    ensures sent { MatchResult result (λ _. view pass.new ≡ sent (view pass.old) order)
-        (λ back. (back ≡ order) × (view pass.new ≡ view pass.old)) }
+    ensures sent { SentOrBack result order (view pass.old) (view pass.new) }
 {
     for naps in 0..NAPS {
         match sender.try_send_as::<Sends, R>(rt, pass, order) {
