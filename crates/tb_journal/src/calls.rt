@@ -1,8 +1,7 @@
 //! Calls on a device whose effect is durable before the next.
-ghost use Rattle.std.specs.Prelude.{◌≡◌, ◌≤◌, ◌<◌, ◌+◌, ◌^◌, List, ℕ, [], length, IfErr};
-ghost use Rattle.std.specs.List.{AllByRecursion};
-ghost use Rattle.tb_journal.specs.Contents.{Fits, at_rest, recorded, records_end};
-ghost use Rattle.tb_journal.specs.Steps.{IsWhole, Overwrites, Publishes};
+ghost use Rattle.std.specs.Prelude.{◌≡◌, ◌≤◌, ◌<◌, ◌+◌, ◌^◌, length, IfErr};
+ghost use Rattle.tb_journal.specs.Contents.{recorded, records_end};
+ghost use Rattle.tb_journal.specs.Steps.{IsWhole, Overwrites, PublishesBytes};
 
 use crate::batches::OPEN;
 use crate::devices::Device;
@@ -27,11 +26,7 @@ pub fn publish<D: Device>(device: &mut D, end: usize, batch: &[u8]) -> Result<()
     requires whole { D.tells → IsWhole (D.disk device.old) }
     requires ends { D.tells → end ≡ records_end (recorded (D.disk device.old).seen) }
     ensures other { IfErr result (λ fault. fault ≡ Fault.NotEmpty → ⊥) }
-    ensures publishes { D.tells
-        → (records : List (List ℕ)) → AllByRecursion Fits records
-        → batch.now ≡ at_rest records
-        → 1 ≤ length records
-        → Publishes records result (D.disk device.old) (D.disk device.new) }
+    ensures publishes { D.tells → PublishesBytes batch.now result (D.disk device.old) (D.disk device.new) }
 {
     let (_, tail) = batch.split_at(1);
     match write_kept(device, end + 1, tail) {

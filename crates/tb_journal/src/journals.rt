@@ -1,9 +1,8 @@
 //! A journal: records in a file, each durable before it counts.
-ghost use Rattle.std.specs.Prelude.{◌≡◌, ◌↔◌, ◌≤◌, ◌<◌, ◌+◌, ◌^◌, ◌++◌, true, false, List, [], ◌∷◌, length, Ok, IfErr, OnOk, OnErr, IsErrOf};
-ghost use Rattle.tb_journal.specs.Device.{LeavesOnly, HasCause};
+ghost use Rattle.std.specs.Prelude.{◌≡◌, ◌↔◌, ◌≤◌, ◌<◌, ◌+◌, ◌^◌, ◌++◌, true, false, [], ◌∷◌, length, Ok, IfErr, OnOk, OnErr, IsErrOf};
+ghost use Rattle.tb_journal.specs.Device.{HasCause};
 ghost use Rattle.tb_journal.specs.Contents.{at_rest, recorded};
-ghost use Rattle.tb_journal.specs.Steps.{IsBeforeOrAfter};
-ghost use Rattle.tb_journal.specs.Ready.{Kept, IsWritable, IsReady, grown};
+ghost use Rattle.tb_journal.specs.Ready.{Kept, IsWritable, IsReady, grown, LeavesBeforeOrAfter};
 
 use crate::batches::Batch;
 use crate::calls::publish;
@@ -105,9 +104,7 @@ impl<D: Device> Journal<D> {
         ensures err { OnErr result (self.new ≡ record self.old { device = self.new.device; usable = false }) }
 
         // A crash at any moment of the call leaves the records from before it, with the whole batch or with none of it.
-        ensures any_moment { D.tells → IsReady D.disk self.old
-            → LeavesOnly (D.disk self.old.device) (D.disk self.new.device)
-            (IsBeforeOrAfter (recorded (D.disk self.old.device).seen) self.old.waiting) }
+        ensures any_moment { D.tells → IsReady D.disk self.old → LeavesBeforeOrAfter D.disk self.old self.new }
 
         ensures not_empty { IfErr result (λ fault. fault ≡ Fault.NotEmpty → ⊥) }
 

@@ -5,7 +5,7 @@ ghost use Rattle.tb_journal.specs.Contents.{Records, contents, recorded, records
 ghost use Rattle.tb_journal.specs.Steps.{Shortens};
 ghost use Rattle.tb_journal.specs.Reading.{extent_of};
 ghost use Rattle.tb_journal.specs.Ready.{IsOver};
-ghost use Rattle.tb_journal.specs.Opening.{IsOfExtent, Recovers, StandsForTheSame, IsOfDevice, HasOpenCause, IsUntouched, IsOpened, Repairs, device_left, fault_left};
+ghost use Rattle.tb_journal.specs.Opening.{IsOfExtent, Recovers, StandsForTheSame, IsOfDevice, HasOpenCause, IsUntouched, IsOpened, Repairs, device_left, fault_left, LeavesSameRecords};
 
 use crate::batches::{Batch, CLOSED};
 use crate::calls::write_kept;
@@ -80,9 +80,7 @@ impl<D: Device> Journal<D> {
         ensures opened { D.tells → (D.disk device).sound ≡ true
             → IfOk result (IsOpened D.disk (D.disk device).seen) }
         ensures same { D.tells → IfOk result (IsOver D.disk (recorded (D.disk device).seen)) }
-        ensures any_moment { D.tells → (D.disk device).sound ≡ true
-            → LeavesOnly (D.disk device) (D.disk (device_left result))
-            (λ c. contents c ≡ Records (recorded (D.disk device).seen)) }
+        ensures any_moment { D.tells → LeavesSameRecords (D.disk device) (D.disk (device_left result)) }
         // Of any device.
         ensures usable { IfOk result (λ journal. journal.usable ≡ true) }
         ensures numbers { IfOk result (IsOfExtent extent) }

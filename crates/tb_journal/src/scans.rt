@@ -4,7 +4,7 @@ ghost use Rattle.tb_journal.specs.Device.{IsOnDisk, LeavesOnly, IsLookedAt, HasO
 ghost use Rattle.tb_journal.specs.Contents.{front};
 ghost use Rattle.tb_journal.specs.Growing.{Later};
 ghost use Rattle.tb_journal.specs.Opening.{IsAsBefore, HasOpenCause};
-ghost use Rattle.tb_journal.specs.Scans.{Place, IsAhead, HasRead, Starts, ReadsNext, GoesFurther, IsAt, IsOfStart};
+ghost use Rattle.tb_journal.specs.Scans.{Place, IsAhead, HasRead, Starts, ReadsNext, GoesFurther, IsAt, IsOfStart, ScanCause};
 ghost use Rattle.tb_journal.specs.Reading.{HasAhead, FindsHead, LooksKept, StartsScan, TellsExtent, head_is};
 
 use crate::devices::Device;
@@ -68,9 +68,7 @@ impl Scan {
             → (records : List (List ℕ)) → HasRead records file self.old → ReadsNext result records file self.new }
         ensures same { (file : List ℕ) → D.holds device.old file → D.holds device.new file }
         ensures looks { D.tells → IsLookedAt (D.disk device.old) (D.disk device.new) }
-        ensures cause { D.tells → (records : List (List ℕ))
-            → HasRead records (D.disk device.old).seen self.old
-            → HasOpenCause result (D.disk device.old) (D.disk device.new) }
+        ensures cause { D.tells → ScanCause result self.old (D.disk device.old) (D.disk device.new) }
         // Of any device: so a loop over the records comes to an end.
         ensures further { IfOk result (λ more. more ≡ true → GoesFurther self.old self.new) }
         // Of any device: damage is reported where the records that were read end.

@@ -15,6 +15,7 @@ use Rattle.tb_keep.specs.Keeping.{head_record}
 use Rattle.tb_keep.specs.Restoration.{RecordsLead, StopsAt, RestoresRecord, RestoresAll, StopsReading, HasStartCause, Restores}
 use Rattle.tb_keep.specs.Opening.{IsUntouched}
 use Rattle.tb_keep.specs.Reading.{HasRules, RulesAnswer}
+use Rattle.tb_journal.specs.Reading.{extent_of}
 
 -- the file is as it was at each moment, and durable if it was, and no sync has failed that had not
 pub record StaysKept (before after : Disk) : Type 0 where
@@ -25,6 +26,13 @@ pub record StaysKept (before after : Disk) : Type 0 where
 -- the cause of a fault, where some records were read before
 abbrev pub ReadCause : {T : Type 0} → Result T StartFault → Place → Disk → Disk → Type 0
 ReadCause result scan before after = (read : List (List ℕ)) → HasRead read before.seen scan → HasStartCause result before after
+
+-- the same, where the head was read, which names these rules
+abbrev pub IsBehindHead : Rules → List ℕ → Place → Type 0
+IsBehindHead rules file scan = HasRead (head_record rules.profile rules.clients_max ∷ []) file scan
+
+abbrev pub CauseBehindHead : {T : Type 0} → Result T StartFault → Rules → Place → Disk → Disk → Type 0
+CauseBehindHead result rules scan before after = IsBehindHead rules before.seen scan → HasStartCause result before after
 
 -- the head was read, or there is none
 abbrev pub ReadsHead : Result Bool StartFault → Profile → ℕ → List ℕ → Place → Type 0
@@ -55,3 +63,8 @@ FindsBehind result rules file = HasRules rules file × Restores result rules.pro
 abbrev pub FindsRules : Result Rules StartFault → List ℕ → Place → Type 0
 FindsRules (Ok rules) file after = HasRead (head_record rules.profile rules.clients_max ∷ []) file after
 FindsRules (Err fault) file after = RulesAnswer (Err fault) file
+
+-- a file without records has a new machine
+abbrev pub RestoresEmpty : Result (State × Extent) StartFault → Rules → Extent → List ℕ → Type 0
+RestoresEmpty result rules extent file =
+    contents file ≡ Records [] → BeginsWith [] file → extent_of (contents file) ≡ Ok extent → Restores result rules.profile rules.clients_max file

@@ -1,17 +1,21 @@
 -- Journals that have a head: for private functions alone.
 -- Cited by private contracts alone, of: opening.
-use Rattle.std.specs.Prelude.{ℕ, ◌≡◌, ◌⊎◌, List, [], ◌∷◌, Result, Ok, Err, OnOk, IfErr}
+use Rattle.std.specs.Prelude.{ℕ, ◌≡◌, ◌⊎◌, List, [], ◌∷◌, Result, Ok, Err, OnOk, IfErr, true}
 use Rattle.tb_records.specs.declared.limits.Profile.{Profile}
 use Rattle.tb_journal.specs.declared.faults.Fault.TheVariants.{NotEmpty}
 use Rattle.tb_journal.specs.declared.opening.OpenFault.TheVariants as open_faults
-use Rattle.tb_journal.specs.Device.{Disk, IsCause, FailsNone}
+use Rattle.tb_journal.specs.Device.{Disk, IsCause, FailsNone, LeavesOnly}
 use Rattle.tb_journal.specs.Contents.{Records, contents, recorded}
 use Rattle.tb_journal.specs.Ready.{Kept, IsReady}
 use Rattle.tb_keep.specs.declared.faults.StartFault.{StartFault}
 use Rattle.tb_keep.specs.declared.faults.StartFault.TheVariants as start
 use Rattle.tb_keep.specs.declared.opening.NotKept.{NotKept}
-use Rattle.tb_keep.specs.Keeping.{head_record}
-use Rattle.tb_keep.specs.Opening.{HasNoEntry}
+use Rattle.tb_keep.specs.Keeping.{head_record, Keeping}
+use Rattle.tb_keep.specs.Opening.{HasNoEntry, OpensFile}
+use Rattle.tb_keep.specs.Restoration.{IsRestoredFrom}
+use Rattle.tb_keep.specs.declared.heads.Rules.{Rules}
+use Rattle.tb_machine.specs.Histories.{State}
+use Rattle.tb_journal.specs.declared.reading.Extent.{Extent}
 
 -- the journal's device, or the one that is given back
 abbrev pub journal_left : {D : Type 0} → Result (Kept D) (NotKept D) → D
@@ -53,3 +57,16 @@ module _ {D : Type 0} (disk : D → Disk) (profile : Profile) (clients_max : ℕ
 -- what a crash may leave while such a journal is opened
 abbrev pub OpensOnly : Profile → ℕ → List (List ℕ) → List ℕ → Type 0
 OpensOnly profile clients_max records file = (contents file ≡ Records records) ⊎ ((records ≡ []) × HasNoEntry profile clients_max file)
+
+-- where no sync has failed before, a crash at any moment leaves these records alone
+abbrev pub OpensAtMost : Profile → ℕ → Disk → Disk → Type 0
+OpensAtMost profile clients_max before after = before.sound ≡ true → LeavesOnly before after (OpensOnly profile clients_max (recorded before.seen))
+
+-- a file of which this machine was restored is opened by it, or it is reported why not
+abbrev pub OpensRestored : {D : Type 0} → Result (Keeping D) (NotKept D) → Rules → State → Extent → List ℕ → Type 0
+OpensRestored result rules S extent file =
+    IsRestoredFrom rules.profile rules.clients_max file S extent → OpensFile result rules.profile rules.clients_max file
+
+-- while a head is written, a crash at any moment leaves no record, or this head and nothing behind it
+abbrev pub HeadLeaves : Rules → Disk → Disk → Type 0
+HeadLeaves rules before after = LeavesOnly before after (HasNoEntry rules.profile rules.clients_max)

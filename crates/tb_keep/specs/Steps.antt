@@ -22,6 +22,7 @@ use Rattle.tb_keep.specs.declared.faults.KeepFault.{KeepFault}
 use Rattle.tb_keep.specs.declared.faults.KeepFault.TheVariants as keep
 use Rattle.tb_keep.specs.Keeping.{Keeping}
 use Rattle.tb_keep.specs.Rounds.{IsServed, IsUntimely, Commits, IsRead, IsStop, RefusesRecord, records_from, told_from, block_bytes_max, IsDue}
+use Rattle.tb_keep.specs.declared.replies.Replies.{Replies}
 
 -- a fault of a record that is made to wait: there is no memory for it, or the journal refuses it
 abbrev pub IsRefusal : {D : Type 0} → KeepFault → Kept D → List ℕ → Type 0
@@ -149,3 +150,17 @@ module _ (tells : Type 0) {D : Type 0} (disk : D → Disk) where
   abbrev pub KeepsNext : Result Bool KeepFault → Keeping D → Keeping D → Input → Input → List ℕ → List ℕ → Output → Output → Type 0
   KeepsNext (Ok more) before after first last held left start written = GoesOn more before after first last held left × (written ≡ start)
   KeepsNext (Err f) before after first last held left start written = EndsNext f before after first last held left start written
+
+-- the same of replies that are held, and of a reader and a writer
+module _ (tells : Type 0) {D : Type 0} (disk : D → Disk) {W : Type 0} (output : W → Output) where
+  abbrev pub MayTellOver : List ℕ → Result (Unit {0}) KeepFault → Keeping D → Keeping D → Replies → Replies → W → W → Type 0
+  MayTellOver at_hand result before after held left writer later =
+      MayTell tells disk at_hand result before after held.bytes.items left.bytes.items (output writer) (output later)
+
+  abbrev pub EndsToldOver : KeepFault → KeepFault → Keeping D → Keeping D → Replies → Replies → W → W → Type 0
+  EndsToldOver stop f before after held left writer later =
+      EndsTold tells disk stop f before after held.bytes.items left.bytes.items (output writer) (output later)
+
+  abbrev pub KeepsNextOver : {R : Type 0} → (R → Input) → Result Bool KeepFault → Keeping D → Keeping D → R → R → Replies → Replies → W → W → Type 0
+  KeepsNextOver input result before after reader rest held left writer later =
+      KeepsNext tells disk result before after (input reader) (input rest) held.bytes.items left.bytes.items (output writer) (output later)

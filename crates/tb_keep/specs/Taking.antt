@@ -17,7 +17,7 @@ use Rattle.tb_keep.specs.declared.faults.StartFault.TheVariants as start
 use Rattle.tb_keep.specs.declared.heads.Rules.{Rules}
 use Rattle.tb_keep.specs.Keeping.{Keeping, head_record}
 use Rattle.tb_keep.specs.Restoration.{RecordsLead, RestoresRecord, IsTornTooLong, torn_bytes}
-use Rattle.tb_keep.specs.Salvaging.{StopsBehind, IsUnsalvaged, IsWriteCause, old_part, new_part}
+use Rattle.tb_keep.specs.Salvaging.{StopsBehind, IsUnsalvaged, IsWriteCause, old_part, new_part, MayBeSalvaged}
 
 -- the fault of a step, as one of the file that is read
 abbrev pub of_old : {T : Type 0} → Result T SalvageFault → Result (Unit {0}) StartFault
@@ -166,3 +166,7 @@ module _ {N : Type 0} (disk : N → Disk) where
           (records : List (List ℕ)) × (here : Place) × (middle : Keeping N) × Taken records first here before middle
           × IsUntaken fault middle after
           × ((file : List ℕ) (read : List (List ℕ)) → holds file → HasRead read file first → IsUnsalvaged fault file)
+
+-- a crash at any moment leaves of the new file no more than was taken of the one that is read
+abbrev pub LeavesSalvaged : (List ℕ → Type 0) → Disk → Disk → Type 0
+LeavesSalvaged read before after = LeavesOnly before after (MayBeSalvaged read before)

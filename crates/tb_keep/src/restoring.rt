@@ -1,17 +1,13 @@
 //! The restoring of a machine from the records of a file behind its head.
-ghost use Rattle.std.specs.Prelude.{◌≡◌, ◌≤◌, ◌+◌, ℕ, true, List, [], ◌∷◌, Ok, IfOk, IfErr, OnOk};
+ghost use Rattle.std.specs.Prelude.{◌≡◌, ◌≤◌, ◌+◌, ℕ, true, List, [], Ok, IfOk, IfErr, OnOk};
 ghost use Rattle.tb_journal.specs.Device.{IsOnDisk};
-ghost use Rattle.tb_journal.specs.Contents.{Records, contents};
-ghost use Rattle.tb_journal.specs.Opening.{HasOpenCause};
-ghost use Rattle.tb_journal.specs.Reading.{extent_of};
-ghost use Rattle.tb_journal.specs.Scans.{BeginsWith, HasRead, GoesFurther, IsAt};
+ghost use Rattle.tb_journal.specs.Scans.{HasRead, GoesFurther, IsAt, ScanCause};
 ghost use Rattle.tb_machine.specs.Recording.{IsRecord};
-ghost use Rattle.tb_keep.specs.Keeping.{head_record};
 ghost use Rattle.tb_keep.specs.Restoration.{ReadsRecord, RestoresRecord, Restores, HasStartCause};
 ghost use Rattle.tb_keep.specs.Opening.{IsUntouched};
 ghost use Rattle.tb_keep.specs.Reading.{OfRead};
 ghost use Rattle.tb_keep.specs.Sources.{IsNext};
-ghost use Rattle.tb_keep.specs.Entering.{StaysKept, ReadCause, ReadsHead, EntersNext, EntersAll, FindsBehind};
+ghost use Rattle.tb_keep.specs.Entering.{StaysKept, ReadCause, ReadsHead, EntersNext, EntersAll, FindsBehind, IsBehindHead, CauseBehindHead, RestoresEmpty};
 
 use crate::faults::StartFault;
 use crate::heads::{Rules, check_head};
@@ -74,8 +70,7 @@ pub(crate) fn read_record<D: Device>(scan: &mut Scan, device: &mut D) -> Result<
         (λ read file. IsNext result read file scan.new) }
     ensures same { (file : List ℕ) → D.holds device.old file → D.holds device.new file }
     ensures stays { D.tells → StaysKept (D.disk device.old) (D.disk device.new) }
-    ensures cause { D.tells → (read : List (List ℕ)) → HasRead read (D.disk device.old).seen scan.old
-        → HasOpenCause result (D.disk device.old) (D.disk device.new) }
+    ensures cause { D.tells → ScanCause result scan.old (D.disk device.old) (D.disk device.new) }
     ensures further { IfOk result (λ more. more ≡ true → GoesFurther scan.old scan.new) }
     ensures place { IfErr result (IsAt scan.old.end) }
 {
@@ -156,14 +151,11 @@ pub(crate) fn entered_behind<D: Device, A: Allocator + Clone>(
     scan: &mut Scan,
     device: &mut D,
 ) -> Result<(Machine<A>, Extent), StartFault>
-    ensures found { (file : List ℕ) → D.holds device.old file
-        → HasRead (head_record rules.profile rules.clients_max ∷ []) file scan.old → FindsBehind result rules file }
+    ensures found { (file : List ℕ) → D.holds device.old file → IsBehindHead rules file scan.old → FindsBehind result rules file }
     ensures few { IfOk result (λ found. found.1.count ≤ found.1.end) }
     ensures same { (file : List ℕ) → D.holds device.old file → D.holds device.new file }
     ensures stays { D.tells → StaysKept (D.disk device.old) (D.disk device.new) }
-    ensures cause { D.tells
-        → HasRead (head_record rules.profile rules.clients_max ∷ []) (D.disk device.old).seen scan.old
-        → HasStartCause result (D.disk device.old) (D.disk device.new) }
+    ensures cause { D.tells → CauseBehindHead result rules scan.old (D.disk device.old) (D.disk device.new) }
 {
     let _clients = rules.clients_max.get();
     let Ok(mut machine) = Machine::new_in(global, alloc, rules.profile, rules.clients_max) else {
@@ -183,8 +175,7 @@ fn without_entries<A: Allocator + Clone>(
     extent: Extent,
 ) -> Result<(Machine<A>, Extent), StartFault>
     requires few { extent.count ≤ extent.end }
-    ensures found { (file : List ℕ) → contents file ≡ Records [] → BeginsWith [] file
-        → extent_of (contents file) ≡ Ok extent → Restores result rules.profile rules.clients_max file }
+    ensures found { (file : List ℕ) → RestoresEmpty result rules extent file }
     ensures fault { IfErr result (λ fault. fault ≡ StartFault.NoMemory) }
     ensures few { IfOk result (λ found. found.1.count ≤ found.1.end) }
 {

@@ -32,7 +32,7 @@ use Rattle.tb_keep_log.specs.declared.opening.NotStarted.{NotStarted}
 use Rattle.tb_keep_log.specs.Keeping.{Keeping, Keeps, Leads, record_bytes, record_of}
 use Rattle.tb_keep_log.specs.Restoring.{EntersRecord, HasLogCause, IsHaltedContent, StopsAt}
 use Rattle.tb_keep_log.specs.Opening.{IsCreatedCause, IsNotOfFile}
-use Rattle.tb_keep_log.specs.Serving.{Point, Turn, Halts}
+use Rattle.tb_keep_log.specs.Serving.{Point, Turn, Halts, point, Served}
 
 -- a writer into memory fails only when out of memory
 abbrev pub in_memory : LogFault → LogFault
@@ -215,3 +215,24 @@ abbrev pub CreatesIn : {D : Type 0} → (D → List ℕ → Type 0) → Result (
 CreatesIn holds (Ok keeper) profile clients_max file = (is_blank file ≡ true) × (keeper.now ≡ begun profile clients_max) × (keeper.cut ≡ 0)
 CreatesIn holds (Err failed) profile clients_max file =
     (failed.fault ≡ start.Journal (open_faults.Device NotEmpty) → (is_blank file ≡ false) × holds failed.device file) × IsNotOfFile failed.fault
+
+-- the same by the rules of a file, of the records that were read of it
+abbrev pub EntersNextBy : Rules → Result Bool LogStartFault → Place → Following → Following → List (List ℕ) → List ℕ → Type 0
+EntersNextBy rules result scan F G read file = EntersNext result rules.profile rules.clients_max read file scan F G
+
+abbrev pub EntersAllBy : Rules → Result (Unit {0}) LogStartFault → Place → Following → Following → List (List ℕ) → List ℕ → Type 0
+EntersAllBy rules result scan F G read file = EntersAll result rules.profile rules.clients_max read file scan F G
+
+-- the same by the rules of a file, over a follower, a journal, a reader and a writer
+module _ (tells : Type 0) {D : Type 0} (disk : D → Disk) {R : Type 0} (input : R → Input) {W : Type 0} (output : W → Output) (rules : Rules) where
+  abbrev pub EntersEntryOver : Result (Unit {0}) KeepLogFault → Following → Kept D → R → W → Following → Kept D → R → W → Type 0
+  EntersEntryOver result F old reader writer G new rest later =
+      EntersEntry tells disk rules.profile rules.clients_max result F G old new (input reader) (input rest) (output writer) (output later)
+
+  abbrev pub NextOver : Result Bool KeepLogFault → Following → Kept D → R → W → Following → Kept D → R → W → Type 0
+  NextOver result F old reader writer G new rest later =
+      Next tells disk rules.profile rules.clients_max result (point F old (input reader) (output writer)) (point G new (input rest) (output later))
+
+  abbrev pub ServedOver : Result ℕ KeepLogFault → Following → Kept D → R → W → Following → Kept D → R → W → Type 0
+  ServedOver result F old reader writer G new rest later =
+      Served tells disk rules.profile rules.clients_max result (point F old (input reader) (output writer)) (point G new (input rest) (output later))

@@ -1,7 +1,7 @@
 -- A transfer between two accounts, by their rows.
 -- Cited by private contracts alone, of: changes::resolving, changes::single.
-use Rattle.std.specs.Prelude.{ℕ, ◌≡◌, ◌==◌, List, find, Option, Some, Result, MatchResult}
-use Rattle.std.specs.Option.{option_map}
+use Rattle.std.specs.Prelude.{ℕ, ◌≡◌, ◌==◌, List, find, Option, Some, Result, MatchResult, if◌then◌else◌}
+use Rattle.std.specs.Option.{option_map, is_some}
 use Rattle.tb_records.specs.declared.records.Transfer.{Transfer}
 use Rattle.tb_records.specs.declared.transfer_results.CreateTransferResult.{CreateTransferResult}
 use Rattle.tb_records.specs.TransferResults.{transfer_result_code}
@@ -11,6 +11,7 @@ use Rattle.tb_ledger.specs.Books.{closing_debit, closing_credit}
 use Rattle.tb_ledger.specs.Found.{Judges}
 use Rattle.tb_ledger.specs.Kept.{row_now, gained, on_debits, on_credits, accounts_gained}
 use Rattle.tb_ledger.specs.Verdicts.{pair_code, balanced_amount}
+use Rattle.tb_records.specs.declared.transfer_results.CreateTransferResult.TheVariants.{DebitAccountNotFound, CreditAccountNotFound}
 
 -- as it is recorded: balanced and stamped
 abbrev pub as_recorded : Transfer → ℕ → ℕ → Transfer
@@ -49,3 +50,7 @@ abbrev pub ExchangesIn : Transfer → ℕ → Noted → List AccountRow → Resu
 ExchangesIn t time undo_log accounts result later grown =
     Judges transfer_result_code result (pair_code (option_map row_now (account_row_at accounts t.debit_account_id)) (option_map row_now (account_row_at accounts t.credit_account_id)) t time)
     × MatchResult result (λ amount. PassesIn t time undo_log accounts amount later grown) (λ _. (later ≡ accounts) × (grown ≡ undo_log))
+
+-- which account isn't there, where one isn't: the debit account first
+abbrev pub missing_account : List AccountRow → Transfer → CreateTransferResult
+missing_account accounts t = if is_some (account_row_at accounts t.debit_account_id) then CreditAccountNotFound else DebitAccountNotFound

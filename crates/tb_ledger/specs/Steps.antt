@@ -1,18 +1,23 @@
 -- What events ask of a batch in progress, and what they leave.
 -- Cited by private contracts alone, of: batches, batches::chains, batches::events, changes::expiry, changes::resolving, changes::single, changes::transfer.
-use Rattle.std.specs.Prelude.{ℕ, ◌≡◌, ◌+◌, ◌*◌, ◌^◌, ◌<◌, ◌≤◌, ◌==◌, true, map, length, find, Some, None, Result, OnOk, OnErr}
+use Rattle.std.specs.Prelude.{ℕ, ◌≡◌, ◌+◌, ◌*◌, ◌^◌, ◌<◌, ◌≤◌, ◌==◌, true, map, length, find, Some, None, Result, OnOk, OnErr, Bool, ◌&&◌, if◌then◌else◌, List, ◌∷◌, ◌++◌, drop, replicate}
 use Rattle.tb_records.specs.declared.records.Transfer.{Transfer}
 use Rattle.tb_ledger.specs.declared.tables.rows.Rows.{Rows}
 use Rattle.tb_ledger.specs.declared.tables.work.Work.{Work}
 use Rattle.tb_ledger.specs.declared.tables.undo_log.TheConstants.{UNDOS_PER_EVENT}
 use Rattle.tb_ledger.specs.declared.tables.transfers.TransferRow.{TransferRow}
-use Rattle.tb_ledger.specs.Batches.{Kind}
+use Rattle.tb_ledger.specs.Batches.{Kind, Outcome, block_after, blocks_after, blocks, timed_from, undone}
 use Rattle.tb_ledger.specs.Books.{Books, resolves, transfer_at}
 use Rattle.tb_ledger.specs.Capacity.{Capacity, capacity_of, Uses}
 use Rattle.tb_ledger.specs.Found.{FoundPending, Judges}
 use Rattle.tb_ledger.specs.Kept.{books_in, IsKept, PrecedesTimeouts}
 use Rattle.tb_ledger.specs.Noted.{HasCapacityFor}
 use Rattle.tb_ledger.specs.UndoLog.{Grows, LeadsBack, chained}
+use Rattle.tb_records.specs.Ordered.{put}
+use Rattle.tb_records.specs.TransferResults.{transfer_result_code}
+use Rattle.tb_records.specs.declared.transfer_results.CreateTransferResult.{CreateTransferResult}
+use Rattle.tb_ledger.specs.Settlings.{closed_code}
+use Rattle.tb_ledger.specs.Sound.{transfer_key}
 
 -- ready for one event with the stamp
 pub record IsPrepared {A : Type 0} (HasCapacity : ℕ → Capacity → Type 0) (work : Work A) (stamp : ℕ) : Type 0 where
@@ -58,6 +63,28 @@ pub record Decides {R A : Type 0} (code_of : R → ℕ) (code : ℕ) (books : Bo
 -- an event is taken at a time: its verdict decides, and where it passes it is recorded
 abbrev pub TakesEvent : {E R A : Type 0} → Kind E → (R → ℕ) → Work A → E → ℕ → Result (Unit {0}) R → Work A → Type 0
 TakesEvent kind code_of work event time = Decides code_of (kind.verdict (books_in work.rows) event time) (kind.recorded (books_in work.rows) event time) work
+
+-- an event of a chain is taken at a time: where it is linked and the last one the chain is open, else its verdict decides
+abbrev pub TakesInChain : {E R A : Type 0} → Kind E → (R → ℕ) → Bool → Work A → E → ℕ → Result (Unit {0}) R → Work A → Type 0
+TakesInChain kind code_of last work event time =
+    Decides code_of (if last && kind.linked event then 2 else kind.verdict (books_in work.rows) event time) (kind.recorded (books_in work.rows) event time) work
+
+-- a post or void, filled and stamped, of the pending transfer p: its accounts decide whether they are open, and where it passes it is recorded
+abbrev pub TakesResolution : {A : Type 0} → Work A → TransferRow → Transfer → Result (Unit {0}) CreateTransferResult → Work A → Type 0
+TakesResolution work p r =
+    let B = books_in work.rows in
+    Decides transfer_result_code (closed_code B r p.recorded) (record B { transfers = put transfer_key r B.transfers }) work
+
+-- the chain, or the chains, of events of which the first has this timestamp
+abbrev pub chain_from : {E : Type 0} → Kind E → Books → ℕ → List E → Outcome
+chain_from kind B stamp events = block_after kind B (timed_from stamp events)
+
+abbrev pub chains_from : {E : Type 0} → Kind E → Books → ℕ → List E → Outcome
+chains_from kind B stamp events = blocks_after kind B (blocks kind (timed_from stamp events))
+
+-- the codes of a chain whose event at this place was refused: 1 before it, its own, and those of events that another one's failure undoes
+abbrev pub broken_codes : {E : Type 0} → Kind E → ℕ → ℕ → List E → List ℕ
+broken_codes kind place code events = replicate place 1 ++ code ∷ undone kind (timed_from 0 (drop (place + 1) events))
 
 -- a refusal that is noted touches failed ids alone
 pub record StaysButFailed {A : Type 0} (rows later : Rows A) : Type 0 where

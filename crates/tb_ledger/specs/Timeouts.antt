@@ -3,7 +3,7 @@
 use Rattle.std.specs.Prelude.{ℕ, ◌≡◌, ◌+◌, ◌-◌, ◌*◌, ◌≤◌, ◌<◌, ◌==◌, List, map, find, Option, Some, None}
 use Rattle.std.specs.List.{slice_get}
 use Rattle.tb_records.specs.Ordered.{put, taken_out, Each, Rising}
-use Rattle.avl_tree.specs.Map.{Map}
+use Rattle.avl_tree.specs.Map.{Map, entries}
 use Rattle.tb_ledger.specs.declared.tables.timeouts.Timeout.{Timeout}
 use Rattle.tb_ledger.specs.Verdicts.{int_max}
 use Rattle.tb_ledger.specs.Tables.{freed, pairs_in, Stored}
@@ -44,3 +44,7 @@ TakesDue time ts (Some d) later = (d.at ≤ time) × (find (λ e. timeout_key e 
 abbrev pub IsFirstDue : ℕ → List Timeout → Option Timeout → Type 0
 IsFirstDue time ds None = Each (λ d. time < d.at) ds
 IsFirstDue time ds (Some d) = (d.at ≤ time) × (slice_get ds 0 ≡ Some d)
+
+-- the timeouts that a tree keeps, and its spare nodes
+abbrev pub stored_timeouts : {V : Type 0} → Map (ℕ × ℕ) V → Stored Timeout
+stored_timeouts m = record { items = timeouts_of (entries m); spare = m.spare }

@@ -1,8 +1,8 @@
 //! A batch: its chains, one after another.
-ghost use Rattle.std.specs.Prelude.{◌≡◌, ◌^◌, ◌<◌, ◌++◌, length};
-ghost use Rattle.tb_ledger.specs.Batches.{blocks, blocks_after, timed_from, results_from};
+ghost use Rattle.std.specs.Prelude.{◌≡◌, ◌^◌, ◌<◌, length};
 ghost use Rattle.tb_ledger.specs.Kept.{books_in, IsKept};
-ghost use Rattle.tb_ledger.specs.Steps.{IsPreparedFor};
+ghost use Rattle.tb_ledger.specs.Steps.{IsPreparedFor, chains_from};
+ghost use Rattle.tb_ledger.specs.Gathered.{AddsResults};
 
 mod ahead;
 pub(crate) mod chains;
@@ -29,14 +29,9 @@ fn look_ahead<E: Event, A: Allocator + Clone>(rows: &mut Rows<A>, rest: &[E], in
 pub(crate) fn run_batch<E: Event, A: Allocator + Clone>(work: &mut Work<A>, events: &[E], time: u64)
     requires ready { IsPreparedFor E.HasCapacity (length events.now) work.old time }
     requires index_fits { length events.now < 2 ^ 32 }
-    ensures books { books_in work.new.rows
-        ≡ (blocks_after E.kind (books_in work.old.rows)
-        (blocks E.kind (timed_from time events.now))).books }
-    ensures results { work.new.results.items
-        ≡ work.old.results.items
-        ++ results_from 0
-        (blocks_after E.kind (books_in work.old.rows)
-        (blocks E.kind (timed_from time events.now))).codes }
+    ensures books { books_in work.new.rows ≡ (chains_from E.kind (books_in work.old.rows) time events.now).books }
+    ensures results { AddsResults 0 (chains_from E.kind (books_in work.old.rows) time events.now).codes
+        work.old.results work.new.results }
     ensures kept { IsKept work.new.rows }
     ensures time { work.new.rows.time ≡ work.old.rows.time }
 {

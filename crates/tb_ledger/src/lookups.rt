@@ -66,8 +66,8 @@ fn fill_eights<'a, V: Found, A: Allocator + Clone>(
     out: &mut Vec<V::Record>,
 ) -> &'a [u128]
     requires { vec_len out.old + length ids.now ≤ vec_capacity out.old }
-    ensures items { out.new.items ++ filter_map (found_in V.key V.record_now table.now.items) result.now
-        ≡ out.old.items ++ filter_map (found_in V.key V.record_now table.now.items) ids.now }
+    ensures items { let found = filter_map (found_in V.key V.record_now table.now.items) in
+        out.new.items ++ found result.now ≡ out.old.items ++ found ids.now }
     ensures rest { vec_len out.new + length result.now ≤ vec_capacity out.new }
     ensures capacity { vec_capacity out.new ≡ vec_capacity out.old }
 {

@@ -18,8 +18,10 @@ use Rattle.tb_machine.specs.declared.machines.Served.{Served}
 use Rattle.tb_machine.specs.declared.machines.Served.TheVariants as served
 use Rattle.tb_machine.specs.Runs.{AnswersPair}
 use Rattle.tb_machine.specs.declared.entries.Entry.{Entry}
-use Rattle.tb_machine.specs.Histories.{State, found, row_with, step}
+use Rattle.tb_machine.specs.Histories.{State, found, row_with, step, executed, reply_at}
 use Rattle.tb_machine.specs.Scripts.{Pair, entry_of, has_time}
+use Rattle.tb_records.specs.declared.bodies.Body.{Body}
+use Rattle.tb_records.specs.declared.bodies.ReplyBody.{ReplyBody}
 
 -- nothing is held back where the next pair, or the next item of a dump, may have to be waited for
 abbrev pub IsPromptForPair : Input → Output → Type 0
@@ -47,6 +49,21 @@ MayBeExecuted B e =
     × (B.time + max (count e.request.body) 1 ≤ e.time)
     × (e.time ≤ max_time)
     × IsRight (row_in B e).reply
+
+-- a body was executed at a time, and what its reply says was answered; where there was no memory nothing happened
+abbrev pub ExecutesBody : Result ReplyBody AllocError → Books → Body → ℕ → Books → Type 0
+ExecutesBody result B body time later = MatchResult result (λ answer. (later ≡ executed B body time) × (answer ≡ found B body time)) (λ _. later ≡ B)
+
+-- an entry's request was executed, and its client's row made; where there was no memory the entry came back
+abbrev pub MakesRow : Result Row Entry → Books → Entry → Books → Type 0
+MakesRow result B e later = MatchResult result (λ row. (later ≡ executed B e.request.body e.time) × (row ≡ row_in B e)) (λ back. (back ≡ e) × (later ≡ B))
+
+-- an entry was entered, and its reply written, or a prefix of it; where there was no memory the entry came back, and nothing changed
+abbrev pub EntersAndTells : {W : Type 0} → (W → Output) → Result (Result (Unit {0}) FrameFault) Entry → State → State → Entry → W → W → Type 0
+EntersAndTells output result S T e writer later =
+    MatchResult result
+    (λ told. (T ≡ step S e) × IsSent told (reply_bytes (reply_at S e)) (output writer) (output later) × OnOk told (IsReply (reply_at S e)))
+    (λ back. (back ≡ e) × (T ≡ S) × (later ≡ writer))
 
 -- where an entry was executed, its reply was written, or a prefix of it
 pub record Tells (served : Result (Result (Unit {0}) FrameFault) AllocError) (reply : Answer) (before after : Output) : Type 0 where

@@ -1,9 +1,9 @@
 //! What a request does to the ledger, and what its reply says.
-ghost use Rattle.std.specs.Prelude.{◌≡◌, ◌+◌, ◌≤◌, max, OnOk, OnErr, MatchResult, IsTrue};
+ghost use Rattle.std.specs.Prelude.{◌≡◌, ◌+◌, ◌≤◌, max, OnOk, OnErr};
 ghost use Rattle.tb_records.specs.Messages.{count, item_count, items_max, operation, IsRight};
 ghost use Rattle.tb_ledger.specs.Verdicts.{max_time};
-ghost use Rattle.tb_machine.specs.Histories.{executed, found, reply_with, row_with, session_of};
-ghost use Rattle.tb_machine.specs.Serving.{made, row_in, MayBeExecuted, Tells};
+ghost use Rattle.tb_machine.specs.Histories.{executed, reply_with, session_of};
+ghost use Rattle.tb_machine.specs.Serving.{made, row_in, MayBeExecuted, Tells, ExecutesBody, MakesRow};
 
 use crate::entries::Entry;
 use std::alloc::{AllocError, Allocator, Global};
@@ -22,10 +22,7 @@ pub(crate) fn execute<A: Allocator + Clone>(
     requires few { item_count body.now ≤ items_max }
     requires later { ledger.old.time + max (count body.now) 1 ≤ time }
     requires in_range { time ≤ max_time }
-    ensures { MatchResult result
-        (λ answer.
-        (ledger.new ≡ executed ledger.old body.now time)
-        × (answer ≡ found ledger.old body.now time)) (λ _. ledger.new ≡ ledger.old) }
+    ensures { ExecutesBody result ledger.old body.now time ledger.new }
 {
     match body {
         Body::Register => {
@@ -95,11 +92,7 @@ pub(crate) fn row_for<A: Allocator + Clone>(
     entry: Entry,
 ) -> Result<Row, Entry>
     requires { MayBeExecuted ledger.old entry }
-    ensures { MatchResult result
-        (λ row.
-        (ledger.new ≡ executed ledger.old entry.request.body entry.time)
-        × (row ≡ row_with entry (found ledger.old entry.request.body entry.time)))
-        (λ back. (back ≡ entry) × (ledger.new ≡ ledger.old)) }
+    ensures { MakesRow result ledger.old entry ledger.new }
 {
     let body = match execute(global, ledger, entry.time, entry.request.body()) {
         Ok(body) => body,

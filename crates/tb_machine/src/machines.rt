@@ -1,15 +1,12 @@
 //! The machine: a ledger and the sessions of its clients, which entries move on.
-ghost use Rattle.std.specs.Prelude.{◌≡◌, ◌↔◌, ◌+◌, ◌≤◌, ◌<◌, max, length, true, false, IfOk, IfErr, MatchOption, MatchResult, OnOk, OnErr, IsTrue, None, Some};
-ghost use Rattle.std.specs.Option.{option_map};
+ghost use Rattle.std.specs.Prelude.{◌≡◌, ◌↔◌, ◌+◌, ◌≤◌, ◌<◌, max, length, IfOk, MatchOption, MatchResult, IsTrue, None, Some};
 ghost use Rattle.tb_records.specs.Messages.{IsLawful};
 ghost use Rattle.tb_ledger.specs.Books.{account_now, profile_of, transfer_at, found_accounts, found_transfers};
 ghost use Rattle.tb_ledger.specs.Verdicts.{max_time};
 ghost use Rattle.tb_sessions.specs.Judged.{class_of, row_of};
-ghost use Rattle.tb_records.specs.ReplyFrames.{reply_bytes, IsReply};
-ghost use Rattle.tb_records.specs.Transport.{IsSent};
-ghost use Rattle.tb_machine.specs.Histories.{start, step, reply_at, to_two, fits, is_new, least_time};
-ghost use Rattle.tb_machine.specs.Scripts.{entry_of, has_time};
-ghost use Rattle.tb_machine.specs.Serving.{served_as, ServesPair, IfNotNew};
+ghost use Rattle.tb_machine.specs.Histories.{start, step, to_two, fits, least_time, stored_reply};
+ghost use Rattle.tb_machine.specs.Scripts.{MakesEntry};
+ghost use Rattle.tb_machine.specs.Serving.{served_as, ServesPair, IfNotNew, EntersAndTells};
 
 use crate::entries::Entry;
 use crate::executing::{row_for, serve_row};
@@ -118,11 +115,7 @@ impl<A: Allocator + Clone> Machine<A> {
     /// The entry that a request makes which comes at a moment: of the next commit number, at its [`Machine::next_time`]. None
     /// where there is no time for it. That of a new request may come next.
     pub fn next_entry(&self, request: Request, now: u64) -> Option<Entry>
-        ensures entry { MatchOption result (has_time self.now (now, request) ≡ false)
-            (λ entry.
-            (has_time self.now (now, request) ≡ true)
-            × (entry ≡ entry_of self.now (now, request))
-            × (is_new (class_of self.now.rows request) ≡ true → IsTrue (fits self.now entry))) }
+        ensures entry { MakesEntry result self.now (now, request) }
         ensures lawful { IsLawful request }
     {
         let events = request.body().event_count() as u64;
@@ -173,7 +166,7 @@ impl<A: Allocator + Clone> Machine<A> {
 
     /// The reply to a client's last request; None of a client without a session.
     pub fn reply_of(&self, client: u128) -> Option<&Reply>
-        ensures { let stored = option_map (λ (row : Row). row.reply) (row_of self.now.rows client) in
+        ensures { let stored = stored_reply self.now client in
             MatchOption result (stored ≡ None) (λ reply. stored ≡ Some reply.now) }
     {
         match self.sessions.stored(client) {
@@ -327,13 +320,7 @@ impl<A: Allocator + Clone> Machine<A> {
         entry: Entry,
     ) -> Result<Result<(), FrameFault>, Entry>
         requires { IsTrue (fits self.old entry) }
-        ensures { MatchResult result
-            (λ told.
-            (self.new ≡ step self.old entry)
-            × IsSent told (reply_bytes (reply_at self.old entry)) (W.output writer.old)
-            (W.output writer.new)
-            × OnOk told (IsReply (reply_at self.old entry)))
-            (λ back. (back ≡ entry) × (self.new ≡ self.old) × (writer.new ≡ writer.old)) }
+        ensures { EntersAndTells W.output result self.old self.new entry writer.old writer.new }
     {
         let commit = entry.commit;
         let row = match row_for(self.global, &mut self.ledger, entry) {

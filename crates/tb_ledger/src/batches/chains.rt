@@ -1,8 +1,9 @@
 //! Chains: all of one, or nothing of it.
-ghost use Rattle.std.specs.Prelude.{◌≡◌, ◌+◌, ◌^◌, ◌<◌, ◌≤◌, ◌&&◌, ◌++◌, length, if◌then◌else◌, IfErr};
-ghost use Rattle.tb_ledger.specs.Batches.{block_length, block_after, timed_from, results_from};
+ghost use Rattle.std.specs.Prelude.{◌≡◌, ◌+◌, ◌^◌, ◌<◌, ◌≤◌, ◌&&◌, length, IfErr};
+ghost use Rattle.tb_ledger.specs.Batches.{block_length};
 ghost use Rattle.tb_ledger.specs.Kept.{books_in};
-ghost use Rattle.tb_ledger.specs.Steps.{Decides, IsPrepared, IsPreparedFor, LeavesAfter};
+ghost use Rattle.tb_ledger.specs.Steps.{IsPrepared, IsPreparedFor, LeavesAfter, TakesInChain, chain_from};
+ghost use Rattle.tb_ledger.specs.Gathered.{AddsResults};
 
 use crate::batches::events::Event;
 use crate::batches::results::break_off;
@@ -36,12 +37,9 @@ pub(crate) fn run_block<E: Event, A: Allocator + Clone>(
 )
     requires ready { IsPreparedFor E.HasCapacity (length block.now) work.old time }
     requires index_fits { index + length block.now < 2 ^ 32 }
-    ensures books { books_in work.new.rows
-        ≡ (block_after E.kind (books_in work.old.rows) (timed_from time block.now)).books }
-    ensures results { work.new.results.items
-        ≡ work.old.results.items
-        ++ results_from index
-        (block_after E.kind (books_in work.old.rows) (timed_from time block.now)).codes }
+    ensures books { books_in work.new.rows ≡ (chain_from E.kind (books_in work.old.rows) time block.now).books }
+    ensures results { AddsResults index (chain_from E.kind (books_in work.old.rows) time block.now).codes
+        work.old.results work.new.results }
     ensures leaves { LeavesAfter (length block.now) work.old work.new }
 {
     // an event that is refused changes nothing, so one that is alone has nothing to undo
@@ -73,13 +71,7 @@ fn take_in_chain<E: Event, A: Allocator + Clone>(
     time: u64,
 ) -> Result<(), E::Refusal>
     requires ready { IsPrepared E.HasCapacity work.old time }
-    ensures decides { Decides E.code_of
-        (if last && E.kind.linked event.now then
-        2
-        else
-        E.kind.verdict (books_in work.old.rows) event.now time)
-        (E.kind.recorded (books_in work.old.rows) event.now time)
-        work.old result work.new }
+    ensures decides { TakesInChain E.kind E.code_of last work.old event.now time result work.new }
     ensures fresh { IfErr result
         (λ refusal. E.IsNew (books_in work.old.rows).failed event.now (E.code_of refusal)) }
 {

@@ -1,6 +1,8 @@
 //! The results of a chain that breaks.
-ghost use Rattle.std.specs.Prelude.{◌≡◌, ◌≢◌, ◌+◌, ◌^◌, ◌<◌, ◌≤◌, ◌&&◌, ◌++◌, [], ◌∷◌, length, drop, replicate, if◌then◌else◌};
+ghost use Rattle.std.specs.Prelude.{◌≡◌, ◌≢◌, ◌+◌, ◌^◌, ◌<◌, ◌≤◌, ◌&&◌, ◌++◌, [], ◌∷◌, length, replicate, if◌then◌else◌};
 ghost use Rattle.tb_ledger.specs.Batches.{timed_from, undone, results_from};
+ghost use Rattle.tb_ledger.specs.Steps.{broken_codes};
+ghost use Rattle.tb_ledger.specs.Gathered.{AddsResults};
 
 use crate::batches::events::Event;
 use crate::tables::work::Results;
@@ -32,12 +34,8 @@ pub(crate) fn break_off<E: Event>(
     requires fits { index + length block.now < 2 ^ 32 }
     requires within { place < length block.now }
     requires refused { E.code_of refusal ≢ 0 }
-    ensures items { results.new.items
-        ≡ results.old.items
-        ++ results_from index
-        (replicate place 1
-        ++ E.code_of refusal
-        ∷ undone E.kind (timed_from 0 (drop (place + 1) block.now))) }
+    ensures items { AddsResults index (broken_codes E.kind place (E.code_of refusal) block.now)
+        results.old results.new }
     ensures len { length results.new.items ≡ length results.old.items + length block.now }
     ensures capacity { results.new.capacity ≡ results.old.capacity }
 {

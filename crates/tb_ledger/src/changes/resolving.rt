@@ -5,12 +5,11 @@ ghost use Rattle.tb_ledger.specs.Books.{resolves};
 ghost use Rattle.tb_ledger.specs.Exchanges.{account_row_at};
 ghost use Rattle.tb_ledger.specs.Kept.{books_in, transfer_row_key, times_out, unlisted, IsListed, settled, state_given_by};
 ghost use Rattle.tb_ledger.specs.Capacity.{HasTransfers};
-ghost use Rattle.tb_ledger.specs.Steps.{Decides, IsPrepared, IsResolution, TakesEvent};
+ghost use Rattle.tb_ledger.specs.Steps.{IsPrepared, IsResolution, TakesEvent, TakesResolution};
 ghost use Rattle.tb_ledger.specs.UndoLog.{IsMarked};
-ghost use Rattle.tb_ledger.specs.Settlings.{closed_code, CanSettle, Settles, SettlesIn};
+ghost use Rattle.tb_ledger.specs.Settlings.{CanSettle, Settles, SettlesIn};
 ghost use Rattle.tb_ledger.specs.Verdicts.{id_code};
-ghost use Rattle.tb_records.specs.Ordered.{put, replaced};
-ghost use Rattle.tb_ledger.specs.Sound.{transfer_key};
+ghost use Rattle.tb_records.specs.Ordered.{replaced};
 ghost use Rattle.tb_records.specs.TransferResults.{transfer_result_code};
 
 use crate::changes::records::{add_row, new_transfer_row};
@@ -54,11 +53,7 @@ fn settle<A: Allocator + Clone>(
 ) -> Result<(), CreateTransferResult>
     requires ready { IsPrepared HasTransfers work.old r.now.timestamp }
     requires resolution { IsResolution work.old.rows p.now r.now }
-    ensures { Decides transfer_result_code
-        (closed_code (books_in work.old.rows) r.now p.now.recorded)
-        (record (books_in work.old.rows)
-        { transfers = put transfer_key r.now (books_in work.old.rows).transfers })
-        work.old result work.new }
+    ensures { TakesResolution work.old p.now r.now result work.new }
 {
     let rows = &mut work.rows;
     let undo_log = &mut work.undo_log;

@@ -1,5 +1,5 @@
 //! A transfer between two accounts: both rows are found by one walk, judged, and changed in place.
-ghost use Rattle.std.specs.Prelude.{◌≡◌, ◌^◌, ◌<◌, false, ◌≢◌, if◌then◌else◌};
+ghost use Rattle.std.specs.Prelude.{◌≡◌, ◌^◌, ◌<◌, false, ◌≢◌};
 ghost use Rattle.std.specs.Option.{is_some};
 ghost use Rattle.tb_ledger.specs.Batches.{transfer_events};
 ghost use Rattle.tb_ledger.specs.Books.{resolves};
@@ -8,7 +8,7 @@ ghost use Rattle.tb_ledger.specs.Capacity.{HasTransfers};
 ghost use Rattle.tb_ledger.specs.Kept.{books_in};
 ghost use Rattle.tb_ledger.specs.Steps.{IsPrepared, TakesEvent};
 ghost use Rattle.tb_ledger.specs.Verdicts.{id_code};
-ghost use Rattle.tb_ledger.specs.Exchanges.{Exchanges, ExchangesIn, account_row_at};
+ghost use Rattle.tb_ledger.specs.Exchanges.{Exchanges, ExchangesIn, missing_account};
 
 use crate::changes::records::{add_row, new_transfer_row};
 use crate::changes::sides::gain_side;
@@ -97,11 +97,7 @@ fn missing<A: Allocator + Clone>(
     accounts: &Table<AccountRow, A>,
     t: &Transfer,
 ) -> CreateTransferResult
-    ensures { result
-        ≡ (if is_some (account_row_at accounts.now.items t.now.debit_account_id) then
-        CreateTransferResult.CreditAccountNotFound
-        else
-        CreateTransferResult.DebitAccountNotFound) }
+    ensures { result ≡ missing_account accounts.now.items t.now }
 {
     if accounts.get(t.debit_account_id).is_some() {
         CreateTransferResult::CreditAccountNotFound
