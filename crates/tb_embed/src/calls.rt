@@ -10,7 +10,7 @@ use crate::serving::serve;
 use crate::showing::{show_account, show_transfer};
 use std::alloc::Global;
 
-/// Opens a closed handle at the empty history: profile 1 or 2, and 1 to 64 clients with a session at one time. Statuses: 0
+/// Opens a closed handle at the empty history: profile 1 or 2, and 1 to `CLIENTS_MAX` clients with a session at one time. Statuses: 0
 /// opened, 2 wrong arguments or an open handle, 3 no memory.
 #[unsafe(no_mangle)]
 pub extern "C" fn tb_embed_open(
