@@ -14,6 +14,7 @@ pub mod Frames
 pub mod ReplyFrames
 pub mod Faults
 pub mod Inputs
+pub mod Limits
 pub mod DumpBytes
 pub mod DumpFaults
 pub mod Transport
