@@ -1,16 +1,27 @@
 -- What a header without a fault says.
--- Cited by private contracts alone, of: headers, reading, requests, streams.
-use Rattle.std.specs.Prelude.{ℕ, length, Result, Ok, Err, Bool, ◌&&◌, ◌==◌, ◌*◌, not, nat_lt, [], ◌∷◌, take, ◌≡◌, ◌/◌, ◌^◌, ◌<◌, List, Option, Some, None}
+-- Cited by private contracts alone, of: headers, reading, replies, reply_reading, requests, streams.
+use Rattle.std.specs.Prelude.{ℕ, length, Result, Ok, Err, MatchResult, Bool, ◌&&◌, ◌==◌, ◌*◌, not, nat_lt, [], ◌∷◌, take, ◌≡◌, ◌/◌, ◌^◌, ◌<◌, List, Option, Some, None}
 use Rattle.tb_records.specs.declared.headers.Header.{Header}
 use Rattle.std.specs.Io.KnownBytes.{Consumes}
 use Rattle.tb_records.specs.declared.bodies.Body.{Body}
 use Rattle.tb_records.specs.declared.faults.FrameFault.{FrameFault}
 use Rattle.tb_records.specs.declared.faults.FrameFault.TheVariants.{ClientZero, TooMany, RegisterNumbers, RequestZero}
+use Rattle.tb_records.specs.declared.operations.Operation.{Operation}
 use Rattle.tb_records.specs.declared.operations.Operation.TheVariants as op
 use Rattle.tb_records.specs.Inputs.{Answers}
 use Rattle.tb_records.specs.Messages.{Message, operation, item_count, items_max, first_fault}
 use Rattle.tb_records.specs.Operations.{operation_code}
-use Rattle.tb_records.specs.Frames.{body_bytes, BodyFits, IsRequest, header_bytes, header_fault, client_at, session_at, request_at, operation_at, length_at, item_size}
+use Rattle.tb_records.specs.Reading.{ReadsOr}
+use Rattle.tb_records.specs.Transport.{Input}
+use Rattle.tb_records.specs.Frames.{body_bytes, BodyFits, IsRequest, header_bytes, header_fault, length_tests, client_at, session_at, request_at, operation_at, length_at, item_size}
+
+-- an answer that is right, or the fault that there is
+abbrev pub RightOr : {X : Type 0} → Result X FrameFault → (X → Type 0) → Option FrameFault → Type 0
+RightOr result Right fault = MatchResult result Right (λ f. fault ≡ Some f)
+
+-- none of the tests holds, or the fault of the first that does
+abbrev pub PassesOr : {X : Type 0} → Result X FrameFault → List (Bool × FrameFault) → Type 0
+PassesOr result tests = RightOr result (λ _. first_fault tests ≡ None) (first_fault tests)
 
 -- the fields of a header without a fault, and the number of items that its length makes
 pub record HeaderOf (b : List ℕ) (h : Header) : Type 0 where
@@ -49,6 +60,10 @@ numbers_tests client session request code count =
 abbrev pub numbers_fault : ℕ → ℕ → ℕ → ℕ → ℕ → Option FrameFault
 numbers_fault client session request code count = first_fault (numbers_tests client session request code count)
 
+-- what a length says: how many items of the operation it makes, or its first fault
+abbrev pub CountAnswers : Result ℕ FrameFault → ℕ → ℕ → Type 0
+CountAnswers result code len = RightOr result (λ n. (n ≡ len / item_size code) × (first_fault (length_tests code len) ≡ None)) (first_fault (length_tests code len))
+
 -- the numbers of a header keep the rules and fit
 pub record IsHeader (h : Header) : Type 0 where
   pub lawful : numbers_fault h.client h.session h.request (operation_code h.operation) h.count ≡ None
@@ -68,6 +83,10 @@ pub record ReadsBody (code n : ℕ) (body : Body) (before after : Option (List �
   pub bytes : Consumes before after (body_bytes body)
   pub fit : BodyFits body
 
+-- what reading the body of an operation answers, of count items
+abbrev pub BodyAnswers : Result Body FrameFault → Operation → ℕ → Input → Input → Type 0
+BodyAnswers result operation n before after = ReadsOr result (ReadsBody (operation_code operation) n) (n * item_size (operation_code operation)) before after
+
 -- the request of a header was read, of which the body was left
 pub record ReadsRequest (h : Header) (r : Message) (before after : Option (List ℕ)) : Type 0 where
   pub client : r.client ≡ h.client
@@ -77,6 +96,10 @@ pub record ReadsRequest (h : Header) (r : Message) (before after : Option (List 
   pub count : item_count r.body ≡ h.count
   pub bytes : Consumes before after (body_bytes r.body)
   pub is : IsRequest r
+
+-- what reading the body behind a header answers
+abbrev pub RequestAnswers : Result Message FrameFault → Header → Input → Input → Type 0
+RequestAnswers result h before after = ReadsOr result (ReadsRequest h) (body_length h) before after
 
 -- 48 bytes were read, the spelling of a header without a fault
 pub record ReadsHeader (h : Header) (before after : Option (List ℕ)) : Type 0 where
