@@ -1,10 +1,16 @@
--- What is read of a dump as far as two numbers: for private functions alone.
+-- A head, and what is read of a dump as far as two numbers: for private functions alone.
 -- Cited by private contracts alone, of: dumps.
-use Rattle.std.specs.Prelude.{ℕ, ◌^◌, ◌<◌, List, Option, Some, None, Result, Ok, Err}
+use Rattle.std.specs.Prelude.{ℕ, ◌≡◌, ◌^◌, ◌<◌, List, Option, Some, None, Result, Ok, Err}
 use Rattle.std.specs.Io.KnownBytes.{Consumes}
 use Rattle.tb_records.specs.declared.dumps.DumpFault.TheVariants.{Frame}
 use Rattle.tb_records.specs.declared.faults.FrameFault.{FrameFault}
-use Rattle.tb_records.specs.DumpBytes.{numbers_bytes, ItemAnswers}
+use Rattle.tb_records.specs.declared.dumps.DumpHead.{DumpHead}
+use Rattle.tb_records.specs.DumpBytes.{head_bytes, numbers_bytes, ItemAnswers}
+use Rattle.tb_records.specs.Limits.{IsClients}
+
+-- the bytes are the head
+abbrev pub IsHead : List ℕ → DumpHead → Type 0
+IsHead b head = (b ≡ head_bytes head.profile head.clients_max) × IsClients head.clients_max
 
 -- two numbers were read
 pub record ReadsNumbers (first second : ℕ) (before after : Option (List ℕ)) : Type 0 where

@@ -15,6 +15,7 @@ pub mod ReplyFrames
 pub mod Faults
 pub mod Inputs
 pub mod Limits
+pub mod Named
 pub mod DumpBytes
 pub mod DumpFaults
 pub mod Transport

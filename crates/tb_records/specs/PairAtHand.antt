@@ -1,6 +1,6 @@
 -- What is found among the buffered bytes, before they are consumed: for private functions alone.
 -- Cited by private contracts alone, of: streams.
-use Rattle.std.specs.Prelude.{ℕ, ◌≤◌, ◌≡◌, List, length, take, drop, None}
+use Rattle.std.specs.Prelude.{ℕ, ◌≤◌, ◌≡◌, List, length, take, drop, Option, None, Result, MatchResult, IfSome}
 use Rattle.tb_records.specs.Frames.{header_fault}
 use Rattle.tb_records.specs.Inputs.{timed_bytes, IsTimed}
 use Rattle.tb_records.specs.Messages.{Message}
@@ -15,3 +15,8 @@ pub record BeginsWithPair (moment : ℕ) (request : Message) (count : ℕ) (byte
 pub record BeginsWithHeader (bytes : List ℕ) : Type 0 where
   pub long : 56 ≤ length bytes
   pub sound : header_fault (drop 8 bytes) ≡ None
+
+-- what the bytes answer: a pair that they begin with, none, or that there is no memory for it
+abbrev pub PairAnswers : {E : Type 0} → Result (Option (ℕ × Message × ℕ)) E → List ℕ → Type 0
+PairAnswers result bytes =
+    MatchResult result (λ found. IfSome found (λ pair. BeginsWithPair pair.0 pair.1 pair.2 bytes)) (λ _. BeginsWithHeader bytes)

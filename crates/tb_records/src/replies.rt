@@ -1,10 +1,10 @@
 //! Replies whose numbers and bodies go together.
-ghost use Rattle.std.specs.Prelude.{◌≡◌, ◌≢◌, ◌↔◌, ◌==◌, ◌<◌, find, nat_eq, MatchOption, Some, None, IfOk, Ok, Err, if◌then◌else◌};
-ghost use Rattle.std.specs.Cmp.Lexicographic.{pointwise};
+ghost use Rattle.std.specs.Prelude.{◌≡◌, ◌≢◌, ◌==◌, ◌<◌, MatchOption, Some, None, IfOk, Ok, Err, if◌then◌else◌};
 ghost use Rattle.tb_records.specs.HeaderFields.{PassesOr};
 ghost use Rattle.tb_records.specs.Messages.{status_code, operation, answered, answer_fault, has_reply_numbers, has_register_numbers, is_operation, kind_for, IsRight};
 ghost use Rattle.tb_records.specs.ReplyTests.{answer_of, number_tests};
 ghost use Rattle.tb_records.specs.Statuses.{status_name};
+ghost use Rattle.tb_records.specs.Named.{IsOnly, first_named};
 
 use crate::bodies::ReplyBody;
 use crate::faults::FrameFault;
@@ -99,7 +99,7 @@ impl Status {
 
     /// The status that has a name; None where none has it.
     pub fn from_name(name: &[u8]) -> Option<Status>
-        ensures { (status : Status) → (result ≡ Some status) ↔ (status_name status ≡ name.now) }
+        ensures { IsOnly result (λ status. status_name status ≡ name.now) }
     {
         first_status_named(&Status::ALL, name)
     }
@@ -115,7 +115,7 @@ impl fmt::Display for Status {
 
 /// The first of some statuses that has a name.
 fn first_status_named(statuses: &[Status], name: &[u8]) -> Option<Status>
-    ensures { result ≡ find (λ status. pointwise nat_eq (status_name status) name.now) statuses.now }
+    ensures { result ≡ first_named status_name name.now statuses.now }
 {
     statuses
         .iter()

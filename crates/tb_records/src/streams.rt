@@ -1,5 +1,5 @@
 //! Requests that are read from a stream, one by one.
-ghost use Rattle.std.specs.Prelude.{◌≡◌, ◌+◌, ◌&&◌, nat_le, length, Some, None, Ok, Err, IfOk, IfSome, MatchOption, MatchResult};
+ghost use Rattle.std.specs.Prelude.{◌≡◌, ◌+◌, ◌&&◌, nat_le, length, Some, None, Ok, Err, IfOk, IfSome, MatchOption};
 ghost use Rattle.tb_records.specs.Frames.{length_at, IsRequest};
 ghost use Rattle.tb_records.specs.HeaderFields.{BodyAnswers, HeaderAnswers, IsHeader, RequestAnswers};
 ghost use Rattle.tb_records.specs.Operations.{operation_code};
@@ -7,7 +7,7 @@ ghost use Rattle.tb_records.specs.Inputs.{opened, fault_in, Answers, IsTimed, Ti
 ghost use Rattle.tb_records.specs.Transport.{Counts};
 ghost use Rattle.tb_records.specs.AtHand.{holds_frame, holds_pair};
 ghost use Rattle.tb_records.specs.Reading.{MomentAnswers};
-ghost use Rattle.tb_records.specs.PairAtHand.{BeginsWithPair, BeginsWithHeader};
+ghost use Rattle.tb_records.specs.PairAtHand.{PairAnswers};
 
 use crate::bodies::Body;
 use crate::devices::{Source, fill, items_from};
@@ -209,8 +209,7 @@ pub fn read_timed_from<R: Source>(
 #[inline(always)]
 #[tactic(auto, using(crate::proofs::PairAtHand::pair_found))]
 fn pair_in(alloc: Global, bytes: &[u8]) -> Result<Option<(u64, Request, usize)>, AllocError>
-    ensures { MatchResult result (λ found. IfSome found (λ pair. BeginsWithPair pair.0 pair.1 pair.2 bytes.now))
-        (λ _. BeginsWithHeader bytes.now) }
+    ensures { PairAnswers result bytes.now }
 {
     if !holds_pair(bytes) {
         return Ok(None);
