@@ -7,9 +7,10 @@ use Rattle.std.specs.List.Sorted.{IsStrictlySortedBy}
 use Rattle.std.specs.Map.{lookup, keys_of}
 use Rattle.std.specs.BTreeMap.{is_at}
 use Rattle.avl_tree.specs.Map.{Map, entries}
-use Rattle.tb_records.specs.Ordered.{Each}
+use Rattle.tb_records.specs.Ordered.{Each, replaced}
 use Rattle.tb_sessions.specs.declared.rows.Row.{Row}
-use Rattle.tb_sessions.specs.Judged.{client_of}
+use Rattle.tb_sessions.specs.Admission.{Table}
+use Rattle.tb_sessions.specs.Judged.{client_of, row_of}
 
 -- the row of a client
 abbrev pub kept_row : Map ℕ Row → ℕ → Option Row
@@ -57,3 +58,7 @@ pub record IsFirstBehind (rows : Map ℕ Row) (clients : Map ℕ ℕ) (later : �
 pub record FindsOldest (clients_max : ℕ) (rows : Map ℕ Row) (clients : Map ℕ ℕ) : Type 0 where
   pub indexed : IsIndexed clients_max rows clients
   pub first : clients_max ≤ length (entries rows) → IsFirstDue rows clients
+
+-- a row took the place of its client's row in the table, and that row was left in exchange
+abbrev pub Exchanges : Table → Row → Table → Row → Type 0
+Exchanges before row after left = (row_of before.rows row.client ≡ Some left) × (after ≡ record before { rows = replaced client_of row before.rows })
