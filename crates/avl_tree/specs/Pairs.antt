@@ -1,6 +1,8 @@
 -- What a closure leaves that was called at two values of a tree, while the search for them goes on.
 -- Cited by private contracts alone, of: pairs.
 use Rattle.std.specs.Prelude.{◌≡◌, Bool, true, false, List, Option, None, Some, ◌⊎◌}
+use Rattle.std.specs.BTreeMap.{is_at}
+use Rattle.std.specs.declared.cmp.Ordering.{Ordering}
 use Rattle.std.specs.Fn.{Mut, CalledAtPairMut}
 use Rattle.std.specs.Map.{lookup, set_value}
 use Rattle.avl_tree.specs.Nodes.{entries}
@@ -48,16 +50,16 @@ pub record ChangedBoth {F K V R : Type 0} (c : Taking F V R) (in_order : Bool) (
   pub called : CalledAtBoth c in_order f value other r f' left other_left
   pub written : es' ≡ set_value high (set_value low es left) other_left
 
--- the same of trees: f was called, or nothing changed where a key is missing
-module _ {F K V A R : Type 0} (c : Taking F V R) (in_order : Bool) where
-  abbrev pub ChangesBeside : (K → Bool) → V → Tree K V A → F → Option R → F → V → Tree K V A → Type 0
-  ChangesBeside test d t f (Some r) f' d' t' = ChangedBeside c in_order test d (entries t) f r f' d' (entries t') × KeepsLinks t t'
-  ChangesBeside test d t f None f' d' t' = (lookup test (entries t) ≡ None) × (f' ≡ f) × (d' ≡ d) × (t' ≡ t)
+-- the same of trees by the order of their keys: f was called, or nothing changed where a key is missing
+module _ {F K V A R : Type 0} (c : Taking F V R) (in_order : Bool) (cmp : K → K → Ordering) where
+  abbrev pub ChangesBeside : K → V → Tree K V A → F → Option R → F → V → Tree K V A → Type 0
+  ChangesBeside key d t f (Some r) f' d' t' = ChangedBeside c in_order (is_at (cmp key)) d (entries t) f r f' d' (entries t') × KeepsLinks t t'
+  ChangesBeside key d t f None f' d' t' = (lookup (is_at (cmp key)) (entries t) ≡ None) × (f' ≡ f) × (d' ≡ d) × (t' ≡ t)
 
-  abbrev pub ChangesApart : (K → Bool) → (K → Bool) → Tree K V A → Tree K V A → F → Option R → F → Tree K V A → Tree K V A → Type 0
-  ChangesApart low high t u f (Some r) f' t' u' = ChangedApart c in_order low high (entries t) (entries u) f r f' (entries t') (entries u') × KeepsLinks t t' × KeepsLinks u u'
-  ChangesApart low high t u f None f' t' u' = ((lookup low (entries t) ≡ None) ⊎ (lookup high (entries u) ≡ None)) × (f' ≡ f) × (t' ≡ t) × (u' ≡ u)
+  abbrev pub ChangesApart : K → K → Tree K V A → Tree K V A → F → Option R → F → Tree K V A → Tree K V A → Type 0
+  ChangesApart low high t u f (Some r) f' t' u' = ChangedApart c in_order (is_at (cmp low)) (is_at (cmp high)) (entries t) (entries u) f r f' (entries t') (entries u') × KeepsLinks t t' × KeepsLinks u u'
+  ChangesApart low high t u f None f' t' u' = ((lookup (is_at (cmp low)) (entries t) ≡ None) ⊎ (lookup (is_at (cmp high)) (entries u) ≡ None)) × (f' ≡ f) × (t' ≡ t) × (u' ≡ u)
 
-  abbrev pub ChangesBoth : (K → Bool) → (K → Bool) → Tree K V A → F → Option R → F → Tree K V A → Type 0
-  ChangesBoth low high t f (Some r) f' t' = ChangedBoth c in_order low high (entries t) f r f' (entries t') × KeepsLinks t t'
-  ChangesBoth low high t f None f' t' = ((lookup low (entries t) ≡ None) ⊎ (lookup high (entries t) ≡ None)) × (f' ≡ f) × (t' ≡ t)
+  abbrev pub ChangesBoth : K → K → Tree K V A → F → Option R → F → Tree K V A → Type 0
+  ChangesBoth low high t f (Some r) f' t' = ChangedBoth c in_order (is_at (cmp low)) (is_at (cmp high)) (entries t) f r f' (entries t') × KeepsLinks t t'
+  ChangesBoth low high t f None f' t' = ((lookup (is_at (cmp low)) (entries t) ≡ None) ⊎ (lookup (is_at (cmp high)) (entries t) ≡ None)) × (f' ≡ f) × (t' ≡ t)
