@@ -11,7 +11,11 @@ use Rattle.tb_storm.specs.Totals.{ids_of, first_credits}
 abbrev pub transfers_after : Opening → List Entry → List ℕ → ℕ
 transfers_after o h ids = length (found_transfers (after_in o h).books ids)
 
--- what account 1000 was credited with after it
+-- so many of them, after its legal history of so many entries
+abbrev pub CountsTransfers : Opening → List Entry → List ℕ → ℕ → ℕ → Type 0
+CountsTransfers o h ids entries transfers = LegalIn o h × (entries ≡ length h) × (transfers ≡ transfers_after o h ids)
+
+-- what account 1000 was credited with after a history
 abbrev pub credited_after : Opening → List Entry → ℕ
 credited_after o h = first_credits (found_accounts (after_in o h).books (1000 ∷ []))
 

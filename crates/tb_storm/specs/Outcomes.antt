@@ -1,8 +1,9 @@
 -- Which fault of a storm is reported.
 -- Cited by private contracts alone, of: outcomes, storms.
-use Rattle.std.specs.Prelude.{ℕ, ◌≡◌, Option, Some, None, Result, Ok, Err, nat_lt, if◌then◌else◌}
+use Rattle.std.specs.Prelude.{ℕ, ◌≡◌, List, map, fold, Option, Some, None, Result, Ok, Err, nat_lt, if◌then◌else◌}
 use Rattle.tb_service.specs.declared.ends.Ended.{Ended}
 use Rattle.tb_service.specs.declared.ends.Ended.TheVariants as way
+use Rattle.tb_storm.specs.declared.clients.Client.{Client}
 use Rattle.tb_storm.specs.declared.faults.StormFault.{StormFault}
 use Rattle.tb_storm.specs.declared.faults.StormFault.TheVariants as storm
 use Rattle.tb_storm.specs.declared.totals.Totals.{Totals}
@@ -13,6 +14,10 @@ first_of None next = next
 first_of (Some storm.GaveUp) None = Some storm.GaveUp
 first_of (Some storm.GaveUp) (Some fault) = Some fault
 first_of (Some fault) next = Some fault
+
+-- the fault that is reported of clients: of the first one's and the others'
+abbrev pub fared : {J : Type 0} → Option StormFault → List (Client J) → Option StormFault
+fared first others = fold first_of first (map (λ client. client.fault) others)
 
 -- Of how the server ended, the fault of the clients and what a seat found at the end: that the server found no memory is reported
 -- before all else, and that a client gave up only where the seat met no fault.
