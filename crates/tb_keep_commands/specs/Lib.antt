@@ -1,5 +1,6 @@
 pub mod Copies
 pub mod DumpLaws
+pub mod Ends
 pub mod Exits
 pub mod Following
 pub mod Forms
@@ -9,5 +10,6 @@ pub mod Live
 pub mod Naming
 pub mod Outcomes
 pub mod Outlets
+pub mod Stages
 pub mod Statuses
 pub mod Summaries
