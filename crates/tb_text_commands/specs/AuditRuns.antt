@@ -90,6 +90,10 @@ module _ (IsLine : Told → List ℕ → Type 0) (wants : Told → Bool) where
   Telling (Ok done) told start written = Tells told start written
   Telling (Err fault) told start written = StopsTelling fault told start written
 
+  -- the same by a writer's states
+  abbrev pub Prints : {W : Type 0} → Result (Unit {0}) Fault → List Told → (W → Output) → W → W → Type 0
+  Prints result told output start written = Telling result told (output start) (output written)
+
 -- items
 
 -- an entry is not entered, since it may not come next, or since memory ran out

@@ -93,6 +93,32 @@ statement_in intake =
     let length_before = before_semicolon intake.in_comment further in
     if nat_lt length_before (length further) then Some (intake.searched + length_before + 1 - intake.at) else None
 
+-- faults
+
+-- of reading: the device failed, or there is no memory
+abbrev pub IsOfReading : Fault → Type 0
+IsOfReading fault.Device = Unit {0}
+IsOfReading fault.NoMemory = Unit {0}
+IsOfReading f = ⊥
+
+-- of a text that was read: it goes wrong, or there is no memory
+abbrev pub IsOfText : Fault → Type 0
+IsOfText (fault.Text lines) = Unit {0}
+IsOfText fault.NoMemory = Unit {0}
+IsOfText f = ⊥
+
+-- of the next statement, or of too many reads
+abbrev pub IsOfStatement : Fault → Type 0
+IsOfStatement (fault.Text lines) = Unit {0}
+IsOfStatement fault.TooLong = Unit {0}
+IsOfStatement f = IsOfReading f
+
+-- of the next frame, or of too many reads
+abbrev pub IsOfFrame : Fault → Type 0
+IsOfFrame (fault.Frame f) = Unit {0}
+IsOfFrame fault.TooLong = Unit {0}
+IsOfFrame f = IsOfReading f
+
 -- on a terminal, of what an intake holds
 
 -- the first bytes were taken as a part, or end the conversation and stay

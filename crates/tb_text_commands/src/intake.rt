@@ -3,7 +3,7 @@ ghost use Rattle.std.specs.List.{list_all};
 ghost use Rattle.std.specs.Prelude.{◌==◌, ◌≡◌, [], IfErr, IfOk, OnOk, Some, drop, false, not, take, true};
 ghost use Rattle.tb_records.specs.Transport.{Input, Sent};
 ghost use Rattle.tb_text_commands.specs.Ends.{Ended, is_passing};
-ghost use Rattle.tb_text_commands.specs.Taken.{HoldsAsBefore, Stays, rest_of, statement_in, waiting};
+ghost use Rattle.tb_text_commands.specs.Taken.{HoldsAsBefore, IsOfReading, Stays, rest_of, statement_in, waiting};
 ghost use Rattle.tb_text_commands.specs.Typed.{ends_with_cut_line, is_longest_line};
 
 use crate::faults::Fault;
@@ -190,6 +190,7 @@ impl Intake {
             Stays (waiting self.old (R.input reader.old)) (waiting self.new (R.input reader.new))) }
         ensures end { IfOk result (λ more. more ≡ false → self.new.ended ≡ true) }
         ensures fault { IfErr result (λ fault. is_passing fault ≡ false) }
+        ensures cause { IfErr result IsOfReading }
         ensures silent { Sent [] (W.output writer.old) (W.output writer.new) }
     {
         if self.ended {

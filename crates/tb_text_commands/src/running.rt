@@ -5,7 +5,7 @@ ghost use Rattle.tb_sessions.specs.Judged.{class_of};
 ghost use Rattle.tb_text_commands.specs.Answered.{Answers, Enters, IsPlaced};
 ghost use Rattle.tb_text_commands.specs.Completed.{standing_in};
 ghost use Rattle.tb_text_commands.specs.Ends.{Ended, IsOfInput, Written, is_passing};
-ghost use Rattle.tb_text_commands.specs.Taken.{TakesNextTyped, TakesTurn, waiting};
+ghost use Rattle.tb_text_commands.specs.Taken.{IsOfStatement, TakesNextTyped, TakesTurn, waiting};
 ghost use Rattle.tb_text_commands.specs.Typed.{IsTyped};
 ghost use Rattle.tb_text_commands.specs.Whole.{IsStatement, WasWhole};
 
@@ -182,6 +182,8 @@ impl<C: Clock> Converter for Conversation<'_, C> {
     ghost Part = { IsStatement };
 
     ghost remaining = { λ conversation input. waiting conversation.intake input };
+
+    ghost Reads = { λ conversation result before after. IfErr result IsOfStatement };
 
     fn next<R: Source, W: Sink>(&mut self, reader: &mut R, writer: &mut W) -> Next<Self::Piece> {
         next_statement(&mut self.intake, &self.server, reader, writer)
