@@ -5,7 +5,7 @@ ghost use Rattle.tb_sessions.specs.Judged.{class_of};
 ghost use Rattle.tb_text_commands.specs.Answered.{Answers, Enters, IsOfLine, IsOfReply, IsOfServing, IsPlaced};
 ghost use Rattle.tb_text_commands.specs.Completed.{standing_in};
 ghost use Rattle.tb_text_commands.specs.Ends.{Ended, Written, is_passing};
-ghost use Rattle.tb_text_commands.specs.Taken.{IsOfStatement, TakesNextTyped, TakesTurn, waiting};
+ghost use Rattle.tb_text_commands.specs.Taken.{IsOfStatement, TakesTurn, TakesUnlessEnded, waiting};
 ghost use Rattle.tb_text_commands.specs.Typed.{IsTyped};
 ghost use Rattle.tb_text_commands.specs.Whole.{IsStatement, WasWhole};
 
@@ -239,9 +239,8 @@ fn serve_turn<C: Clock, R: Source, W: Sink, E: Sink>(
 ) -> Result<bool, Fault>
     ensures ended { Ended result (R.input reader.old) (R.input reader.new) (W.output writer.old)
         (W.output writer.new) }
-    ensures taken { IfOk result (λ more.
-        TakesNextTyped more (waiting conversation.old.intake (R.input reader.old))
-        (waiting conversation.new.intake (R.input reader.new))) }
+    ensures taken { TakesUnlessEnded result (waiting conversation.old.intake (R.input reader.old))
+        (waiting conversation.new.intake (R.input reader.new)) }
 {
     match turn(conversation, reader, writer, faults) {
         Err(fault) if is_passing(&fault) => {
