@@ -7,7 +7,7 @@ use Rattle.tb_sessions.specs.declared.classes.Class.TheVariants.{New, Repeat}
 use Rattle.tb_machine.specs.Histories.{State, refusal, status_of, step}
 use Rattle.tb_machine.specs.Scripts.{Pair, entry_of, has_time}
 use Rattle.tb_text_commands.specs.declared.faults.Fault.{Fault}
-use Rattle.tb_text_commands.specs.declared.faults.Fault.TheVariants.{NoMemory, TimeExhausted, Late}
+use Rattle.tb_text_commands.specs.declared.faults.Fault.TheVariants.{Device, NoMemory, TimeExhausted, Late}
 
 -- a new request is entered, where there are a time and memory for it; else nothing changes, and the fault says which was
 -- wanting
@@ -36,6 +36,24 @@ abbrev pub Answers : Class → Result (Option Answer) Fault → State → State 
 Answers New result S T p = AnswersNew result S T p
 Answers Repeat result S T p = AnswersRepeat result S T
 Answers class result S T p = Refuses class result S T p
+
+-- a fault of serving: there is no memory, or no time is left
+abbrev pub IsOfServing : Fault → Type 0
+IsOfServing NoMemory = Unit {0}
+IsOfServing TimeExhausted = Unit {0}
+IsOfServing fault = ⊥
+
+-- a fault of serving, or of the device that its reply is written to
+abbrev pub IsOfReply : Fault → Type 0
+IsOfReply Device = Unit {0}
+IsOfReply fault = IsOfServing fault
+
+-- the same as a conversation ends with it: where no time is left, with the place
+abbrev pub IsOfLine : Fault → Type 0
+IsOfLine Device = Unit {0}
+IsOfLine NoMemory = Unit {0}
+IsOfLine (Late line) = Unit {0}
+IsOfLine fault = ⊥
 
 -- a fault is reported with its place where no time is left, as far as there is memory for that; else it stays
 abbrev pub IsPlaced : Fault → Fault → Type 0

@@ -176,6 +176,11 @@ abbrev pub TakesTyped : Result Typed Fault → Option (List ℕ) → Option (Lis
 TakesTyped (Ok typed) before after = TakesNextTyped (goes_on typed) before after
 TakesTyped (Err fault) before after = TakesIfPassing (is_passing fault) before after
 
+-- the same, unless a fault ends the conversation
+abbrev pub TakesUnlessEnded : Result Bool Fault → Option (List ℕ) → Option (List ℕ) → Type 0
+TakesUnlessEnded (Ok more) before after = TakesNextTyped more before after
+TakesUnlessEnded (Err fault) before after = Unit {0}
+
 abbrev pub TakesTurn : Result Bool Fault → Option (List ℕ) → Option (List ℕ) → Type 0
 TakesTurn (Ok more) before after = TakesNextTyped more before after
 TakesTurn (Err fault) before after = TakesIfPassing (is_passing fault) before after

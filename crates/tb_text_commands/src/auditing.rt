@@ -3,12 +3,10 @@ ghost use Rattle.std.specs.Prelude.{◌≡◌, [], IfErr, IfOk, OnOk};
 ghost use Rattle.tb_machine.specs.Histories.{start};
 ghost use Rattle.avl_tree.specs.Map.{entries};
 ghost use Rattle.tb_text_commands.specs.Audits.{Enters, GoesOver, NoneIsDue, waits_behind};
-ghost use Rattle.tb_text_commands.specs.AuditLines.{IsJsonLine};
-ghost use Rattle.tb_text_commands.specs.AuditRuns.{AuditRan, AuditsEntry, AuditsItem, AuditsMark, Changes, Finds, Prints, ReadsHead, RefusesEntry, Telling, TellsDue, account_of, audited_from};
+ghost use Rattle.tb_text_commands.specs.AuditRuns.{AuditRan, AuditRanFor, AuditsEntry, AuditsItem, AuditsMark, Changes, Finds, Prints, ReadsHead, RefusesEntry, Telling, TellsDue, account_of, audited_from};
 ghost use Rattle.tb_text_commands.specs.Audited.{PrintsAccount, PutsItems, PutsNext, audited, batch_of, events_of, told_of, waiting_of, waits_now};
 ghost use Rattle.tb_text_commands.specs.Ends.{Converts, Ended, IsOfInput, Written};
 ghost use Rattle.tb_text_commands.specs.Taken.{TakesIf};
-ghost use Rattle.tb_text_commands.specs.Wanted.{is_wanted};
 ghost use Rattle.tb_text_commands.specs.Whole.{IsDump, IsItem, Parts, WasWhole};
 
 use crate::audit_lines::{JsonLines, Teller};
@@ -401,8 +399,8 @@ pub fn audit<R: Source, W: Sink>(
 ) -> Result<(), Fault>
     ensures converts { Converts IsDump result (R.input reader.old) (R.input reader.new)
         (W.output writer.old) (W.output writer.new) }
-    ensures ran { AuditRan IsJsonLine (is_wanted wanted) result wanted.account
-        (R.input reader.old) (R.input reader.new) (W.output writer.old) (W.output writer.new) }
+    ensures ran { AuditRanFor wanted result (R.input reader.old) (R.input reader.new)
+        (W.output writer.old) (W.output writer.new) }
 {
     let account = wanted.account;
     audit_by(alloc, account, &JsonLines { alloc, wanted }, reader, writer)
