@@ -222,7 +222,7 @@ GROUPS = {
             ("closed_tests",),
         ],
         "two_party": [
-            ("single_own_tests", "two_party_own_tests"),
+            ("two_party_own_tests",),
             "DebitAccountNotFound",
             "CreditAccountNotFound",
             ("pair_tests",),

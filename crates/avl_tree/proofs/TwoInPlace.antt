@@ -11,7 +11,7 @@ use Rattle.std.specs.Map.{lookup, set_value}
 use Rattle.std.specs.BTreeMap.{is_at}
 use Rattle.avl_tree.specs.Nodes.{entries, IsSearchTree}
 use Rattle.avl_tree.specs.Changes.{ChangedTwo, KeepsLinks}
-use Rattle.avl_tree.specs.Pairs.{Taking, CalledAtBoth, ChangesBeside, ChangesApart, ChangesBoth}
+use Rattle.avl_tree.specs.private.Pairs.{Taking, CalledAtBoth, ChangesBeside, ChangesApart, ChangesBoth}
 use Rattle.avl_tree.specs.declared.tree.Node.{Node}
 use Rattle.avl_tree.specs.declared.tree.Tree.{Tree}
 use Rattle.avl_tree.specs.declared.tree.Tree.TheViews.{Fork}

@@ -2,7 +2,7 @@
 ghost use Rattle.std.specs.Prelude.{◌≡◌, None, Some, IsSome, IfSome};
 ghost use Rattle.std.specs.declared.cmp.Ordering.TheVariants.{Less};
 ghost use Rattle.avl_tree.specs.Nodes.{entry, IsSearchTree};
-ghost use Rattle.avl_tree.specs.Pairs.{CalledAtBoth, ChangesBeside, ChangesApart, ChangesBoth};
+ghost use Rattle.avl_tree.specs.private.Pairs.{CalledAtBoth, ChangesBeside, ChangesApart, ChangesBoth};
 
 use crate::tree::{Node, Tree, side};
 use crate::walks::compare;

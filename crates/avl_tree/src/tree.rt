@@ -2,7 +2,7 @@
 ghost use Rattle.std.specs.Prelude.{◌≡◌, ◌+◌, ◌<◌, ◌≤◌, max, IfSome};
 ghost use Rattle.avl_tree.specs.Nodes.{entries, entries_at, entry, height_at, stored_height, IsAvl, IsNearlyAvl, SettlesTo, IsBare, IsHeightOver, IsLevelAt, IsGrown, DifferByAtMost};
 ghost use Rattle.std.specs.Borrow.{sem};
-ghost use Rattle.avl_tree.specs.Sides.{lends_side, side_of};
+ghost use Rattle.avl_tree.specs.private.Sides.{lends_side, side_of};
 ghost use Rattle.avl_tree.specs.declared.tree.Tree.TheVariants.{Empty};
 
 use std::alloc::Allocator;

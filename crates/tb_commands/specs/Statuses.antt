@@ -1,6 +1,6 @@
 -- The exit status of each outcome: 0 done, 1 a device or memory failed, 2 the input or the arguments are wrong. And the line
 -- that a fault is reported by.
--- Cited by public contracts of: commands, host, lines.
+-- Cited by public contracts of: commands, lines.
 use Rattle.std.specs.Prelude.{ℕ, ◌≡◌, ◌⊎◌, ◌++◌, List, Some, Result, Ok, Err, codes}
 use Rattle.tb_records.specs.declared.devices.Sink as sinks
 use Rattle.tb_records.specs.declared.devices.Source as sources

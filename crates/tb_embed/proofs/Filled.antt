@@ -6,7 +6,7 @@ use Rattle.tb_machine.specs.declared.serving.RunFault.TheVariants as fault
 use Rattle.tb_machine.specs.Histories.{State}
 use Rattle.tb_machine.specs.Scripts.{Pair}
 use Rattle.tb_machine.specs.Runs.{answer_bytes, AnswersPair}
-use Rattle.tb_embed.specs.Filling.{Fills, room_output}
+use Rattle.tb_embed.specs.private.Filling.{Fills, room_output}
 
 named_same : (named name : ℕ) (front bytes : List ℕ) → named ∷ front ≡ name ∷ bytes → (named ≡ name) × (front ≡ bytes)
 named_same named name front bytes e = (cc, cc)

@@ -1,6 +1,6 @@
 //! A room of the caller for the bytes of a reply.
 ghost use Rattle.std.specs.Prelude.{◌≡◌, ◌≤◌, true, length};
-ghost use Rattle.tb_embed.specs.Filling.{room_output};
+ghost use Rattle.tb_embed.specs.private.Filling.{room_output};
 
 use std::io;
 use tb_records::Sink;

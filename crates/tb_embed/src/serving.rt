@@ -1,7 +1,7 @@
 //! The serving of one request: its frame is read, and its reply written into the caller's room.
 ghost use Rattle.std.specs.Prelude.{◌≡◌};
 ghost use Rattle.tb_embed.specs.Calls.{standing, AnswersCall, AnswersFrame, ServesFrame};
-ghost use Rattle.tb_embed.specs.Filling.{Fills};
+ghost use Rattle.tb_embed.specs.private.Filling.{Fills};
 
 use crate::outcomes::Outcome;
 use crate::replies::reply_length;

@@ -1,5 +1,5 @@
 -- How a journal is opened, and what stays of its file.
--- Cited by public contracts of: creating, opening, scans.
+-- Cited by public contracts of: opening, scans.
 use Rattle.std.specs.Prelude.{◌≡◌, ◌⊎◌, ℕ, ◌≤◌, ◌^◌, List, [], length, Result, Ok, Err, IfErr, OnOk, true}
 use Rattle.tb_journal.specs.declared.faults.Fault.{Fault}
 use Rattle.tb_journal.specs.declared.faults.Fault.TheVariants as faults

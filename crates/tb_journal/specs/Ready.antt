@@ -1,5 +1,5 @@
 -- A journal that may be written to.
--- Cited by public contracts of: creating, journals, opening.
+-- Cited by public contracts of: journals, opening.
 use Rattle.std.specs.Prelude.{◌≡◌, ℕ, ◌+◌, Bool, List, length}
 use Rattle.tb_journal.specs.Device.{Disk, LeavesOnly}
 use Rattle.tb_journal.specs.Contents.{at_rest, recorded, records_end}

@@ -1,5 +1,5 @@
 -- What the journal's calls leave on a disk.
--- Cited by public contracts of: journals.
+-- Public contracts reach it through: Ready.
 use Rattle.std.specs.Prelude.{◌≡◌, ◌⊎◌, ℕ, true, List, [], ◌∷◌, ◌++◌, length, take, Result, OnOk, ◌≤◌}
 use Rattle.tb_journal.specs.declared.faults.Fault.{Fault}
 use Rattle.tb_journal.specs.Device.{Disk, IsOnDisk, IsSettled, Torn, Cut, overwritten, LeavesOnly, HasCause}

@@ -23,14 +23,14 @@ use Rattle.tb_keep.specs.declared.faults.SalvageFault.{SalvageFault}
 use Rattle.tb_keep.specs.declared.faults.SalvageFault.TheVariants.{Old, New}
 use Rattle.tb_keep.specs.declared.faults.StartFault.{StartFault}
 use Rattle.tb_keep.specs.declared.faults.StartFault.TheVariants as start
-use Rattle.tb_keep.specs.declared.heads.Rules.{Rules}
+use Rattle.tb_keep.specs.declared.restoring.Rules.{Rules}
 use Rattle.tb_keep.specs.declared.salvaging.NotSalvaged.{NotSalvaged}
 use Rattle.tb_keep.specs.declared.salvaging.Salvaged.{Salvaged}
 use Rattle.tb_keep.specs.Keeping.{History, state_of, records_of, head_record, Keeping, Keeps, IsKeepable, IsLedger}
 use Rattle.tb_keep.specs.Opening.{history_of, MayBeCreated, IsCreateRefused, IsCreateStartCause}
 use Rattle.tb_keep.specs.Restoration.{RecordsLead, StopsAt, StopsBeginning, StopsFile, IsNotOfFile, IsStartCause}
 use Rattle.tb_keep.specs.Salvaging.{StopsBehind, IsTaken, IsSalvaged, IsBackedUp, IsUnsalvaged, IsNotBackedUp, IsWriteCause, IsNewCause, HasNewCause, MayBeSalvaged, IsLeftAlone}
-use Rattle.tb_keep.specs.Taking.{HoldsRead, IsBetween, line, Taken, TakesRest, of_new}
+use Rattle.tb_keep.specs.private.Taking.{HoldsRead, IsBetween, line, Taken, TakesRest, of_new}
 use Rattle.tb_keep.specs.Reading.{HasRules, RulesIn, rules_of}
 use Rattle.tb_keep.proofs.Entered.{Latest}
 use Rattle.tb_keep.proofs.Leading.{leads_none, stops_file}

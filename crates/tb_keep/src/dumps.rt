@@ -2,17 +2,16 @@
 ghost use Rattle.std.specs.Prelude.{◌≡◌, ℕ, ◌+◌, ◌-◌, true, List, [], ◌∷◌, drop, IfOk, IfErr};
 ghost use Rattle.tb_records.specs.Transport.{IsSent};
 ghost use Rattle.tb_journal.specs.Scans.{HasRead, GoesFurther};
-ghost use Rattle.tb_keep.specs.Entering.{StaysKept, FindsRules, IsBehindHead, CauseBehindHead};
+ghost use Rattle.tb_keep.specs.private.Entering.{StaysKept, FindsRules, IsBehindHead, CauseBehindHead};
 ghost use Rattle.tb_keep.specs.Opening.{IsUntouched};
 ghost use Rattle.tb_keep.specs.Restoration.{HasStartCause};
 ghost use Rattle.tb_keep.specs.Reading.{RulesAnswer, RulesIn, FindsHistory, Dumps, HasDumpCause, OfRead, joined};
 ghost use Rattle.tb_keep.specs.Following.{HasLaterCause, WritesEntries};
 ghost use Rattle.tb_keep.specs.Salvaging.{IsUnsalvaged};
-ghost use Rattle.tb_keep.specs.Sending.{SendsNext, SendsAll};
+ghost use Rattle.tb_keep.specs.private.Sending.{SendsNext, SendsAll};
 
 use crate::faults::{DumpFault, SalvageFault, StartFault};
-use crate::heads::{Rules, read_head};
-use crate::restoring::{entered_behind, read_record};
+use crate::restoring::{Rules, entered_behind, read_head, read_record};
 use std::alloc::Global;
 use tb_journal::{Device, Extent, Scan};
 use tb_machine::Machine;

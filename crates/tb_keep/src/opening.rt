@@ -9,13 +9,12 @@ ghost use Rattle.tb_machine.specs.Histories.{start};
 ghost use Rattle.tb_keep.specs.Keeping.{Keeps, IsFresh, IsUsable};
 ghost use Rattle.tb_keep.specs.Restoration.{IsRestoredFrom, IsNotOfFile, HasStartCause, torn_bytes};
 ghost use Rattle.tb_keep.specs.Opening.{OpensFile, CreatesIn, StartsFile, IsOpened, IsStarted, MayBeOpened, MayBeCreated, MayBeStarted, IsRefused, IsCreateRefused, IsStartRefused, HasCreateStartCause, HasEitherCause, LeavesWhereSound, history_of, device_left, why_left};
-ghost use Rattle.tb_keep.specs.Entering.{StaysKept};
-ghost use Rattle.tb_keep.specs.Headed.{HasHead, HasRecords, IsOfDevice, HasDeviceCause, journal_left, OpensAtMost, OpensRestored, HeadLeaves};
+ghost use Rattle.tb_keep.specs.private.Entering.{StaysKept};
+ghost use Rattle.tb_keep.specs.private.Headed.{HasHead, HasRecords, IsOfDevice, HasDeviceCause, journal_left, OpensAtMost, OpensRestored, HeadLeaves};
 
 use crate::faults::StartFault;
-use crate::heads::{Rules, write_head};
 use crate::keepers::Keeper;
-use crate::restoring::restored;
+use crate::restoring::{Rules, restored, write_head};
 use crate::serving::BATCH_BYTES_MAX;
 use std::alloc::{Allocator, Global};
 use tb_journal::{Device, Extent, Fault, Journal, NotOpened, OpenFault};

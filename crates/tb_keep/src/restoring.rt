@@ -1,20 +1,20 @@
-//! The restoring of a machine from the records of a file behind its head.
+//! The head of a kept file, record 0 of its journal, and the restoring of a machine from the records behind it.
 ghost use Rattle.std.specs.Prelude.{◌≡◌, ◌≤◌, ◌+◌, ℕ, true, List, [], Ok, IfOk, IfErr, OnOk};
 ghost use Rattle.tb_journal.specs.Device.{IsOnDisk};
 ghost use Rattle.tb_journal.specs.Scans.{HasRead, GoesFurther, IsAt, ScanCause};
 ghost use Rattle.tb_machine.specs.Recording.{IsRecord};
-ghost use Rattle.tb_keep.specs.Restoration.{ReadsRecord, RestoresRecord, Restores, HasStartCause};
+ghost use Rattle.tb_keep.specs.Restoration.{ReadsRecord, RestoresRecord, Restores, HasStartCause, HeadAnswers};
 ghost use Rattle.tb_keep.specs.Opening.{IsUntouched};
-ghost use Rattle.tb_keep.specs.Reading.{OfRead};
-ghost use Rattle.tb_keep.specs.Sources.{IsNext};
-ghost use Rattle.tb_keep.specs.Entering.{StaysKept, ReadCause, ReadsHead, EntersNext, EntersAll, FindsBehind, IsBehindHead, CauseBehindHead, RestoresEmpty};
+ghost use Rattle.tb_keep.specs.Reading.{OfRead, NamesRules};
+ghost use Rattle.tb_keep.specs.private.Sources.{IsNext};
+ghost use Rattle.tb_keep.specs.private.Entering.{StaysKept, ReadCause, ReadsHead, EntersNext, EntersAll, FindsBehind, IsBehindHead, CauseBehindHead, RestoresEmpty};
+ghost use Rattle.tb_keep.specs.Keeping.{head_record};
 
 use crate::faults::StartFault;
-use crate::heads::{Rules, check_head};
 use std::alloc::{Allocator, Global};
 use tb_journal::{Device, Extent, OpenFault, Scan};
 use tb_machine::{Entry, Machine, Unfit, read_entry, restore};
-use tb_records::FrameFault;
+use tb_records::{ClientsMax, FrameFault, Profile};
 
 /// Reads the record that is behind the entries of a machine.
 fn read_next<A: Allocator + Clone>(
@@ -234,4 +234,51 @@ pub fn restored<D: Device, A: Allocator + Clone>(
         Ok(mut scan) => restored_by(global, alloc, rules, &mut scan, device),
         Err(fault) => Err(StartFault::Journal(fault)),
     }
+}
+
+/// The record of a head.
+pub fn write_head(profile: Profile, clients_max: ClientsMax) -> [u8; 6]
+    ensures { result ≡ head_record profile clients_max }
+{
+    let number = match profile {
+        Profile::One => 1,
+        Profile::Two => 2,
+    };
+    [84, 66, 75, 49, number, clients_max.get() as u8]
+}
+
+/// The rules that a record names which is a head. None of any other record.
+pub fn read_head(bytes: &[u8]) -> Option<(Profile, ClientsMax)>
+    ensures { NamesRules result bytes.now }
+{
+    let [84, 66, 75, 49, number, clients_max] = bytes else {
+        return None;
+    };
+    let profile = match number {
+        1 => Profile::One,
+        2 => Profile::Two,
+        _ => return None,
+    };
+    let clients_max = ClientsMax::new(*clients_max as u32)?;
+    Some((profile, clients_max))
+}
+
+/// The rules that a ledger goes by.
+#[derive(Clone, Copy)]
+pub struct Rules {
+    pub profile: Profile,
+    pub clients_max: ClientsMax,
+}
+
+/// Whether a record is the head of a ledger of these rules.
+pub(crate) fn check_head(bytes: &[u8], rules: Rules) -> Result<(), StartFault>
+    ensures { HeadAnswers result bytes.now rules.profile rules.clients_max }
+{
+    let Some((profile, clients_max)) = read_head(bytes) else {
+        return Err(StartFault::Head);
+    };
+    if profile != rules.profile || clients_max.get() != rules.clients_max.get() {
+        return Err(StartFault::OtherRules);
+    }
+    Ok(())
 }

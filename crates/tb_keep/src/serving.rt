@@ -7,7 +7,7 @@ ghost use Rattle.tb_machine.specs.Recording.{IsRecord};
 ghost use Rattle.tb_machine.specs.Runs.{is_new_in};
 ghost use Rattle.tb_keep.specs.Keeping.{IsFresh, IsUsable};
 ghost use Rattle.tb_keep.specs.Rounds.{Served};
-ghost use Rattle.tb_keep.specs.Steps.{IsRefusal, Appends, HoldsReply, KeepsPair, HandsOut, Tells, is_end_of_time, with_record, MayTellOver, EndsToldOver, KeepsNextOver};
+ghost use Rattle.tb_keep.specs.private.Steps.{IsRefusal, Appends, HoldsReply, KeepsPair, HandsOut, Tells, is_end_of_time, with_record, MayTellOver, EndsToldOver, KeepsNextOver};
 
 use crate::faults::KeepFault;
 use crate::keepers::Keeper;

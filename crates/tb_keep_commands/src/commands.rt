@@ -3,7 +3,7 @@ ghost use Rattle.std.specs.Prelude.{◌≡◌, ◌||◌, None, map, string_bytes
 ghost use Rattle.tb_keep_commands.specs.Forms.{form_of};
 ghost use Rattle.tb_keep_commands.specs.Statuses.{SaysLine, usage_lines};
 ghost use Rattle.tb_keep_commands.specs.Exits.{Does, Finishes};
-ghost use Rattle.tb_keep_commands.specs.Stages.{ExitsOn, PerformsOn, Runs};
+ghost use Rattle.tb_keep_commands.specs.private.Stages.{ExitsOn, PerformsOn, Runs};
 ghost use Rattle.tb_keep_commands.specs.Outcomes.{Prints, DumpsPart, DumpsOver, ChecksOver};
 
 use crate::arguments::{Form, file_word, new_word, read_form};

@@ -15,10 +15,10 @@ use std::io::{BufReader, BufWriter, Read, Write};
 use tb_records::{Buffered, Sink};
 
 /// The bytes of input that `run` holds at a time. What is held goes behind one commit, so fewer bytes would need more syncs.
-const INPUT: usize = 1 << 20;
+const INPUT_BYTES: usize = 1 << 20;
 
 /// The bytes of output that `dump` holds at a time.
-const OUTPUT: usize = 65536;
+const OUTPUT_BYTES: usize = 65536;
 
 /// The bytes that a form's reader and writer hold. Replies are written at once, each time all that are buffered; and a form that
 /// writes once needs no buffer.
@@ -27,8 +27,8 @@ fn capacities(form: Option<Form>) -> (usize, usize)
     ensures output { result.1 ≡ output_size form }
 {
     match form {
-        Some(Form::Run(_, _, _)) => (INPUT, 0),
-        Some(Form::Dump(_, _)) => (0, OUTPUT),
+        Some(Form::Run(_, _, _)) => (INPUT_BYTES, 0),
+        Some(Form::Dump(_, _)) => (0, OUTPUT_BYTES),
         _ => (0, 0),
     }
 }

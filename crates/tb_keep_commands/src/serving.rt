@@ -4,7 +4,7 @@ ghost use Rattle.tb_keep.specs.Keeping.{IsFresh, IsUsable};
 ghost use Rattle.tb_keep_commands.specs.Ends.{On};
 ghost use Rattle.tb_keep_commands.specs.Naming.{NamesAsked, Left};
 ghost use Rattle.tb_keep_commands.specs.Outcomes.{kept_outcome};
-ghost use Rattle.tb_keep_commands.specs.Stages.{KeepsTold, RunsTold, StartsTold};
+ghost use Rattle.tb_keep_commands.specs.private.Stages.{KeepsTold, RunsTold, StartsTold};
 ghost use Rattle.tb_keep_commands.specs.Statuses.{failed_pipe};
 
 use crate::faults::{Failed, Fault, disk_fault, kept_fault};

@@ -10,10 +10,10 @@ use tb_keep_commands::{Fault, Files, Opener, Outgoing, Terminals, file_word, ref
 use tb_records::{Buffered, Sink};
 
 /// The bytes of input that `follow` holds at a time.
-const INPUT: usize = 1 << 20;
+const INPUT_BYTES: usize = 1 << 20;
 
 /// The bytes of output that `dump` holds at a time.
-const OUTPUT: usize = 1 << 16;
+const OUTPUT_BYTES: usize = 1 << 16;
 
 /// The bytes that a form's reader and writer hold. Replies are written at once.
 fn capacities(form: &Form) -> (usize, usize)
@@ -21,8 +21,8 @@ fn capacities(form: &Form) -> (usize, usize)
     ensures output { result.1 ≡ output_size form.now }
 {
     match form {
-        Form::Follow(_, _) => (INPUT, 0),
-        Form::Dump(_, _) => (0, OUTPUT),
+        Form::Follow(_, _) => (INPUT_BYTES, 0),
+        Form::Dump(_, _) => (0, OUTPUT_BYTES),
     }
 }
 

@@ -3,14 +3,14 @@ ghost use Rattle.std.specs.Prelude.{◌≡◌, ◌≤◌, true, ℕ, List, [], l
 ghost use Rattle.tb_journal.specs.Scans.{HasRead, GoesFurther};
 ghost use Rattle.tb_log.specs.Format.{content_max};
 ghost use Rattle.tb_machine.specs.Runs.{is_new_in};
-ghost use Rattle.tb_keep.specs.Entering.{StaysKept};
+ghost use Rattle.tb_keep.specs.private.Entering.{StaysKept};
 ghost use Rattle.tb_keep.specs.Opening.{IsUntouched};
 ghost use Rattle.tb_keep_log.specs.Dumping.{DumpsLog, HasDumpCause, no_pair};
-ghost use Rattle.tb_keep_log.specs.DumpSteps.{DumpsPair, DumpsContent, DumpsRecord, ReadCause, DumpsNextOver, DumpsAllOver, DumpsLogOver};
+ghost use Rattle.tb_keep_log.specs.private.DumpSteps.{DumpsPair, DumpsContent, DumpsRecord, ReadCause, DumpsNextOver, DumpsAllOver, DumpsLogOver};
 ghost use Rattle.tb_keep_log.specs.Keeping.{OfEachRead};
 
 use crate::faults::{DumpLogFault, LogStartFault};
-use crate::marks::{FIXED, check_mark};
+use crate::marks::{FIXED_BYTES, check_mark};
 use crate::restoring::read_record;
 use std::alloc::Global;
 use tb_journal::{Device, Scan};
@@ -113,7 +113,7 @@ fn dump_record<W: Sink>(
         (W.output writer.new) }
 {
     match check_mark(bytes, rules, last) {
-        Ok(_) => dump_content(global, machine, &bytes[FIXED..], writer),
+        Ok(_) => dump_content(global, machine, &bytes[FIXED_BYTES..], writer),
         Err(fault) => Err(DumpLogFault::Start(fault)),
     }
 }

@@ -4,10 +4,10 @@ ghost use Rattle.std.specs.List.{starts_with};
 ghost use Rattle.tb_log.specs.Format.{content_max};
 ghost use Rattle.tb_keep_log.specs.Keeping.{mark, record_bytes};
 ghost use Rattle.tb_keep_log.specs.Restoring.{fixed_bytes, IsOtherRecord};
-ghost use Rattle.tb_keep_log.specs.Steps.{in_memory, of_log, HoldsEntry, DropsEntry, Enters};
+ghost use Rattle.tb_keep_log.specs.private.Steps.{in_memory, of_log, HoldsEntry, DropsEntry, Enters};
 
 use crate::faults::LogStartFault;
-use crate::marks::{FIXED, check_mark, record_of};
+use crate::marks::{FIXED_BYTES, check_mark, record_of};
 use std::alloc::{Allocator, Global};
 use tb_keep::Rules;
 use tb_log::{Follower, LogFault, check_pairs, serve_content};
@@ -92,7 +92,7 @@ fn enter_at<A: Allocator + Clone>(
     requires few { length bytes.now ≤ fixed_bytes + content_max }
     ensures { Enters result rules.profile rules.clients_max bytes.now follower.old follower.new }
 {
-    let content = &bytes[FIXED..];
+    let content = &bytes[FIXED_BYTES..];
     match check_pairs(global, position, content) {
         Ok(()) => {}
         Err(fault) => return Err(of_log(fault)),

@@ -5,12 +5,12 @@ ghost use Rattle.tb_journal.specs.Contents.{contents};
 ghost use Rattle.tb_journal.specs.Creating.{MayBeCreated};
 ghost use Rattle.tb_journal.specs.Reading.{extent_of};
 ghost use Rattle.tb_journal.specs.Ready.{IsReady};
-ghost use Rattle.tb_keep.specs.Entering.{StaysKept};
+ghost use Rattle.tb_keep.specs.private.Entering.{StaysKept};
 ghost use Rattle.tb_keep.specs.Restoration.{torn_bytes};
 ghost use Rattle.tb_keep_log.specs.Keeping.{IsUsable};
 ghost use Rattle.tb_keep_log.specs.Restoring.{HasLogCause, IsRestored};
 ghost use Rattle.tb_keep_log.specs.Opening.{HasStartCause, IsOpened, IsRefused, IsStartRefused, IsStarted, MayBeOpened, MayBeStarted, OpensFile, StartsFile, device_left, why_left, OpensRestored};
-ghost use Rattle.tb_keep_log.specs.Steps.{CreatesIn, HasCreatedCause, IsCreated, IsNotCreated, OpensAs};
+ghost use Rattle.tb_keep_log.specs.private.Steps.{CreatesIn, HasCreatedCause, IsCreated, IsNotCreated, OpensAs};
 ghost use Rattle.tb_journal.specs.Opening.{LeavesSameRecords};
 
 use crate::faults::LogStartFault;
@@ -22,7 +22,7 @@ use tb_keep::Rules;
 use tb_log::Follower;
 
 /// A torn commit leaves at most so many bytes behind the records and the latch there: one record and its latch.
-const TORN_MAX: u64 = (1 << 24) + 8;
+const TORN_BYTES_MAX: u64 = (1 << 24) + 8;
 
 /// A device whose file was not opened as a kept log, and why.
 #[derive(Drop)]
@@ -117,7 +117,7 @@ fn open_short<D: Device, A: Allocator + Clone>(
     let mut device = device;
     match torn_behind(&mut device, extent) {
         Ok(torn) => {
-            if torn > TORN_MAX {
+            if torn > TORN_BYTES_MAX {
                 let fault = LogStartFault::TornTooLong {
                     at: extent.end as u64,
                     bytes: torn,

@@ -2,11 +2,11 @@
 ghost use Rattle.std.specs.Prelude.{◌≡◌, ◌≤◌, true, ℕ, List, [], IfOk, OnOk};
 ghost use Rattle.tb_journal.specs.Device.{IsOnDisk};
 ghost use Rattle.tb_journal.specs.Scans.{HasRead, GoesFurther, ScanCause};
-ghost use Rattle.tb_keep.specs.Entering.{StaysKept};
+ghost use Rattle.tb_keep.specs.private.Entering.{StaysKept};
 ghost use Rattle.tb_keep.specs.Opening.{IsUntouched};
-ghost use Rattle.tb_keep.specs.Sources.{IsNext};
+ghost use Rattle.tb_keep.specs.private.Sources.{IsNext};
 ghost use Rattle.tb_keep_log.specs.Restoring.{HasLogCause, Restores};
-ghost use Rattle.tb_keep_log.specs.Steps.{ReadCause, EntersNextBy, EntersAllBy};
+ghost use Rattle.tb_keep_log.specs.private.Steps.{ReadCause, EntersNextBy, EntersAllBy};
 ghost use Rattle.tb_keep_log.specs.Keeping.{OfEachRead};
 
 use crate::entries::enter_record;

@@ -3,7 +3,7 @@ ghost use Rattle.std.specs.Prelude.{◌≡◌, true, false, [], IfOk, IfErr, OnO
 ghost use Rattle.tb_journal.specs.Ready.{IsReady};
 ghost use Rattle.tb_keep_log.specs.Keeping.{IsUsable};
 ghost use Rattle.tb_keep_log.specs.Serving.{KeepsLog};
-ghost use Rattle.tb_keep_log.specs.Steps.{TakesEntry, MissesEntry, TellsBytes, Answers, Puts, PutsAndTells, EntersEntryOver, NextOver, ServedOver};
+ghost use Rattle.tb_keep_log.specs.private.Steps.{TakesEntry, MissesEntry, TellsBytes, Answers, Puts, PutsAndTells, EntersEntryOver, NextOver, ServedOver};
 
 use crate::entries::serve_entry;
 use crate::faults::KeepLogFault;

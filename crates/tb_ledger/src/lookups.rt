@@ -2,7 +2,7 @@
 ghost use Rattle.std.specs.Prelude.{◌≡◌, ◌+◌, ◌≤◌, ◌++◌, length, vec_len, vec_capacity};
 ghost use Rattle.std.specs.List.{filter_map};
 ghost use Rattle.std.specs.Option.{option_copied, option_map};
-ghost use Rattle.tb_ledger.specs.Lookups.{found_in};
+ghost use Rattle.tb_ledger.specs.private.Lookups.{found_in};
 
 use crate::tables::accounts::AccountRow;
 use crate::tables::map::{Keyed, Table};

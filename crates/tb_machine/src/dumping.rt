@@ -7,7 +7,7 @@ ghost use Rattle.tb_records.specs.Transport.{IsSent};
 ghost use Rattle.tb_ledger.specs.Books.{profile_of};
 ghost use Rattle.tb_sessions.specs.Judged.{row_of};
 ghost use Rattle.tb_machine.specs.DumpRuns.{mark_before, marks_at, changed_profile, DumpRan, DumpsPair, DumpsNext};
-ghost use Rattle.tb_machine.specs.Serving.{IsPromptForPair, Delivers};
+ghost use Rattle.tb_machine.specs.private.Serving.{IsPromptForPair, Delivers};
 
 use crate::machines::Machine;
 use crate::serving::{RunFault, enter, pass_on_before_waiting};

@@ -4,14 +4,13 @@
 //! Modules, each over those before it:
 //!
 //! - `entries`: `Entry`, a commit number, a time and a request.
-//! - `executing`: what a request does to the ledger, the reply to it, the row that it leaves.
 //! - `machines`: `Machine`, a ledger and its sessions, which entries move on.
+//! - `executing`: its steps: what a request does to the ledger, the reply to it, the row that it leaves.
 //! - `serving`: `run`, a script read, executed and answered; `serve_pair`, one pair of it.
 //! - `answering`: the answer to a request from a machine that stays as it is.
 //! - `dumping`: `dump`, a script executed, and its history written.
 //! - `replaying`: `replay`, a dump read, each entry tested and entered, each reply written.
-//! - `recording`: one entry as the record of a journal.
-//! - `restoring`: a machine from entries, each tested first, with the cause of a refusal.
+//! - `restoring`: one entry as the record of a journal; a machine from entries, each tested first, with the cause of a refusal.
 //! - `laws`: laws of legal histories: functions that do nothing.
 //! - `worked_rows`: scripts and the replies that the definitions give to them.
 //!
@@ -29,7 +28,6 @@ mod entries;
 mod executing;
 pub mod laws;
 mod machines;
-mod recording;
 mod replaying;
 mod restoring;
 mod serving;
@@ -39,7 +37,6 @@ pub use answering::answer_of;
 pub use dumping::dump;
 pub use entries::Entry;
 pub use machines::Machine;
-pub use recording::{read_entry, write_entry};
 pub use replaying::replay;
-pub use restoring::{RestoreFault, Unfit, restore};
+pub use restoring::{RestoreFault, Unfit, read_entry, restore, write_entry};
 pub use serving::{RunFault, run, serve_pair, status_of};

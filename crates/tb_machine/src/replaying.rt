@@ -2,7 +2,7 @@
 ghost use Rattle.std.specs.Prelude.{◌≡◌, [], false, IfOk};
 ghost use Rattle.tb_records.specs.Transport.{Sent};
 ghost use Rattle.tb_machine.specs.Replays.{EntersNext, ReadsNext, ReplayRan, ReplaysEntry, ReplaysItem, ReplaysMark};
-ghost use Rattle.tb_machine.specs.Serving.{IsPromptForItem};
+ghost use Rattle.tb_machine.specs.private.Serving.{IsPromptForItem};
 ghost use Rattle.tb_machine.specs.Worked.{GoesOn};
 
 use crate::entries::Entry;

@@ -8,11 +8,12 @@ ghost use Rattle.tb_sessions.specs.Judged.{class_of, row_of};
 ghost use Rattle.tb_machine.specs.Histories.{status_of, answer_to, fits, stored_reply};
 ghost use Rattle.tb_machine.specs.RunFaults.{run_fault_number, run_fault_name};
 ghost use Rattle.tb_machine.specs.Runs.{is_new_in, AnswersPair, PairAnswered, Ran};
-ghost use Rattle.tb_machine.specs.Serving.{EntersPair, Delivers, IsPromptForPair};
+ghost use Rattle.tb_machine.specs.private.Serving.{EntersPair, Delivers, IsPromptForPair};
 ghost use Rattle.tb_machine.specs.Worked.{GoesOn};
 
 use crate::entries::Entry;
-use crate::machines::{Machine, Served};
+use crate::executing::Served;
+use crate::machines::Machine;
 use bumpalo::Bump;
 use std::alloc::{AllocError, Allocator, Global};
 use std::fmt;

@@ -4,7 +4,7 @@ ghost use Rattle.tb_records.specs.Messages.{IsLawful};
 ghost use Rattle.tb_sessions.specs.Judged.{class_of};
 ghost use Rattle.tb_sessions.specs.declared.classes.Class.TheVariants as class;
 ghost use Rattle.tb_machine.specs.Histories.{answer_to, fits};
-ghost use Rattle.tb_published.specs.Entering.{AddsEntry, IsKnown, EntersBy};
+ghost use Rattle.tb_published.specs.private.Entering.{AddsEntry, IsKnown, EntersBy};
 
 use crate::faults::{TakeFault, Taken};
 use std::alloc::{AllocError, Global};

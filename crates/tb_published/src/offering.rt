@@ -2,7 +2,7 @@
 ghost use Rattle.std.specs.Prelude.{◌≡◌};
 ghost use mathlib.Core.List.{IsPrefix};
 ghost use Rattle.tb_published.specs.Openings.{LegalIn};
-ghost use Rattle.tb_published.specs.PostedEntries.{PostsNext};
+ghost use Rattle.tb_published.specs.private.PostedEntries.{PostsNext};
 
 use crate::front::HistoryHead;
 use crate::naming::Naming;

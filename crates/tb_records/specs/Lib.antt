@@ -1,4 +1,3 @@
--- what public contracts cite, or reach through what they cite
 pub mod Numbers
 pub mod RecordBytes
 pub mod Flags
@@ -24,9 +23,4 @@ pub mod Ordered
 pub mod HeldBodies
 pub mod ReplyTests
 pub mod Sizes
--- what private contracts alone cite
-pub mod HeaderFields
-pub mod ReplyHeaders
-pub mod Reading
-pub mod PairAtHand
-pub mod DumpNumbers
+pub mod private

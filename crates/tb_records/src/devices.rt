@@ -4,7 +4,7 @@ ghost use Rattle.std.specs.Io.{ReadsAtMost, WritesAtMost, StartsWith};
 ghost use Rattle.std.specs.Io.Buffered.{reader_buffer, reader_remaining};
 ghost use Rattle.std.specs.Io.KnownBytes.{Consumes, ReadConsumes, WriteAppends};
 ghost use Rattle.tb_records.specs.Transport.{uncounted, Input, Output, Fails, Gives, Counts, Takes, Errs, Sent, IsSent};
-ghost use Rattle.tb_records.specs.Reading.{Fills, FillsAll, ReadsItems, ReadsOr};
+ghost use Rattle.tb_records.specs.private.Reading.{Fills, FillsAll, ReadsItems, ReadsOr};
 
 use crate::faults::FrameFault;
 use crate::layout::Item;

@@ -1,7 +1,7 @@
 //! The bytes of a dump: its head, and behind it the entries of a history and at most one mark among them.
 ghost use Rattle.std.specs.Prelude.{◌≡◌, ◌<◌, IfSome, OnOk, None, length};
 ghost use Rattle.tb_records.specs.DumpBytes.{head_bytes, entry_bytes, mark_bytes, numbers_bytes, profile_number, HasNoHead, HeadAnswers, HeadCounts, IsClients, IsDumped, ItemAnswers, ItemCounts};
-ghost use Rattle.tb_records.specs.DumpNumbers.{IsHead, NumbersAnswers};
+ghost use Rattle.tb_records.specs.private.DumpNumbers.{IsHead, NumbersAnswers};
 ghost use Rattle.tb_records.specs.DumpFaults.{dump_fault_name, dump_fault_number};
 ghost use Rattle.tb_records.specs.Transport.{Counts, IsSent};
 ghost use Rattle.tb_records.specs.AtHand.{holds_item};

@@ -1,7 +1,7 @@
 //! The header of a request's frame, and its tests in their order.
 ghost use Rattle.std.specs.Prelude.{◌≡◌, ◌==◌, ◌≤◌, ◌<◌, ◌+◌, ◌/◌, Some, false, MatchOption, OnOk, IfOk, length, take};
 ghost use Rattle.tb_records.specs.Frames.{header_bytes, header_fault, item_size, length_at};
-ghost use Rattle.tb_records.specs.HeaderFields.{CountAnswers, HeaderOf, HeaderSpelled, RightOr};
+ghost use Rattle.tb_records.specs.private.HeaderFields.{CountAnswers, HeaderOf, HeaderSpelled, RightOr};
 ghost use Rattle.tb_records.specs.Messages.{is_operation};
 ghost use Rattle.tb_records.specs.Operations.{operation_code};
 

@@ -1,6 +1,6 @@
 //! Replies whose numbers and bodies go together.
 ghost use Rattle.std.specs.Prelude.{◌≡◌, ◌≢◌, ◌==◌, ◌<◌, MatchOption, Some, None, IfOk, Ok, Err, if◌then◌else◌};
-ghost use Rattle.tb_records.specs.HeaderFields.{PassesOr};
+ghost use Rattle.tb_records.specs.private.HeaderFields.{PassesOr};
 ghost use Rattle.tb_records.specs.Messages.{status_code, operation, answered, answer_fault, has_reply_numbers, has_register_numbers, is_operation, kind_for, IsRight};
 ghost use Rattle.tb_records.specs.ReplyTests.{answer_of, number_tests};
 ghost use Rattle.tb_records.specs.Statuses.{status_name};

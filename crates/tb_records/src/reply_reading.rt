@@ -1,9 +1,9 @@
 //! Replies read from bytes.
 ghost use Rattle.std.specs.Prelude.{◌≡◌, ◌≤◌, ◌*◌, ◌++◌, ℕ, List, Some, length, IsTrue, IfOk};
-ghost use Rattle.tb_records.specs.HeaderFields.{PassesOr, RightOr};
+ghost use Rattle.tb_records.specs.private.HeaderFields.{PassesOr, RightOr};
 ghost use Rattle.tb_records.specs.Messages.{Answer, first_fault};
 ghost use Rattle.tb_records.specs.ReplyFrames.{reply_header_fault, reply_item_size, has_reply_length, SpellsReply, FoundReply, OnlyThisReply};
-ghost use Rattle.tb_records.specs.ReplyHeaders.{HasReplyFields, IsReplyHeader, IsReplyBody, SpelledItems};
+ghost use Rattle.tb_records.specs.private.ReplyHeaders.{HasReplyFields, IsReplyHeader, IsReplyBody, SpelledItems};
 ghost use Rattle.tb_records.specs.ReplyTests.{reply_field_tests, reply_length_tests};
 
 use crate::bodies::ReplyBody;

@@ -1,7 +1,7 @@
 //! Requests whose numbers keep the rules of sessions.
 ghost use Rattle.std.specs.Prelude.{◌≡◌, MatchOption, IfOk, Ok, Err};
 ghost use Rattle.tb_records.specs.Messages.{asked, number_fault, operation, IsLawful};
-ghost use Rattle.tb_records.specs.HeaderFields.{number_tests, PassesOr};
+ghost use Rattle.tb_records.specs.private.HeaderFields.{number_tests, PassesOr};
 
 use crate::bodies::Body;
 use crate::faults::FrameFault;

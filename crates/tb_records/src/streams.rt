@@ -1,13 +1,13 @@
 //! Requests that are read from a stream, one by one.
 ghost use Rattle.std.specs.Prelude.{◌≡◌, ◌+◌, ◌&&◌, nat_le, length, Some, None, Ok, Err, IfOk, IfSome, MatchOption};
 ghost use Rattle.tb_records.specs.Frames.{length_at, IsRequest};
-ghost use Rattle.tb_records.specs.HeaderFields.{BodyAnswers, HeaderAnswers, IsHeader, RequestAnswers};
+ghost use Rattle.tb_records.specs.private.HeaderFields.{BodyAnswers, HeaderAnswers, IsHeader, RequestAnswers};
 ghost use Rattle.tb_records.specs.Operations.{operation_code};
 ghost use Rattle.tb_records.specs.Inputs.{opened, fault_in, Answers, IsTimed, TimedAnswers};
 ghost use Rattle.tb_records.specs.Transport.{Counts};
 ghost use Rattle.tb_records.specs.AtHand.{holds_frame, holds_pair};
-ghost use Rattle.tb_records.specs.Reading.{MomentAnswers};
-ghost use Rattle.tb_records.specs.PairAtHand.{PairAnswers};
+ghost use Rattle.tb_records.specs.private.Reading.{MomentAnswers};
+ghost use Rattle.tb_records.specs.private.PairAtHand.{PairAnswers};
 
 use crate::bodies::Body;
 use crate::devices::{Source, fill, items_from};

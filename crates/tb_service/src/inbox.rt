@@ -39,7 +39,7 @@ fn mark(flags: &mut Vec<bool>, at: usize)
 impl Inbox {
     ghost use Rattle.std.specs.Prelude.{[], ◌+◌, IfSome, IfOk};
     ghost use Rattle.tb_service.specs.Finished.{AllAreClosed};
-    ghost use Rattle.tb_service.specs.Inboxes.{IsFresh, MakesNone, TakesNext, TakesNone};
+    ghost use Rattle.tb_service.specs.private.Inboxes.{IsFresh, MakesNone, TakesNext, TakesNone};
     ghost use Rattle.tb_service.specs.Names.{service_of};
 
     /// A queue with no port.

@@ -25,7 +25,7 @@ impl<J: Naming, W: Wait + Drop, M: Moments + Drop, G: Gate + Drop> Desk<J, W, M,
     ghost use Rattle.std.specs.Prelude.{Some};
     ghost use Rattle.tb_service.specs.declared.ends.Ended.TheVariants as way;
     ghost use Rattle.tb_service.specs.Finished.{AllAreClosed};
-    ghost use Rattle.tb_service.specs.Desks.{DeskServes};
+    ghost use Rattle.tb_service.specs.private.Desks.{DeskServes};
 
     /// Takes one order and serves it; or says that all is over.
     fn step<R: Wait>(&mut self, rt: &R) -> Option<Ended>

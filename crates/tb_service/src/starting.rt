@@ -3,7 +3,7 @@ ghost use Rattle.std.specs.Prelude.{◌≡◌, IfOk};
 ghost use Rattle.crossbeam_channel.specs.Claims.{view};
 ghost use Rattle.tb_service.specs.Names.{service_of};
 ghost use Rattle.tb_service.specs.History.{state_with};
-ghost use Rattle.tb_service.specs.Inboxes.{TakesNone};
+ghost use Rattle.tb_service.specs.private.Inboxes.{TakesNone};
 ghost use Rattle.tb_service.specs.Ports.{ArePortsOf};
 
 use crate::clerk::Clerk;

@@ -14,7 +14,7 @@ use Rattle.tb_sessions.specs.declared.rows.Row.{Row}
 use Rattle.tb_sessions.specs.declared.classes.Class.{Class}
 use Rattle.tb_sessions.specs.declared.classes.Class.TheVariants.{New}
 use Rattle.tb_sessions.specs.Judged.{client_of, class_beside}
-use Rattle.tb_sessions.specs.Indexed.{IsIndexed, IsLinked, FindsOldest, kept_row, client_at}
+use Rattle.tb_sessions.specs.private.Indexed.{IsIndexed, IsLinked, FindsOldest, kept_row, client_at}
 use Rattle.tb_sessions.specs.Renewal.{Serving, IsNewBeside, IsLater, IsRenewal, CalledBeside, Renews, Served}
 use Rattle.tb_sessions.proofs.Index.{index_renewed}
 

@@ -4,7 +4,7 @@ ghost use Rattle.std.specs.Option.{option_map};
 ghost use Rattle.tb_records.specs.Ordered.{Each, put, taken_out};
 ghost use Rattle.tb_sessions.specs.Judged.{class_beside, class_by, class_of, client_of, row_of, GetsClass};
 ghost use Rattle.tb_sessions.specs.Admission.{admitted, driven_out, leaving, oldest};
-ghost use Rattle.tb_sessions.specs.Indexed.{Exchanges};
+ghost use Rattle.tb_sessions.specs.private.Indexed.{Exchanges};
 ghost use Rattle.tb_sessions.specs.Renewal.{MayServe, Renews, CalledBeside, Served, TakesBoth};
 
 use crate::classes::Class;
@@ -29,7 +29,7 @@ impl Model for Sessions {
     ghost use Rattle.std.specs.Map.{values_of};
     ghost use Rattle.avl_tree.specs.Map.{entries};
     ghost use Rattle.tb_sessions.specs.Admission.{Table};
-    ghost use Rattle.tb_sessions.specs.Indexed.{FindsOldest};
+    ghost use Rattle.tb_sessions.specs.private.Indexed.{FindsOldest};
 
     ghost Value = { Table };
 

@@ -5,9 +5,9 @@ ghost use Rattle.tb_records.specs.Transport.{risen};
 ghost use Rattle.tb_commands.specs.Statuses.{TellsLine};
 ghost use Rattle.tb_storm.specs.declared.totals.Totals.{Totals};
 ghost use Rattle.tb_storm.specs.declared.faults.StormFault.{StormFault};
-ghost use Rattle.tb_storm.specs.Found.{CountsTransfers, replies_of, credited_after, Totaled, TotaledIn};
+ghost use Rattle.tb_storm.specs.private.Found.{CountsTransfers, replies_of, credited_after, Totaled, TotaledIn};
 ghost use Rattle.tb_storm.specs.Totals.{first_credits, AreTotals};
-ghost use Rattle.tb_storm.specs.Outcomes.{Concludes, fared};
+ghost use Rattle.tb_storm.specs.private.Outcomes.{Concludes, fared};
 ghost use Rattle.tb_storm.specs.Storms.{storm_status, storm_line, Writes, TellsOf, StormExits};
 
 use crate::clients::Client;

@@ -1,10 +1,10 @@
 pub mod Words
 pub mod Entries
 pub mod Scan
-pub mod Scanning
 pub mod Steps
 pub mod Awaited
 pub mod Grammar
 pub mod Positions
 pub mod Printed
 pub mod Shown
+pub mod private

@@ -39,7 +39,7 @@ impl Model for Scanner {
 
     ghost Value = { Scan };
 
-    ghost use Rattle.tb_text.specs.Scanning.{scan_of};
+    ghost use Rattle.tb_text.specs.private.Scanning.{scan_of};
 
     ghost view = { scan_of };
 }

@@ -30,5 +30,5 @@ abbrev pub placed_at : List (Option EventResult) → ℕ → Option EventResult
 placed_at by_place place = slice_index_or by_place place None
 
 -- a result was noted at its place, unless there was one
-abbrev pub Notes : EventResult → List (Option EventResult) → List (Option EventResult) → Type 0
-Notes judged before after = (place : ℕ) → placed_at after place ≡ option_or (placed_at before place) (result_at (judged ∷ []) place)
+abbrev pub NotesResult : EventResult → List (Option EventResult) → List (Option EventResult) → Type 0
+NotesResult judged before after = (place : ℕ) → placed_at after place ≡ option_or (placed_at before place) (result_at (judged ∷ []) place)

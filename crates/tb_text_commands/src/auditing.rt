@@ -4,9 +4,9 @@ ghost use Rattle.tb_machine.specs.Histories.{start};
 ghost use Rattle.avl_tree.specs.Map.{entries};
 ghost use Rattle.tb_text_commands.specs.Audits.{Enters, GoesOver, NoneIsDue, waits_behind};
 ghost use Rattle.tb_text_commands.specs.AuditRuns.{AuditRan, AuditRanFor, AuditsEntry, AuditsItem, AuditsMark, Changes, Finds, Prints, ReadsHead, RefusesEntry, Telling, TellsDue, account_of, audited_from};
-ghost use Rattle.tb_text_commands.specs.Audited.{PrintsAccount, PutsItems, PutsNext, audited, batch_of, events_of, told_of, waiting_of, waits_now};
+ghost use Rattle.tb_text_commands.specs.private.Audited.{PrintsAccount, PutsItems, PutsNext, audited, batch_of, events_of, told_of, waiting_of, waits_now};
 ghost use Rattle.tb_text_commands.specs.Ends.{Converts, Ended, IsOfInput, Written};
-ghost use Rattle.tb_text_commands.specs.Taken.{TakesIf};
+ghost use Rattle.tb_text_commands.specs.private.Taken.{TakesIf};
 ghost use Rattle.tb_text_commands.specs.Whole.{IsDump, IsItem, Parts, WasWhole};
 
 use crate::audit_lines::{JsonLines, Teller};

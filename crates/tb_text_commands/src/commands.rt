@@ -5,7 +5,7 @@ ghost use Rattle.tb_text_commands.specs.AuditRuns.{AuditedWhere, AuditsBy};
 ghost use Rattle.tb_text_commands.specs.Ends.{Converts, ExitsBy, TellsAs};
 ghost use Rattle.tb_text_commands.specs.Explanations.{Explained};
 ghost use Rattle.tb_text_commands.specs.Forms.{form_of};
-ghost use Rattle.tb_text_commands.specs.Refusals.{NamesForeign, NamesOwn, fault_in};
+ghost use Rattle.tb_text_commands.specs.private.Refusals.{NamesForeign, NamesOwn, fault_in};
 ghost use Rattle.tb_text_commands.specs.Typed.{IsReadBy, is_typed};
 ghost use Rattle.tb_text_commands.specs.Whole.{IsInputOf};
 

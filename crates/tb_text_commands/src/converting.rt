@@ -3,8 +3,8 @@ ghost use Rattle.std.specs.Prelude.{◌≡◌, IfErr, IfOk, List, OnOk, Option, 
 ghost use Rattle.tb_records.specs.Transport.{Input, Output};
 ghost use Rattle.tb_text_commands.specs.declared.faults.Fault.{Fault};
 ghost use Rattle.tb_text_commands.specs.Ends.{Ended, Written};
-ghost use Rattle.tb_text_commands.specs.Putting.{Halts, HaltsNext};
-ghost use Rattle.tb_text_commands.specs.Taken.{TakesIf, TakesNext};
+ghost use Rattle.tb_text_commands.specs.private.Putting.{Halts, HaltsNext};
+ghost use Rattle.tb_text_commands.specs.private.Taken.{TakesIf, TakesNext};
 ghost use Rattle.tb_text_commands.specs.Whole.{Parts, WasWhole};
 
 use crate::faults::Fault;

@@ -2,10 +2,10 @@
 ghost use Rattle.std.specs.Prelude.{◌≡◌, IfErr, IfOk, OnOk, Some};
 ghost use Rattle.tb_records.specs.Transport.{Input};
 ghost use Rattle.tb_sessions.specs.Judged.{class_of};
-ghost use Rattle.tb_text_commands.specs.Answered.{Answers, Enters, IsOfLine, IsOfReply, IsOfServing, IsPlaced};
+ghost use Rattle.tb_text_commands.specs.private.Answered.{Answers, Enters, IsOfLine, IsOfReply, IsOfServing, IsPlaced};
 ghost use Rattle.tb_text_commands.specs.Completed.{standing_in};
 ghost use Rattle.tb_text_commands.specs.Ends.{Ended, Written, is_passing};
-ghost use Rattle.tb_text_commands.specs.Taken.{IsOfStatement, TakesTurn, TakesUnlessEnded, waiting};
+ghost use Rattle.tb_text_commands.specs.private.Taken.{IsOfStatement, TakesTurn, TakesUnlessEnded, waiting};
 ghost use Rattle.tb_text_commands.specs.Typed.{IsTyped};
 ghost use Rattle.tb_text_commands.specs.Whole.{IsStatement, WasWhole};
 

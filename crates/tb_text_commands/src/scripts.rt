@@ -5,8 +5,8 @@ ghost use Rattle.tb_records.specs.Transport.{IsSent};
 ghost use Rattle.tb_text.specs.Printed.{statement_text};
 ghost use Rattle.tb_text_commands.specs.AuditRuns.{PutsAll, PutsNothing};
 ghost use Rattle.tb_text_commands.specs.Ends.{Written};
-ghost use Rattle.tb_text_commands.specs.Putting.{IsLine, PutsSome, ReadsPair};
-ghost use Rattle.tb_text_commands.specs.Taken.{IsOfFrame, IsOfStatement, waiting};
+ghost use Rattle.tb_text_commands.specs.private.Putting.{IsLine, PutsSome, ReadsPair};
+ghost use Rattle.tb_text_commands.specs.private.Taken.{IsOfFrame, IsOfStatement, waiting};
 ghost use Rattle.tb_text_commands.specs.Whole.{IsPair, IsReplyFrame, IsStatement};
 
 use crate::converting::{Converter, Next};

@@ -1,7 +1,7 @@
 //! Statements that are read one by one.
 ghost use Rattle.std.specs.Prelude.{IfErr, IfOk, OnOk};
 ghost use Rattle.tb_text_commands.specs.Ends.{Ended};
-ghost use Rattle.tb_text_commands.specs.Taken.{IsOfStatement, IsOfText, TakesIfWrong, TakesNext, TakesPart, waiting};
+ghost use Rattle.tb_text_commands.specs.private.Taken.{IsOfStatement, IsOfText, TakesIfWrong, TakesNext, TakesPart, waiting};
 ghost use Rattle.tb_text_commands.specs.Whole.{IsStatement};
 
 use crate::completing::{Standings, completed, untold_at, words_to_fill};

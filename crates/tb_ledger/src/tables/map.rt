@@ -58,7 +58,7 @@ impl<V: Keyed, A: Allocator + Clone> Model for Table<V, A> {
 const MANY_ROWS: usize = 4096;
 
 /// So many rows no longer fit the caches, where a search for a row waits for memory at most of its levels.
-const LARGE: usize = 65_536;
+const LARGE_ROWS: usize = 65_536;
 
 /// Reads all cache lines of the rows that are there.
 fn read_whole<V: Keyed>(rows: &[Option<&V>; 8]) -> u128 {
@@ -135,7 +135,7 @@ impl<V: Keyed, A: Allocator + Clone> Table<V, A> {
         ensures { IsTrue result ↔ 65536 ≤ length self.now.items }
     {
         match &self.rows {
-            Some(rows) => LARGE <= rows.len(),
+            Some(rows) => LARGE_ROWS <= rows.len(),
             None => false,
         }
     }

@@ -2,7 +2,7 @@ use Rattle.std.proofs.Common.{◌∷◌, [], Ok, Err, sym, subst, ◌∙◌}
 use Rattle.tb_journal.specs.Device.{LeavesOnly}
 use Rattle.tb_keep.specs.Keeping.{head_record}
 use Rattle.tb_keep.specs.Salvaging.{HasNewCause, MayBeSalvaged, new_part}
-use Rattle.tb_keep.specs.Taking.{HoldsRead}
+use Rattle.tb_keep.specs.private.Taking.{HoldsRead}
 use Rattle.tb_keep.proofs.Entered.{stays_none}
 use Rattle.tb_keep.proofs.Salvages.{salvaged_all, unsalvaged_all, moments_behind, moments_not_made, cause_behind, created_alone, created_cause}
 use Rattle.tb_keep.proofs.salvaging.salvage_behind.Goals as goal
