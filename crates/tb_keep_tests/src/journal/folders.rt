@@ -1,5 +1,5 @@
 //! The folder of a file that is made is synced, of a symbolic link that of its target; and a file that is open is locked.
-use crate::journal::real::{Came as Opened, How, expect_came};
+use crate::journal::real::{Came as Opened, came_of};
 use crate::steps::{expect, is_well, sure};
 use std::alloc::Allocator;
 use std::cell::Cell;
@@ -206,14 +206,8 @@ fn came_of_sync(done: Result<(), FileFault>) -> Came {
     came
 }
 
-/// Syncs the folder of a path, which is to be this folder: what comes of it, and how often it is synced.
-fn expect_synced<R: Abort + Files + Alloc>(
-    rt: &R,
-    path: &str,
-    folder: &str,
-    fails: bool,
-    want: (Came, u32),
-) {
+/// Syncs the folder of a path, which is to be this folder. Says what came of it, and how often it was synced.
+fn synced_folder<R: Files + Alloc>(rt: &R, path: &str, folder: &str, fails: bool) -> (Came, u32) {
     let synced = Cell::new(0);
     let system = System {
         rt,
@@ -225,7 +219,7 @@ fn expect_synced<R: Abort + Files + Alloc>(
         seen: Some("."),
     };
     let came = came_of_sync(sync_folder(&system, path));
-    expect(rt, (came, synced.get()) == want);
+    (came, synced.get())
 }
 
 /// The paths of files, and their folders.
@@ -240,9 +234,15 @@ const FOLDERS: [(&str, &str); 4] = [
 fn folders_are_synced(rt: HostRuntime) {
     let failed = Came::Failed(Fault::SyncFailed);
     for (path, folder) in FOLDERS {
-        expect_synced(&rt, path, folder, false, (Came::Synced, 1));
-        expect_synced(&rt, path, folder, true, (failed, 0));
-        expect_synced(&rt, path, "other", false, (Came::Unopened, 0));
+        expect(
+            &rt,
+            synced_folder(&rt, path, folder, false) == (Came::Synced, 1),
+        );
+        expect(&rt, synced_folder(&rt, path, folder, true) == (failed, 0));
+        expect(
+            &rt,
+            synced_folder(&rt, path, "other", false) == (Came::Unopened, 0),
+        );
     }
 }
 
@@ -254,34 +254,34 @@ fn clear<R: Files + AllocGlobal>(rt: &R) {
 
 /// A link to what is not there is not opened, and nothing is made in its place.
 fn expect_dangling<R: Abort + Files<File = File> + AllocGlobal>(rt: &R) {
-    expect_came(rt, How::Make, "link.tbj", Opened::Dangling);
-    expect_came(rt, How::Look, "link.tbj", Opened::Dangling);
+    expect(rt, came_of(Real::make(rt, "link.tbj")) == Opened::Dangling);
+    expect(rt, came_of(Real::look(rt, "link.tbj")) == Opened::Dangling);
     expect(rt, !is_well(fs::metadata(rt, "targets/made.tbj")));
-}
-
-/// A system as this one that counts how often a folder is opened.
-fn watching<'a, R>(rt: &'a R, folder: &'a str) -> System<'a, R, Watched<'a, R>> {
-    let opens = Watched {
-        rt,
-        folder,
-        opened: Cell::new(0),
-    };
-    System {
-        rt,
-        opens,
-        seen: None,
-    }
 }
 
 /// Opens what a link represents: its folder is opened once, and the file is locked as long as it is open.
 fn expect_target<'a, R: Abort + Files<File = File> + AllocGlobal>(rt: &'a R, folder: &'a str) {
-    let system = watching(rt, folder);
+    let system = System {
+        rt,
+        opens: Watched {
+            rt,
+            folder,
+            opened: Cell::new(0),
+        },
+        seen: None,
+    };
     let real = sure(rt, Real::make(&system, "link.tbj"));
     expect(rt, system.opens.opened.get() == 1);
-    expect_came(rt, How::Open, "targets/made.tbj", Opened::Locked);
-    expect_came(rt, How::Make, "link.tbj", Opened::Locked);
+    expect(
+        rt,
+        came_of(Real::open(rt, "targets/made.tbj")) == Opened::Locked,
+    );
+    expect(rt, came_of(Real::make(rt, "link.tbj")) == Opened::Locked);
     drop(real);
-    expect_came(rt, How::Open, "targets/made.tbj", Opened::Opened);
+    expect(
+        rt,
+        came_of(Real::open(rt, "targets/made.tbj")) == Opened::Opened,
+    );
 }
 
 #[test]
@@ -291,7 +291,7 @@ fn the_folder_of_a_links_target(rt: HostRuntime) {
     sure(&rt, symlink(&rt, "targets/made.tbj", "link.tbj"));
     let folder = sure(&rt, fs::canonicalize(&rt, "targets"));
     expect_dangling(&rt);
-    expect_came(&rt, How::MakeNew, "targets/made.tbj", Opened::Opened);
+    expect(&rt, is_well(Real::make_new(&rt, "targets/made.tbj")));
     expect_target(&rt, folder.as_str());
     drop(folder);
     clear(&rt);
@@ -299,7 +299,15 @@ fn the_folder_of_a_links_target(rt: HostRuntime) {
 
 /// A new file's folder is opened once, and that of a file that is there once more.
 fn expect_opened<R: Abort + Files<File = File> + Alloc>(rt: &R) {
-    let system = watching(rt, "news");
+    let system = System {
+        rt,
+        opens: Watched {
+            rt,
+            folder: "news",
+            opened: Cell::new(0),
+        },
+        seen: None,
+    };
     expect(rt, is_well(Real::make_new(&system, "news/made.tbj")));
     expect(rt, system.opens.opened.get() == 1);
     expect(rt, is_well(Real::make(&system, "news/made.tbj")));

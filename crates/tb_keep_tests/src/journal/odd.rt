@@ -1,4 +1,5 @@
 //! A file whose calls take a part, are interrupted or fail, as POSIX lets them.
+use std::alloc::Global;
 use std::io::ErrorKind;
 use tb_journal::System;
 
@@ -12,53 +13,47 @@ pub(crate) enum Call {
     Length,
 }
 
-/// How a file answers its calls.
-#[derive(Clone, Copy)]
-pub(crate) struct Ways {
+/// A file in memory, by the system's calls.
+#[derive(Drop)]
+pub(crate) struct Odd {
+    pub(crate) bytes: Vec<u8>,
     /// A read and a write take so many bytes at most.
     pub(crate) part: usize,
     /// No write makes the file longer than this.
     pub(crate) space: usize,
     /// So many signals interrupt each call before it is done.
     pub(crate) signals: u64,
+    waited: u64,
     /// Each call of this kind fails so.
     pub(crate) fails: Option<(Call, ErrorKind)>,
 }
 
-/// Each call does all that it is asked.
-pub(crate) const WELL: Ways = Ways {
-    part: usize::MAX,
-    space: usize::MAX,
-    signals: 0,
-    fails: None,
-};
-
-/// A file in memory, by the system's calls.
-#[derive(Drop)]
-pub(crate) struct Odd {
-    pub(crate) bytes: Vec<u8>,
-    ways: Ways,
-    waited: u64,
-}
-
 impl Odd {
-    /// A file of these bytes that answers so.
-    pub(crate) fn new(bytes: Vec<u8>, ways: Ways) -> Odd {
+    /// A file of which each call does all that it is asked.
+    pub(crate) fn new(bytes: Vec<u8>) -> Odd {
         Odd {
             bytes,
-            ways,
+            part: usize::MAX,
+            space: usize::MAX,
+            signals: 0,
             waited: 0,
+            fails: None,
         }
+    }
+
+    /// An empty one.
+    pub(crate) fn empty(alloc: Global) -> Odd {
+        Odd::new(Vec::new(alloc))
     }
 
     // Before a call is done: a signal, or its failure.
     fn begin(&mut self, call: Call) -> Result<(), ErrorKind> {
-        if self.waited < self.ways.signals {
+        if self.waited < self.signals {
             self.waited = self.waited.saturating_add(1);
             return Err(ErrorKind::Interrupted);
         }
         self.waited = 0;
-        let fails = self.ways.fails;
+        let fails = self.fails;
         match fails {
             Some((failing, kind)) if failing == call => Err(kind),
             _ => Ok(()),
@@ -103,7 +98,7 @@ impl System for Odd {
         self.begin(Call::Read)?;
         let at = self.bytes.len().min(offset as usize);
         let (_, rest) = self.bytes.split_at(at);
-        let count = rest.len().min(into.len()).min(self.ways.part);
+        let count = rest.len().min(into.len()).min(self.part);
         into[..count].copy_from_slice(&rest[..count]);
         Ok(count)
     }
@@ -113,9 +108,9 @@ impl System for Odd {
         let at = offset as usize;
         let count = bytes
             .len()
-            .min(self.ways.part)
-            .min(self.ways.space.saturating_sub(at));
-        if self.ways.space <= at {
+            .min(self.part)
+            .min(self.space.saturating_sub(at));
+        if self.space <= at {
             return Err(ErrorKind::StorageFull);
         }
         for (index, byte) in bytes[..count].iter().enumerate() {
@@ -135,7 +130,7 @@ impl System for Odd {
     }
 
     fn fstat(&mut self) -> Result<u64, ErrorKind> {
-        let fails = self.ways.fails;
+        let fails = self.fails;
         match fails {
             Some((Call::Length, kind)) => Err(kind),
             _ => Ok(self.bytes.len() as u64),

@@ -41,7 +41,7 @@ pub(crate) enum Came {
 }
 
 /// What came of an opening. The file is closed.
-fn came_of(opened: Result<Real, FileFault>) -> Came {
+pub(crate) fn came_of(opened: Result<Real, FileFault>) -> Came {
     let came = match &opened {
         Ok(_) => Came::Opened,
         Err(FileFault::Locked) => Came::Locked,
@@ -55,29 +55,11 @@ fn came_of(opened: Result<Real, FileFault>) -> Came {
     came
 }
 
-/// How a file is opened.
-#[derive(Clone, Copy)]
-pub(crate) enum How {
-    Look,
-    Open,
-    Make,
-    MakeNew,
-}
-
-/// Opens a file so, and wants this to come of it.
-pub(crate) fn expect_came<R: Abort + Files<File = File> + Alloc>(
-    rt: &R,
-    how: How,
-    path: &str,
-    want: Came,
-) {
-    let opened = match how {
-        How::Look => Real::look(rt, path),
-        How::Open => Real::open(rt, path),
-        How::Make => Real::make(rt, path),
-        How::MakeNew => Real::make_new(rt, path),
-    };
-    expect(rt, came_of(opened) == want);
+/// Says whether a file that is not opened is locked; otherwise it is for what the system answers.
+fn is_locked<R: Abort + Files<File = File>>(rt: &R, path: &str) -> bool {
+    let came = came_of(Real::open(rt, path));
+    expect(rt, came != Came::Opened);
+    came == Came::Locked
 }
 
 /// A file has these bytes.
@@ -92,7 +74,7 @@ fn make<R: Abort + Files<File = File> + AllocGlobal>(rt: &R, path: &str) {
     let mut journal = sure(rt, create(rt.alloc(), real));
     sure(rt, journal.append(&[97, 98]));
     sure(rt, journal.commit());
-    expect_came(rt, How::Open, path, Came::Locked);
+    expect(rt, is_locked(rt, path));
     drop(journal);
 }
 
@@ -158,7 +140,7 @@ fn files_that_are_opened_or_refused(rt: HostRuntime) {
     expect_opened(&rt, &TORN, Ok(1), &ONE_RECORD);
     expect_opened(&rt, b"a text", Err(foreign), b"a text");
     expect_opened(&rt, &DAMAGED, Err(damaged), &DAMAGED);
-    expect_came(&rt, How::Open, "no_file.tbj", Came::System);
+    expect(&rt, !is_locked(&rt, "no_file.tbj"));
 }
 
 /// Counts the records of a file that is only looked at.
@@ -185,7 +167,7 @@ fn expect_not_written<R: Abort + Files<File = File>>(rt: &R, path: &str) {
 /// A file that is made is looked at while its journal is written; as long as it is there no other is made.
 fn look_while_written<R: Abort + Files<File = File> + AllocGlobal>(rt: &R, path: &str) {
     let real = sure(rt, Real::make_new(rt, path));
-    expect_came(rt, How::MakeNew, path, Came::Exists);
+    expect(rt, came_of(Real::make_new(rt, path)) == Came::Exists);
     let mut journal = sure(rt, create(rt.alloc(), real));
     expect(rt, looked_at(rt, path) == 0);
     sure(rt, journal.append(b"ab"));
@@ -206,14 +188,14 @@ fn a_file_is_looked_at_while_it_is_written(rt: HostRuntime) {
     expect(&rt, looked_at(&rt, path) == 1);
     expect_not_written(&rt, path);
     sure(&rt, fs::remove_file(&rt, path));
-    expect_came(&rt, How::Look, path, Came::System);
+    expect(&rt, came_of(Real::look(&rt, path)) == Came::System);
 }
 
 #[test]
 fn no_regular_files(rt: HostRuntime) {
     for name in [".", "/dev/null"] {
-        expect_came(&rt, How::Look, name, Came::NotAFile);
-        expect_came(&rt, How::Open, name, Came::NotAFile);
-        expect_came(&rt, How::Make, name, Came::NotAFile);
+        expect(&rt, came_of(Real::look(&rt, name)) == Came::NotAFile);
+        expect(&rt, came_of(Real::open(&rt, name)) == Came::NotAFile);
+        expect(&rt, came_of(Real::make(&rt, name)) == Came::NotAFile);
     }
 }

@@ -66,41 +66,32 @@ fn read_on<G: Growing>(rt: &impl Abort, scan: &mut Scan, snapshot: &mut Snapshot
     4
 }
 
-/// How many records the moment of a file represents.
-fn count_at(now: &Cell<usize>) -> usize {
-    COUNTS[now.get().min(5)]
-}
-
-/// Reads a file that goes on by these moves five times: what is read is what some moment of the reading represents, and each record
-/// is read once.
-fn expect_readings(rt: &impl Abort, alloc: Global, moves: u64) {
-    let now = Cell::new(0);
-    let live = Live {
-        moments: &MOMENTS,
-        now: &now,
-        moves: moves.saturating_mul(513),
-    };
-    let mut snapshot = sure(rt, Snapshot::new(alloc, live));
-    let mut latest = count_at(&now);
-    let mut scan = sure(rt, Scan::start(alloc, &mut snapshot));
-    let mut least = 0;
-    for _ in 0..5 {
-        let count = read_on(rt, &mut scan, &mut snapshot);
-        expect_at(rt, moves, least <= count && count <= latest);
-        least = count_at(&now);
-        sure(rt, snapshot.refresh());
-        latest = count_at(&now);
-        scan.go_on();
-    }
-    drop(scan);
-    drop(snapshot);
-}
-
-/// At each call of a read the next moment comes or not.
+/// At each call of a read the next moment comes or not: what is read is what some moment of the reading represents, and each
+/// record is read once.
 #[test]
 fn commits_between_any_two_reads(rt: HostRuntime) {
+    let alloc = rt.alloc();
     for moves in 0..512 {
-        expect_readings(&rt, rt.alloc(), moves);
+        let now = Cell::new(0);
+        let live = Live {
+            moments: &MOMENTS,
+            now: &now,
+            moves: moves * 513,
+        };
+        let mut snapshot = sure(&rt, Snapshot::new(alloc, live));
+        let mut latest = COUNTS[now.get().min(5)];
+        let mut scan = sure(&rt, Scan::start(alloc, &mut snapshot));
+        let mut least = 0;
+        for _ in 0..5 {
+            let count = read_on(&rt, &mut scan, &mut snapshot);
+            expect_at(&rt, moves, least <= count && count <= latest);
+            least = COUNTS[now.get().min(5)];
+            sure(&rt, snapshot.refresh());
+            latest = COUNTS[now.get().min(5)];
+            scan.go_on();
+        }
+        drop(scan);
+        drop(snapshot);
     }
 }
 

@@ -112,15 +112,22 @@ fn a_crash_at_each_moment(rt: HostRuntime) {
     drop(told);
 }
 
-/// The bytes of the replies to the first pair, to two, to three and to six. The last reply of each rests on one entry, on two, on
-/// three and on four.
-const RESTING: &[usize] = &[48, 96, 144, 416];
+/// Says whether so many bytes have the replies to the first so many pairs.
+fn is_told(rt: &impl Abort, alloc: Global, length: usize, count: usize) -> bool {
+    let replies = replies_to(rt, alloc, count);
+    let is_told = replies.len() <= length;
+    drop(replies);
+    is_told
+}
+
+/// The pairs of which the last rests on one entry, on two, on three and on four.
+const RESTING: &[usize] = &[1, 2, 3, 6];
 
 /// The entries that so many bytes of replies rest on.
-fn entries_told(length: usize) -> u64 {
+fn entries_told(rt: &impl Abort, alloc: Global, length: usize) -> u64 {
     let mut entries = 0u64;
-    for bytes in RESTING {
-        if *bytes <= length {
+    for count in RESTING {
+        if is_told(rt, alloc, length, *count) {
             entries = entries.saturating_add(1);
         }
     }
@@ -153,7 +160,7 @@ fn served_failing(rt: &impl Abort, alloc: Global, number: u64) -> (Vec<u8>, Vec<
 fn expect_failing(rt: &impl Abort, alloc: Global, number: u64, whole: &[u8]) {
     let (left, told) = served_failing(rt, alloc, number);
     expect(rt, whole.starts_with(&told));
-    let least = entries_told(told.len());
+    let least = entries_told(rt, alloc, told.len());
     drop(told);
     expect_goes_on(rt, alloc, &left, whole, (least, least.saturating_add(1)));
     drop(left);
@@ -163,7 +170,6 @@ fn expect_failing(rt: &impl Abort, alloc: Global, number: u64, whole: &[u8]) {
 fn each_call_fails_once(rt: HostRuntime) {
     let alloc = rt.alloc();
     let whole = replies_to(&rt, alloc, 6);
-    expect(&rt, whole.len() == 416);
     // Creating takes 10 calls, and serving 16.
     for number in 1..=28u64 {
         expect_failing(&rt, alloc, number, &whole);

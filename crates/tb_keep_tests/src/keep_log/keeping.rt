@@ -81,24 +81,33 @@ fn file_of_one(rt: &impl Abort, alloc: Global, entry: &[u8]) -> Vec<u8> {
     bytes_of(rt, alloc, keeper)
 }
 
-/// A keeper of the first entry refuses an item of the log by a fault, and its file is as it was.
-fn expect_behind_one(rt: &impl Abort, alloc: Global, begin: usize, end: usize, fault: LogFault) {
+/// What a keeper of the first entry answers to an item of the log.
+fn answered_behind_one(
+    rt: &impl Abort,
+    alloc: Global,
+    begin: usize,
+    end: usize,
+) -> Result<u64, KeepLogFault> {
     let log = log(rt, alloc);
     let file = file_of_one(rt, alloc, part(&log, 0, 385));
     let mut second = started(rt, alloc, &file);
     let (answer, written) = kept(alloc, &mut second, part(&log, begin, end));
     drop(log);
-    expect_same(rt, answer, Err(KeepLogFault::Log(fault)));
     expect_given(rt, written, &[]);
     let left = bytes_of(rt, alloc, second);
     expect_equal(rt, left, file);
+    answer
 }
 
 #[test]
 fn entries_out_of_turn(rt: HostRuntime) {
-    expect_behind_one(&rt, rt.alloc(), 0, 385, LogFault::Repeat(1));
-    expect_behind_one(&rt, rt.alloc(), 587, 860, LogFault::Gap(3));
-    expect_behind_one(&rt, rt.alloc(), 386, 586, LogFault::Short);
+    let alloc = rt.alloc();
+    let again = answered_behind_one(&rt, alloc, 0, 385);
+    expect_same(&rt, again, Err(KeepLogFault::Log(LogFault::Repeat(1))));
+    let skipped = answered_behind_one(&rt, alloc, 587, 860);
+    expect_same(&rt, skipped, Err(KeepLogFault::Log(LogFault::Gap(3))));
+    let cut = answered_behind_one(&rt, alloc, 386, 586);
+    expect_same(&rt, cut, Err(KeepLogFault::Log(LogFault::Short)));
 }
 
 #[test]
@@ -122,91 +131,56 @@ fn journal_of(rt: &impl Abort, alloc: Global, record: &[u8]) -> Vec<u8> {
     bytes
 }
 
-/// The record of the first entry, of which a byte is another, cut to so many bytes, and why a file of it alone is refused, if it
-/// is.
-#[derive(Clone, Copy)]
-struct Record {
-    at: usize,
-    end: usize,
-    want: Option<LogStartFault>,
-}
-
-/// The bytes of the record of the first entry.
-const RECORD_BYTES: usize = 79 + 368;
-
-/// A file of a record is refused for what the row says.
-fn expect_record(rt: &impl Abort, alloc: Global, row: Record) {
-    let whole = whole_file(rt, alloc);
-    // Behind the journal's first bytes and the first block's latch, length and checksum.
-    let mut record = copy_of(rt, alloc, part(&whole, 16, 16 + RECORD_BYTES));
-    drop(whole);
-    rot(&mut record, row.at);
-    record.truncate(row.end);
-    let file = journal_of(rt, alloc, &record);
-    drop(record);
-    expect_same(rt, refused_by(rt, alloc, rules(rt), &file), row.want);
+/// Says why a file of one record is refused, or that it is opened.
+fn expect_refused(rt: &impl Abort, alloc: Global, record: &[u8], want: Option<LogStartFault>) {
+    let file = journal_of(rt, alloc, record);
+    expect_same(rt, refused_by(rt, alloc, rules(rt), &file), want);
     drop(file);
 }
 
-const OTHER_HASHES: Option<LogStartFault> = Some(LogStartFault::OtherHashes(1));
+/// The record of the first entry, with one byte that is another.
+fn changed(rt: &impl Abort, alloc: Global, at: usize) -> Vec<u8> {
+    let file = whole_file(rt, alloc);
+    // Behind the journal's first bytes and the first block's latch, length and checksum.
+    let mut record = copy_of(rt, alloc, part(&file, 16, 16 + 79 + 368));
+    drop(file);
+    rot(&mut record, at);
+    record
+}
 
-const NO_ENTRY: Option<LogStartFault> = Some(LogStartFault::NoEntry(0));
+/// A byte of the record of the first entry, or none, that is another: of its kind, its position, the log's hash, the replies'
+/// hash and its moment.
+const CHANGED: &[(usize, Option<LogStartFault>)] = &[
+    (7, Some(LogStartFault::OtherHashes(1))),
+    (15, Some(LogStartFault::OtherHashes(1))),
+    (78, Some(LogStartFault::OtherHashes(1))),
+    (79, Some(LogStartFault::OtherHashes(1))),
+    (0, Some(LogStartFault::NoEntry(0))),
+    (1000, None),
+];
 
-const SHORT: Option<LogStartFault> = Some(LogStartFault::Entry(LogFault::BadEntry(
-    1,
-    FrameFault::Short,
-)));
-
-/// A byte that is another, or none: of the record's kind, its position, the log's hash, the replies' hash and its moment. And records
-/// that are cut.
-const RECORDS: &[Record] = &[
-    Record {
-        at: 7,
-        end: RECORD_BYTES,
-        want: OTHER_HASHES,
-    },
-    Record {
-        at: 15,
-        end: RECORD_BYTES,
-        want: OTHER_HASHES,
-    },
-    Record {
-        at: 78,
-        end: RECORD_BYTES,
-        want: OTHER_HASHES,
-    },
-    Record {
-        at: 79,
-        end: RECORD_BYTES,
-        want: OTHER_HASHES,
-    },
-    Record {
-        at: 0,
-        end: RECORD_BYTES,
-        want: NO_ENTRY,
-    },
-    Record {
-        at: 1000,
-        end: RECORD_BYTES,
-        want: None,
-    },
-    Record {
-        at: 1000,
-        end: 78,
-        want: NO_ENTRY,
-    },
-    Record {
-        at: 1000,
-        end: 100,
-        want: SHORT,
-    },
+/// So many first bytes of the record.
+const CUT: &[(usize, LogStartFault)] = &[
+    (78, LogStartFault::NoEntry(0)),
+    (
+        100,
+        LogStartFault::Entry(LogFault::BadEntry(1, FrameFault::Short)),
+    ),
 ];
 
 #[test]
 fn records_that_are_refused(rt: HostRuntime) {
-    for row in RECORDS {
-        expect_record(&rt, rt.alloc(), *row);
+    let alloc = rt.alloc();
+    for (at, want) in CHANGED {
+        let record = changed(&rt, alloc, *at);
+        expect_refused(&rt, alloc, &record, *want);
+        drop(record);
     }
+    let whole = changed(&rt, alloc, 1000);
+    for (end, want) in CUT {
+        expect_refused(&rt, alloc, part(&whole, 0, *end), Some(*want));
+    }
+    drop(whole);
 }
 
 #[test]
