@@ -1,6 +1,6 @@
 //! A transfer between two accounts, single-phase or pending: both rows are found by one walk, judged, and changed in place.
 ghost use Rattle.std.specs.Option.{is_some};
-ghost use Rattle.std.specs.Prelude.{◌≡◌, ◌^◌, ◌<◌, false, ◌≢◌, ◌+◌, ◌*◌, ◌-◌, nat_lt, Some, IfOk, ◌≤◌};
+ghost use Rattle.std.specs.Prelude.{if◌then◌else◌, ◌≡◌, ◌^◌, ◌<◌, false, ◌≢◌, ◌+◌, ◌*◌, ◌-◌, nat_lt, Some, IfOk, ◌≤◌};
 ghost use Rattle.tb_ledger.specs.Batches.{transfer_events};
 ghost use Rattle.tb_ledger.specs.Books.{resolves, pending, moves};
 ghost use Rattle.tb_ledger.specs.private.Capacity.{HasTransfers};
