@@ -35,7 +35,7 @@ PARTS = {
     "removal": r"avl_tree::edits",
     "freeing": r"avl_tree::freeing|core::mem::drop",
     "first keys and ranges": r"avl_tree",
-    "expiry": r"tb_ledger::changes::expiry",
+    "expiry": r"tb_ledger::expiry",
     "undo of chains": r"undo",
     "sessions": r"tb_sessions",
     "checksums": r"(?i)crc|checksum|sha2",

@@ -16,9 +16,9 @@ import tried
 
 # Walks by their headings: how many files each goes through at most, and how many are wanted.
 BOUNDS = {
-    "A transfer, in one thread": (27, 18),
-    "A start of a kept file": (22, 16),
-    "A port's call": (17, 15),
+    "A transfer, in one thread": (18, 18),
+    "A start of a kept file": (16, 16),
+    "A port's call": (15, 15),
 }
 # What no function of the walk calls: the server's thread begins there, or left_right calls it.
 ROOTS = {

@@ -303,7 +303,7 @@ def reads(tbd, folder, shim, data):
 
 
 def logged(log):
-    """The calls that the shim wrote down: a letter each, and whether it is the write that opens a gate."""
+    """The calls that the shim wrote down: a letter each, and whether it is the write that opens a latch."""
     with open(log, "rb") as file:
         data = file.read()
     at = 0
@@ -393,7 +393,7 @@ def builds(tbd, folder):
 
 
 def sample(tbd, folder):
-    """A file of some rounds, and where its gates are."""
+    """A file of some rounds, and where its latches are."""
     ledger = Ledger(tbd, folder, "sample")
     ledger.open_accounts()
     process = ledger.start()
@@ -403,11 +403,11 @@ def sample(tbd, folder):
     ended(process)
     with open(ledger.file, "rb") as file:
         data = file.read()
-    gates, at = [], 8
+    latches, at = [], 8
     while data[at]:
-        gates.append(at)
+        latches.append(at)
         at += 8 + int.from_bytes(data[at + 1 : at + 4], "little")
-    return data, gates + [at], check(tbd, ledger.file)["entries"]
+    return data, latches + [at], check(tbd, ledger.file)["entries"]
 
 
 def look_at(tbd, path, data):
@@ -793,7 +793,7 @@ def copied(tbd, form, path, new, **how):
     return told, dumped(tbd, os.path.dirname(path), new) if os.path.exists(new) else None
 
 
-def salvages(tbd, folder, data, gates, count, rng):
+def salvages(tbd, folder, data, latches, count, rng):
     """A file with a bit flipped at many places: what is before the damage is taken over, and what is lost is reported."""
     whole, path = os.path.join(folder, "sound.tbk"), os.path.join(folder, "hurt.tbk")
     with open(whole, "wb") as file:
@@ -801,17 +801,17 @@ def salvages(tbd, folder, data, gates, count, rng):
     dump = dumped(tbd, folder, whole)
     ends, wrong = entry_ends(dump), []
     for number in range(count):
-        at = rng.choice([it for it in range(gates[1], len(data) - 1) if it not in gates])
+        at = rng.choice([it for it in range(latches[1], len(data) - 1) if it not in latches])
         new = os.path.join(folder, f"new{number}.tbk")
         hurt = data[:at] + bytes([data[at] ^ 1 << rng.randrange(8)]) + data[at + 1 :]
         with open(path, "wb") as file:
             file.write(hurt)
         (status, said, line), kept = copied(tbd, "salvage", path, new)
-        taken = sum(gate <= at for gate in gates) - 2
+        taken = sum(latch <= at for latch in latches) - 2
         with open(path, "rb") as file:
             same = file.read() == hurt
         report = f"entries {taken}\nlast commit {taken}\n".encode()
-        lost = f"\nbytes lost {len(data) - gates[taken + 1] - 1} behind byte {gates[taken + 1]}: Damaged: ".encode()
+        lost = f"\nbytes lost {len(data) - latches[taken + 1] - 1} behind byte {latches[taken + 1]}: Damaged: ".encode()
         well = (status, line) == (0, "") and said.startswith(report) and lost in said and same
         if not well or kept != dump[: ends[taken]]:
             wrong.append((at, status, said, line))
@@ -907,32 +907,32 @@ def backups(tbd, folder):
     case("a backup can be served", served == (0, b"", ""), served)
 
 
-def cuts(tbd, folder, data, gates, entries, count):
+def cuts(tbd, folder, data, latches, entries, count):
     """The file cut at each of its last bytes, so many."""
     path, wrong = os.path.join(folder, "cut.tbk"), []
     for length in range(len(data) - count, len(data)):
         told = look_at(tbd, path, data[:length])
-        # A gate at the end, or none, ends the records; any other cut leaves a block that is not whole.
-        whole = length in gates or length - 1 in gates
-        if not told["same"] or told["status"] != (0 if whole else 6) or whole and told["entries"] != sum(gate < length for gate in gates[:-1]) - 1 - (length - 1 in gates[:-1]):
+        # A latch at the end, or none, ends the records; any other cut leaves a block that is not whole.
+        whole = length in latches or length - 1 in latches
+        if not told["same"] or told["status"] != (0 if whole else 6) or whole and told["entries"] != sum(latch < length for latch in latches[:-1]) - 1 - (length - 1 in latches[:-1]):
             wrong.append((length, told))
     case(f"cut at each of the last {count} bytes", not wrong, wrong[:2])
 
 
-def flips(tbd, folder, data, gates, entries, count, rng):
+def flips(tbd, folder, data, latches, entries, count, rng):
     """Bits that are turned, each reported as damage but for those of latches, which any bytes but 0 leave open."""
     path, wrong, damaged = os.path.join(folder, "flip.tbk"), [], 0
     for _ in range(count):
         at, bit = rng.randrange(len(data)), rng.randrange(8)
         told = look_at(tbd, path, data[:at] + bytes([data[at] ^ 1 << bit]) + data[at + 1 :])
-        if at in gates:
+        if at in latches:
             well = told["status"] == 0 and told["entries"] == entries
         else:
             well = told["status"] == (5 if at < 8 else 6)
             damaged += 1
         if not well or not told["same"]:
             wrong.append((at, bit, told))
-    case(f"{count} bits turned, {damaged} of them outside gates", not wrong, wrong[:2])
+    case(f"{count} bits turned, {damaged} of them outside latches", not wrong, wrong[:2])
 
 
 def main():
@@ -964,14 +964,14 @@ def main():
         orders(asked.tbd, folder, shim)
         if asked.builds:
             builds(asked.tbd, folder)
-        data, gates, entries = sample(asked.tbd, folder)
-        salvages(asked.tbd, folder, data, gates, 40, rng)
+        data, latches, entries = sample(asked.tbd, folder)
+        salvages(asked.tbd, folder, data, latches, 40, rng)
         sound_copies(asked.tbd, folder, data)
         copies_of_no_ledger(asked.tbd, folder)
         copies_on_a_full_disk(asked.tbd, folder, shim, data)
         backups(asked.tbd, folder)
-        cuts(asked.tbd, folder, data, gates, entries, asked.cuts)
-        flips(asked.tbd, folder, data, gates, entries, asked.flips, rng)
+        cuts(asked.tbd, folder, data, latches, entries, asked.cuts)
+        flips(asked.tbd, folder, data, latches, entries, asked.flips, rng)
         long_starts(asked.tbd, folder)
         faults(asked.tbd, folder, shim)
         reads(asked.tbd, folder, shim, data)

@@ -16,13 +16,13 @@ import repository
 import tried
 
 ROOT = pathlib.Path(repository.ROOT)
-BOUND, WANTED = 16, 3
+BOUND, WANTED = 7, 3
 OLD, NEW = "64", "128"
 # How a line says this limit, and not another 64.
 SAYS = re.compile(
     r"\b1 to 64\b|\b64 < number\b|number\(word, 1, 64\)|\bwithin 1 64\b|\bnat_le clients_max 64\b"
     r"|\b(?:clients_max|c\.number|number|self|n) (?:≤|<=) 64\b|\bclients_max, 64\b"
-    r"|\bCLIENTS_MAX = 64\b|\bclients_max\", \"value\": 64\b"
+    r"|\bCLIENTS_MAX(?:: \w+)? = 64\b|\bclients_max\", \"value\": 64\b"
 )
 FOLDERS = ("crates", "embed", "clients", "tables")
 KINDS = {".rt", ".antt", ".py", ".rs", ".c", ".h", ".go", ".java", ".js", ".ts", ".json"}

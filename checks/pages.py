@@ -110,7 +110,7 @@ def is_there(crate: str, name: str) -> bool:
     if place[0][0].isupper():
         text = (
             sources(crate)
-            if re.search(rf"\b(?:struct|enum|trait|type) {place[0]}\b", sources(crate))
+            if re.search(rf"\b(?:struct|enum|trait|type|for) {place[0]}\b", sources(crate))
             else ""
         )
     else:

@@ -9,7 +9,7 @@
 
 `lines` are those of source, definitions and proofs together, `imports` those of `use` and `ghost
 use` among them. `cited` are the lines of the definitions that public contracts cite: of the files
-of specs/ that Lib.antt does not list for private functions alone. A clause is measured joined: its
+of specs/ outside specs/private. A clause is measured joined: its
 lines put together with single spaces, without the indent, since `rt fmt` wraps long ones. `public
 >160` are those of functions that are `pub`. `ghost >160` are what impls promise by a line such as
 `ghost invariant = {..}`. `casts` are result codes that become numbers by `as`.
@@ -46,27 +46,26 @@ COLUMNS = (
     ">=40 lines",
     "casts",
 )
-CLAUSES_OVER_100 = 0.203  # wanted: 0.10
+CLAUSES_OVER_100 = 0.174  # wanted: 0.10
 # Each figure with a bound: what it has today, and what is wanted.
 BOUNDS = {
-    "lines": (117669, 74500),
-    "imports": (11984, 4700),
-    ">160": (116, 0),
-    "ghost >160": (8, 0),
-    ">8 clauses": (12, 0),
+    "lines": (117906, 74500),
+    "imports": (11909, 4700),
+    ">160": (3, 0),
+    "ghost >160": (5, 0),
+    ">8 clauses": (11, 0),
     ">=40 lines": (1, 0),
-    "casts": (7, 0),
+    "casts": (0, 0),
 }
 # The figures that are those of the product's crates alone.
 PRODUCT_ALONE = (">160", "ghost >160")
 CRATES = (33, 31)
 # Lines of imports in a file of proofs, on average: what there are today, and what tb_ledger has.
-IMPORTS_A_FILE = (6.12, 3.8)
+IMPORTS_A_FILE = (5.98, 3.8)
 IMPORT = re.compile(r"\s*(?:pub(?:\([a-z]+\))? )?(?:ghost )?use ")
 CLAUSE = re.compile(r"\s+(?:requires|ensures|invariant)\*? ?(?:\w+ )?\{")
 GHOST = re.compile(r"\s+ghost \w+ = \{")
 FUNCTION = re.compile(r"(\s*)(?:pub(?:\([a-z]+\))? )?(?:const |unsafe )*fn (\w+)")
-PRIVATE = re.compile(r"\s*--.*private")
 CAST = re.compile(r"(?:(?:Result|Code)::\w+|\b(?:result|code)(?:\.\w+)*) as u(?:16|32)\b")
 
 
@@ -121,14 +120,10 @@ def joined(text, at):
 
 
 def cited(crate):
-    """The lines of the definitions that public contracts cite, as specs/Lib.antt has them."""
-    listing, total, is_private = f"{TOP}/crates/{crate}/specs/Lib.antt", 0, False
-    for line in lines(listing) if os.path.exists(listing) else ():
-        if line.startswith("--"):
-            is_private = PRIVATE.match(line) is not None
-        elif line.startswith("pub mod ") and not is_private:
-            total += len(lines(f"{TOP}/crates/{crate}/specs/{line[8:]}.antt"))
-    return total
+    """The lines of the definitions that public contracts cite."""
+    return sum(
+        len(lines(path)) for path in files(crate, "specs", ".antt") if "/private" not in path
+    )
 
 
 def measured(crate, listed):

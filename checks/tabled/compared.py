@@ -222,7 +222,7 @@ GROUPS = {
             ("closed_tests",),
         ],
         "two_party": [
-            ("single_own_tests", "two_party_own_tests"),
+            ("two_party_own_tests",),
             "DebitAccountNotFound",
             "CreditAccountNotFound",
             ("pair_tests",),
@@ -373,6 +373,12 @@ def limits(table, sources):
     for place, (name, wanted, got) in enumerate(rows):
         kind = "limits" if wanted is most else "sizes"
         yield (f"{kind}: {name} ({place + 1})", wanted[name], got)
+    for name in SAYING:
+        yield (
+            f"limits: clients_max in {name}",
+            [most["clients_max"]],
+            lambda n=name: clients_said(sources.read(n)),
+        )
     masks = {row["name"]: row["mask"] for row in table["reserved_flags"]}
     for kind in ("account", "transfer"):
         yield (
@@ -383,6 +389,21 @@ def limits(table, sources):
                 r"pub const RESERVED: u16 = (\w+);",
             ),
         )
+
+
+# The sources whose text says how many clients there can be.
+SAYING = (
+    "crates/tb_keep_commands/src/arguments.rt",
+    "crates/tb_keep_commands/src/help.rt",
+    "crates/tb_text_commands/src/explaining.rt",
+    "crates/tb_text_commands/src/help.rt",
+)
+
+
+def clients_said(text):
+    """The limits of clients that a text says."""
+    found = re.findall(r"\bCLIENTS_MAX is (?:missing, )?1 to (\d+)|\b1 to (\d+) clients\b", text)
+    return sorted({int(one or other) for one, other in found})
 
 
 # Words of statements

@@ -12,7 +12,7 @@ use Rattle.std.specs.BTreeMap.{insert_entry, is_at}
 use Rattle.std.proofs.lemmas.Map.{keys-set_value}
 use Rattle.avl_tree.specs.Nodes.{entries, entry, stored_height, IsAvl, IsSearchTree}
 use Rattle.avl_tree.specs.Changes.{KeepsLinks}
-use Rattle.avl_tree.specs.Sides.{side_of, with_side}
+use Rattle.avl_tree.specs.private.Sides.{side_of, with_side}
 use Rattle.avl_tree.specs.declared.tree.Node.{Node}
 use Rattle.avl_tree.specs.declared.tree.Tree.{Tree}
 use Rattle.avl_tree.specs.declared.tree.Tree.TheVariants.{Fork'}

@@ -11,7 +11,7 @@ use Rattle.std.specs.Map.{lookup, set_value}
 use Rattle.std.specs.BTreeMap.{is_at}
 use Rattle.avl_tree.specs.Nodes.{entries, IsSearchTree}
 use Rattle.avl_tree.specs.Changes.{ChangedTwo, KeepsLinks}
-use Rattle.avl_tree.specs.Pairs.{Taking, CalledAtBoth, ChangesBeside, ChangesApart, ChangesBoth}
+use Rattle.avl_tree.specs.private.Pairs.{Taking, CalledAtBoth, ChangesBeside, ChangesApart, ChangesBoth}
 use Rattle.avl_tree.specs.declared.tree.Node.{Node}
 use Rattle.avl_tree.specs.declared.tree.Tree.{Tree}
 use Rattle.avl_tree.specs.declared.tree.Tree.TheViews.{Fork}
@@ -25,14 +25,14 @@ other_way c false f f' x y x' y' r p = p
 
 module _ {F K V A R : Type 0} (c : Taking F V R) (b : Bool) {cmp : K → K → Ordering} {k : K} {t : Tree K V A} (f f' : F) where
   module _ {side : Tree K V A} {put : Tree K V A → Tree K V A} {beside : List (K × V) → List (K × V)} (w : GoesTo cmp k t side put beside) where
-    pub beside_side : (d d' : V) (o : Option R) (u : Tree K V A) → ChangesBeside c b (is_at (cmp k)) d side f o f' d' u → ChangesBeside c b (is_at (cmp k)) d t f o f' d' (put u)
+    pub beside_side : (d d' : V) (o : Option R) (u : Tree K V A) → ChangesBeside c b cmp k d side f o f' d' u → ChangesBeside c b cmp k d t f o f' d' (put u)
     beside_side d d' (Some v) u x =
         let y = x.0 in
         (record { value = y.value; left = y.left; found = found w ∙ y.found; called = y.called; written = written w y.left u y.written }, w.keeps u x.1)
     beside_side d d' None u x = (found w ∙ x.0, x.1, x.2, ap put x.3 ∙ w.whole)
 
     -- the trees are passed on in the other order
-    pub apart_side : (k2 : K) (u : Tree K V A) (o : Option R) (s' u' : Tree K V A) → ChangesApart c (not b) (is_at (cmp k2)) (is_at (cmp k)) u side f o f' u' s' → ChangesApart c b (is_at (cmp k)) (is_at (cmp k2)) t u f o f' (put s') u'
+    pub apart_side : (k2 : K) (u : Tree K V A) (o : Option R) (s' u' : Tree K V A) → ChangesApart c (not b) cmp k2 k u side f o f' u' s' → ChangesApart c b cmp k k2 t u f o f' (put s') u'
     apart_side k2 u (Some v) s' u' x =
         let y = x.0 in (
           record {
@@ -53,12 +53,12 @@ module _ {F K V A R : Type 0} (c : Taking F V R) (b : Bool) {cmp : K → K → O
         (elim x.0 [ inl n ↦ inr n | inr n ↦ inl (found w ∙ n) ], x.1, ap put x.3 ∙ w.whole, x.2)
 
   module _ {n : Node K V A} {put : V → Tree K V A} (w : StandsHere cmp k t n put) where
-    pub beside_here : (d d' : V) (o : Option R) (z' : V) → IsSome o → IfSome o (λ v. CalledAtBoth c b f d n.value v f' d' z') → ChangesBeside c b (is_at (cmp k)) d t f o f' d' (put z')
+    pub beside_here : (d d' : V) (o : Option R) (z' : V) → IsSome o → IfSome o (λ v. CalledAtBoth c b f d n.value v f' d' z') → ChangesBeside c b cmp k d t f o f' d' (put z')
     beside_here d d' (Some v) z' there called =
         (record { value = n.value; left = z'; found = w.found; called = called; written = w.written z' }, w.keeps z')
     beside_here d d' None z' there called = absurd (cc)
 
-    pub apart_here : put n.value ≡ t → (k2 : K) (u : Tree K V A) (o : Option R) (z' : V) (u' : Tree K V A) → ChangesBeside c b (is_at (cmp k2)) n.value u f o f' z' u' → ChangesApart c b (is_at (cmp k)) (is_at (cmp k2)) t u f o f' (put z') u'
+    pub apart_here : put n.value ≡ t → (k2 : K) (u : Tree K V A) (o : Option R) (z' : V) (u' : Tree K V A) → ChangesBeside c b cmp k2 n.value u f o f' z' u' → ChangesApart c b cmp k k2 t u f o f' (put z') u'
     apart_here whole k2 u (Some v) z' u' x =
         let y = x.0 in (
           record {
@@ -89,7 +89,7 @@ module _ {K : Type 0} {cmp : K → K → Ordering} (o : IsTotalOrder cmp) (low h
 
 module _ {F K V A R : Type 0} (c : Taking F V R) (in_order : Bool) {cmp : K → K → Ordering} (o : IsTotalOrder cmp) (low high : K) {t : Tree K V A} (f f' : F) where
   -- both keys are looked up in one side
-  pub both_side : {side : Tree K V A} {put : Tree K V A → Tree K V A} {beside : List (K × V) → List (K × V)} → GoesTo cmp low t side put beside → GoesTo cmp high t side put beside → (v : Option R) (u : Tree K V A) → ChangesBoth c in_order (is_at (cmp low)) (is_at (cmp high)) side f v f' u → ChangesBoth c in_order (is_at (cmp low)) (is_at (cmp high)) t f v f' (put u)
+  pub both_side : {side : Tree K V A} {put : Tree K V A → Tree K V A} {beside : List (K × V) → List (K × V)} → GoesTo cmp low t side put beside → GoesTo cmp high t side put beside → (v : Option R) (u : Tree K V A) → ChangesBoth c in_order cmp low high side f v f' u → ChangesBoth c in_order cmp low high t f v f' (put u)
   both_side w x (Some v) u d =
       let y = d.0 in (
         record {
@@ -110,7 +110,7 @@ module _ {F K V A R : Type 0} (c : Taking F V R) (in_order : Bool) {cmp : K → 
 
   -- the two values are written one after the other
   in_turn : {t₁ t₂ : Tree K V A} {r : R} (value left other other_left : V) → lookup (is_at (cmp low)) (entries t) ≡ Some value → lookup (is_at (cmp high)) (entries t) ≡ Some other → CalledAtBoth c in_order f value other r f' left other_left
-      → KeepsLinks t t₁ → entries t₁ ≡ set_value (is_at (cmp low)) (entries t) left → KeepsLinks t₁ t₂ → entries t₂ ≡ set_value (is_at (cmp high)) (entries t₁) other_left → ChangesBoth c in_order (is_at (cmp low)) (is_at (cmp high)) t f (Some r) f' t₂
+      → KeepsLinks t t₁ → entries t₁ ≡ set_value (is_at (cmp low)) (entries t) left → KeepsLinks t₁ t₂ → entries t₂ ≡ set_value (is_at (cmp high)) (entries t₁) other_left → ChangesBoth c in_order cmp low high t f (Some r) f' t₂
   in_turn value left other other_left found other_found called kept first then second = (
     record {
       value = value;
@@ -126,7 +126,7 @@ module _ {F K V A R : Type 0} (c : Taking F V R) (in_order : Bool) {cmp : K → 
   )
 
   module _ {h : ℕ} {b : Box (Node K V A) A} (is : t ≡ Fork h b) (s : IsSearchTree cmp t) where
-    pub both_apart : Less ≡ cmp low b.value.key → Greater ≡ cmp high b.value.key → (v : Option R) (l r : Tree K V A) → ChangesApart c in_order (is_at (cmp low)) (is_at (cmp high)) b.value.left b.value.right f v f' l r → ChangesBoth c in_order (is_at (cmp low)) (is_at (cmp high)) t f v f' (Fork h (with_value b (record b.value { left = l; right = r })))
+    pub both_apart : Less ≡ cmp low b.value.key → Greater ≡ cmp high b.value.key → (v : Option R) (l r : Tree K V A) → ChangesApart c in_order cmp low high b.value.left b.value.right f v f' l r → ChangesBoth c in_order cmp low high t f v f' (Fork h (with_value b (record b.value { left = l; right = r })))
     both_apart p q (Some v) l r x =
         let y = x.0 in
         let lower = goes o low is Less p refl s in
@@ -143,7 +143,7 @@ module _ {F K V A R : Type 0} (c : Taking F V R) (in_order : Bool) {cmp : K → 
       (λ i. Fork h (with_value b (record b.value { left = x.2 i; right = x.3 i }))) ∙ sym is,
     )
 
-    pub both_here_right : Equal ≡ cmp low b.value.key → Greater ≡ cmp high b.value.key → (v : Option R) (r : Tree K V A) (z : V) → ChangesBeside c in_order (is_at (cmp high)) b.value.value b.value.right f v f' z r → ChangesBoth c in_order (is_at (cmp low)) (is_at (cmp high)) t f v f' (Fork h (with_value b (record b.value { right = r; value = z })))
+    pub both_here_right : Equal ≡ cmp low b.value.key → Greater ≡ cmp high b.value.key → (v : Option R) (r : Tree K V A) (z : V) → ChangesBeside c in_order cmp high b.value.value b.value.right f v f' z r → ChangesBoth c in_order cmp low high t f v f' (Fork h (with_value b (record b.value { right = r; value = z })))
     both_here_right p q (Some v) r z x =
         let y = x.0 in
         let here = stands_here o low is p s in
@@ -152,7 +152,7 @@ module _ {F K V A R : Type 0} (c : Taking F V R) (in_order : Bool) {cmp : K → 
     both_here_right p q None r z x =
         (inr (found (goes o high is Greater q refl s) ∙ x.0), x.1, (λ i. Fork h (with_value b (record b.value { right = x.3 i; value = x.2 i }))) ∙ sym is)
 
-    pub both_left_here : Less ≡ cmp low b.value.key → Equal ≡ cmp high b.value.key → (v : Option R) (l : Tree K V A) (z : V) → ChangesBeside c (not in_order) (is_at (cmp low)) b.value.value b.value.left f v f' z l → ChangesBoth c in_order (is_at (cmp low)) (is_at (cmp high)) t f v f' (Fork h (with_value b (record b.value { left = l; value = z })))
+    pub both_left_here : Less ≡ cmp low b.value.key → Equal ≡ cmp high b.value.key → (v : Option R) (l : Tree K V A) (z : V) → ChangesBeside c (not in_order) cmp low b.value.value b.value.left f v f' z l → ChangesBoth c in_order cmp low high t f v f' (Fork h (with_value b (record b.value { left = l; value = z })))
     both_left_here p q (Some v) l z x =
         let y = x.0 in
         let lower = goes o low is Less p refl s in
@@ -183,7 +183,7 @@ module _ {K : Type 0} {cmp : K → K → Ordering} (o : IsTotalOrder cmp) (low h
       by false false a b rest = rw (a, b) (ap (λ m. x ∷ m) rest)
 
 -- a call in the other order, as the caller put the keys
-pub changed_other_way : {F K V A R : Type 0} (c : Taking F V R) {cmp : K → K → Ordering} (o : IsTotalOrder cmp) (low high : K) (t t' : Tree K V A) (f f' : F) → cmp low high ≡ Less → (v : Option R) → ChangesBoth c false (is_at (cmp low)) (is_at (cmp high)) t f v f' t' → IfSome v (λ r. ChangedTwo c (is_at (cmp high)) (is_at (cmp low)) (entries t) f r f' (entries t'))
+pub changed_other_way : {F K V A R : Type 0} (c : Taking F V R) {cmp : K → K → Ordering} (o : IsTotalOrder cmp) (low high : K) (t t' : Tree K V A) (f f' : F) → cmp low high ≡ Less → (v : Option R) → ChangesBoth c false cmp low high t f v f' t' → IfSome v (λ r. ChangedTwo c (is_at (cmp high)) (is_at (cmp low)) (entries t) f r f' (entries t'))
 changed_other_way c o low high t t' f f' q None x = tt
 changed_other_way c o low high t t' f f' q (Some r) x =
     let y = x.0 in

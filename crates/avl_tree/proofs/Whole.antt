@@ -10,7 +10,7 @@ use Rattle.std.proofs.lemmas.Map.{keys-set_value}
 use Rattle.std.proofs.lemmas.Map.Entries.{length-keys_of}
 use Rattle.avl_tree.specs.Nodes.{entries, stored_height, IsAvl, IsOrdered, IsWhole, Exchanges}
 use Rattle.avl_tree.specs.Changes.{Changes}
-use Rattle.avl_tree.specs.Pairs.{Taking, ChangesBoth}
+use Rattle.avl_tree.specs.private.Pairs.{Taking, ChangesBoth}
 use Rattle.avl_tree.specs.declared.tree.Tree.{Tree}
 use Rattle.avl_tree.proofs.Around.{ordered_tail, ordered-insert_entry, ordered-remove_entry, length-insert_entry, length-remove_entry_found, remove_entry-absent}
 use Rattle.avl_tree.proofs.Shape.{low, least-le-length}
@@ -40,7 +40,7 @@ module _ {K V A : Type 0} {cmp : K → K → Ordering} {root : Tree K V A} {len 
   whole_changes c k (Some r) f f' root' x = whole_kept (ap keys_of x.0.written ∙ keys-set_value (is_at (cmp k)) (entries root) x.0.left) x.1.balanced
   whole_changes c k None f f' root' x = subst (λ t. IsWhole cmp t len spare) (sym x.2) w
 
-  pub whole_changes_two : {F R : Type 0} (c : Taking F V R) (b : Bool) (low high : K) (o : Option R) (f f' : F) (root' : Tree K V A) → ChangesBoth c b (is_at (cmp low)) (is_at (cmp high)) root f o f' root' → IsWhole cmp root' len spare
+  pub whole_changes_two : {F R : Type 0} (c : Taking F V R) (b : Bool) (low high : K) (o : Option R) (f f' : F) (root' : Tree K V A) → ChangesBoth c b cmp low high root f o f' root' → IsWhole cmp root' len spare
   whole_changes_two c b low high (Some r) f f' root' x =
       let y = x.0 in
       whole_kept (ap keys_of y.written ∙ keys-set_value (is_at (cmp high)) (set_value (is_at (cmp low)) (entries root) y.left) y.other_left ∙ keys-set_value (is_at (cmp low)) (entries root) y.left) x.1.balanced

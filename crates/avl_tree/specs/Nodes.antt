@@ -3,6 +3,8 @@
 use Rattle.std.specs.Prelude.{◌≡◌, ◌≢◌, ℕ, ◌+◌, ◌≤◌, ◌<◌, max, List, [], ◌∷◌, ◌++◌, ◌^◌, length, Option, None, Some, Bool, true, false}
 use Rattle.std.specs.Map.{keys_of, lookup, set_value}
 use Rattle.std.specs.BTreeMap.{is_at}
+use Rattle.std.specs.Option.{option_map}
+use Rattle.std.specs.declared.boxed.Box.{Box}
 use Rattle.std.specs.List.Sorted.{IsStrictlySortedBy}
 use Rattle.std.specs.declared.cmp.Ordering.{Ordering}
 use Rattle.avl_tree.specs.Search.{Search, leaf, fork}
@@ -24,10 +26,22 @@ abbrev pub entries : {K V A : Type 0} → Tree K V A → List (K × V)
 entries Empty = []
 entries (Fork' h p k l r v) = entries l ++ (k, v) ∷ entries r
 
+-- the entries of a node and of its sides from the left to the right
+abbrev pub entries_at : {K V A : Type 0} → Node K V A → List (K × V)
+entries_at n = entries n.left ++ entry n ∷ entries n.right
+
+-- the entry of a node, where there is one
+abbrev pub entry_in : {K V A : Type 0} → Option (Box (Node K V A) A) → Option (K × V)
+entry_in node = option_map (λ b. entry b.value) node
+
 -- the height that the link to a tree keeps
 abbrev pub stored_height : {K V A : Type 0} → Tree K V A → ℕ
 stored_height Empty = 0
 stored_height (Fork' h p k l r v) = h
+
+-- the height of a node over its sides
+abbrev pub height_at : {K V A : Type 0} → Node K V A → ℕ
+height_at n = max (stored_height n.left) (stored_height n.right) + 1
 
 -- neither height is more than this above the other
 abbrev pub DifferByAtMost : ℕ → ℕ → ℕ → Type 0

@@ -28,6 +28,14 @@ least zero = 0
 least (suc zero) = 1
 least (suc (suc h)) = 1 + least (suc h) + least h
 
+-- the heights 0 to 19
+abbrev pub first_heights : List ℕ
+first_heights = 0 ∷ 1 ∷ 2 ∷ 3 ∷ 4 ∷ 5 ∷ 6 ∷ 7 ∷ 8 ∷ 9 ∷ 10 ∷ 11 ∷ 12 ∷ 13 ∷ 14 ∷ 15 ∷ 16 ∷ 17 ∷ 18 ∷ 19 ∷ []
+
+-- the least numbers of nodes of these heights
+abbrev pub fewest_nodes : List ℕ
+fewest_nodes = 0 ∷ 1 ∷ 2 ∷ 4 ∷ 7 ∷ 12 ∷ 20 ∷ 33 ∷ 54 ∷ 88 ∷ 143 ∷ 232 ∷ 376 ∷ 609 ∷ 986 ∷ 1596 ∷ 2583 ∷ 4180 ∷ 6764 ∷ 10945 ∷ []
+
 -- how a proof distinguishes two trees, by the code c of their entries
 module _ {E : Type 0} (c : Coded E) where
   abbrev pub search_code : Search E → Gv

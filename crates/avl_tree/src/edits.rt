@@ -3,7 +3,7 @@ ghost use Rattle.std.specs.Prelude.{◌≡◌, ◌≢◌, ◌+◌, ◌<◌, ◌�
 ghost use Rattle.std.specs.Option.{option_map, is_some};
 ghost use Rattle.std.specs.Map.{lookup, remove_entry};
 ghost use Rattle.std.specs.BTreeMap.{is_at, insert_entry};
-ghost use Rattle.avl_tree.specs.Nodes.{entries, entry, with_first, stored_height, IsAvl, IsNearlyAvl, SettlesTo, IsBare, HasLeft, HasNoLeft, beside_root, root_entry, IsSearchTree, IsShrunk, IsTold, IsGrownAsTold, IsShrunkAsTold, Exchanges};
+ghost use Rattle.avl_tree.specs.Nodes.{entries, entry, entry_in, with_first, stored_height, IsAvl, IsNearlyAvl, SettlesTo, IsBare, HasLeft, HasNoLeft, beside_root, root_entry, IsSearchTree, IsShrunk, IsTold, IsGrownAsTold, IsShrunkAsTold, Exchanges};
 ghost use Rattle.avl_tree.specs.Map.{first_to};
 ghost use Rattle.avl_tree.specs.declared.tree.Tree.TheVariants.{Empty};
 
@@ -92,8 +92,7 @@ fn take_top<K, V, A: Allocator>(tree: &mut Tree<K, V, A>) -> Option<Box<Node<K, 
     requires balanced { IsAvl tree.old }
     requires no_left { HasNoLeft tree.old }
     ensures balanced { IsAvl tree.new }
-    ensures entries { entries tree.old
-        ≡ with_first (option_map (λ b. entry b.value) result) (entries tree.new) }
+    ensures entries { entries tree.old ≡ with_first (entry_in result) (entries tree.new) }
     ensures taken { MatchOption result ((tree.old ≡ Empty) × (tree.new ≡ Empty))
         (λ b. IsBare b.value) }
     ensures height { IsShrunk (stored_height tree.old) (stored_height tree.new) }
@@ -118,8 +117,7 @@ pub fn take_first<K, V, A: Allocator>(
     requires height_fits { stored_height tree.old < 200 }
     requires not_lower { lower.old ≡ false }
     ensures balanced { IsAvl tree.new }
-    ensures entries { entries tree.old
-        ≡ with_first (option_map (λ b. entry b.value) result) (entries tree.new) }
+    ensures entries { entries tree.old ≡ with_first (entry_in result) (entries tree.new) }
     ensures taken { MatchOption result ((tree.old ≡ Empty) × (tree.new ≡ Empty))
         (λ b. IsBare b.value) }
     ensures height { IsShrunkAsTold lower.new (stored_height tree.old) (stored_height tree.new) }
@@ -180,9 +178,8 @@ pub fn take_first_to<K: Ord, V, A: Allocator>(
     requires height_fits { stored_height tree.old < 200 }
     requires not_lower { lower.old ≡ false }
     ensures balanced { IsAvl tree.new }
-    ensures first { option_map (λ b. entry b.value) result ≡ first_to K.cmp bound.now (entries tree.old) }
-    ensures entries { entries tree.old
-        ≡ with_first (option_map (λ b. entry b.value) result) (entries tree.new) }
+    ensures first { entry_in result ≡ first_to K.cmp bound.now (entries tree.old) }
+    ensures entries { entries tree.old ≡ with_first (entry_in result) (entries tree.new) }
     ensures taken { MatchOption result ((tree.new ≡ tree.old) × (lower.new ≡ false))
         (λ b. IsBare b.value) }
     ensures height { IsShrunkAsTold lower.new (stored_height tree.old) (stored_height tree.new) }
@@ -210,7 +207,7 @@ fn take_root<K, V, A: Allocator>(tree: &mut Tree<K, V, A>) -> Option<Box<Node<K,
     requires height_fits { stored_height tree.old < 200 }
     ensures balanced { IsAvl tree.new }
     ensures entries { entries tree.new ≡ beside_root tree.old }
-    ensures root { option_map (λ b. entry b.value) result ≡ root_entry tree.old }
+    ensures root { entry_in result ≡ root_entry tree.old }
     ensures taken { IfSome result (λ b. IsBare b.value) }
     ensures height { IsShrunk (stored_height tree.old) (stored_height tree.new) }
 {

@@ -1,6 +1,6 @@
 // Trees that are freed.
 ghost use Rattle.std.specs.Prelude.{◌≡◌, ◌+◌, ◌≤◌};
-ghost use Rattle.avl_tree.specs.Freeing.{node_count};
+ghost use Rattle.avl_tree.specs.private.Freeing.{node_count};
 
 use crate::tree::{Node, Tree};
 use std::alloc::Allocator;

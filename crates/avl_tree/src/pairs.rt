@@ -1,9 +1,8 @@
 // Changes of two values at once, in place.
 ghost use Rattle.std.specs.Prelude.{◌≡◌, None, Some, IsSome, IfSome};
-ghost use Rattle.std.specs.BTreeMap.{is_at};
 ghost use Rattle.std.specs.declared.cmp.Ordering.TheVariants.{Less};
 ghost use Rattle.avl_tree.specs.Nodes.{entry, IsSearchTree};
-ghost use Rattle.avl_tree.specs.Pairs.{CalledAtBoth, ChangesBeside, ChangesApart, ChangesBoth};
+ghost use Rattle.avl_tree.specs.private.Pairs.{CalledAtBoth, ChangesBeside, ChangesApart, ChangesBoth};
 
 use crate::tree::{Node, Tree, side};
 use crate::walks::compare;
@@ -76,7 +75,7 @@ fn beside<K: Ord, V, A: Allocator, R, F: FnMut(&mut V, &mut V) -> R>(
     requires callable { F.IsAlwaysCallable f.old }
     requires empty { out.old ≡ None }
     ensures callable { F.IsAlwaysCallable f.new }
-    ensures changes { ChangesBeside F.FnMut in_order (is_at (K.cmp key.now)) held.old tree.old f.old out.new f.new
+    ensures changes { ChangesBeside F.FnMut in_order K.cmp key.now held.old tree.old f.old out.new f.new
         held.new tree.new }
 {
     match tree {
@@ -103,7 +102,7 @@ fn beside_left<K: Ord, V, A: Allocator, R, F: FnMut(&mut V, &mut V) -> R>(
     ensures callable { F.IsAlwaysCallable f.new }
     ensures right { node.new.right ≡ node.old.right }
     ensures key { node.new.key ≡ node.old.key }
-    ensures changes { ChangesBeside F.FnMut in_order (is_at (K.cmp key.now)) node.old.value node.old.left f.old
+    ensures changes { ChangesBeside F.FnMut in_order K.cmp key.now node.old.value node.old.left f.old
         out.new f.new node.new.value node.new.left }
 {
     beside(&mut node.left, key, &mut node.value, in_order, f, out)
@@ -123,7 +122,7 @@ fn beside_right<K: Ord, V, A: Allocator, R, F: FnMut(&mut V, &mut V) -> R>(
     ensures callable { F.IsAlwaysCallable f.new }
     ensures left { node.new.left ≡ node.old.left }
     ensures key { node.new.key ≡ node.old.key }
-    ensures changes { ChangesBeside F.FnMut in_order (is_at (K.cmp key.now)) node.old.value node.old.right f.old
+    ensures changes { ChangesBeside F.FnMut in_order K.cmp key.now node.old.value node.old.right f.old
         out.new f.new node.new.value node.new.right }
 {
     beside(&mut node.right, key, &mut node.value, in_order, f, out)
@@ -150,7 +149,7 @@ fn apart<K: Ord, V, A: Allocator, R, F: FnMut(&mut V, &mut V) -> R>(
     requires callable { F.IsAlwaysCallable f.old }
     requires empty { out.old ≡ None }
     ensures callable { F.IsAlwaysCallable f.new }
-    ensures changes { ChangesApart F.FnMut in_order (is_at (K.cmp key.now)) (is_at (K.cmp other_key.now)) tree.old
+    ensures changes { ChangesApart F.FnMut in_order K.cmp key.now other_key.now tree.old
         other.old f.old out.new f.new tree.new other.new }
 {
     let Tree::Fork(_, node) = tree else {
@@ -181,7 +180,7 @@ fn apart_below<K: Ord, V, A: Allocator, R, F: FnMut(&mut V, &mut V) -> R>(
     requires callable { F.IsAlwaysCallable f.old }
     requires empty { out.old ≡ None }
     ensures callable { F.IsAlwaysCallable f.new }
-    ensures changes { ChangesApart F.FnMut in_order (is_at (K.cmp next_key.now)) (is_at (K.cmp last_key.now)) next.old
+    ensures changes { ChangesApart F.FnMut in_order K.cmp next_key.now last_key.now next.old
         last.old f.old out.new f.new next.new last.new }
 {
     apart(next, last, next_key, last_key, in_order, f, out);
@@ -202,7 +201,7 @@ fn apart_at<K: Ord, V, A: Allocator, R, F: FnMut(&mut V, &mut V) -> R>(
     requires empty { out.old ≡ None }
     ensures callable { F.IsAlwaysCallable f.new }
     ensures entry { entry node.new ≡ entry node.old }
-    ensures changes { ChangesApart F.FnMut in_order (is_at (K.cmp low.now)) (is_at (K.cmp high.now)) node.old.left
+    ensures changes { ChangesApart F.FnMut in_order K.cmp low.now high.now node.old.left
         node.old.right f.old out.new f.new node.new.left node.new.right }
 {
     apart(&mut node.left, &mut node.right, low, high, in_order, f, out)
@@ -222,7 +221,7 @@ fn seek_both<K: Ord, V, A: Allocator, R, F: FnMut(&mut V, &mut V) -> R>(
     requires callable { F.IsAlwaysCallable f.old }
     requires empty { out.old ≡ None }
     ensures callable { F.IsAlwaysCallable f.new }
-    ensures changes { ChangesBoth F.FnMut in_order (is_at (K.cmp low.now)) (is_at (K.cmp high.now)) tree.old f.old
+    ensures changes { ChangesBoth F.FnMut in_order K.cmp low.now high.now tree.old f.old
         out.new f.new tree.new }
 {
     let Tree::Fork(_, node) = tree else {
@@ -253,7 +252,7 @@ pub fn update_two<K: Ord, V, A: Allocator, R, F: FnMut(&mut V, &mut V) -> R>(
     requires lower { K.cmp low.now high.now ≡ Less }
     requires callable { F.IsAlwaysCallable f.old }
     ensures callable { F.IsAlwaysCallable f.new }
-    ensures changes { ChangesBoth F.FnMut in_order (is_at (K.cmp low.now)) (is_at (K.cmp high.now)) tree.old f.old
+    ensures changes { ChangesBoth F.FnMut in_order K.cmp low.now high.now tree.old f.old
         result f.new tree.new }
 {
     let mut out = None;

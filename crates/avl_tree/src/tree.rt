@@ -1,8 +1,8 @@
 // The nodes of the tree, and their rotations.
-ghost use Rattle.std.specs.Prelude.{◌≡◌, ◌+◌, ◌<◌, ◌≤◌, max, ◌∷◌, ◌++◌, IfSome};
-ghost use Rattle.avl_tree.specs.Nodes.{entries, entry, stored_height, IsAvl, IsNearlyAvl, SettlesTo, IsBare, IsHeightOver, IsLevelAt, IsGrown, DifferByAtMost};
+ghost use Rattle.std.specs.Prelude.{◌≡◌, ◌+◌, ◌<◌, ◌≤◌, max, IfSome};
+ghost use Rattle.avl_tree.specs.Nodes.{entries, entries_at, entry, height_at, stored_height, IsAvl, IsNearlyAvl, SettlesTo, IsBare, IsHeightOver, IsLevelAt, IsGrown, DifferByAtMost};
 ghost use Rattle.std.specs.Borrow.{sem};
-ghost use Rattle.avl_tree.specs.Sides.{lends_side, side_of};
+ghost use Rattle.avl_tree.specs.private.Sides.{lends_side, side_of};
 ghost use Rattle.avl_tree.specs.declared.tree.Tree.TheVariants.{Empty};
 
 use std::alloc::Allocator;
@@ -93,9 +93,8 @@ fn over<K, V, A: Allocator>(node: Box<Node<K, V, A>, A>) -> Tree<K, V, A>
     requires close { DifferByAtMost 1 (stored_height node.value.left) (stored_height node.value.right) }
     requires height_fits { max (stored_height node.value.left) (stored_height node.value.right) < 255 }
     ensures balanced { IsAvl result }
-    ensures entries { entries result ≡ entries node.value.left ++ entry node.value ∷ entries node.value.right }
-    ensures height { stored_height result
-        ≡ max (stored_height node.value.left) (stored_height node.value.right) + 1 }
+    ensures entries { entries result ≡ entries_at node.value }
+    ensures height { stored_height result ≡ height_at node.value }
 {
     let height = height(&node.left).max(height(&node.right)) + 1;
     Tree::Fork(height, node)
@@ -109,7 +108,7 @@ fn lean_left<K, V, A: Allocator>(mut node: Box<Node<K, V, A>, A>) -> Tree<K, V, 
     requires two_higher { stored_height node.value.left ≡ stored_height node.value.right + 2 }
     requires height_fits { stored_height node.value.left < 250 }
     ensures balanced { IsAvl result }
-    ensures entries { entries result ≡ entries node.value.left ++ entry node.value ∷ entries node.value.right }
+    ensures entries { entries result ≡ entries_at node.value }
     ensures height { IsGrown (stored_height node.value.left) (stored_height result) }
 {
     let Tree::Fork(_, mut top) = take(&mut node.left) else {
@@ -137,7 +136,7 @@ fn lean_right<K, V, A: Allocator>(mut node: Box<Node<K, V, A>, A>) -> Tree<K, V,
     requires two_higher { stored_height node.value.right ≡ stored_height node.value.left + 2 }
     requires height_fits { stored_height node.value.right < 250 }
     ensures balanced { IsAvl result }
-    ensures entries { entries result ≡ entries node.value.left ++ entry node.value ∷ entries node.value.right }
+    ensures entries { entries result ≡ entries_at node.value }
     ensures height { IsGrown (stored_height node.value.right) (stored_height result) }
 {
     let Tree::Fork(_, mut top) = take(&mut node.right) else {
@@ -165,7 +164,7 @@ pub fn balance<K, V, A: Allocator>(node: Box<Node<K, V, A>, A>) -> Tree<K, V, A>
     requires close { DifferByAtMost 2 (stored_height node.value.left) (stored_height node.value.right) }
     requires height_fits { max (stored_height node.value.left) (stored_height node.value.right) < 250 }
     ensures balanced { IsAvl result }
-    ensures entries { entries result ≡ entries node.value.left ++ entry node.value ∷ entries node.value.right }
+    ensures entries { entries result ≡ entries_at node.value }
     ensures height { IsHeightOver (stored_height node.value.left) (stored_height node.value.right)
         (stored_height result) }
 {

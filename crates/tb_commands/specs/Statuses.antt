@@ -1,7 +1,9 @@
 -- The exit status of each outcome: 0 done, 1 a device or memory failed, 2 the input or the arguments are wrong. And the line
 -- that a fault is reported by.
--- Cited by public contracts of: commands, host, lines.
-use Rattle.std.specs.Prelude.{ℕ, ◌≡◌, ◌⊎◌, ◌++◌, List, Result, Ok, Err, codes}
+-- Cited by public contracts of: commands, lines.
+use Rattle.std.specs.Prelude.{ℕ, ◌≡◌, ◌⊎◌, ◌++◌, List, Some, Result, Ok, Err, codes}
+use Rattle.tb_records.specs.declared.devices.Sink as sinks
+use Rattle.tb_records.specs.declared.devices.Source as sources
 use Rattle.tb_records.specs.declared.faults.FrameFault.{FrameFault}
 use Rattle.tb_records.specs.declared.faults.FrameFault.TheVariants as frame
 use Rattle.tb_records.specs.Transport.{Input, Output, Sent, CutOff}
@@ -16,6 +18,7 @@ use Rattle.tb_machine.specs.DumpRuns.{DumpRan}
 use Rattle.tb_machine.specs.Replays.{ReplayRan}
 use Rattle.tb_commands.specs.declared.arguments.Form.{Form}
 use Rattle.tb_commands.specs.declared.arguments.Form.TheVariants.{Run, Dump, Replay}
+use Rattle.tb_commands.specs.Forms.{form_of}
 use Rattle.tb_commands.specs.declared.commands.Fault.{Fault}
 use Rattle.tb_commands.specs.declared.commands.Fault.TheVariants.{Usage, Serving, Replaying}
 
@@ -83,3 +86,14 @@ pub record Exits (form : Form) (status : ℕ) (before after : Input) (start writ
   pub performed : Performs form outcome before after start written
   pub status_is : status ≡ outcome_status outcome
   pub line : Tells outcome quiet told
+
+-- the form that words ask for was served, where they ask for one
+abbrev pub ServesWords : List (List ℕ) → ℕ → Input → Input → Output → Output → Output → Output → Type 0
+ServesWords words status before after start written quiet told =
+    (form : Form) → form_of words ≡ Some form → Exits form status before after start written quiet told
+
+-- of what a reader gave, and a writer and a writer of lines took, before and after a call
+abbrev pub On : {R W E : Type 0} → sources.Ghosts R → sinks.Ghosts W → sinks.Ghosts E
+    → (Input → Input → Output → Output → Output → Output → Type 0) → R → R → W → W → E → E → Type 0
+On source sink lines Does first last start written quiet told =
+    Does (source.input first) (source.input last) (sink.output start) (sink.output written) (lines.output quiet) (lines.output told)

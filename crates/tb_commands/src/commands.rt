@@ -1,14 +1,17 @@
 //! The forms `run`, `dump` and `replay`, over any reader and writer, and the exit status of each outcome.
-ghost use Rattle.std.specs.Prelude.{◌≡◌, ◌<◌, None, Some, map, string_bytes};
-ghost use Rattle.tb_commands.specs.declared.arguments.Form.{Form};
+ghost use Rattle.std.specs.Prelude.{◌≡◌, ◌<◌, None, map, string_bytes};
 ghost use Rattle.tb_commands.specs.Forms.{form_of};
-ghost use Rattle.tb_commands.specs.Statuses.{fault_status, fault_name, fault_line, TellsLine, Performs, Exits};
+ghost use Rattle.tb_commands.specs.Statuses.{fault_status, fault_name, fault_line, On, TellsLine, Performs, ServesWords};
 
 use crate::arguments::{Form, read_form};
-use crate::lines::{line_of, put_line};
+use crate::lines::{LINE_BYTES, line_of, put_line};
+use arrayvec::ArrayVec;
 use std::alloc::Global;
+use std::env;
+use std::io::{self, BufReader, BufWriter, Read, Write};
+use std::rt::Env;
 use tb_machine::{RunFault, dump, replay, run};
-use tb_records::{DumpFault, FrameFault, Sink, Source};
+use tb_records::{Buffered, Counting, DumpFault, FrameFault, Sink, Source};
 
 /// Why the program ends with a status other than 0; shown by its name alone.
 #[derive(Clone, Copy, Debug, PartialEq, Eq)]
@@ -105,12 +108,12 @@ pub fn command<R: Source, W: Sink, E: Sink>(
     ensures usage { form_of (map string_bytes words.now) ≡ None
         → (result ≡ 2)
         × (reader.new ≡ reader.old)
-        × (writer.new ≡ writer.old)
-        × TellsLine (fault_line Fault.Usage) (E.output faults.old) (E.output faults.new) }
+        × (writer.new ≡ writer.old) }
+    ensures told { form_of (map string_bytes words.now) ≡ None
+        → TellsLine (fault_line Fault.Usage) (E.output faults.old) (E.output faults.new) }
     ensures quiet { result ≡ 0 → faults.new ≡ faults.old }
-    ensures served { (form : Form) → form_of (map string_bytes words.now) ≡ Some form
-        → Exits form result (R.input reader.old) (R.input reader.new) (W.output writer.old)
-        (W.output writer.new) (E.output faults.old) (E.output faults.new) }
+    ensures served { On R.Source W.Sink E.Sink (ServesWords (map string_bytes words.now) result)
+        reader.old reader.new writer.old writer.new faults.old faults.new }
 {
     let Some(form) = read_form(words) else {
         tell(Fault::Usage, faults);
@@ -123,4 +126,59 @@ pub fn command<R: Source, W: Sink, E: Sink>(
             fault.status()
         }
     }
+}
+
+/// The bytes of input and of output that are held at a time.
+const BUFFER_BYTES: usize = 65536;
+
+/// The words after the program's name.
+pub fn words<R: Env + AllocGlobal>(rt: &R) -> io::Result<Vec<String>> {
+    let mut words = Vec::new(rt.alloc());
+    for word in env::args(rt)?.skip(1) {
+        words.push(word)?;
+    }
+    Ok(words)
+}
+
+/// Serves the command that the words are, between an input and an output, both buffered, and answers the exit status.
+/// Replies are held back only while more requests are buffered.
+pub fn serve<R: Read + Drop, W: Write + Drop, E: Sink>(
+    alloc: Global,
+    words: &[String],
+    input: R,
+    output: W,
+    faults: &mut E,
+) -> u8 {
+    let input = BufReader::with_capacity(alloc, BUFFER_BYTES, input);
+    let output = BufWriter::with_capacity(alloc, BUFFER_BYTES, output);
+    let (Ok(input), Ok(output)) = (input, output) else {
+        return refuse(Fault::Serving(RunFault::NoMemory), faults);
+    };
+    let mut reader = Buffered::new(input);
+    let mut writer = Counting::new(output);
+    let mut line = Counting::new(ArrayVec::<u8, LINE_BYTES>::new());
+    let status = command(alloc, words, &mut reader, &mut writer, &mut line);
+    // Replies that stay in the buffer are lost: that fault comes before any other.
+    if writer.into_inner().flush().is_err() {
+        return refuse(Fault::Serving(RunFault::Frame(FrameFault::Device)), faults);
+    }
+    put_line(line.into_inner().as_slice(), faults);
+    status
+}
+
+/// The fault where the words cannot be had: a word is no text, or there is no memory for them.
+pub fn fault_of(error: &io::Error) -> Fault {
+    match error.kind() {
+        io::ErrorKind::OutOfMemory => Fault::Serving(RunFault::NoMemory),
+        _ => Fault::Usage,
+    }
+}
+
+/// Prints the fault, and answers its status.
+pub fn refuse<E: Sink>(fault: Fault, faults: &mut E) -> u8
+    ensures value { result ≡ fault_status fault }
+    ensures told { TellsLine (fault_line fault) (E.output faults.old) (E.output faults.new) }
+{
+    tell(fault, faults);
+    fault.status()
 }

@@ -5,16 +5,14 @@
 //!
 //! - `arguments`: `read_form`, what the words of the command line ask for.
 //! - `lines`: the line that a fault is reported by.
-//! - `commands`: `command`, each form over any reader and writer, and the exit status of each outcome.
-//! - `host`: `serve`, the way from arguments, input and output to `command`.
+//! - `commands`: `serve`, the way from arguments, input and output to `command`: each form over any reader and writer, and the exit
+//!   status of each outcome.
 #![tactic(auto)]
 
 mod arguments;
 mod commands;
-mod host;
 mod lines;
 
 pub use arguments::{Form, number, read_clients_max, read_form, read_id, read_profile};
-pub use commands::{Fault, command, tell};
-pub use host::{fault_of, refuse, serve, words};
-pub use lines::{LINE, line_by, line_of, put_line};
+pub use commands::{Fault, command, fault_of, refuse, serve, tell, words};
+pub use lines::{LINE_BYTES, line_by, line_of, put_line};

@@ -6,10 +6,10 @@ use arrayvec::ArrayVec;
 use tb_records::{Sink, put_all};
 
 /// The bytes that a fault's line may have: a program's name with its colon, a fault's name of at most 26 letters, and the line's end.
-pub const LINE: usize = 32;
+pub const LINE_BYTES: usize = 32;
 
 /// The line of a fault with a name, by a program, in a buffer of its own, so that it needs no memory.
-pub fn line_by(program: &str, name: &str) -> ArrayVec<u8, LINE>
+pub fn line_by(program: &str, name: &str) -> ArrayVec<u8, LINE_BYTES>
     requires program { length program.now ≤ 5 }
     requires short { length name.now ≤ 26 }
     ensures { result.items ≡ program.now ++ name.now ++ codes "\n" }
@@ -22,7 +22,7 @@ pub fn line_by(program: &str, name: &str) -> ArrayVec<u8, LINE>
 }
 
 /// The line of a fault with a name.
-pub fn line_of(name: &str) -> ArrayVec<u8, LINE>
+pub fn line_of(name: &str) -> ArrayVec<u8, LINE_BYTES>
     requires short { length name.now ≤ 26 }
     ensures { result.items ≡ line_named name.now }
 {

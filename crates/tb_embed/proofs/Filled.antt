@@ -1,17 +1,12 @@
 -- What a room holds once a request was served into it.
-use Rattle.std.proofs.Common.{◌≡◌, ℕ, ◌≤◌, Bool, true, List, ◌∷◌, length, take, Some, Result, Ok, Err, sym, ap, ◌∙◌, subst, arith, min, length-take}
+use Rattle.std.proofs.Common.{◌≡◌, ℕ, ◌≤◌, Bool, true, List, ◌∷◌, length, take, Result, Ok, Err, sym, ap, ◌∙◌, subst, arith, min, length-take}
 use Rattle.std.proofs.lemmas.List.{take_all}
-use Rattle.tb_records.specs.Transport.{Output}
 use Rattle.tb_machine.specs.declared.serving.RunFault.{RunFault}
 use Rattle.tb_machine.specs.declared.serving.RunFault.TheVariants as fault
 use Rattle.tb_machine.specs.Histories.{State}
 use Rattle.tb_machine.specs.Scripts.{Pair}
 use Rattle.tb_machine.specs.Runs.{answer_bytes, AnswersPair}
-use Rattle.tb_embed.specs.Filling.{Fills}
-
--- a room as a writer: what was written begins with its name
-abbrev room_output : ℕ → ℕ → List ℕ → ℕ → Bool → Bool → Output
-room_output name at bytes stalls halted held = record { written = Some (name ∷ take at bytes); failed = 0; stalled = stalls; halted = halted; held = held }
+use Rattle.tb_embed.specs.private.Filling.{Fills, room_output}
 
 named_same : (named name : ℕ) (front bytes : List ℕ) → named ∷ front ≡ name ∷ bytes → (named ≡ name) × (front ≡ bytes)
 named_same named name front bytes e = (cc, cc)

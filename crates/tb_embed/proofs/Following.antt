@@ -31,7 +31,7 @@ module _ (profile : Profile) (clients_max : ℕ) where
   goes h [] S T is follow = record { pairs = []; lawful = tt; asked = tt; stands = follow ∙ is }
   goes h (c ∷ cs) S T is follow = by c.outcome c.moment c.bytes c.room follow.0 follow.1 (λ m V here. goes m cs follow.0 T here follow.2)
     where
-      by : (outcome : Outcome) (moment : ℕ) (bytes room : List ℕ) (U : State) → ServesFrame outcome (Some S) (Some U) moment bytes room
+      by : (outcome : Outcome) (moment : ℕ) (bytes room : List ℕ) (U : State) → ServesFrame (Some S) (Some U) moment bytes room outcome
           → ((m : List Entry) → State → U ≡ after profile clients_max m → Goes m cs T)
           → Goes h (record { moment = moment; bytes = bytes; outcome = outcome; room = room } ∷ cs) T
       by (Done n) moment bytes room U (r, spells, right) rest =
@@ -98,7 +98,7 @@ one_status S T U moment bytes room other a b mine yours same a_memory b_memory =
     late r s first second timely new none =
         no_time S (moment, s) (subst (λ (x : Message). is_new_in S (moment, x) ≡ true → has_time S (moment, x) ≡ true) (one_request bytes r s first second) timely) new none
 
-    by : (a b : Outcome) → ServesFrame a (Some S) (Some T) moment bytes room → ServesFrame b (Some S) (Some U) moment bytes other → (status_of a ≡ 3 → ⊥) → (status_of b ≡ 3 → ⊥) → status_of a ≡ status_of b
+    by : (a b : Outcome) → ServesFrame (Some S) (Some T) moment bytes room a → ServesFrame (Some S) (Some U) moment bytes other b → (status_of a ≡ 3 → ⊥) → (status_of b ≡ 3 → ⊥) → status_of a ≡ status_of b
     by NoMemory b mine yours c d = absurd (c refl)
     by Unread b mine yours c d = absurd (c refl)
     by Closed b (r, spells, right) yours c d = absurd right

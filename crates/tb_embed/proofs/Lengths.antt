@@ -22,7 +22,7 @@ use Rattle.tb_machine.proofs.Lawful.{lawful_numbers}
 use Rattle.tb_machine.proofs.RepliesFit.{refusal_right}
 use Rattle.tb_machine.proofs.PairAnswers.{row_after, answer_after, after_new, after_known}
 use Rattle.std.specs.Option.{option_map}
-use Rattle.tb_embed.specs.Filling.{length_by, FitsBy}
+use Rattle.tb_embed.specs.private.Filling.{length_by, FitsBy}
 
 length_frame : (r : Answer) → length (reply_bytes r) ≡ 48 + length (reply_body_bytes r.body)
 length_frame r =

@@ -23,7 +23,7 @@ pub record Call : Type 0 where
 -- calls one after another; what shows a record between them leaves the server as it is
 abbrev pub Follow : State → List Call → State → Type 0
 Follow S [] T = T ≡ S
-Follow S (c ∷ cs) T = (U : State) × ServesFrame c.outcome (Some S) (Some U) c.moment c.bytes c.room × Follow U cs T
+Follow S (c ∷ cs) T = (U : State) × ServesFrame (Some S) (Some U) c.moment c.bytes c.room c.outcome × Follow U cs T
 
 -- the calls that were answered, also where the room was too small for the reply
 abbrev pub is_answered : Outcome → Bool
@@ -66,5 +66,5 @@ CallsMakeHistory = (profile : Profile) (clients_max : ℕ) (cs : List Call) (T :
 -- without a time, and that before a room that is too small
 abbrev pub OneStatus : Type 0
 OneStatus = (S T U : State) (moment : ℕ) (bytes room other : List ℕ) (a b : Outcome)
-    → ServesFrame a (Some S) (Some T) moment bytes room → ServesFrame b (Some S) (Some U) moment bytes other → length room ≡ length other
+    → ServesFrame (Some S) (Some T) moment bytes room a → ServesFrame (Some S) (Some U) moment bytes other b → length room ≡ length other
     → (status_of a ≡ 3 → ⊥) → (status_of b ≡ 3 → ⊥) → status_of a ≡ status_of b

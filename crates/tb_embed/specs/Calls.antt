@@ -8,33 +8,40 @@ use Rattle.tb_records.specs.declared.limits.Profile.TheVariants.{One, Two}
 use Rattle.tb_records.specs.declared.limits.TheConstants.{CLIENTS_MAX}
 use Rattle.tb_records.specs.Messages.{Message}
 use Rattle.tb_records.specs.Frames.{Spells, request_fault}
+use Rattle.tb_records.specs.RecordBytes.{account_bytes, transfer_bytes}
 use Rattle.tb_records.specs.ReplyFrames.{IsReply, SpellsReply}
+use Rattle.tb_ledger.specs.Books.{account_now, transfer_at}
 use Rattle.tb_machine.specs.Histories.{State, start, answer_to}
 use Rattle.tb_machine.specs.Scripts.{Pair, has_time, after_pair}
 use Rattle.tb_machine.specs.Runs.{is_new_in, IsTimely, answer_bytes}
 use Rattle.tb_embed.specs.declared.held.Server.{Server}
 use Rattle.tb_embed.specs.declared.outcomes.Outcome.{Outcome}
 use Rattle.tb_embed.specs.declared.outcomes.Outcome.TheVariants.{Done, Closed, Usage, NoMemory, Unread, Malformed, TimeExhausted, Absent, TooSmall}
+use Rattle.tb_embed.specs.declared.servers.TbServer.{TbServer}
 
 -- where the server of a handle is; a closed handle has none
-abbrev pub standing : Option Server → Option State
-standing state = option_map (λ (server : Server). server.machine) state
+abbrev pub standing : TbServer → Option State
+standing handle = option_map (λ (server : Server). server.machine) handle.held.state
 
 -- opening
+
+-- the number of a profile
+abbrev pub is_profile : ℕ → Bool
+is_profile n = n == 1 || n == 2
 
 abbrev pub profile_of : ℕ → Profile
 profile_of n = if n == 2 then Two else One
 
 -- there are two profiles, and one client or more can have a session at one time, up to the limit
 abbrev pub are_arguments : ℕ → ℕ → Bool
-are_arguments profile clients_max = (profile == 1 || profile == 2) && not (clients_max == 0) && nat_le clients_max CLIENTS_MAX
+are_arguments profile clients_max = is_profile profile && not (clients_max == 0) && nat_le clients_max CLIENTS_MAX
 
 -- a closed handle is opened at the empty history; wrong arguments and an open handle are refused; nothing else changes
-abbrev pub Opens : Outcome → ℕ → ℕ → Option State → Option State → Type 0
-Opens (Done n) profile clients_max before after = (are_arguments profile clients_max ≡ true) × (before ≡ None) × (after ≡ Some (start (profile_of profile) clients_max))
-Opens Usage profile clients_max before after = ((are_arguments profile clients_max && is_none before) ≡ false) × (after ≡ before)
-Opens NoMemory profile clients_max before after = (are_arguments profile clients_max ≡ true) × (before ≡ None) × (after ≡ None)
-Opens outcome profile clients_max before after = ⊥
+abbrev pub Opens : ℕ → ℕ → Option State → Option State → Outcome → Type 0
+Opens profile clients_max before after (Done n) = (are_arguments profile clients_max ≡ true) × (before ≡ None) × (after ≡ Some (start (profile_of profile) clients_max))
+Opens profile clients_max before after Usage = ((are_arguments profile clients_max && is_none before) ≡ false) × (after ≡ before)
+Opens profile clients_max before after NoMemory = (are_arguments profile clients_max ≡ true) × (before ≡ None) × (after ≡ None)
+Opens profile clients_max before after outcome = ⊥
 
 -- serving
 
@@ -66,10 +73,11 @@ IsAnsweredAgain S moment again r =
     (after_pair (after_pair S (moment, r)) (again, r) ≡ after_pair S (moment, r))
     × (answer_bytes (after_pair S (moment, r)) (again, r) ≡ answer_bytes S (moment, r))
 
-abbrev pub ServesFrame : Outcome → Option State → Option State → ℕ → List ℕ → List ℕ → Type 0
-ServesFrame outcome (Some S) (Some T) moment bytes room = AnswersFrame outcome S T moment bytes room
-ServesFrame outcome None None moment bytes room = outcome ≡ Closed
-ServesFrame outcome before after moment bytes room = ⊥
+-- the same by a handle; a closed one answers so, and stays closed
+abbrev pub ServesFrame : Option State → Option State → ℕ → List ℕ → List ℕ → Outcome → Type 0
+ServesFrame (Some S) (Some T) moment bytes room outcome = AnswersFrame outcome S T moment bytes room
+ServesFrame None None moment bytes room outcome = outcome ≡ Closed
+ServesFrame before after moment bytes room outcome = ⊥
 
 -- showing a record
 
@@ -85,7 +93,15 @@ ShowsOf (TooSmall n) found room = (n ≡ 128) × (length room < 128)
 ShowsOf outcome found room = ⊥
 
 module _ (found_in : State → Option (List ℕ)) where
-  abbrev pub Shows : Outcome → Option State → Option State → List ℕ → Type 0
-  Shows outcome (Some S) (Some T) room = ShowsOf outcome (found_in S) room × (T ≡ S)
-  Shows outcome None None room = outcome ≡ Closed
-  Shows outcome before after room = ⊥
+  abbrev pub Shows : Option State → Option State → List ℕ → Outcome → Type 0
+  Shows (Some S) (Some T) room outcome = ShowsOf outcome (found_in S) room × (T ≡ S)
+  Shows None None room outcome = outcome ≡ Closed
+  Shows before after room outcome = ⊥
+
+-- a handle shows the account with an id as it is now
+abbrev pub ShowsAccount : ℕ → TbServer → TbServer → List ℕ → Outcome → Type 0
+ShowsAccount id before after = Shows (λ S. option_map account_bytes (account_now S.books id)) (standing before) (standing after)
+
+-- a handle shows the transfer with an id as it was recorded
+abbrev pub ShowsTransfer : ℕ → TbServer → TbServer → List ℕ → Outcome → Type 0
+ShowsTransfer id before after = Shows (λ S. option_map transfer_bytes (transfer_at S.books id)) (standing before) (standing after)

@@ -1,13 +1,8 @@
 //! The calls that C makes. Each takes the handle by reference, answers a status, and needs nothing of its caller but what
 //! embed/tb_embed.h says of pointers.
 ghost use Rattle.std.specs.Prelude.{◌≡◌, None};
-ghost use Rattle.std.specs.Option.{option_map};
-ghost use Rattle.tb_records.specs.RecordBytes.{account_bytes, transfer_bytes};
-ghost use Rattle.tb_ledger.specs.Books.{account_now, transfer_at};
-ghost use Rattle.tb_machine.specs.Histories.{State};
 ghost use Rattle.tb_embed.specs.Outcomes.{Tells, TellsLength};
-ghost use Rattle.tb_embed.specs.Calls.{standing, id_of, Opens, ServesFrame, Shows};
-ghost use Rattle.tb_embed.specs.declared.outcomes.Outcome.{Outcome};
+ghost use Rattle.tb_embed.specs.Calls.{standing, id_of, Opens, ServesFrame, ShowsAccount, ShowsTransfer};
 
 use crate::opening::open;
 use crate::servers::TbServer;
@@ -15,7 +10,7 @@ use crate::serving::serve;
 use crate::showing::{show_account, show_transfer};
 use std::alloc::Global;
 
-/// Opens a closed handle at the empty history: profile 1 or 2, and 1 to 64 clients with a session at one time. Statuses: 0
+/// Opens a closed handle at the empty history: profile 1 or 2, and 1 to `CLIENTS_MAX` clients with a session at one time. Statuses: 0
 /// opened, 2 wrong arguments or an open handle, 3 no memory.
 #[unsafe(no_mangle)]
 pub extern "C" fn tb_embed_open(
@@ -24,10 +19,7 @@ pub extern "C" fn tb_embed_open(
     profile: u32,
     clients_max: u32,
 ) -> u32
-    ensures { Tells result
-        (λ outcome.
-        Opens outcome profile clients_max (standing server.old.held.state)
-        (standing server.new.held.state)) }
+    ensures { Tells result (Opens profile clients_max (standing server.old) (standing server.new)) }
 {
     open(alloc, server, profile, clients_max).status()
 }
@@ -46,9 +38,7 @@ pub extern "C" fn tb_embed_serve(
     written: &mut usize,
 ) -> u32
     ensures { TellsLength result written.new
-        (λ outcome.
-        ServesFrame outcome (standing server.old.held.state) (standing server.new.held.state)
-        moment request.now reply.new) }
+        (ServesFrame (standing server.old) (standing server.new) moment request.now reply.new) }
 {
     let outcome = serve(alloc, server, moment, request, reply);
     *written = outcome.length();
@@ -65,13 +55,7 @@ pub extern "C" fn tb_embed_account(
     id_high: u64,
     account: &mut [u8],
 ) -> u32
-    ensures { Tells result
-        (λ outcome.
-        Shows
-        (λ (S : State).
-        option_map account_bytes (account_now S.books (id_of id_low id_high)))
-        outcome (standing server.old.held.state) (standing server.new.held.state)
-        account.new) }
+    ensures { Tells result (ShowsAccount (id_of id_low id_high) server.old server.new account.new) }
 {
     show_account(alloc, server, id(id_low, id_high), account).status()
 }
@@ -85,13 +69,7 @@ pub extern "C" fn tb_embed_transfer(
     id_high: u64,
     transfer: &mut [u8],
 ) -> u32
-    ensures { Tells result
-        (λ outcome.
-        Shows
-        (λ (S : State).
-        option_map transfer_bytes (transfer_at S.books (id_of id_low id_high)))
-        outcome (standing server.old.held.state) (standing server.new.held.state)
-        transfer.new) }
+    ensures { Tells result (ShowsTransfer (id_of id_low id_high) server.old server.new transfer.new) }
 {
     show_transfer(alloc, server, id(id_low, id_high), transfer).status()
 }
@@ -99,7 +77,7 @@ pub extern "C" fn tb_embed_transfer(
 /// Closes the handle, and frees its server where there is one.
 #[unsafe(no_mangle)]
 pub extern "C" fn tb_embed_close(alloc: Global, server: &mut TbServer)
-    ensures { standing server.new.held.state ≡ None }
+    ensures { standing server.new ≡ None }
 {
     let _held = server.take(alloc);
 }

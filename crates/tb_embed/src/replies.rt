@@ -2,7 +2,7 @@
 ghost use Rattle.std.specs.Prelude.{◌≡◌, false, length, None};
 ghost use Rattle.tb_records.specs.ReplyFrames.{reply_bytes, IsReply};
 ghost use Rattle.tb_sessions.specs.Judged.{row_of};
-ghost use Rattle.tb_embed.specs.Filling.{length_by, FitsBy};
+ghost use Rattle.tb_embed.specs.private.Filling.{length_by, FitsBy};
 
 use std::alloc::Global;
 use std::io;

@@ -1,5 +1,6 @@
 //! A room of the caller for the bytes of a reply.
-ghost use Rattle.std.specs.Prelude.{◌≡◌, ◌≤◌, ◌∷◌, true, Some, length, take};
+ghost use Rattle.std.specs.Prelude.{◌≡◌, ◌≤◌, true, length};
+ghost use Rattle.tb_embed.specs.private.Filling.{room_output};
 
 use std::io;
 use tb_records::Sink;
@@ -44,14 +45,7 @@ impl<'a> Room<'a> {
 
 // What was written begins with the name of the caller's reference, so that a room after writing is known as the room before.
 impl Sink for Room<'_> {
-    ghost output = { λ r.
-        record {
-          written = Some (r.bytes.ghost_name ∷ take r.at r.bytes.now);
-          failed = 0;
-          stalled = r.stalls;
-          halted = r.halted;
-          held = r.held;
-        } };
+    ghost output = { λ r. room_output r.bytes.ghost_name r.at r.bytes.now r.stalls r.halted r.held };
 
     fn put(&mut self, bytes: &[u8]) -> io::Result<usize> {
         let count = bytes.len().min(self.bytes.len() - self.at);

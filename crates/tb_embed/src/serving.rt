@@ -1,7 +1,7 @@
 //! The serving of one request: its frame is read, and its reply written into the caller's room.
 ghost use Rattle.std.specs.Prelude.{◌≡◌};
 ghost use Rattle.tb_embed.specs.Calls.{standing, AnswersCall, AnswersFrame, ServesFrame};
-ghost use Rattle.tb_embed.specs.Filling.{Fills};
+ghost use Rattle.tb_embed.specs.private.Filling.{Fills};
 
 use crate::outcomes::Outcome;
 use crate::replies::reply_length;
@@ -83,8 +83,7 @@ pub(crate) fn serve(
     frame: &[u8],
     reply: &mut [u8],
 ) -> Outcome
-    ensures { ServesFrame result (standing server.old.held.state) (standing server.new.held.state) moment
-        frame.now reply.new }
+    ensures { ServesFrame (standing server.old) (standing server.new) moment frame.now reply.new result }
 {
     let Some(mut held) = server.take(alloc) else {
         return Outcome::Closed

@@ -1,10 +1,6 @@
 //! Accounts and transfers shown outside sessions.
 ghost use Rattle.std.specs.Prelude.{◌≡◌, ◌≤◌, length, take};
-ghost use Rattle.std.specs.Option.{option_map};
-ghost use Rattle.tb_records.specs.RecordBytes.{account_bytes, transfer_bytes};
-ghost use Rattle.tb_ledger.specs.Books.{account_now, transfer_at};
-ghost use Rattle.tb_machine.specs.Histories.{State};
-ghost use Rattle.tb_embed.specs.Calls.{standing, ShowsOf, Shows};
+ghost use Rattle.tb_embed.specs.Calls.{ShowsOf, ShowsAccount, ShowsTransfer};
 
 use crate::outcomes::Outcome;
 use crate::servers::TbServer;
@@ -40,8 +36,7 @@ pub(crate) fn show_account(
     id: u128,
     room: &mut [u8],
 ) -> Outcome
-    ensures { Shows (λ (S : State). option_map account_bytes (account_now S.books id)) result
-        (standing server.old.held.state) (standing server.new.held.state) room.new }
+    ensures { ShowsAccount id server.old server.new room.new result }
 {
     let Some(held) = server.take(alloc) else {
         return Outcome::Closed
@@ -61,8 +56,7 @@ pub(crate) fn show_transfer(
     id: u128,
     room: &mut [u8],
 ) -> Outcome
-    ensures { Shows (λ (S : State). option_map transfer_bytes (transfer_at S.books id)) result
-        (standing server.old.held.state) (standing server.new.held.state) room.new }
+    ensures { ShowsTransfer id server.old server.new room.new result }
 {
     let Some(held) = server.take(alloc) else {
         return Outcome::Closed

@@ -1,6 +1,6 @@
 //! What the words of the command line ask for.
 ghost use Rattle.std.specs.Prelude.{◌≡◌, map, string_bytes};
-ghost use Rattle.tb_follow.specs.Forms.{form_of};
+ghost use Rattle.tb_follow.specs.private.Forms.{form_of};
 
 use tb_commands::{read_clients_max, read_profile};
 use tb_records::{ClientsMax, Profile};

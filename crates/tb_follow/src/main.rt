@@ -6,7 +6,7 @@
 #![tactic(auto)]
 
 ghost use Rattle.std.specs.Prelude.{◌≡◌};
-ghost use Rattle.tb_follow.specs.Statuses.{fault_status};
+ghost use Rattle.tb_follow.specs.private.Statuses.{fault_status};
 
 mod arguments;
 
@@ -18,13 +18,13 @@ use tb_log::{LogFault, follow};
 use tb_records::{Buffered, CLIENTS_MAX, Counting};
 
 /// The bytes of input and of output that are held at a time.
-const BUFFER: usize = 1 << 16;
+const BUFFER_BYTES: usize = 1 << 16;
 
 /// Follows the log of standard input to standard output.
 fn follow_input(rt: &HostRuntime, form: Form) -> Result<u64, LogFault> {
     let Form::Follow(clients_max, profile) = form;
-    let input = BufReader::with_capacity(rt.alloc(), BUFFER, rt.stdin());
-    let output = BufWriter::with_capacity(rt.alloc(), BUFFER, rt.stdout());
+    let input = BufReader::with_capacity(rt.alloc(), BUFFER_BYTES, rt.stdin());
+    let output = BufWriter::with_capacity(rt.alloc(), BUFFER_BYTES, rt.stdout());
     let (Ok(input), Ok(output)) = (input, output) else {
         return Err(LogFault::NoMemory);
     };

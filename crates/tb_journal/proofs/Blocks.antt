@@ -8,7 +8,7 @@ use Rattle.std.specs.Int.{w32, from_le_bytes, to_le_bytes}
 use Rattle.std.specs.Int.Bits.{bit_xor}
 use Rattle.std.specs.List.{AllByRecursion}
 use Rattle.tb_journal.specs.Checksum.{checksum, remainder, byte_on, bit_on}
-use Rattle.tb_journal.specs.Contents.{Fits, size_bytes, block, at_rest, Spoiled, Whole, behind_gate, front, Records, with_record, with_records, walk, blocks_length}
+use Rattle.tb_journal.specs.Contents.{Fits, size_bytes, block, at_rest, Spoiled, Whole, behind_latch, front, Records, with_record, with_records, walk, blocks_length}
 use Rattle.tb_journal.proofs.Walks.{walk-whole, ended}
 
 -- sizes and sums fit their bytes
@@ -63,7 +63,7 @@ front-block bytes others fits =
     let whole : take (from_le_bytes w32 (size ++ 0 ∷ [])) (bytes ++ others) ≡ bytes = take_at bytes others _ (sym count) in
     let sums : (sum == checksum (size ++ take (from_le_bytes w32 (size ++ 0 ∷ [])) (bytes ++ others))) ≡ true =
     equal _ _ (from_le_bytes-to_le_bytes_4 (checksum (size ++ bytes)) (checksum_fits (size ++ bytes) (small_append size bytes (size_small bytes) fits.bytes)) ∙ ap (λ (l : List ℕ). checksum (size ++ l)) (sym whole)) in
-    let read : behind_gate size sum (bytes ++ others) ≡ Whole bytes = choice_true _ (Whole (take (from_le_bytes w32 (size ++ 0 ∷ [])) (bytes ++ others))) Spoiled (both _ _ room sums) ∙ ap Whole whole in
+    let read : behind_latch size sum (bytes ++ others) ≡ Whole bytes = choice_true _ (Whole (take (from_le_bytes w32 (size ++ 0 ∷ [])) (bytes ++ others))) Spoiled (both _ _ room sums) ∙ ap Whole whole in
     read
   where
     room_for : (a b : ℕ) → a ≤ b → nat_le a b ≡ true

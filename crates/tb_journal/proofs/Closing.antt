@@ -4,7 +4,7 @@ use Rattle.std.specs.Prelude.{set}
 use Rattle.std.proofs.lemmas.List.{take-take, take_at, take_all, drop-take, drop-append-le, take_more_set, length-take-le, length-set}
 use Rattle.tb_journal.specs.declared.faults.Fault.{Fault}
 use Rattle.tb_journal.specs.Device.{ReadsAt}
-use Rattle.tb_journal.specs.Hops.{Closes}
+use Rattle.tb_journal.specs.private.Hops.{Closes}
 
 module _ (end at count : ℕ) (file read : List ℕ) (within : at ≤ end) (there : end ≤ length file) (reads : ReadsAt count at file read) where
   abbrev left : ℕ

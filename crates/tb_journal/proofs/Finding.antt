@@ -9,7 +9,7 @@ use Rattle.tb_journal.specs.Contents.{Front, Ends, front, Contents, NotAJournal,
 use Rattle.tb_journal.specs.Scans.{BeginsWith}
 use Rattle.tb_journal.specs.Growing.{Later, Grown}
 use Rattle.tb_journal.specs.Snapshots.{Snapped, LeadsTo, IsFinal, ShowsBlocks, ShowsAll, ShowsOf, IsHeld, Takes, Refreshes}
-use Rattle.tb_journal.specs.Hops.{LeadsFrom, HasPiece, IsFound, GoesOn, HopsOn, TellsLatch, Grows, HopsFrom, Finds, FindsMore, ReadsBlocks}
+use Rattle.tb_journal.specs.private.Hops.{LeadsFrom, HasPiece, IsFound, GoesOn, HopsOn, TellsLatch, Grows, HopsFrom, Finds, FindsMore, ReadsBlocks}
 use Rattle.tb_journal.proofs.Growths.{final_later, later_same, later_then, leads_within, leads_kept, leads_later}
 use Rattle.tb_journal.proofs.Showing.{shown_length, shown_contents, shows_still, shows_more, held_grown, reads_ahead}
 

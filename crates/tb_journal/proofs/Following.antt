@@ -2,11 +2,11 @@
 use Rattle.std.proofs.Common.{◌≡◌, ◌≢◌, ◌⊎◌, inl, inr, ⊎_elim, ℕ, suc, ◌+◌, ◌-◌, ◌≤◌, ◌<◌, ◌==◌, Bool, true, false, List, [], ◌∷◌, ◌++◌, length, take, drop, refl, sym, ◌∙◌, ap, subst, arith, if◌then◌else◌, length-drop}
 use Rattle.std.proofs.lemmas.Grind.{common_steps}
 use Rattle.std.specs.Int.{w32, from_le_bytes}
-use Rattle.tb_journal.specs.Contents.{Front, Ends, Spoiled, Whole, behind_gate, front, Damaged, contents, records_end}
+use Rattle.tb_journal.specs.Contents.{Front, Ends, Spoiled, Whole, behind_latch, front, Damaged, contents, records_end}
 use Rattle.tb_journal.specs.Scans.{BeginsWith}
 use Rattle.tb_journal.specs.Reading.{asked}
 use Rattle.tb_journal.specs.Reading.{HasAhead}
-use Rattle.tb_journal.specs.Hops.{HopsTo, LeadsFrom, HasPiece}
+use Rattle.tb_journal.specs.private.Hops.{HopsTo, LeadsFrom, HasPiece}
 use Rattle.tb_journal.specs.declared.hops.Hop.{Hop}
 use Rattle.tb_journal.specs.declared.hops.Hop.TheVariants as hops
 use Rattle.tb_journal.specs.Growing.{Later}
@@ -36,7 +36,7 @@ asked_whole (g ∷ a ∷ b ∷ c ∷ s ∷ t ∷ u ∷ []) r is = absurd (never 
 asked_whole (g ∷ a ∷ b ∷ c ∷ s ∷ t ∷ u ∷ v ∷ rest) r is =
     let size = a ∷ b ∷ c ∷ [] in
     let sum = from_le_bytes w32 (s ∷ t ∷ u ∷ v ∷ []) in
-    behind_size (g == 0) (from_le_bytes w32 (size ++ 0 ∷ [])) (behind_gate size sum rest) r (λ whole. (stays_behind size sum rest r whole).count) is
+    behind_size (g == 0) (from_le_bytes w32 (size ++ 0 ∷ [])) (behind_latch size sum rest) r (λ whole. (stays_behind size sum rest r whole).count) is
 
 -- behind the records that a file begins with
 

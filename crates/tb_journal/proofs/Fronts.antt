@@ -5,7 +5,7 @@ use Rattle.std.proofs.lemmas.List.{take_all, take-take}
 use Rattle.std.proofs.lemmas.Bool.{cases_lt}
 use Rattle.std.proofs.lemmas.Bool.Decides.{nat_tests}
 use Rattle.std.specs.Int.{w32, from_le_bytes}
-use Rattle.tb_journal.specs.Contents.{Ends, behind_gate, front}
+use Rattle.tb_journal.specs.Contents.{Ends, behind_latch, front}
 use Rattle.tb_journal.specs.Scans.{IsAhead}
 use Rattle.tb_journal.specs.Reading.{HasAhead, FindsHead, asked}
 
@@ -18,12 +18,12 @@ within a b h = grind (arith, nat_tests)
 same_test : (n x y k : ℕ) → x ≡ min k y → n ≤ k → nat_le n x ≡ nat_le n y
 same_test n x y k is le = grind (arith, common_steps, ⊎_elim, cases_lt y n)
 
-behind_same : (size : List ℕ) (sum k : ℕ) (rest : List ℕ) → from_le_bytes w32 (size ++ 0 ∷ []) ≤ k → behind_gate size sum (take k rest) ≡ behind_gate size sum rest
+behind_same : (size : List ℕ) (sum k : ℕ) (rest : List ℕ) → from_le_bytes w32 (size ++ 0 ∷ []) ≤ k → behind_latch size sum (take k rest) ≡ behind_latch size sum rest
 behind_same size sum k rest le = search (rules, same_test, length-take, take-take)
 
-gate_same : (closed : Bool) (size : List ℕ) (sum k : ℕ) (rest : List ℕ) → (closed ≡ false → from_le_bytes w32 (size ++ 0 ∷ []) ≤ k)
-    → (if closed then Ends else behind_gate size sum (take k rest)) ≡ (if closed then Ends else behind_gate size sum rest)
-gate_same closed size sum k rest le = grind (arith, common_steps, behind_same)
+latch_same : (closed : Bool) (size : List ℕ) (sum k : ℕ) (rest : List ℕ) → (closed ≡ false → from_le_bytes w32 (size ++ 0 ∷ []) ≤ k)
+    → (if closed then Ends else behind_latch size sum (take k rest)) ≡ (if closed then Ends else behind_latch size sum rest)
+latch_same closed size sum k rest le = grind (arith, common_steps, behind_same)
 
 pub at_least : (closed : Bool) (n : ℕ) → 8 ≤ (if closed then 8 else 8 + n)
 at_least closed n = grind (arith, common_steps)
@@ -49,7 +49,7 @@ front_told m (g ∷ a ∷ b ∷ c ∷ s ∷ t ∷ u ∷ v ∷ rest) le =
     let k = m - 8 in
     let far : m ≡ suc (suc (suc (suc (suc (suc (suc (suc k))))))) = omega (arith, le, at_least (g == 0) n) in
     ap (λ (j : ℕ). front (take j (g ∷ a ∷ b ∷ c ∷ s ∷ t ∷ u ∷ v ∷ rest))) far
-    ∙ gate_same (g == 0) (a ∷ b ∷ c ∷ []) (from_le_bytes w32 (s ∷ t ∷ u ∷ v ∷ [])) k rest (behind_open (g == 0) n m le)
+    ∙ latch_same (g == 0) (a ∷ b ∷ c ∷ []) (from_le_bytes w32 (s ∷ t ∷ u ∷ v ∷ [])) k rest (behind_open (g == 0) n m le)
 
 -- and four bytes give how many
 pub asked_told : (m : ℕ) (l : List ℕ) → 4 ≤ m → asked (take m l) ≡ asked l

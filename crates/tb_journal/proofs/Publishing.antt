@@ -8,7 +8,7 @@ use Rattle.tb_journal.specs.Contents.{Fits, at_rest, Records, contents, records_
 use Rattle.tb_journal.specs.Steps.{IsWhole, IsBeforeOrAfter, Overwrites, Publishes}
 use Rattle.tb_journal.proofs.Moments.{then, weaker}
 use Rattle.tb_journal.proofs.Causes.{has_cause_since}
-use Rattle.tb_journal.proofs.Steps.{length_file, behind_torn, written_behind, reads_new, gate_torn, opened, closed_new}
+use Rattle.tb_journal.proofs.Steps.{length_file, behind_torn, written_behind, reads_new, latch_torn, opened, closed_new}
 
 -- a file that reads as these records, with its closed latch, is whole
 pub wholly : (disk : Disk) (records : List (List ℕ)) → contents disk.seen ≡ Records records
@@ -67,18 +67,18 @@ module _ (before : Disk) (rest : IsWhole before) (batch tail : List ℕ) (record
     staged : mid.seen ≡ take (records_end olds) before.seen ++ (0 ∷ tail)
     staged = written_behind before.seen olds rest.reads rest.closed tail mid.seen (done ∙ ap (λ (e : ℕ). overwritten before.seen (e + 1) tail) ends)
 
-    gate : (c : List ℕ) → Torn end 1 mid.seen c → IsBeforeOrAfter olds records c
-    gate c torn = grind (arith, common_steps, gate_torn, opens, staged)
+    latch : (c : List ℕ) → Torn end 1 mid.seen c → IsBeforeOrAfter olds records c
+    latch c torn = grind (arith, common_steps, latch_torn, opens, staged)
 
-    pub gate_done : (after : Disk) (second : Result (Unit {0}) Fault)
+    pub latch_done : (after : Disk) (second : Result (Unit {0}) Fault)
         → Overwrites end (255 ∷ []) second mid after → Publishes records second before after
-    gate_done after second opened_gate = record {
-      ok = finished second opened_gate.ok;
-      settled = λ settled. opened_gate.settled (mid_settled settled);
+    latch_done after second opened_latch = record {
+      ok = finished second opened_latch.ok;
+      settled = λ settled. opened_latch.settled (mid_settled settled);
       any_moment = λ settled. then before mid after (IsBeforeOrAfter olds records)
           (weaker before mid (Torn (end + 1) (length tail) before.seen) (IsBeforeOrAfter olds records) behind (stage.any_moment settled))
-          (weaker mid after (Torn end 1 mid.seen) (IsBeforeOrAfter olds records) gate (opened_gate.any_moment (mid_settled settled)));
-      cause = has_cause_since before mid after second (on_ok result (FailsNone before mid) is stage.cause.ok) opened_gate.cause;
+          (weaker mid after (Torn end 1 mid.seen) (IsBeforeOrAfter olds records) latch (opened_latch.any_moment (mid_settled settled)));
+      cause = has_cause_since before mid after second (on_ok result (FailsNone before mid) is stage.cause.ok) opened_latch.cause;
     }
       where
         finished : (r : Result (Unit {0}) Fault)

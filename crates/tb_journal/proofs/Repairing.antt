@@ -46,13 +46,13 @@ module _ (before : Disk) (reads : contents before.seen ≡ Records (recorded bef
     closing c torn = close_torn before.seen olds reads c (subst (λ (f : List ℕ). Torn (records_end olds) 1 f c) is_cut (subst (λ (e : ℕ). Torn e 1 mid.seen c) ends torn))
 
     pub repair_done : (after : Disk) (second : Result (Unit {0}) Fault) → Overwrites end (0 ∷ []) second mid after → Repairs second before after
-    repair_done after second gate = record {
-      ok = finished second gate.ok;
-      settled = λ settled. gate.settled (mid_settled settled);
+    repair_done after second latch = record {
+      ok = finished second latch.ok;
+      settled = λ settled. latch.settled (mid_settled settled);
       any_moment = λ settled. then before mid after Same
           (weaker before mid (Cut end before.seen) Same shorter_same (cut.any_moment settled))
-          (weaker mid after (Torn end 1 mid.seen) Same closing (gate.any_moment (mid_settled settled)));
-      cause = has_cause_since before mid after second (on_ok result (FailsNone before mid) is cut.cause.ok) gate.cause;
+          (weaker mid after (Torn end 1 mid.seen) Same closing (latch.any_moment (mid_settled settled)));
+      cause = has_cause_since before mid after second (on_ok result (FailsNone before mid) is cut.cause.ok) latch.cause;
     }
       where
         finished : (r : Result (Unit {0}) Fault) → OnOk r (after.seen ≡ overwritten mid.seen end (0 ∷ []))

@@ -2,7 +2,7 @@
 use Rattle.std.proofs.Common.{◌≡◌, ℕ, ◌+◌, List, ◌++◌, length, take, drop, refl, ◌∙◌, ap, subst}
 use Rattle.std.proofs.lemmas.List.{take_at, drop_at}
 use Rattle.tb_journal.specs.Contents.{Fits, block}
-use Rattle.tb_journal.specs.Batches.{blank_numbers}
+use Rattle.tb_journal.specs.private.Batches.{blank_numbers}
 use Rattle.tb_journal.proofs.Walks.{drop_parts}
 
 module _ (old content was : List ℕ) (n : ℕ) (long : length old ≡ n) (is : was ≡ old ++ (blank_numbers ++ content)) where

@@ -4,26 +4,26 @@ use Rattle.std.proofs.lemmas.Grind.{common_steps}
 use Rattle.std.proofs.lemmas.List.{append-nil, take_at, drop_at, take_all, drop_all, drop_more, take-take, length-take-le}
 use Rattle.std.specs.List.{AllByRecursion}
 use Rattle.tb_journal.specs.Device.{Torn, Cut, overwritten}
-use Rattle.tb_journal.specs.Contents.{Fits, block, at_rest, Front, Ends, behind_gate, front, Records, joined, skipped, walk, contents, blocks_length, records_end}
+use Rattle.tb_journal.specs.Contents.{Fits, block, at_rest, Front, Ends, behind_latch, front, Records, joined, skipped, walk, contents, blocks_length, records_end}
 use Rattle.tb_journal.proofs.Walks.{take_parts, IsFile, is_file, with_records-Records, ended}
 use Rattle.tb_journal.proofs.Blocks.{walk-at_rest, length-blocks}
 
--- gates
+-- latches
 
 -- a closed latch ends the records, whatever follows it
-pub closed_gate : (gate : ℕ) (behind : List ℕ) → (gate == 0) ≡ true → front (gate ∷ behind) ≡ Ends
-closed_gate gate behind h = grind (arith, common_steps)
+pub closed_latch : (latch : ℕ) (behind : List ℕ) → (latch == 0) ≡ true → front (latch ∷ behind) ≡ Ends
+closed_latch latch behind h = grind (arith, common_steps)
 
 -- any other latch is as good as the one that is written
-any_gate : (gate : ℕ) (behind : List ℕ) → (gate == 0) ≡ false → front (gate ∷ behind) ≡ front (255 ∷ behind)
-any_gate gate behind h = grind (arith, common_steps)
+any_latch : (latch : ℕ) (behind : List ℕ) → (latch == 0) ≡ false → front (latch ∷ behind) ≡ front (255 ∷ behind)
+any_latch latch behind h = grind (arith, common_steps)
 
-walk-any_gate : (gate at : ℕ) (behind : List ℕ) → (gate == 0) ≡ false → walk 0 at (gate ∷ behind) ≡ walk 0 at (255 ∷ behind)
-walk-any_gate g at behind h = ap (λ (f : Front). joined f at (walk (skipped f) (at + 1) behind)) (any_gate g behind h)
+walk-any_latch : (latch at : ℕ) (behind : List ℕ) → (latch == 0) ≡ false → walk 0 at (latch ∷ behind) ≡ walk 0 at (255 ∷ behind)
+walk-any_latch g at behind h = ap (λ (f : Front). joined f at (walk (skipped f) (at + 1) behind)) (any_latch g behind h)
 
 -- what ends the records ends them where it is truncated
 
-behind_never : (b : Bool) (size : List ℕ) (sum : ℕ) (rest : List ℕ) → (if b then Ends else behind_gate size sum rest) ≡ Ends → b ≡ true
+behind_never : (b : Bool) (size : List ℕ) (sum : ℕ) (rest : List ℕ) → (if b then Ends else behind_latch size sum rest) ≡ Ends → b ≡ true
 behind_never b size sum rest is = grind (arith, common_steps)
 
 ends_at : (g a : ℕ) (rest : List ℕ) → front (g ∷ a ∷ rest) ≡ Ends → (g == 0) ≡ true
@@ -83,69 +83,69 @@ module _ (file : List ℕ) (records : List (List ℕ)) (reads : contents file �
 -- a file at rest: its blocks, and a closed latch
 
 module _ (file : List ℕ) (records : List (List ℕ)) (reads : contents file ≡ Records records) (closed : file ≡ take (records_end records) file ++ 0 ∷ []) where
-  abbrev gate_at : ℕ
-  gate_at = records_end records
+  abbrev latch_at : ℕ
+  latch_at = records_end records
 
-  pub length_file : length file ≡ gate_at + 1
-  length_file = ap length closed ∙ length-append (take gate_at file) (0 ∷ []) ∙ ap (λ (n : ℕ). n + 1) (length_front file records reads)
+  pub length_file : length file ≡ latch_at + 1
+  length_file = ap length closed ∙ length-append (take latch_at file) (0 ∷ []) ∙ ap (λ (n : ℕ). n + 1) (length_front file records reads)
 
   -- the closed latch is in each outcome of a write behind it
-  pub behind_torn : (n : ℕ) (c : List ℕ) → Torn (gate_at + 1) n file c → contents c ≡ Records records
+  pub behind_torn : (n : ℕ) (c : List ℕ) → Torn (latch_at + 1) n file c → contents c ≡ Records records
   behind_torn n c torn =
       let long = length_file in
-      let begins : take (gate_at + 1) c ≡ take gate_at file ++ 0 ∷ [] = torn.before ∙ take_all (gate_at + 1) file (omega (arith, long)) ∙ closed in
-      let whole : c ≡ take gate_at file ++ (0 ∷ drop (gate_at + 1) c) =
-      sym (take-append-drop (gate_at + 1) c) ∙ ap (λ (l : List ℕ). l ++ drop (gate_at + 1) c) begins ∙ append_assoc (take gate_at file) (0 ∷ []) (drop (gate_at + 1) c) in
-      ap contents whole ∙ with_end file records reads (0 ∷ drop (gate_at + 1) c) (closed_gate 0 (drop (gate_at + 1) c) refl)
+      let begins : take (latch_at + 1) c ≡ take latch_at file ++ 0 ∷ [] = torn.before ∙ take_all (latch_at + 1) file (omega (arith, long)) ∙ closed in
+      let whole : c ≡ take latch_at file ++ (0 ∷ drop (latch_at + 1) c) =
+      sym (take-append-drop (latch_at + 1) c) ∙ ap (λ (l : List ℕ). l ++ drop (latch_at + 1) c) begins ∙ append_assoc (take latch_at file) (0 ∷ []) (drop (latch_at + 1) c) in
+      ap contents whole ∙ with_end file records reads (0 ∷ drop (latch_at + 1) c) (closed_latch 0 (drop (latch_at + 1) c) refl)
 
-  pub written_behind : (tail c : List ℕ) → c ≡ overwritten file (gate_at + 1) tail → c ≡ take gate_at file ++ (0 ∷ tail)
+  pub written_behind : (tail c : List ℕ) → c ≡ overwritten file (latch_at + 1) tail → c ≡ take latch_at file ++ (0 ∷ tail)
   written_behind tail c is = search (rules, length_file, take_all, drop_all, append-nil, append_assoc)
 
   module _ (tail : List ℕ) (new : List (List ℕ)) (opens : 255 ∷ tail ≡ at_rest new) (fits : AllByRecursion Fits new) where
-    front_staged : take gate_at (take gate_at file ++ (0 ∷ tail)) ≡ take gate_at file
-    front_staged = take_at (take gate_at file) (0 ∷ tail) gate_at (length_front file records reads)
+    front_staged : take latch_at (take latch_at file ++ (0 ∷ tail)) ≡ take latch_at file
+    front_staged = take_at (take latch_at file) (0 ∷ tail) latch_at (length_front file records reads)
 
-    back_staged : drop (gate_at + 1) (take gate_at file ++ (0 ∷ tail)) ≡ tail
+    back_staged : drop (latch_at + 1) (take latch_at file ++ (0 ∷ tail)) ≡ tail
     back_staged =
-        search (rules, length_front file records reads, append_assoc (take gate_at file) (0 ∷ []) tail, drop_at, length-append (take gate_at file) (0 ∷ []))
+        search (rules, length_front file records reads, append_assoc (take latch_at file) (0 ∷ []) tail, drop_at, length-append (take latch_at file) (0 ∷ []))
 
-    pub long_staged : length (take gate_at file ++ (0 ∷ tail)) ≡ gate_at + suc (length tail)
-    long_staged = length-append (take gate_at file) (0 ∷ tail) ∙ ap (λ (n : ℕ). n + suc (length tail)) (length_front file records reads)
+    pub long_staged : length (take latch_at file ++ (0 ∷ tail)) ≡ latch_at + suc (length tail)
+    long_staged = length-append (take latch_at file) (0 ∷ tail) ∙ ap (λ (n : ℕ). n + suc (length tail)) (length_front file records reads)
 
-    pub reads_new : contents (take gate_at file ++ (255 ∷ tail)) ≡ Records (records ++ new)
+    pub reads_new : contents (take latch_at file ++ (255 ∷ tail)) ≡ Records (records ++ new)
     reads_new =
-        grind (arith, common_steps, is_file file records reads, walk-at_rest new gate_at fits, with_records-Records records new)
+        grind (arith, common_steps, is_file file records reads, walk-at_rest new latch_at fits, with_records-Records records new)
 
     -- the blocks are whole in each outcome of the write of the latch
-    pub gate_torn : (c : List ℕ) → Torn gate_at 1 (take gate_at file ++ (0 ∷ tail)) c → (contents c ≡ Records records) ⊎ (contents c ≡ Records (records ++ new))
-    gate_torn c torn =
+    pub latch_torn : (c : List ℕ) → Torn latch_at 1 (take latch_at file ++ (0 ∷ tail)) c → (contents c ≡ Records records) ⊎ (contents c ≡ Records (records ++ new))
+    latch_torn c torn =
         let long = long_staged in
-        let gate = get_or c gate_at 0 in
-        let rest : drop gate_at c ≡ gate ∷ tail = drop_more c gate_at 0 (omega (arith, torn.no_shorter, long)) ∙ ap (λ (l : List ℕ). gate ∷ l) (torn.after ∙ back_staged) in
-        let whole : c ≡ take gate_at file ++ (gate ∷ tail) =
-        sym (take-append-drop gate_at c) ∙ ap (λ (l : List ℕ). l ++ drop gate_at c) (torn.before ∙ front_staged) ∙ ap (λ (l : List ℕ). take gate_at file ++ l) rest in
-        by_gate c gate whole (gate == 0) refl
+        let latch = get_or c latch_at 0 in
+        let rest : drop latch_at c ≡ latch ∷ tail = drop_more c latch_at 0 (omega (arith, torn.no_shorter, long)) ∙ ap (λ (l : List ℕ). latch ∷ l) (torn.after ∙ back_staged) in
+        let whole : c ≡ take latch_at file ++ (latch ∷ tail) =
+        sym (take-append-drop latch_at c) ∙ ap (λ (l : List ℕ). l ++ drop latch_at c) (torn.before ∙ front_staged) ∙ ap (λ (l : List ℕ). take latch_at file ++ l) rest in
+        by_latch c latch whole (latch == 0) refl
       where
-        by_gate : (c : List ℕ) (gate : ℕ) → c ≡ take gate_at file ++ (gate ∷ tail) → (b : Bool) → (gate == 0) ≡ b → (contents c ≡ Records records) ⊎ (contents c ≡ Records (records ++ new))
-        by_gate c gate whole true is = inl (ap contents whole ∙ with_end file records reads (gate ∷ tail) (closed_gate gate tail is))
-        by_gate c gate whole false is =
-            grind (arith, common_steps, is_file file records reads, walk-any_gate gate gate_at tail is, reads_new)
+        by_latch : (c : List ℕ) (latch : ℕ) → c ≡ take latch_at file ++ (latch ∷ tail) → (b : Bool) → (latch == 0) ≡ b → (contents c ≡ Records records) ⊎ (contents c ≡ Records (records ++ new))
+        by_latch c latch whole true is = inl (ap contents whole ∙ with_end file records reads (latch ∷ tail) (closed_latch latch tail is))
+        by_latch c latch whole false is =
+            grind (arith, common_steps, is_file file records reads, walk-any_latch latch latch_at tail is, reads_new)
 
-    pub opened : (c : List ℕ) → c ≡ overwritten (take gate_at file ++ (0 ∷ tail)) gate_at (255 ∷ []) → c ≡ take gate_at file ++ (255 ∷ tail)
+    pub opened : (c : List ℕ) → c ≡ overwritten (take latch_at file ++ (0 ∷ tail)) latch_at (255 ∷ []) → c ≡ take latch_at file ++ (255 ∷ tail)
     opened c is = grind (arith, common_steps, front_staged, back_staged)
 
     blocks_length-append : (xs ys : List (List ℕ)) → blocks_length (xs ++ ys) ≡ blocks_length xs + blocks_length ys
     blocks_length-append [] ys = sym (let e : 0 + blocks_length ys ≡ blocks_length ys = omega arith in e)
     blocks_length-append (x ∷ xs) ys = omega (arith, blocks_length-append xs ys)
 
-    pub end_new : records_end (records ++ new) ≡ gate_at + blocks_length new
+    pub end_new : records_end (records ++ new) ≡ latch_at + blocks_length new
     end_new = omega (arith, blocks_length-append records new)
 
-    pub closed_new : take gate_at file ++ (255 ∷ tail) ≡ take (records_end (records ++ new)) (take gate_at file ++ (255 ∷ tail)) ++ 0 ∷ []
+    pub closed_new : take latch_at file ++ (255 ∷ tail) ≡ take (records_end (records ++ new)) (take latch_at file ++ (255 ∷ tail)) ++ 0 ∷ []
     closed_new =
-        let all : take gate_at file ++ (255 ∷ tail) ≡ (take gate_at file ++ flat_map block new) ++ 0 ∷ [] =
-        ap (λ (l : List ℕ). take gate_at file ++ l) opens ∙ sym (append_assoc (take gate_at file) (flat_map block new) (0 ∷ [])) in
-        let long : length (take gate_at file ++ flat_map block new) ≡ records_end (records ++ new) =
-        length-append (take gate_at file) (flat_map block new) ∙ ap (λ (n : ℕ). n + length (flat_map block new)) (length_front file records reads)
-        ∙ ap (λ (n : ℕ). gate_at + n) (length-blocks new) ∙ sym end_new in
-        all ∙ ap (λ (l : List ℕ). l ++ 0 ∷ []) (sym (ap (take (records_end (records ++ new))) all ∙ take_at (take gate_at file ++ flat_map block new) (0 ∷ []) (records_end (records ++ new)) long))
+        let all : take latch_at file ++ (255 ∷ tail) ≡ (take latch_at file ++ flat_map block new) ++ 0 ∷ [] =
+        ap (λ (l : List ℕ). take latch_at file ++ l) opens ∙ sym (append_assoc (take latch_at file) (flat_map block new) (0 ∷ [])) in
+        let long : length (take latch_at file ++ flat_map block new) ≡ records_end (records ++ new) =
+        length-append (take latch_at file) (flat_map block new) ∙ ap (λ (n : ℕ). n + length (flat_map block new)) (length_front file records reads)
+        ∙ ap (λ (n : ℕ). latch_at + n) (length-blocks new) ∙ sym end_new in
+        all ∙ ap (λ (l : List ℕ). l ++ 0 ∷ []) (sym (ap (take (records_end (records ++ new))) all ∙ take_at (take latch_at file ++ flat_map block new) (0 ∷ []) (records_end (records ++ new)) long))

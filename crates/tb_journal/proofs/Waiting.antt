@@ -4,7 +4,7 @@ use Rattle.std.proofs.lemmas.Grind.{flat_map-append}
 use Rattle.std.proofs.lemmas.List.{append-nil}
 use Rattle.std.specs.List.{AllByRecursion}
 use Rattle.tb_journal.specs.Contents.{Fits, block, at_rest, records_of, blocks_length}
-use Rattle.tb_journal.specs.Batches.{waiting_in, IsBatch}
+use Rattle.tb_journal.specs.private.Batches.{waiting_in, IsBatch}
 use Rattle.tb_journal.proofs.Blocks.{walk-at_rest, length-blocks}
 
 all_small : (bytes : List ℕ) → ((i : ℕ) → get_or bytes i 0 < 256) → AllByRecursion (λ byte. byte < 256) bytes

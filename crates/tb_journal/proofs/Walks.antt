@@ -7,7 +7,7 @@ use Rattle.std.proofs.lemmas.Slice.Eq.{slice_eq-Decides}
 use Rattle.std.specs.Int.{w32, from_le_bytes}
 use Rattle.std.specs.List.{starts_with}
 pub use Rattle.tb_journal.specs.Shown.{drop_parts}
-use Rattle.tb_journal.specs.Contents.{magic, Front, Ends, Spoiled, Whole, behind_gate, front, Contents, NotAJournal, Damaged, Records, with_record, with_records, walk, contents, blocks_length, records_end}
+use Rattle.tb_journal.specs.Contents.{magic, Front, Ends, Spoiled, Whole, behind_latch, front, Contents, NotAJournal, Damaged, Records, with_record, with_records, walk, contents, blocks_length, records_end}
 
 -- lists
 
@@ -66,9 +66,9 @@ pub record StaysBehind (size : List ℕ) (sum : ℕ) (rest record_bytes : List �
   pub count : from_le_bytes w32 (size ++ 0 ∷ []) ≡ length record_bytes
   pub within : length record_bytes ≤ length rest
   pub is : take (length record_bytes) rest ≡ record_bytes
-  pub stays : (others : List ℕ) → behind_gate size sum (take (length record_bytes) rest ++ others) ≡ Whole record_bytes
+  pub stays : (others : List ℕ) → behind_latch size sum (take (length record_bytes) rest ++ others) ≡ Whole record_bytes
 
-pub stays_behind : (size : List ℕ) (sum : ℕ) (rest record_bytes : List ℕ) → behind_gate size sum rest ≡ Whole record_bytes → StaysBehind size sum rest record_bytes
+pub stays_behind : (size : List ℕ) (sum : ℕ) (rest record_bytes : List ℕ) → behind_latch size sum rest ≡ Whole record_bytes → StaysBehind size sum rest record_bytes
 stays_behind size sum rest r is =
     search (rules, whole_choice, both_true, length-take-le, take_at, room_for, length-append, choice_true, both)
   where
@@ -90,7 +90,7 @@ is_whole (g ∷ a ∷ b ∷ c ∷ s ∷ t ∷ u ∷ []) r is = absurd (never (g 
 is_whole (g ∷ a ∷ b ∷ c ∷ s ∷ t ∷ u ∷ v ∷ rest) r is =
     let size = a ∷ b ∷ c ∷ [] in
     let sum = from_le_bytes w32 (s ∷ t ∷ u ∷ v ∷ []) in
-    let chosen = open_choice (g == 0) (behind_gate size sum rest) r is in
+    let chosen = open_choice (g == 0) (behind_latch size sum rest) r is in
     let kept = stays_behind size sum rest r chosen.1 in
     let far : 8 + length r ≡ suc (suc (suc (suc (suc (suc (suc (suc (length r)))))))) = omega arith in
     record {
@@ -99,7 +99,7 @@ is_whole (g ∷ a ∷ b ∷ c ∷ s ∷ t ∷ u ∷ v ∷ rest) r is =
       stays = λ others.
           let head = take (length r) rest ++ others in
           ap (λ (k : ℕ). front (take k (g ∷ a ∷ b ∷ c ∷ s ∷ t ∷ u ∷ v ∷ rest) ++ others)) far
-          ∙ choice_false (g == 0) Ends (behind_gate size sum head) chosen.0 ∙ kept.stays others;
+          ∙ choice_false (g == 0) Ends (behind_latch size sum head) chosen.0 ∙ kept.stays others;
     }
 
 -- what a walk that finds records says of its bytes

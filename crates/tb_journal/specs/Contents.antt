@@ -37,17 +37,17 @@ pub data Front : Type 0 where
   Whole : List ℕ → Front
 
 -- behind an open latch: the length, the checksum, and what follows
-abbrev pub behind_gate : List ℕ → ℕ → List ℕ → Front
-behind_gate size sum rest =
+abbrev pub behind_latch : List ℕ → ℕ → List ℕ → Front
+behind_latch size sum rest =
     let count = from_le_bytes w32 (size ++ 0 ∷ []) in
     if nat_le count (length rest) && (sum == checksum (size ++ take count rest)) then Whole (take count rest) else Spoiled
 
 -- a latch of 0 is closed, and one with nothing behind it ends the records too
 abbrev pub front : List ℕ → Front
 front [] = Ends
-front (gate ∷ []) = Ends
-front (gate ∷ a ∷ b ∷ c ∷ s ∷ t ∷ u ∷ v ∷ rest) = if gate == 0 then Ends else behind_gate (a ∷ b ∷ c ∷ []) (from_le_bytes w32 (s ∷ t ∷ u ∷ v ∷ [])) rest
-front (gate ∷ behind) = if gate == 0 then Ends else Spoiled
+front (latch ∷ []) = Ends
+front (latch ∷ a ∷ b ∷ c ∷ s ∷ t ∷ u ∷ v ∷ rest) = if latch == 0 then Ends else behind_latch (a ∷ b ∷ c ∷ []) (from_le_bytes w32 (s ∷ t ∷ u ∷ v ∷ [])) rest
+front (latch ∷ behind) = if latch == 0 then Ends else Spoiled
 
 -- a file is no journal, is damaged at a place, or has records
 pub data Contents : Type 0 where
@@ -81,7 +81,7 @@ skipped other = 0
 abbrev pub walk : ℕ → ℕ → List ℕ → Contents
 walk skip at [] = Records []
 walk (suc skip) at (byte ∷ bytes) = walk skip (at + 1) bytes
-walk zero at (gate ∷ behind) = joined (front (gate ∷ behind)) at (walk (skipped (front (gate ∷ behind))) (at + 1) behind)
+walk zero at (latch ∷ behind) = joined (front (latch ∷ behind)) at (walk (skipped (front (latch ∷ behind))) (at + 1) behind)
 
 abbrev pub contents : List ℕ → Contents
 contents file = if starts_with nat_eq file magic then walk 0 8 (drop 8 file) else NotAJournal
@@ -109,8 +109,8 @@ pub nothing_is_no_journal : contents [] ≡ NotAJournal
 nothing_is_no_journal = refl
 
 -- a closed latch ends the records, whatever follows
-pub ends_at_a_closed_gate : contents (codes "TBJRNL01" ++ 0 ∷ 7 ∷ 7 ∷ []) ≡ Records []
-ends_at_a_closed_gate = refl
+pub ends_at_a_closed_latch : contents (codes "TBJRNL01" ++ 0 ∷ 7 ∷ 7 ∷ []) ≡ Records []
+ends_at_a_closed_latch = refl
 
 -- an open latch with nothing behind it ends them too
 pub ends_at_the_end : contents (codes "TBJRNL01" ++ 255 ∷ []) ≡ Records []

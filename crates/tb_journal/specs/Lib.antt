@@ -1,4 +1,3 @@
--- what public contracts cite, or reach through what they cite
 pub mod Faults
 pub mod Device
 pub mod Checksum
@@ -18,7 +17,4 @@ pub mod System
 pub mod Growing
 pub mod Snapshots
 pub mod GrowingLaws
--- what private contracts alone cite
-pub mod Batches
-pub mod Hops
-pub mod Posix
+pub mod private

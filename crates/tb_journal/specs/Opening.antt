@@ -1,6 +1,6 @@
 -- How a journal is opened, and what stays of its file.
--- Cited by public contracts of: creating, opening, scans.
-use Rattle.std.specs.Prelude.{◌≡◌, ◌⊎◌, ℕ, ◌≤◌, ◌^◌, List, [], length, Result, Ok, Err, IfErr, OnOk}
+-- Cited by public contracts of: opening, scans.
+use Rattle.std.specs.Prelude.{◌≡◌, ◌⊎◌, ℕ, ◌≤◌, ◌^◌, List, [], length, Result, Ok, Err, IfErr, OnOk, true}
 use Rattle.tb_journal.specs.declared.faults.Fault.{Fault}
 use Rattle.tb_journal.specs.declared.faults.Fault.TheVariants as faults
 use Rattle.tb_journal.specs.declared.reading.Extent.{Extent}
@@ -86,3 +86,7 @@ pub record Repairs (result : Result (Unit {0}) Fault) (before after : Disk) : Ty
   pub settled : IsSettled before → OnOk result (IsSettled after)
   pub any_moment : IsSettled before → LeavesOnly before after (λ file. contents file ≡ Records (recorded before.seen))
   pub cause : HasCause result before after
+
+-- where no sync has failed before, a crash at any moment leaves the same records
+abbrev pub LeavesSameRecords : Disk → Disk → Type 0
+LeavesSameRecords before after = before.sound ≡ true → LeavesOnly before after (λ file. contents file ≡ Records (recorded before.seen))

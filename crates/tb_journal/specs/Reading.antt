@@ -36,7 +36,7 @@ TellsExtent (Err (open_faults.Device fault)) file = Unit {0}
 -- so many bytes of a file from a place on say what is there: the parts of a block that have a fixed length, and
 -- the record where the latch is open
 abbrev pub asked : List ℕ → ℕ
-asked (gate ∷ a ∷ b ∷ c ∷ rest) = if gate == 0 then 8 else 8 + from_le_bytes w32 (a ∷ b ∷ c ∷ 0 ∷ [])
+asked (latch ∷ a ∷ b ∷ c ∷ rest) = if latch == 0 then 8 else 8 + from_le_bytes w32 (a ∷ b ∷ c ∷ 0 ∷ [])
 asked other = 8
 
 -- what a window on a file has: the bytes that were taken last, and those that were read ahead
@@ -68,8 +68,8 @@ StartsScan None file = contents file ≡ NotAJournal
 -- rows
 
 -- of a closed latch the fixed part is asked for, and of an open one the record too
-pub asked_at_a_closed_gate : asked (0 ∷ 7 ∷ 7 ∷ 7 ∷ []) ≡ 8
-asked_at_a_closed_gate = refl
+pub asked_at_a_closed_latch : asked (0 ∷ 7 ∷ 7 ∷ 7 ∷ []) ≡ 8
+asked_at_a_closed_latch = refl
 
-pub asked_at_an_open_gate : asked (255 ∷ 2 ∷ 1 ∷ 0 ∷ []) ≡ 266
-asked_at_an_open_gate = refl
+pub asked_at_an_open_latch : asked (255 ∷ 2 ∷ 1 ∷ 0 ∷ []) ≡ 266
+asked_at_an_open_latch = refl

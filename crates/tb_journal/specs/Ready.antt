@@ -1,9 +1,9 @@
 -- A journal that may be written to.
--- Cited by public contracts of: creating, journals, opening.
+-- Cited by public contracts of: journals, opening.
 use Rattle.std.specs.Prelude.{◌≡◌, ℕ, ◌+◌, Bool, List, length}
-use Rattle.tb_journal.specs.Device.{Disk}
+use Rattle.tb_journal.specs.Device.{Disk, LeavesOnly}
 use Rattle.tb_journal.specs.Contents.{at_rest, recorded, records_end}
-use Rattle.tb_journal.specs.Steps.{IsWhole, IsAtRest}
+use Rattle.tb_journal.specs.Steps.{IsWhole, IsAtRest, IsBeforeOrAfter}
 
 -- a device with a journal's file, where the records in it end and how many they are, the records that wait, and whether no commit
 -- has failed
@@ -34,3 +34,8 @@ pub record IsReady {D : Type 0} (disk : D → Disk) (journal : Kept D) : Type 0 
   pub at_rest : IsAtRest (disk journal.device)
   pub ends : journal.end ≡ records_end (recorded (disk journal.device).seen)
   pub counts : journal.count ≡ length (recorded (disk journal.device).seen)
+
+-- a crash at any moment leaves the records from before, or these and all that waited
+abbrev pub LeavesBeforeOrAfter : {D : Type 0} → (D → Disk) → Kept D → Kept D → Type 0
+LeavesBeforeOrAfter disk before after =
+    LeavesOnly (disk before.device) (disk after.device) (IsBeforeOrAfter (recorded (disk before.device).seen) before.waiting)

@@ -6,7 +6,8 @@ use Rattle.tb_journal.specs.declared.opening.OpenFault.TheVariants as open_fault
 use Rattle.tb_journal.specs.declared.reading.Refusal.TheVariants as refusals
 use Rattle.tb_journal.specs.Checksum.{byte_on, bit_on}
 use Rattle.tb_journal.specs.Contents.{NotAJournal, Damaged, Records, magic, block, contents, records_end}
-use Rattle.tb_journal.specs.Opening.{refused_as}
+use Rattle.tb_journal.specs.Opening.{refused_as, HasOpenCause}
+use Rattle.tb_journal.specs.Device.{Disk}
 
 -- how far a file was read: where the records end, how many they are, the last of them, and the bytes read ahead
 pub record Place : Type 0 where
@@ -42,6 +43,10 @@ ReadsNext (Ok true) records file scan = HasRead (records ++ scan.last ∷ []) fi
 ReadsNext (Ok false) records file scan = (contents file ≡ Records records) × HasRead records file scan
 ReadsNext (Err (open_faults.Refused why)) records file scan = contents file ≡ refused_as why
 ReadsNext (Err (open_faults.Device fault)) records file scan = Unit {0}
+
+-- the cause of a fault, where some records were read before
+abbrev pub ScanCause : Result Bool OpenFault → Place → Disk → Disk → Type 0
+ScanCause result scan before after = (records : List (List ℕ)) → HasRead records before.seen scan → HasOpenCause result before after
 
 -- a record was read behind a place, and there is no end to this but the greatest length of a file
 abbrev pub GoesFurther : Place → Place → Type 0

@@ -1,9 +1,10 @@
 -- What the journal's calls leave on a disk.
--- Cited by public contracts of: journals.
-use Rattle.std.specs.Prelude.{◌≡◌, ◌⊎◌, ℕ, true, List, [], ◌∷◌, ◌++◌, length, take, Result, OnOk}
+-- Public contracts reach it through: Ready.
+use Rattle.std.specs.Prelude.{◌≡◌, ◌⊎◌, ℕ, true, List, [], ◌∷◌, ◌++◌, length, take, Result, OnOk, ◌≤◌}
 use Rattle.tb_journal.specs.declared.faults.Fault.{Fault}
 use Rattle.tb_journal.specs.Device.{Disk, IsOnDisk, IsSettled, Torn, Cut, overwritten, LeavesOnly, HasCause}
-use Rattle.tb_journal.specs.Contents.{Records, contents, recorded, records_end}
+use Rattle.tb_journal.specs.Contents.{Records, contents, recorded, records_end, Fits, at_rest}
+use Rattle.std.specs.List.{AllByRecursion}
 
 -- the file is whole blocks with a closed latch behind them and nothing more
 pub record IsWhole (disk : Disk) : Type 0 where
@@ -41,3 +42,8 @@ pub record Publishes (batch : List (List ℕ)) (result : Result (Unit {0}) Fault
   pub settled : IsSettled before → OnOk result (IsSettled after)
   pub any_moment : IsSettled before → LeavesOnly before after (IsBeforeOrAfter (recorded before.seen) batch)
   pub cause : HasCause result before after
+
+-- the same of the bytes of some records behind the closed latch
+abbrev pub PublishesBytes : List ℕ → Result (Unit {0}) Fault → Disk → Disk → Type 0
+PublishesBytes bytes result before after =
+    (records : List (List ℕ)) → AllByRecursion Fits records → bytes ≡ at_rest records → 1 ≤ length records → Publishes records result before after

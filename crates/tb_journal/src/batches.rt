@@ -3,11 +3,11 @@ ghost use Rattle.std.specs.Prelude.{◌≡◌, ◌<◌, ◌≤◌, ◌+◌, ◌^
 ghost use Rattle.std.specs.Prelude.{IfOk, IfErr, OnOk, OnErr};
 ghost use Rattle.std.specs.List.{AllByRecursion};
 ghost use Rattle.tb_journal.specs.Contents.{Fits, block, at_rest};
-ghost use Rattle.tb_journal.specs.Batches.{waiting_in, blank_numbers, IsBatch, IsUnwritten};
+ghost use Rattle.tb_journal.specs.private.Batches.{waiting_in, blank_numbers, IsBatch, IsUnwritten};
 
-use crate::checksums::checksum_of;
 use crate::faults::Fault;
 use crate::journals::RECORD_BYTES_MAX;
+use crate::reading::checksum_of;
 use crate::written::Written;
 use std::alloc::{AllocError, Global};
 use std::marker::Model;
@@ -18,7 +18,7 @@ pub const OPEN: u8 = 255;
 pub const CLOSED: u8 = 0;
 
 // What is between the latch of a block and its record: length and checksum.
-const NUMBERS: usize = 7;
+const NUMBERS_BYTES: usize = 7;
 
 // Blocks of records, and a closed latch.
 #[derive(Drop)]
@@ -93,8 +93,8 @@ impl Batch {
         ensures { self.new ≡ [] }
     {
         self.bytes.truncate(1);
-        if let Some(gate) = self.bytes.first_mut() {
-            *gate = CLOSED;
+        if let Some(latch) = self.bytes.first_mut() {
+            *latch = CLOSED;
         }
         self.count = 0;
     }
@@ -195,7 +195,7 @@ fn write_sealed<W: Written>(bytes: &mut Vec<u8>, content: &W, room: usize) -> Re
 {
     let at = bytes.len();
     write_record(bytes, content)?;
-    let count = bytes.len() - at - NUMBERS;
+    let count = bytes.len() - at - NUMBERS_BYTES;
     fit(count, room)?;
     seal(bytes, at);
     Ok(())
@@ -208,7 +208,7 @@ fn write_record<W: Written>(bytes: &mut Vec<u8>, content: &W) -> Result<(), Allo
     ensures known { OnOk result (W.known content.now) }
     ensures err { OnErr result (take (vec_len bytes.old) bytes.new.items ≡ bytes.old.items) }
 {
-    bytes.extend_from_slice(&[0; NUMBERS])?;
+    bytes.extend_from_slice(&[0; NUMBERS_BYTES])?;
     content.write(bytes)
 }
 
@@ -234,6 +234,6 @@ fn seal(bytes: &mut [u8], at: usize)
     ensures sealed { bytes.new ≡ take at bytes.old ++ drop 1 (block (drop (at + 7) bytes.old)) }
     ensures fits { Fits (drop (at + 7) bytes.old) }
 {
-    let numbers = numbers_of(&bytes[at + NUMBERS..]);
-    bytes[at..at + NUMBERS].copy_from_slice(&numbers);
+    let numbers = numbers_of(&bytes[at + NUMBERS_BYTES..]);
+    bytes[at..at + NUMBERS_BYTES].copy_from_slice(&numbers);
 }

@@ -3,12 +3,12 @@ ghost use Rattle.std.specs.Prelude.{◌≡◌, ◌<◌, ◌^◌, List, ℕ, drop
 ghost use Rattle.tb_journal.specs.declared.hops.Hop.TheVariants as variants;
 ghost use Rattle.tb_journal.specs.Contents.{front};
 ghost use Rattle.tb_journal.specs.Reading.{HasAhead};
-ghost use Rattle.tb_journal.specs.Hops.{HopsTo, FollowsPiece, TellsLatch, IsNear};
+ghost use Rattle.tb_journal.specs.private.Hops.{HopsTo, FollowsPiece, TellsLatch, IsNear};
 
 use crate::reading::asked;
 
 // Latch, length and checksum of a block.
-const FIXED: usize = 8;
+const FIXED_BYTES: usize = 8;
 
 // Where the blocks of a piece lead.
 #[derive(Clone, Copy)]
@@ -34,7 +34,7 @@ pub fn follow(piece: &[u8], at: usize, len: usize) -> Hop
     loop {
         match step(rest, end, len) {
             Hop::Further(next) => {
-                if rest.len() < FIXED || next - end > rest.len() - FIXED {
+                if rest.len() < FIXED_BYTES || next - end > rest.len() - FIXED_BYTES {
                     return Hop::Further(next);
                 }
                 let (_, behind) = rest.split_at(next - end);
@@ -56,7 +56,7 @@ fn step(rest: &[u8], at: usize, len: usize) -> Hop
         return Hop::Closed(at);
     }
     match at.checked_add(asked(rest)) {
-        Some(next) if rest.len() >= FIXED && next <= len => Hop::Further(next),
+        Some(next) if rest.len() >= FIXED_BYTES && next <= len => Hop::Further(next),
         _ => Hop::Broken,
     }
 }

@@ -1,12 +1,11 @@
 //! A journal: records in a file, each durable before it counts.
-ghost use Rattle.std.specs.Prelude.{◌≡◌, ◌↔◌, ◌≤◌, ◌<◌, ◌+◌, ◌^◌, ◌++◌, true, false, List, [], ◌∷◌, length, Ok, IfErr, OnOk, OnErr, IsErrOf};
-ghost use Rattle.tb_journal.specs.Device.{LeavesOnly, HasCause};
-ghost use Rattle.tb_journal.specs.Contents.{at_rest, recorded};
-ghost use Rattle.tb_journal.specs.Steps.{IsBeforeOrAfter};
-ghost use Rattle.tb_journal.specs.Ready.{Kept, IsWritable, IsReady, grown};
+ghost use Rattle.std.specs.Prelude.{◌≡◌, ◌↔◌, ◌≤◌, ◌<◌, ◌+◌, ◌^◌, ◌++◌, true, false, [], ◌∷◌, length, Ok, IfErr, OnOk, OnErr, IsErrOf};
+ghost use Rattle.tb_journal.specs.Device.{HasCause};
+ghost use Rattle.tb_journal.specs.Contents.{at_rest, recorded, records_end};
+ghost use Rattle.tb_journal.specs.Ready.{Kept, IsWritable, IsReady, grown, LeavesBeforeOrAfter};
+ghost use Rattle.tb_journal.specs.Steps.{IsWhole, Overwrites, PublishesBytes};
 
-use crate::batches::Batch;
-use crate::calls::publish;
+use crate::batches::{Batch, OPEN};
 use crate::devices::Device;
 use crate::faults::Fault;
 use crate::written::Written;
@@ -105,9 +104,7 @@ impl<D: Device> Journal<D> {
         ensures err { OnErr result (self.new ≡ record self.old { device = self.new.device; usable = false }) }
 
         // A crash at any moment of the call leaves the records from before it, with the whole batch or with none of it.
-        ensures any_moment { D.tells → IsReady D.disk self.old
-            → LeavesOnly (D.disk self.old.device) (D.disk self.new.device)
-            (IsBeforeOrAfter (recorded (D.disk self.old.device).seen) self.old.waiting) }
+        ensures any_moment { D.tells → IsReady D.disk self.old → LeavesBeforeOrAfter D.disk self.old self.new }
 
         ensures not_empty { IfErr result (λ fault. fault ≡ Fault.NotEmpty → ⊥) }
 
@@ -164,5 +161,33 @@ impl<D: Device> Journal<D> {
         ensures { result ≡ length self.now.waiting }
     {
         self.batch.count()
+    }
+}
+
+// Writes, and syncs.
+pub fn write_kept<D: Device>(device: &mut D, at: usize, bytes: &[u8]) -> Result<(), Fault>
+    requires within { D.tells → at ≤ length (D.disk device.old).seen }
+    ensures other { IfErr result (λ fault. fault ≡ Fault.NotEmpty → ⊥) }
+    ensures writes { D.tells → Overwrites at bytes.now result (D.disk device.old) (D.disk device.new) }
+{
+    match device.write_at(at, bytes) {
+        Ok(()) => device.sync(),
+        Err(fault) => Err(fault),
+    }
+}
+
+// Writes blocks behind the closed latch at this offset, and then opens it.
+pub fn publish<D: Device>(device: &mut D, end: usize, batch: &[u8]) -> Result<(), Fault>
+    requires some { 1 ≤ length batch.now }
+    requires short { end < 2 ^ 63 }
+    requires whole { D.tells → IsWhole (D.disk device.old) }
+    requires ends { D.tells → end ≡ records_end (recorded (D.disk device.old).seen) }
+    ensures other { IfErr result (λ fault. fault ≡ Fault.NotEmpty → ⊥) }
+    ensures publishes { D.tells → PublishesBytes batch.now result (D.disk device.old) (D.disk device.new) }
+{
+    let (_, tail) = batch.split_at(1);
+    match write_kept(device, end + 1, tail) {
+        Ok(()) => write_kept(device, end, &[OPEN]),
+        Err(fault) => Err(fault),
     }
 }

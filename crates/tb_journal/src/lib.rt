@@ -9,29 +9,22 @@
 //! - `posix`: `Posix`, a device over them.
 //! - `real`: `Real`, the same over a file of the system, locked, of which nothing is known.
 //! - `tables`: the remainders that CRC-32C looks up.
-//! - `checksums`: CRC-32C, sixteen bytes at a time.
 //! - `written`: `Written`, what writes a record where it waits.
 //! - `batches`: records that wait, as the bytes that a commit writes.
-//! - `calls`: a write and a sync; blocks written behind the closed latch, and then the latch opened.
-//! - `journals`: `Journal`, with `append` and `commit`.
-//! - `reading`: what is at the head of some bytes: the end, a whole block, or damage.
-//! - `windows`: the part of a file that was read ahead, a piece of 64 KiB or one whole block.
+//! - `journals`: `Journal`, with `append` and `commit`: blocks are written behind the closed latch and synced, and then the latch is opened.
+//! - `reading`: what is at the head of some bytes: the end, a whole block, or damage. CRC-32C, sixteen bytes at a time.
 //! - `growing`: `Growing`, a file that another process appends to while it is read.
 //! - `hops`: the blocks in a piece of it, followed by their lengths.
 //! - `snapshots`: `Snapshot`, such a file as it was at one moment, as a device.
 //! - `laws`: what holds of every file that grows.
-//! - `scans`: `Scan`, a file read record by record; `read_journal`, to its end.
-//! - `opening`: `Journal::open` and `recover`, which cut off what follows the records.
-//! - `creating`: `create`, a journal in an empty file.
+//! - `scans`: `Scan`, a file read record by record, ahead in pieces of 64 KiB or one whole block; `read_journal`, to its end.
+//! - `opening`: `create`, a journal in an empty file; `Journal::open` and `recover`, which cut off what follows the records.
 //!
 //! specs/Contents is what a file's bytes represent, specs/Device what each call of a device does, specs/Scans what was read of
 //! a file, specs/Steps, Opening and Creating what the journal's calls leave.
 #![tactic(auto)]
 
 mod batches;
-mod calls;
-mod checksums;
-mod creating;
 mod devices;
 mod faults;
 mod growing;
@@ -47,16 +40,14 @@ mod scans;
 mod snapshots;
 mod systems;
 mod tables;
-mod windows;
 mod written;
 
-pub use creating::create;
 pub use devices::Device;
 pub use faults::Fault;
 pub use growing::Growing;
 pub use journals::{FILE_BYTES_MAX, Journal, RECORD_BYTES_MAX};
 pub use memory::Memory;
-pub use opening::{NotOpened, OpenFault, recover};
+pub use opening::{NotOpened, OpenFault, create, recover};
 pub use posix::Posix;
 pub use reading::{Extent, Refusal};
 pub use real::{FileFault, HostFile, Real, sync_folder};

@@ -1,18 +1,18 @@
-//! A journal is opened from a file that a crash may have left.
-ghost use Rattle.std.specs.Prelude.{◌≡◌, ◌≤◌, true, List, ℕ, length, Ok, IfOk, IfErr};
-ghost use Rattle.tb_journal.specs.Device.{IsOnDisk, LeavesOnly};
+//! A journal is created, or opened from a file that a crash may have left.
+ghost use Rattle.std.specs.Prelude.{◌≡◌, ◌≤◌, true, List, ℕ, length, Ok, IfOk, IfErr, [], OnOk};
+ghost use Rattle.tb_journal.specs.Device.{IsOnDisk, LeavesOnly, IsSettled, HasCause, ReadsAt};
 ghost use Rattle.tb_journal.specs.Contents.{Records, contents, recorded, records_end};
 ghost use Rattle.tb_journal.specs.Steps.{Shortens};
-ghost use Rattle.tb_journal.specs.Reading.{extent_of};
+ghost use Rattle.tb_journal.specs.Reading.{extent_of, LooksKept};
 ghost use Rattle.tb_journal.specs.Ready.{IsOver};
-ghost use Rattle.tb_journal.specs.Opening.{IsOfExtent, Recovers, StandsForTheSame, IsOfDevice, HasOpenCause, IsUntouched, IsOpened, Repairs, device_left, fault_left};
+ghost use Rattle.tb_journal.specs.Opening.{IsOfExtent, Recovers, StandsForTheSame, IsOfDevice, HasOpenCause, IsUntouched, IsOpened, Repairs, device_left, fault_left, LeavesSameRecords};
+ghost use Rattle.tb_journal.specs.Creating.{is_torn_from, is_blank, MayBeCreated, IsLeft, HasCreateCause, CreatesIn, IsNew, IsUnborn, FindsBlank, WritesFirst};
 
 use crate::batches::{Batch, CLOSED};
-use crate::calls::write_kept;
 use crate::devices::Device;
 use crate::faults::Fault;
-use crate::journals::{FILE_BYTES_MAX, Journal};
-use crate::reading::{Extent, Refusal};
+use crate::journals::{FILE_BYTES_MAX, Journal, write_kept};
+use crate::reading::{Extent, MAGIC, Refusal};
 use crate::scans::read_journal;
 use std::alloc::Global;
 
@@ -80,9 +80,7 @@ impl<D: Device> Journal<D> {
         ensures opened { D.tells → (D.disk device).sound ≡ true
             → IfOk result (IsOpened D.disk (D.disk device).seen) }
         ensures same { D.tells → IfOk result (IsOver D.disk (recorded (D.disk device).seen)) }
-        ensures any_moment { D.tells → (D.disk device).sound ≡ true
-            → LeavesOnly (D.disk device) (D.disk (device_left result))
-            (λ c. contents c ≡ Records (recorded (D.disk device).seen)) }
+        ensures any_moment { D.tells → LeavesSameRecords (D.disk device) (D.disk (device_left result)) }
         // Of any device.
         ensures usable { IfOk result (λ journal. journal.usable ≡ true) }
         ensures numbers { IfOk result (IsOfExtent extent) }
@@ -135,4 +133,133 @@ pub fn recover<D: Device>(alloc: Global, device: D) -> Result<Journal<D>, NotOpe
         Ok(extent) => Journal::open(alloc, device, extent),
         Err(fault) => Err(NotOpened { device, fault }),
     }
+}
+
+// A journal without records.
+const FIRST: [u8; 9] = [84, 66, 74, 82, 78, 76, 48, 49, 0];
+
+/// Creates a journal without records in an empty file. Any other file stays as it was, but one such
+/// as a crash leaves of a creation: nothing was acknowledged there, and the call
+/// may be made again.
+pub fn create<D: Device>(alloc: Global, device: D) -> Result<Journal<D>, NotOpened<D>>
+    // Where no sync has failed before.
+    ensures created { D.tells → (D.disk device).sound ≡ true → IfOk result (IsNew D.disk) }
+    ensures blank { D.tells
+        → IfOk result (λ journal. (is_blank (D.disk device).seen ≡ true) × IsOver D.disk [] journal) }
+    // A crash at any moment of the call leaves the file as it was, or no record in it.
+    ensures any_moment { D.tells → (D.disk device).sound ≡ true
+        → LeavesOnly (D.disk device) (D.disk (device_left result)) (MayBeCreated (D.disk device)) }
+    // A file that is not blank stays as it was.
+    ensures untouched { D.tells
+        → IfErr result (λ failed. IsLeft (D.disk device) (D.disk failed.device) failed.fault) }
+    // Of any device.
+    ensures usable { IfOk result (λ journal. (journal.usable ≡ true) × (journal.waiting ≡ [])) }
+    ensures of_device { IfErr result (λ failed. IsOfDevice failed.fault) }
+    // By the file that its reads are of.
+    ensures handed { (file : List ℕ) → D.holds device file → CreatesIn D.holds result file }
+    ensures cause { D.tells → HasCreateCause (fault_left result) (D.disk device) (D.disk (device_left result)) }
+{
+    let mut device = device;
+    match finds_blank(&mut device) {
+        Ok(true) => begin(alloc, device),
+        Ok(false) => Err(NotOpened::of_device(device, Fault::NotEmpty)),
+        Err(fault) => Err(NotOpened::of_device(device, fault)),
+    }
+}
+
+// Says whether a file is blank. One that is longer than the first bytes is not, and is not read.
+fn finds_blank<D: Device>(device: &mut D) -> Result<bool, Fault>
+    ensures found { (file : List ℕ) → D.holds device.old file → IfOk result (λ found. found ≡ is_blank file) }
+    ensures same { (file : List ℕ) → D.holds device.old file → D.holds device.new file }
+    ensures other { IfErr result (λ fault. fault ≡ Fault.NotEmpty → ⊥) }
+    ensures finds { D.tells → FindsBlank result (D.disk device.old) (D.disk device.new) }
+{
+    match device.len() {
+        Ok(len) => {
+            if len > FIRST.len() {
+                return Ok(false);
+            }
+            let mut bytes = [0; 9];
+            match read_kept(device, &mut bytes) {
+                Ok(count) => Ok(is_blank(&bytes[..count])),
+                Err(fault) => Err(fault),
+            }
+        }
+        Err(fault) => Err(fault),
+    }
+}
+
+// The first bytes of a file. What is read is durable before it is read.
+fn read_kept<D: Device>(device: &mut D, into: &mut [u8]) -> Result<usize, Fault>
+    ensures within { IfOk result (λ count. count ≤ length into.new) }
+    ensures bytes { (file : List ℕ) → D.holds device.old file
+        → IfOk result (λ count. ReadsAt count 0 file into.new) }
+    ensures same { (file : List ℕ) → D.holds device.old file → D.holds device.new file }
+    ensures other { IfErr result (λ fault. fault ≡ Fault.NotEmpty → ⊥) }
+    ensures reads { D.tells → LooksKept result (D.disk device.old) (D.disk device.new) }
+    ensures sound { D.tells → OnOk result ((D.disk device.new).sound ≡ (D.disk device.old).sound) }
+    ensures cause { D.tells → HasCause result (D.disk device.old) (D.disk device.new) }
+{
+    device.sync()?;
+    device.read_at(0, into)
+}
+
+// Writes over a blank file.
+fn begin<D: Device>(alloc: Global, device: D) -> Result<Journal<D>, NotOpened<D>>
+    requires blank { D.tells → is_blank (D.disk device).seen ≡ true }
+    ensures created { D.tells → IsSettled (D.disk device) → IfOk result (IsNew D.disk) }
+    ensures empty { D.tells → IfOk result (IsOver D.disk []) }
+    ensures any_moment { D.tells → IsSettled (D.disk device)
+        → LeavesOnly (D.disk device) (D.disk (device_left result)) IsUnborn }
+    ensures usable { IfOk result (λ journal. (journal.usable ≡ true) × (journal.waiting ≡ [])) }
+    ensures of_device { IfErr result (λ failed. IsOfDevice failed.fault) }
+    ensures other { IfErr result (λ failed. failed.fault ≡ OpenFault.Device Fault.NotEmpty → ⊥) }
+    ensures cause { D.tells → HasCreateCause (fault_left result) (D.disk device) (D.disk (device_left result)) }
+{
+    let Ok(batch) = Batch::new(alloc) else {
+        return Err(NotOpened::of_device(device, Fault::Memory));
+    };
+    let mut device = device;
+    match write_first(&mut device) {
+        Ok(()) => Ok(Journal {
+            device,
+            end: MAGIC.len(),
+            count: 0,
+            batch,
+            usable: true,
+        }),
+        Err(fault) => Err(NotOpened::of_device(device, fault)),
+    }
+}
+
+// Writes the first bytes, all in one write: whatever a crash leaves of them holds no record.
+fn write_first<D: Device>(device: &mut D) -> Result<(), Fault>
+    requires blank { D.tells → is_blank (D.disk device.old).seen ≡ true }
+    ensures other { IfErr result (λ fault. fault ≡ Fault.NotEmpty → ⊥) }
+    ensures writes { D.tells → WritesFirst result (D.disk device.old) (D.disk device.new) }
+{
+    write_kept(device, 0, &FIRST)
+}
+
+fn is_blank(bytes: &[u8]) -> bool
+    ensures { result ≡ is_blank bytes.now }
+{
+    is_torn_from(bytes, &FIRST)
+}
+
+fn is_torn_from(bytes: &[u8], first: &[u8]) -> bool
+    ensures { result ≡ is_torn_from bytes.now first.now }
+{
+    let mut rest = bytes;
+    let mut owns = first;
+    while let [byte, others @ ..] = rest {
+        match owns {
+            [own, behind @ ..] if *byte == 0 || byte == own => {
+                rest = others;
+                owns = behind;
+            }
+            _ => return false,
+        }
+    }
+    true
 }

@@ -2,7 +2,7 @@
 ghost use Rattle.std.specs.Prelude.{◌≡◌, ◌+◌, ◌^◌, ◌<◌, ◌≤◌, length, Ok, IfOk, IfErr, refl};
 ghost use Rattle.tb_journal.specs.Device.{Cuts, Syncs, IsOfCall, IsOfSync};
 ghost use Rattle.tb_journal.specs.System.{fault_of};
-ghost use Rattle.tb_journal.specs.Posix.{ReadsSome, WritesSome};
+ghost use Rattle.tb_journal.specs.private.Posix.{ReadsSome, WritesSome};
 
 use crate::devices::Device;
 use crate::faults::Fault;

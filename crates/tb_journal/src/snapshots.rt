@@ -7,7 +7,7 @@ ghost use Rattle.tb_journal.specs.Contents.{front};
 ghost use Rattle.tb_journal.specs.Reading.{HasAhead};
 ghost use Rattle.tb_journal.specs.Growing.{Grown};
 ghost use Rattle.tb_journal.specs.Snapshots.{Snapped, IsHeld, Takes, Refreshes};
-ghost use Rattle.tb_journal.specs.Hops.{IsFound, StartsAs, Grows, HopsFrom, Finds, FindsMore, TellsLatch, TellsEnd, TellsStart, ReadsBlocks, Closes, IsNear};
+ghost use Rattle.tb_journal.specs.private.Hops.{IsFound, StartsAs, Grows, HopsFrom, Finds, FindsMore, TellsLatch, TellsEnd, TellsStart, ReadsBlocks, Closes, IsNear};
 
 use crate::batches::CLOSED;
 use crate::devices::Device;
@@ -20,10 +20,10 @@ use std::alloc::Global;
 use std::marker::Model;
 
 // A piece of a file, which is read at once.
-const PIECE: usize = 1 << 16;
+const PIECE_BYTES: usize = 1 << 16;
 
 // Where its blocks begin.
-const START: usize = MAGIC.len();
+const START_BYTES: usize = MAGIC.len();
 
 // Where a file ends, and whether by a closed latch.
 #[derive(Clone, Copy)]
@@ -58,7 +58,7 @@ impl<G: Growing + Drop> Snapshot<G> {
         ensures names { IfErr result IsOfCall }
     {
         let mut file = file;
-        let mut piece = vec![in alloc; 0u8; PIECE]?;
+        let mut piece = vec![in alloc; 0u8; PIECE_BYTES]?;
         match find(&mut file, &mut piece) {
             Ok(found) => Ok(Snapshot { file, piece, found }),
             Err(fault) => Err(fault),
@@ -181,7 +181,7 @@ fn find<G: Growing>(file: &mut G, piece: &mut [u8]) -> Result<Found, Fault>
     ensures names { IfErr result IsOfCall }
 {
     match begins(file, piece) {
-        Ok(true) => find_end(file, piece, START),
+        Ok(true) => find_end(file, piece, START_BYTES),
         Ok(false) => Ok(Found {
             end: 0,
             closed: false,

@@ -17,8 +17,8 @@ use Rattle.tb_keep.specs.declared.faults.DumpFault.TheVariants as dump
 use Rattle.tb_keep.specs.Restoration.{HeadAnswers, IsStartCause, HasStartCause}
 use Rattle.tb_keep.specs.Opening.{IsCreateStartCause, HasCreateStartCause, IsEitherCause, HasEitherCause}
 use Rattle.tb_keep.specs.Reading.{RulesIn, IsDumpCause, HasDumpCause}
-use Rattle.tb_keep.specs.declared.heads.Rules.{Rules}
-use Rattle.tb_keep.specs.Headed.{IsOfDevice, IsDeviceCause, HasDeviceCause}
+use Rattle.tb_keep.specs.declared.restoring.Rules.{Rules}
+use Rattle.tb_keep.specs.private.Headed.{IsOfDevice, IsDeviceCause, HasDeviceCause}
 
 -- behind calls of which none failed
 

@@ -12,11 +12,11 @@ use Rattle.tb_keep.specs.declared.faults.DumpFault.{DumpFault}
 use Rattle.tb_keep.specs.declared.faults.DumpFault.TheVariants as dump
 use Rattle.tb_keep.specs.declared.faults.StartFault.{StartFault}
 use Rattle.tb_keep.specs.declared.faults.StartFault.TheVariants as start
-use Rattle.tb_keep.specs.declared.heads.Rules.{Rules}
+use Rattle.tb_keep.specs.declared.restoring.Rules.{Rules}
 use Rattle.tb_keep.specs.Reading.{RulesIn, RulesAnswer, joined, behind_head, dump_with, Dumps}
-use Rattle.tb_keep.specs.Entering.{FindsRules}
+use Rattle.tb_keep.specs.private.Entering.{FindsRules}
 use Rattle.tb_keep.specs.Following.{entries_above, WritesEntries, EntriesOnce}
-use Rattle.tb_keep.specs.Sending.{SendsNext, SendsAll}
+use Rattle.tb_keep.specs.private.Sending.{SendsNext, SendsAll}
 
 pub finds_rules : (result : Result Rules StartFault) (file head : List ℕ) (scan : Place) → HasRead (head ∷ []) file scan → RulesIn result head → FindsRules result file scan
 finds_rules (Ok rules) file head scan at found = subst (λ (h : List ℕ). HasRead (h ∷ []) file scan) found at

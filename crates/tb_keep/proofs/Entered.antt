@@ -1,8 +1,8 @@
 -- The records of a file as they are read and entered.
-use Rattle.std.proofs.Common.{arith, ℕ, ◌≡◌, ◌⊎◌, inl, inr, true, false, List, [], ◌∷◌, ◌++◌, refl, sym, ap, ◌∙◌, subst, append_assoc, Ok, Err, ◌<◌, ◌≤◌}
+use Rattle.std.proofs.Common.{arith, ℕ, ◌≡◌, ◌⊎◌, inl, inr, true, false, List, [], ◌∷◌, ◌++◌, refl, sym, ap, ◌∙◌, subst, append_assoc, Ok, Err}
 use Rattle.std.proofs.lemmas.Grind.{common_steps}
 use Rattle.tb_records.specs.declared.limits.Profile.{Profile}
-use Rattle.tb_records.specs.declared.limits.TheConstants.{CLIENTS_MAX}
+use Rattle.tb_records.specs.DumpBytes.{IsClients}
 use Rattle.tb_journal.specs.declared.reading.Extent.{Extent}
 use Rattle.tb_journal.specs.Device.{Disk, IsLookedAt}
 use Rattle.tb_journal.specs.Contents.{Records, contents, records_of}
@@ -16,8 +16,8 @@ use Rattle.tb_keep.specs.declared.faults.StartFault.{StartFault}
 use Rattle.tb_keep.specs.declared.faults.StartFault.TheVariants as start
 use Rattle.tb_keep.specs.Keeping.{head_record}
 use Rattle.tb_keep.specs.Restoration.{RecordsLead, StopsAt, RestoresRecord, RestoresAll, HeadAnswers, IsRestored, IsRestoredFrom, StopsBehindHead, StopsBeginning, StopsReading}
-use Rattle.tb_keep.specs.declared.heads.Rules.{Rules}
-use Rattle.tb_keep.specs.Entering.{StaysKept, EntersNext, EntersAll, FindsBehind}
+use Rattle.tb_keep.specs.declared.restoring.Rules.{Rules}
+use Rattle.tb_keep.specs.private.Entering.{StaysKept, EntersNext, EntersAll, FindsBehind}
 use Rattle.tb_keep.proofs.Opened.{Counts, untouched_then}
 use Rattle.tb_keep.proofs.Leading.{leads_more, stops_file}
 
@@ -111,11 +111,11 @@ extent_found file records scan extent reads has end count = grind (arith, common
 
 -- a whole file
 
-module _ (profile : Profile) (clients_max : ℕ) (some_client : 0 < clients_max) (clients : clients_max ≤ CLIENTS_MAX) where
+module _ (profile : Profile) (clients_max : ℕ) (clients : IsClients clients_max) where
   of_history : (records : List (List ℕ)) (T : State) → RecordsLead (start_state profile clients_max) records T → IsRestored profile clients_max (head_record profile clients_max ∷ records) T
   of_history records T leads = record {
     entries = leads.entries;
-    keepable = record { some_client = some_client; clients = clients; legal = leads.legal; recorded_are = leads.recorded_are };
+    keepable = record { clients = clients; legal = leads.legal; recorded_are = leads.recorded_are };
     state = leads.state;
     spelled = inl (ap (λ (r : List (List ℕ)). head_record profile clients_max ∷ r) leads.spelled);
   }

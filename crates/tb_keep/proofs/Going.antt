@@ -16,7 +16,7 @@ use Rattle.tb_keep.specs.declared.faults.KeepFault.{KeepFault}
 use Rattle.tb_keep.specs.declared.faults.KeepFault.TheVariants as keep
 use Rattle.tb_keep.specs.Keeping.{Keeping, IsFresh}
 use Rattle.tb_keep.specs.Rounds.{state_from, records_from, told_from, IsServed, AreServed, pairs_of, Commits, Standing, standing_of, IsPrompt, ReadsPromptly, is_held, RefusesRecord, Round, Rounds, IsStop, Pauses, Fails, Served, Ends, block_bytes_max, IsDue}
-use Rattle.tb_keep.specs.Steps.{IsSudden, Next, Ceases, IsCommitted, IsUncommitted, Tells, MayTell, EndsNext}
+use Rattle.tb_keep.specs.private.Steps.{IsSudden, Next, Ceases, IsCommitted, IsUncommitted, Tells, MayTell, EndsNext}
 use Rattle.tb_keep.proofs.Batches.{block_short, grows, some_byte}
 use Rattle.tb_keep.proofs.Pairs.{state_snoc, records_join, told_join, served_snoc, pairs_snoc}
 

@@ -46,7 +46,6 @@ served_join S (p ∷ ps) qs served more = (served.0, served_join (after_pair S p
 
 pub keepable_longer : (h : History) (ps : List Pair) → IsKeepable h → AreServed (state_of h) ps → IsKeepable (longer h (entries_from (state_of h) ps))
 keepable_longer h ps is served = record {
-  some_client = is.some_client;
   clients = is.clients;
   legal = legal_join (start h.profile h.clients_max) h.entries (entries_from (state_of h) ps) is.legal (legal_pairs (state_of h) ps served);
   recorded_are = recorded_join h.entries (entries_from (state_of h) ps) is.recorded_are (recorded_pairs (state_of h) ps served);

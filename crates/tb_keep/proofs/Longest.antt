@@ -39,7 +39,7 @@ place_after : (skip at : ℕ) (bytes : List ℕ) (place : ℕ) → walk skip at 
 place_after zero at [] place is = absurd (cc)
 place_after (suc skip) at [] place is = absurd (cc)
 place_after (suc skip) at (b ∷ bytes) place is = omega (arith, place_after skip (at + 1) bytes place is)
-place_after zero at (gate ∷ behind) place is = behind_block (front (gate ∷ behind)) at place behind (λ skip from walks. place_after skip from behind place walks) is
+place_after zero at (latch ∷ behind) place is = behind_block (front (latch ∷ behind)) at place behind (λ skip from walks. place_after skip from behind place walks) is
 
 damage_behind : (records : List (List ℕ)) (file : List ℕ) (at : ℕ) → BeginsWith records file → contents file ≡ Damaged at → records_end records ≤ at
 damage_behind records file at begins is =

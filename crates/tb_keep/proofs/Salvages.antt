@@ -1,8 +1,8 @@
 -- What is taken over into a new file.
-use Rattle.std.proofs.Common.{arith, ℕ, ◌≡◌, ◌⊎◌, ◌<◌, ◌≤◌, inl, inr, true, List, [], ◌∷◌, ◌++◌, map, Result, Ok, Err, IfOk, IfErr, Some, None, Option, refl, sym, ap, ◌∙◌, subst, append-nil}
+use Rattle.std.proofs.Common.{arith, ℕ, ◌≡◌, ◌⊎◌, inl, inr, true, List, [], ◌∷◌, ◌++◌, map, Result, Ok, Err, IfOk, IfErr, Some, None, Option, refl, sym, ap, ◌∙◌, subst, append-nil}
 use Rattle.std.proofs.lemmas.Grind.{common_steps}
 use Rattle.tb_records.specs.declared.limits.Profile.{Profile}
-use Rattle.tb_records.specs.declared.limits.TheConstants.{CLIENTS_MAX}
+use Rattle.tb_records.specs.DumpBytes.{IsClients}
 use Rattle.tb_journal.specs.declared.faults.Fault.{Fault}
 use Rattle.tb_journal.specs.declared.faults.Fault.TheVariants as faults
 use Rattle.tb_journal.specs.declared.opening.OpenFault.{OpenFault}
@@ -23,14 +23,14 @@ use Rattle.tb_keep.specs.declared.faults.SalvageFault.{SalvageFault}
 use Rattle.tb_keep.specs.declared.faults.SalvageFault.TheVariants.{Old, New}
 use Rattle.tb_keep.specs.declared.faults.StartFault.{StartFault}
 use Rattle.tb_keep.specs.declared.faults.StartFault.TheVariants as start
-use Rattle.tb_keep.specs.declared.heads.Rules.{Rules}
+use Rattle.tb_keep.specs.declared.restoring.Rules.{Rules}
 use Rattle.tb_keep.specs.declared.salvaging.NotSalvaged.{NotSalvaged}
 use Rattle.tb_keep.specs.declared.salvaging.Salvaged.{Salvaged}
 use Rattle.tb_keep.specs.Keeping.{History, state_of, records_of, head_record, Keeping, Keeps, IsKeepable, IsLedger}
 use Rattle.tb_keep.specs.Opening.{history_of, MayBeCreated, IsCreateRefused, IsCreateStartCause}
 use Rattle.tb_keep.specs.Restoration.{RecordsLead, StopsAt, StopsBeginning, StopsFile, IsNotOfFile, IsStartCause}
 use Rattle.tb_keep.specs.Salvaging.{StopsBehind, IsTaken, IsSalvaged, IsBackedUp, IsUnsalvaged, IsNotBackedUp, IsWriteCause, IsNewCause, HasNewCause, MayBeSalvaged, IsLeftAlone}
-use Rattle.tb_keep.specs.Taking.{HoldsRead, IsBetween, line, Taken, TakesRest, of_new}
+use Rattle.tb_keep.specs.private.Taking.{HoldsRead, IsBetween, line, Taken, TakesRest, of_new}
 use Rattle.tb_keep.specs.Reading.{HasRules, RulesIn, rules_of}
 use Rattle.tb_keep.proofs.Entered.{Latest}
 use Rattle.tb_keep.proofs.Leading.{leads_none, stops_file}
@@ -38,7 +38,7 @@ use Rattle.tb_keep.proofs.Taking.{leads_first, breaks_then, write_cause_since}
 
 -- the history of records behind a head
 
-module _ (rules : Rules) (some_client : 0 < rules.clients_max) (clients : rules.clients_max ≤ CLIENTS_MAX) where
+module _ (rules : Rules) (clients : IsClients rules.clients_max) where
   abbrev head : List ℕ
   head = head_record rules.profile rules.clients_max
 
@@ -47,7 +47,7 @@ module _ (rules : Rules) (some_client : 0 < rules.clients_max) (clients : rules.
     told = history_of rules.profile rules.clients_max leads.entries
 
     pub told_keepable : IsKeepable told
-    told_keepable = record { some_client = some_client; clients = clients; legal = leads.legal; recorded_are = leads.recorded_are }
+    told_keepable = record { clients = clients; legal = leads.legal; recorded_are = leads.recorded_are }
 
     pub told_spelled : head ∷ records ≡ records_of told
     told_spelled = ap (λ (r : List (List ℕ)). head ∷ r) leads.spelled
@@ -248,7 +248,7 @@ unsalvaged_not_whole (New f) file is = tt
 
 -- a file of which the head was read, and a new one that has the head alone
 
-module _ (rules : Rules) (some_client : 0 < rules.clients_max) (clients : rules.clients_max ≤ CLIENTS_MAX) {N : Type 0} (disk : N → Disk) (tells : Type 0) (holds : List ℕ → Type 0) (first : Place)
+module _ (rules : Rules) (clients : IsClients rules.clients_max) {N : Type 0} (disk : N → Disk) (tells : Type 0) (holds : List ℕ → Type 0) (first : Place)
     (created last : Keeping N) (kept : tells → Keeps disk (history_of rules.profile rules.clients_max []) created) (empty : created.state ≡ start_state rules.profile rules.clients_max) where
   abbrev top : List ℕ
   top = head_record rules.profile rules.clients_max
@@ -279,18 +279,18 @@ module _ (rules : Rules) (some_client : 0 < rules.clients_max) (clients : rules.
         → LeavesOnly (disk created.journal.device) to (IsBetween (recorded (disk created.journal.device).seen) (line disk created.journal ++ records))
         → LeavesOnly before to (MayBeSalvaged reads before)
     all_moments t before to blank made leaves =
-        moments_of_all rules some_client clients records after.state leading reads begins before (disk created.journal.device) to blank made (between t to leaves)
+        moments_of_all rules clients records after.state leading reads begins before (disk created.journal.device) to blank made (between t to leaves)
 
   pub salvaged_all : last.usable ≡ true → last.cut ≡ 0 → (extent : Extent) (stop : Option StartFault) → TakesRest disk tells holds (Ok (extent, stop)) first created last
       → IsSalvaged tells disk reads (record { keeper = last; end = extent.end; stop = stop })
   salvaged_all usable uncut extent stop (records, here, taken, none_waits, end, stops) =
       let leads = leading records here last taken in
-      let history = told rules some_client clients records last.state leads in
-      let spelled = told_spelled rules some_client clients records last.state leads in
+      let history = told rules clients records last.state leads in
+      let spelled = told_spelled rules clients records last.state leads in
       record {
         history = history;
         keeper = record {
-          keepable = told_keepable rules some_client clients records last.state leads;
+          keepable = told_keepable rules clients records last.state leads;
           state = leads.state;
           kept = λ t. record {
             fresh = record { ready = (taken.queues t).ready; none_waits = none_waits };
@@ -300,7 +300,7 @@ module _ (rules : Rules) (some_client : 0 < rules.clients_max) (clients : rules.
                 ∙ lines records here last taken t
                 ∙ spelled;
             state = leads.state;
-            keepable = told_keepable rules some_client clients records last.state leads;
+            keepable = told_keepable rules clients records last.state leads;
           };
           usable = record { kept = usable; journal = taken.usable };
           uncut = uncut;
@@ -351,12 +351,12 @@ module _ (rules : Rules) (some_client : 0 < rules.clients_max) (clients : rules.
             (written_alone before (disk middle.journal.device) (disk last.journal.device) f (breaks t).cause);
       }
 
-module _ (rules : Rules) (some_client : 0 < rules.clients_max) (clients : rules.clients_max ≤ CLIENTS_MAX) (holds : List ℕ → Type 0) (first : Place) (before after : Disk) where
+module _ (rules : Rules) (clients : IsClients rules.clients_max) (holds : List ℕ → Type 0) (first : Place) (before after : Disk) where
   pub moments_not_made : LeavesOnly before after (MayBeCreated rules.profile rules.clients_max before) → LeavesOnly before after (MayBeSalvaged (HoldsRead holds (head_record rules.profile rules.clients_max ∷ []) first) before)
   moments_not_made leaves =
       moments_of_none rules.profile rules.clients_max (HoldsRead holds (head_record rules.profile rules.clients_max ∷ []) first) before after leaves
       (λ c alone.
-      first_ledger rules some_client clients [] (start_state rules.profile rules.clients_max) (leads_none (start_state rules.profile rules.clients_max))
+      first_ledger rules clients [] (start_state rules.profile rules.clients_max) (leads_none (start_state rules.profile rules.clients_max))
       (HoldsRead holds (head_record rules.profile rules.clients_max ∷ []) first) (λ file of. of.1.begins) c ([], [], alone, refl))
 
 -- a backup of what was salvaged

@@ -27,7 +27,7 @@ dump_is_of_history rules h file profile clients is = record {
       ap (λ (records : List (List ℕ)). head_bytes rules.profile rules.clients_max ++ joined (behind_head records)) (ap records_in is.reads)
       ∙ ap (λ (l : List ℕ). head_bytes rules.profile rules.clients_max ++ l) (joined_map h.entries)
       ∙ sym (ap (λ p. head_bytes p h.clients_max ++ flat_map dumped h.entries) profile ∙ ap (λ n. head_bytes rules.profile n ++ flat_map dumped h.entries) clients);
-  clients = (is.keepable.some_client, is.keepable.clients);
+  clients = is.keepable.clients;
   entries = are_dumped (start h.profile h.clients_max) h.entries is.keepable.legal is.keepable.recorded_are;
   marked = tt;
 }

@@ -7,7 +7,7 @@ use Rattle.tb_machine.specs.Scripts.{Pair}
 use Rattle.tb_machine.specs.Runs.{Reads}
 use Rattle.tb_keep.specs.declared.faults.KeepFault.{KeepFault}
 use Rattle.tb_keep.specs.Keeping.{Keeping}
-use Rattle.tb_keep.specs.Steps.{IsSudden, is_end_of_time, KeepsPair, EndsTold, EndsNext}
+use Rattle.tb_keep.specs.private.Steps.{IsSudden, is_end_of_time, KeepsPair, EndsTold, EndsNext}
 
 module _ (tells : Type 0) {D : Type 0} (disk : D → Disk) where
   pub ends_refused : (f : KeepFault) (p : Pair) (before after : Keeping D) (first last : Input) (held left : List ℕ) (start : Output)

@@ -27,7 +27,7 @@ use Rattle.tb_keep.specs.declared.faults.StartFault.TheVariants as start
 use Rattle.tb_keep.specs.Restoration.{RecordsLead, RestoresRecord, StopsAt, IsStartCause, HasStartCause}
 use Rattle.tb_keep.specs.Rounds.{block_bytes_max}
 use Rattle.tb_keep.specs.Salvaging.{IsOwnWriteCause, IsWriteCause, old_part}
-use Rattle.tb_keep.specs.Taking.{IsBetween, line, Queues, Breaks, Puts, Taken, StopsAfter, TakesRecord, CommitsTaken, Ends, TakesNext, by_device}
+use Rattle.tb_keep.specs.private.Taking.{IsBetween, line, Queues, Breaks, Puts, Taken, StopsAfter, TakesRecord, CommitsTaken, Ends, TakesNext, by_device}
 use Rattle.tb_keep.proofs.Batches.{entry_short}
 use Rattle.tb_keep.proofs.Entered.{Latest}
 use Rattle.tb_keep.proofs.Leading.{leads_none, leads_more}

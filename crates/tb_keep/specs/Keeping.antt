@@ -1,11 +1,10 @@
 -- What a kept file represents, and what a keeper is that keeps it.
--- Cited by public contracts of: heads, keepers, opening, serving, worked_rows.
-use Rattle.std.specs.Prelude.{ℕ, ◌≡◌, ◌<◌, ◌≤◌, Bool, true, List, [], ◌∷◌, ◌++◌, map, codes, refl}
+-- Cited by public contracts of: keepers, opening, restoring, serving, worked_rows.
+use Rattle.std.specs.Prelude.{ℕ, ◌≡◌, Bool, true, List, [], ◌∷◌, ◌++◌, map, codes, refl}
 use Rattle.tb_records.specs.declared.limits.Profile.{Profile}
-use Rattle.tb_records.specs.declared.limits.TheConstants.{CLIENTS_MAX}
 use Rattle.tb_records.specs.declared.limits.Profile.TheVariants.{Two}
 use Rattle.tb_records.specs.Ordered.{Each}
-use Rattle.tb_records.specs.DumpBytes.{profile_number}
+use Rattle.tb_records.specs.DumpBytes.{profile_number, IsClients}
 use Rattle.tb_journal.specs.Device.{Disk}
 use Rattle.tb_journal.specs.Contents.{Records, contents, recorded}
 use Rattle.tb_journal.specs.Ready.{Kept, IsReady}
@@ -41,8 +40,7 @@ AreRecorded entries = Each (λ (e : Entry). IsRecord (dumped e) e) entries
 
 -- a history that a file can represent
 pub record IsKeepable (h : History) : Type 0 where
-  pub some_client : 0 < h.clients_max
-  pub clients : h.clients_max ≤ CLIENTS_MAX
+  pub clients : IsClients h.clients_max
   pub legal : IsLegal h.profile h.clients_max h.entries
   pub recorded_are : AreRecorded h.entries
 

@@ -1,10 +1,9 @@
 -- What is read of a kept file, without a write.
--- Cited by public contracts of: dumps, heads, laws, worked_rows.
-use Rattle.std.specs.Prelude.{ℕ, ◌≡◌, ◌⊎◌, ◌<◌, ◌≤◌, List, [], ◌∷◌, ◌++◌, Option, None, Some, Result, Ok, Err, OnOk, IfErr}
+-- Cited by public contracts of: dumps, laws, restoring, worked_rows.
+use Rattle.std.specs.Prelude.{ℕ, ◌≡◌, ◌⊎◌, List, [], ◌∷◌, ◌++◌, Option, None, Some, Result, Ok, Err, OnOk, IfErr}
 use Rattle.tb_records.specs.declared.faults.FrameFault.TheVariants.{Device}
 use Rattle.tb_records.specs.declared.limits.Profile.{Profile}
-use Rattle.tb_records.specs.declared.limits.TheConstants.{CLIENTS_MAX}
-use Rattle.tb_records.specs.DumpBytes.{head_bytes}
+use Rattle.tb_records.specs.DumpBytes.{head_bytes, IsClients}
 use Rattle.tb_records.specs.Transport.{Output, Sent, CutOff}
 use Rattle.tb_journal.specs.declared.reading.Extent.{Extent}
 use Rattle.tb_journal.specs.Device.{Disk, FailsNone}
@@ -18,7 +17,7 @@ use Rattle.tb_keep.specs.declared.faults.DumpFault.{DumpFault}
 use Rattle.tb_keep.specs.declared.faults.DumpFault.TheVariants as dump
 use Rattle.tb_keep.specs.declared.faults.StartFault.{StartFault}
 use Rattle.tb_keep.specs.declared.faults.StartFault.TheVariants as start
-use Rattle.tb_keep.specs.declared.heads.Rules.{Rules}
+use Rattle.tb_keep.specs.declared.restoring.Rules.{Rules}
 use Rattle.tb_keep.specs.Keeping.{History, state_of, head_record, IsLedger}
 use Rattle.tb_keep.specs.Restoration.{StopsReading}
 
@@ -28,7 +27,7 @@ rules_of profile clients_max = record { profile = profile; clients_max = clients
 -- a record is no head
 abbrev pub IsNoHead : List ℕ → Type 0
 IsNoHead head =
-    (profile : Profile) (clients_max : ℕ) → 0 < clients_max → clients_max ≤ CLIENTS_MAX → head ≡ head_record profile clients_max → ⊥
+    (profile : Profile) (clients_max : ℕ) → IsClients clients_max → head ≡ head_record profile clients_max → ⊥
 
 -- the rules that a record names which is a head, or it is none
 abbrev pub NamesRules : Option (Profile × ℕ) → List ℕ → Type 0

@@ -2,7 +2,7 @@
 -- Cited by public contracts of: dumps, laws, opening, restoring, salvaging, worked_rows.
 use Rattle.std.specs.Prelude.{ℕ, ◌≡◌, ◌⊎◌, ◌+◌, ◌-◌, ◌^◌, ◌<◌, ◌≤◌, IsTrue, List, [], ◌∷◌, ◌++◌, map, fold, length, refl, Some, Result, Ok, Err, OnOk, IfErr}
 use Rattle.tb_records.specs.declared.limits.Profile.{Profile}
-use Rattle.tb_records.specs.declared.limits.TheConstants.{CLIENTS_MAX}
+use Rattle.tb_records.specs.DumpBytes.{IsClients}
 use Rattle.tb_journal.specs.declared.opening.OpenFault.TheVariants as open_faults
 use Rattle.tb_journal.specs.declared.reading.Extent.{Extent}
 use Rattle.tb_journal.specs.Device.{Disk, FailsNone}
@@ -68,7 +68,7 @@ RestoresAll (Err fault) S records T =
 -- the head of a ledger of these rules, no head, or that of one of others
 abbrev pub HeadAnswers : Result (Unit {0}) StartFault → List ℕ → Profile → ℕ → Type 0
 HeadAnswers (Ok done) bytes profile clients_max = bytes ≡ head_record profile clients_max
-HeadAnswers (Err start.Head) bytes profile clients_max = (p : Profile) (n : ℕ) → 0 < n → n ≤ CLIENTS_MAX → bytes ≡ head_record p n → ⊥
+HeadAnswers (Err start.Head) bytes profile clients_max = (p : Profile) (n : ℕ) → IsClients n → bytes ≡ head_record p n → ⊥
 HeadAnswers (Err start.OtherRules) bytes profile clients_max =
     (p : Profile) × (n : ℕ) × (bytes ≡ head_record p n) × ((p ≡ profile) × (n ≡ clients_max) → ⊥)
 HeadAnswers (Err fault) bytes profile clients_max = ⊥

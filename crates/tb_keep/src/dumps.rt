@@ -2,18 +2,16 @@
 ghost use Rattle.std.specs.Prelude.{◌≡◌, ℕ, ◌+◌, ◌-◌, true, List, [], ◌∷◌, drop, IfOk, IfErr};
 ghost use Rattle.tb_records.specs.Transport.{IsSent};
 ghost use Rattle.tb_journal.specs.Scans.{HasRead, GoesFurther};
-ghost use Rattle.tb_keep.specs.Keeping.{head_record};
-ghost use Rattle.tb_keep.specs.Entering.{StaysKept, FindsRules};
+ghost use Rattle.tb_keep.specs.private.Entering.{StaysKept, FindsRules, IsBehindHead, CauseBehindHead};
 ghost use Rattle.tb_keep.specs.Opening.{IsUntouched};
 ghost use Rattle.tb_keep.specs.Restoration.{HasStartCause};
 ghost use Rattle.tb_keep.specs.Reading.{RulesAnswer, RulesIn, FindsHistory, Dumps, HasDumpCause, OfRead, joined};
 ghost use Rattle.tb_keep.specs.Following.{HasLaterCause, WritesEntries};
 ghost use Rattle.tb_keep.specs.Salvaging.{IsUnsalvaged};
-ghost use Rattle.tb_keep.specs.Sending.{SendsNext, SendsAll};
+ghost use Rattle.tb_keep.specs.private.Sending.{SendsNext, SendsAll};
 
 use crate::faults::{DumpFault, SalvageFault, StartFault};
-use crate::heads::{Rules, read_head};
-use crate::restoring::{entered_behind, read_record};
+use crate::restoring::{Rules, entered_behind, read_head, read_record};
 use std::alloc::Global;
 use tb_journal::{Device, Extent, Scan};
 use tb_machine::Machine;
@@ -107,13 +105,10 @@ fn history_behind<D: Device>(
     scan: &mut Scan,
     device: &mut D,
 ) -> Result<(Rules, Machine<Global>, Extent), StartFault>
-    ensures found { (file : List ℕ) → D.holds device.old file
-        → HasRead (head_record rules.profile rules.clients_max ∷ []) file scan.old → FindsHistory result file }
+    ensures found { (file : List ℕ) → D.holds device.old file → IsBehindHead rules file scan.old → FindsHistory result file }
     ensures same { (file : List ℕ) → D.holds device.old file → D.holds device.new file }
     ensures stays { D.tells → StaysKept (D.disk device.old) (D.disk device.new) }
-    ensures cause { D.tells
-        → HasRead (head_record rules.profile rules.clients_max ∷ []) (D.disk device.old).seen scan.old
-        → HasStartCause result (D.disk device.old) (D.disk device.new) }
+    ensures cause { D.tells → CauseBehindHead result rules scan.old (D.disk device.old) (D.disk device.new) }
 {
     let same = rules;
     match entered_behind(global, global, same, scan, device) {

@@ -3,9 +3,9 @@
 //! Modules, each over those before it:
 //!
 //! - `faults`: why a kept ledger does not go on.
-//! - `heads`: record 0 of the journal: the rules of the ledger.
 //! - `keepers`: `Keeper`, a machine, and the journal that its entries are in.
-//! - `restoring`: a machine from the records of a file, each entered before the next is read.
+//! - `restoring`: record 0 of the journal, the rules of the ledger; a machine from the records behind it, each entered before the next is
+//!   read.
 //! - `opening`: `create`, `Keeper::open` and `Keeper::start`.
 //! - `replies`: replies held in memory until the entries that they rest on are durable.
 //! - `serving`: `keep`, pairs served, entries committed, and then replies sent.
@@ -14,14 +14,13 @@
 //! - `laws`: what holds of every kept ledger: functions that do nothing.
 //! - `worked_rows`: small files, and what the definitions make of them.
 //!
-//! specs/Keeping is what a file represents, specs/Rounds what serving does, specs/Opening, Restoration and Reading what
-//! the others do, specs/Sources of which bytes they speak, specs/Moments and Again what holds at each moment and after a
-//! crash.
+//! specs/Keeping is what a file represents, specs/Rounds what serving does, specs/Opening, Restoration and Reading what the
+//! others do, specs/private/Sources of which bytes they speak, specs/Moments and Again what holds at each moment and after
+//! a crash.
 #![tactic(auto)]
 
 mod dumps;
 mod faults;
-mod heads;
 mod keepers;
 pub mod laws;
 mod opening;
@@ -33,9 +32,8 @@ pub mod worked_rows;
 
 pub use dumps::{read_history, read_rules, write_dump, write_entries};
 pub use faults::{DumpFault, KeepFault, SalvageFault, StartFault};
-pub use heads::{Rules, read_head, write_head};
 pub use keepers::Keeper;
 pub use opening::{NotKept, create};
-pub use restoring::restored;
+pub use restoring::{Rules, read_head, restored, write_head};
 pub use salvaging::{NotSalvaged, Salvaged, backup, salvage};
 pub use serving::{BATCH_BYTES_MAX, HELD_BYTES_MAX, keep};

@@ -1,6 +1,6 @@
 //! A kept file is created, or opened after a crash.
-ghost use Rattle.std.specs.Prelude.{◌≡◌, ◌≤◌, ◌-◌, true, ℕ, List, [], length, Ok, IfOk, IfErr, OnOk, MatchResult};
-ghost use Rattle.tb_journal.specs.Device.{IsOnDisk, LeavesOnly, HasCause, HasOwnCause, IsOfCall};
+ghost use Rattle.std.specs.Prelude.{◌≡◌, ◌≤◌, ◌-◌, true, ℕ, List, [], Ok, IfOk, IfErr, OnOk, MatchResult};
+ghost use Rattle.tb_journal.specs.Device.{IsOnDisk, HasCause, HasOwnCause, IsOfCall};
 ghost use Rattle.tb_journal.specs.Contents.{contents, recorded};
 ghost use Rattle.tb_journal.specs.Reading.{extent_of};
 ghost use Rattle.tb_journal.specs.Ready.{IsReady, IsOver};
@@ -8,14 +8,13 @@ ghost use Rattle.tb_journal.specs.Creating.{is_blank};
 ghost use Rattle.tb_machine.specs.Histories.{start};
 ghost use Rattle.tb_keep.specs.Keeping.{Keeps, IsFresh, IsUsable};
 ghost use Rattle.tb_keep.specs.Restoration.{IsRestoredFrom, IsNotOfFile, HasStartCause, torn_bytes};
-ghost use Rattle.tb_keep.specs.Opening.{OpensFile, CreatesIn, StartsFile, IsOpened, IsStarted, HasNoEntry, MayBeOpened, MayBeCreated, MayBeStarted, IsRefused, IsCreateRefused, IsStartRefused, HasCreateStartCause, HasEitherCause, IsUntouched, LeavesWhereSound, history_of, device_left, why_left};
-ghost use Rattle.tb_keep.specs.Entering.{StaysKept};
-ghost use Rattle.tb_keep.specs.Headed.{HasHead, HasRecords, IsOfDevice, HasDeviceCause, OpensOnly, journal_left};
+ghost use Rattle.tb_keep.specs.Opening.{OpensFile, CreatesIn, StartsFile, IsOpened, IsStarted, MayBeOpened, MayBeCreated, MayBeStarted, IsRefused, IsCreateRefused, IsStartRefused, HasCreateStartCause, HasEitherCause, LeavesWhereSound, history_of, device_left, why_left};
+ghost use Rattle.tb_keep.specs.private.Entering.{StaysKept};
+ghost use Rattle.tb_keep.specs.private.Headed.{HasHead, HasRecords, IsOfDevice, HasDeviceCause, journal_left, OpensAtMost, OpensRestored, HeadLeaves};
 
 use crate::faults::StartFault;
-use crate::heads::{Rules, write_head};
 use crate::keepers::Keeper;
-use crate::restoring::restored;
+use crate::restoring::{Rules, restored, write_head};
 use crate::serving::BATCH_BYTES_MAX;
 use std::alloc::{Allocator, Global};
 use tb_journal::{Device, Extent, Fault, Journal, NotOpened, OpenFault};
@@ -46,9 +45,7 @@ fn commit_head<D: Device>(journal: &mut Journal<D>, rules: Rules) -> Result<(), 
     requires none_waits { D.tells → journal.old.waiting ≡ [] }
     ensures head { D.tells → IsReady D.disk journal.old
         → OnOk result (HasHead D.disk rules.profile rules.clients_max journal.new) }
-    ensures any_moment { D.tells → IsReady D.disk journal.old
-        → LeavesOnly (D.disk journal.old.device) (D.disk journal.new.device)
-        (HasNoEntry rules.profile rules.clients_max) }
+    ensures any_moment { D.tells → IsReady D.disk journal.old → HeadLeaves rules (D.disk journal.old.device) (D.disk journal.new.device) }
     ensures fault { IfErr result (λ fault. IsOfDevice (StartFault.Journal (OpenFault.Device fault))) }
     ensures cause { D.tells → HasOwnCause result (D.disk journal.old.device) (D.disk journal.new.device) }
     ensures usable { OnOk result (journal.new.usable ≡ true) }
@@ -67,8 +64,7 @@ fn headed<D: Device>(journal: Journal<D>, rules: Rules) -> Result<Journal<D>, No
     requires none_waits { D.tells → journal.waiting ≡ [] }
     ensures head { D.tells → IsReady D.disk journal
         → IfOk result (HasHead D.disk rules.profile rules.clients_max) }
-    ensures any_moment { D.tells → IsReady D.disk journal
-        → LeavesOnly (D.disk journal.device) (D.disk (journal_left result)) (HasNoEntry rules.profile rules.clients_max) }
+    ensures any_moment { D.tells → IsReady D.disk journal → HeadLeaves rules (D.disk journal.device) (D.disk (journal_left result)) }
     ensures fault { IfErr result (λ failed. IsOfDevice failed.fault) }
     ensures cause { D.tells
         → HasDeviceCause (why_left result) (D.disk journal.device) (D.disk (journal_left result)) }
@@ -165,9 +161,7 @@ fn open_headed<D: Device>(
     requires read { D.tells → extent_of (contents (D.disk device).seen) ≡ Ok extent }
     ensures opened { D.tells → (D.disk device).sound ≡ true
         → IfOk result (HasRecords D.disk rules.profile rules.clients_max (recorded (D.disk device).seen)) }
-    ensures any_moment { D.tells → (D.disk device).sound ≡ true
-        → LeavesOnly (D.disk device) (D.disk (journal_left result))
-        (OpensOnly rules.profile rules.clients_max (recorded (D.disk device).seen)) }
+    ensures any_moment { D.tells → OpensAtMost rules.profile rules.clients_max (D.disk device) (D.disk (journal_left result)) }
     ensures fault { D.tells → IfErr result (λ failed. IsOfDevice failed.fault) }
     ensures cause { D.tells → HasStartCause (why_left result) (D.disk device) (D.disk (journal_left result)) }
     ensures usable { IfOk result (λ journal. journal.usable ≡ true) }
@@ -202,9 +196,7 @@ fn open_restored<D: Device, A: Allocator + Clone>(
     ensures opened { D.tells → (D.disk device).sound ≡ true
         → IfOk result (IsOpened D.disk rules.profile rules.clients_max (D.disk device).seen) }
     ensures fresh { D.tells → (D.disk device).sound ≡ true → IfOk result (IsFresh D.disk) }
-    ensures any_moment { D.tells → (D.disk device).sound ≡ true
-        → LeavesOnly (D.disk device) (D.disk (device_left result))
-        (OpensOnly rules.profile rules.clients_max (recorded (D.disk device).seen)) }
+    ensures any_moment { D.tells → OpensAtMost rules.profile rules.clients_max (D.disk device) (D.disk (device_left result)) }
     ensures fault { D.tells → IfErr result (λ failed. IsOfDevice failed.fault) }
     ensures cause { D.tells → HasStartCause (why_left result) (D.disk device) (D.disk (device_left result)) }
     ensures usable { IfOk result IsUsable }
@@ -259,9 +251,7 @@ fn open_short<D: Device, A: Allocator + Clone>(
         IsRefused rules.profile rules.clients_max failed.fault (D.disk device) (D.disk failed.device)) }
     ensures cause { D.tells → HasStartCause (why_left result) (D.disk device) (D.disk (device_left result)) }
     ensures usable { IfOk result IsUsable }
-    ensures handed { (file : List ℕ) → D.holds device file
-        → IsRestoredFrom rules.profile rules.clients_max file machine extent
-        → OpensFile result rules.profile rules.clients_max file }
+    ensures handed { (file : List ℕ) → D.holds device file → OpensRestored result rules machine extent file }
 {
     let mut device = device;
     match torn_behind(&mut device, extent) {

@@ -1,24 +1,20 @@
-//! The restoring of a machine from the records of a file behind its head.
-ghost use Rattle.std.specs.Prelude.{◌≡◌, ◌≤◌, ◌+◌, ℕ, true, List, [], ◌∷◌, Ok, IfOk, IfErr, OnOk};
+//! The head of a kept file, record 0 of its journal, and the restoring of a machine from the records behind it.
+ghost use Rattle.std.specs.Prelude.{◌≡◌, ◌≤◌, ◌+◌, ℕ, true, List, [], Ok, IfOk, IfErr, OnOk};
 ghost use Rattle.tb_journal.specs.Device.{IsOnDisk};
-ghost use Rattle.tb_journal.specs.Contents.{Records, contents};
-ghost use Rattle.tb_journal.specs.Opening.{HasOpenCause};
-ghost use Rattle.tb_journal.specs.Reading.{extent_of};
-ghost use Rattle.tb_journal.specs.Scans.{BeginsWith, HasRead, GoesFurther, IsAt};
+ghost use Rattle.tb_journal.specs.Scans.{HasRead, GoesFurther, IsAt, ScanCause};
 ghost use Rattle.tb_machine.specs.Recording.{IsRecord};
-ghost use Rattle.tb_keep.specs.Keeping.{head_record};
-ghost use Rattle.tb_keep.specs.Restoration.{ReadsRecord, RestoresRecord, Restores, HasStartCause};
+ghost use Rattle.tb_keep.specs.Restoration.{ReadsRecord, RestoresRecord, Restores, HasStartCause, HeadAnswers};
 ghost use Rattle.tb_keep.specs.Opening.{IsUntouched};
-ghost use Rattle.tb_keep.specs.Reading.{OfRead};
-ghost use Rattle.tb_keep.specs.Sources.{IsNext};
-ghost use Rattle.tb_keep.specs.Entering.{StaysKept, ReadCause, ReadsHead, EntersNext, EntersAll, FindsBehind};
+ghost use Rattle.tb_keep.specs.Reading.{OfRead, NamesRules};
+ghost use Rattle.tb_keep.specs.private.Sources.{IsNext};
+ghost use Rattle.tb_keep.specs.private.Entering.{StaysKept, ReadCause, ReadsHead, EntersNext, EntersAll, FindsBehind, IsBehindHead, CauseBehindHead, RestoresEmpty};
+ghost use Rattle.tb_keep.specs.Keeping.{head_record};
 
 use crate::faults::StartFault;
-use crate::heads::{Rules, check_head};
 use std::alloc::{Allocator, Global};
 use tb_journal::{Device, Extent, OpenFault, Scan};
 use tb_machine::{Entry, Machine, Unfit, read_entry, restore};
-use tb_records::FrameFault;
+use tb_records::{ClientsMax, FrameFault, Profile};
 
 /// Reads the record that is behind the entries of a machine.
 fn read_next<A: Allocator + Clone>(
@@ -74,8 +70,7 @@ pub(crate) fn read_record<D: Device>(scan: &mut Scan, device: &mut D) -> Result<
         (λ read file. IsNext result read file scan.new) }
     ensures same { (file : List ℕ) → D.holds device.old file → D.holds device.new file }
     ensures stays { D.tells → StaysKept (D.disk device.old) (D.disk device.new) }
-    ensures cause { D.tells → (read : List (List ℕ)) → HasRead read (D.disk device.old).seen scan.old
-        → HasOpenCause result (D.disk device.old) (D.disk device.new) }
+    ensures cause { D.tells → ScanCause result scan.old (D.disk device.old) (D.disk device.new) }
     ensures further { IfOk result (λ more. more ≡ true → GoesFurther scan.old scan.new) }
     ensures place { IfErr result (IsAt scan.old.end) }
 {
@@ -156,14 +151,11 @@ pub(crate) fn entered_behind<D: Device, A: Allocator + Clone>(
     scan: &mut Scan,
     device: &mut D,
 ) -> Result<(Machine<A>, Extent), StartFault>
-    ensures found { (file : List ℕ) → D.holds device.old file
-        → HasRead (head_record rules.profile rules.clients_max ∷ []) file scan.old → FindsBehind result rules file }
+    ensures found { (file : List ℕ) → D.holds device.old file → IsBehindHead rules file scan.old → FindsBehind result rules file }
     ensures few { IfOk result (λ found. found.1.count ≤ found.1.end) }
     ensures same { (file : List ℕ) → D.holds device.old file → D.holds device.new file }
     ensures stays { D.tells → StaysKept (D.disk device.old) (D.disk device.new) }
-    ensures cause { D.tells
-        → HasRead (head_record rules.profile rules.clients_max ∷ []) (D.disk device.old).seen scan.old
-        → HasStartCause result (D.disk device.old) (D.disk device.new) }
+    ensures cause { D.tells → CauseBehindHead result rules scan.old (D.disk device.old) (D.disk device.new) }
 {
     let _clients = rules.clients_max.get();
     let Ok(mut machine) = Machine::new_in(global, alloc, rules.profile, rules.clients_max) else {
@@ -183,8 +175,7 @@ fn without_entries<A: Allocator + Clone>(
     extent: Extent,
 ) -> Result<(Machine<A>, Extent), StartFault>
     requires few { extent.count ≤ extent.end }
-    ensures found { (file : List ℕ) → contents file ≡ Records [] → BeginsWith [] file
-        → extent_of (contents file) ≡ Ok extent → Restores result rules.profile rules.clients_max file }
+    ensures found { (file : List ℕ) → RestoresEmpty result rules extent file }
     ensures fault { IfErr result (λ fault. fault ≡ StartFault.NoMemory) }
     ensures few { IfOk result (λ found. found.1.count ≤ found.1.end) }
 {
@@ -243,4 +234,51 @@ pub fn restored<D: Device, A: Allocator + Clone>(
         Ok(mut scan) => restored_by(global, alloc, rules, &mut scan, device),
         Err(fault) => Err(StartFault::Journal(fault)),
     }
+}
+
+/// The record of a head.
+pub fn write_head(profile: Profile, clients_max: ClientsMax) -> [u8; 6]
+    ensures { result ≡ head_record profile clients_max }
+{
+    let number = match profile {
+        Profile::One => 1,
+        Profile::Two => 2,
+    };
+    [84, 66, 75, 49, number, clients_max.get() as u8]
+}
+
+/// The rules that a record names which is a head. None of any other record.
+pub fn read_head(bytes: &[u8]) -> Option<(Profile, ClientsMax)>
+    ensures { NamesRules result bytes.now }
+{
+    let [84, 66, 75, 49, number, clients_max] = bytes else {
+        return None;
+    };
+    let profile = match number {
+        1 => Profile::One,
+        2 => Profile::Two,
+        _ => return None,
+    };
+    let clients_max = ClientsMax::new(*clients_max as u32)?;
+    Some((profile, clients_max))
+}
+
+/// The rules that a ledger goes by.
+#[derive(Clone, Copy)]
+pub struct Rules {
+    pub profile: Profile,
+    pub clients_max: ClientsMax,
+}
+
+/// Whether a record is the head of a ledger of these rules.
+pub(crate) fn check_head(bytes: &[u8], rules: Rules) -> Result<(), StartFault>
+    ensures { HeadAnswers result bytes.now rules.profile rules.clients_max }
+{
+    let Some((profile, clients_max)) = read_head(bytes) else {
+        return Err(StartFault::Head);
+    };
+    if profile != rules.profile || clients_max.get() != rules.clients_max.get() {
+        return Err(StartFault::OtherRules);
+    }
+    Ok(())
 }

@@ -5,20 +5,18 @@ ghost use Rattle.tb_journal.specs.Device.{LeavesOnly};
 ghost use Rattle.tb_journal.specs.Ready.{IsReady};
 ghost use Rattle.tb_journal.specs.Reading.{extent_of};
 ghost use Rattle.tb_journal.specs.Scans.{HasRead, GoesFurther};
-ghost use Rattle.tb_keep.specs.Keeping.{head_record};
-ghost use Rattle.tb_keep.specs.Entering.{StaysKept, ReadCause};
+ghost use Rattle.tb_keep.specs.private.Entering.{StaysKept, ReadCause, CauseBehindHead};
 ghost use Rattle.tb_keep.specs.Opening.{IsUntouched};
 ghost use Rattle.tb_keep.specs.Restoration.{HasStartCause};
 ghost use Rattle.tb_keep.specs.Rounds.{block_bytes_max};
 ghost use Rattle.tb_keep.specs.Salvaging.{IsSalvaged, IsUnsalvaged, IsBackedUp, IsNotBackedUp, MayBeSalvaged, HasNewCause, salvaged_device, backup_device, why_old, why_new};
-ghost use Rattle.tb_keep.specs.Taking.{HoldsRead, HeadRead, IsOldDevice, IsTornStop, StaysUsed, StopsBy, Puts, TakesRecord, TakesNext, TakesAll, CommitsTaken, TakesRest, of_old, stop_of};
+ghost use Rattle.tb_keep.specs.private.Taking.{HoldsRead, HeadRead, IsOldDevice, IsTornStop, StaysUsed, StopsBy, Puts, TakesRecord, TakesNext, TakesAll, CommitsTaken, TakesRest, of_old, stop_of, LeavesSalvaged};
 
 use crate::dumps::first_rules;
 use crate::faults::{SalvageFault, StartFault};
-use crate::heads::Rules;
 use crate::keepers::Keeper;
 use crate::opening::{create, torn_behind};
-use crate::restoring::{read_record, restore_record};
+use crate::restoring::{Rules, read_record, restore_record};
 use crate::serving::{BATCH_BYTES_MAX, BLOCK_BYTES_MAX};
 use std::alloc::Global;
 use tb_journal::{Device, Extent, Fault, Journal, OpenFault, Scan};
@@ -286,17 +284,11 @@ fn salvage_behind<D: Device, N: Device>(
     ensures unsalvaged { (file : List ℕ)
         → HeadRead (D.holds from.old) rules scan.old file
         → IfErr result (λ failed. IsUnsalvaged failed.fault file) }
-    ensures any_moment { N.tells
-        → LeavesOnly (N.disk into) (N.disk (salvaged_device result))
-        (MayBeSalvaged
-        (HeadRead (D.holds from.old) rules scan.old)
-        (N.disk into)) }
+    ensures any_moment { N.tells → LeavesSalvaged (HeadRead (D.holds from.old) rules scan.old) (N.disk into) (N.disk (salvaged_device result)) }
     ensures cause_new { N.tells → HasNewCause (why_new result) (N.disk into) (N.disk (salvaged_device result)) }
     ensures same { (file : List ℕ) → D.holds from.old file → D.holds from.new file }
     ensures stays { D.tells → StaysKept (D.disk from.old) (D.disk from.new) }
-    ensures cause_old { D.tells
-        → HasRead (head_record rules.profile rules.clients_max ∷ []) (D.disk from.old).seen scan.old
-        → HasStartCause (why_old result) (D.disk from.old) (D.disk from.new) }
+    ensures cause_old { D.tells → CauseBehindHead (why_old result) rules scan.old (D.disk from.old) (D.disk from.new) }
 {
     let _clients = rules.clients_max.get();
     let mut keeper = match create(global, global, into, rules) {
@@ -332,9 +324,7 @@ fn salvage_by<D: Device, N: Device>(
     ensures salvaged { IfOk result (IsSalvaged N.tells N.disk (HoldsRead (D.holds from.old) [] scan.old)) }
     ensures unsalvaged { (file : List ℕ) → HoldsRead (D.holds from.old) [] scan.old file
         → IfErr result (λ failed. IsUnsalvaged failed.fault file) }
-    ensures any_moment { N.tells
-        → LeavesOnly (N.disk into) (N.disk (salvaged_device result))
-        (MayBeSalvaged (HoldsRead (D.holds from.old) [] scan.old) (N.disk into)) }
+    ensures any_moment { N.tells → LeavesSalvaged (HoldsRead (D.holds from.old) [] scan.old) (N.disk into) (N.disk (salvaged_device result)) }
     ensures cause_new { N.tells → HasNewCause (why_new result) (N.disk into) (N.disk (salvaged_device result)) }
     ensures same { (file : List ℕ) → D.holds from.old file → D.holds from.new file }
     ensures stays { D.tells → StaysKept (D.disk from.old) (D.disk from.new) }

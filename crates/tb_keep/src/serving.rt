@@ -1,5 +1,5 @@
 //! The serving of a kept ledger: the entries of pairs are committed, and then the replies that rest on them are sent.
-ghost use Rattle.std.specs.Prelude.{◌≡◌, ◌++◌, true, false, [], ◌∷◌, IfErr, OnOk, OnErr};
+ghost use Rattle.std.specs.Prelude.{◌≡◌, true, false, IfErr, OnOk, OnErr};
 ghost use Rattle.tb_journal.specs.Ready.{IsReady};
 ghost use Rattle.tb_machine.specs.Dumps.{dumped};
 ghost use Rattle.tb_machine.specs.Histories.{fits};
@@ -7,7 +7,7 @@ ghost use Rattle.tb_machine.specs.Recording.{IsRecord};
 ghost use Rattle.tb_machine.specs.Runs.{is_new_in};
 ghost use Rattle.tb_keep.specs.Keeping.{IsFresh, IsUsable};
 ghost use Rattle.tb_keep.specs.Rounds.{Served};
-ghost use Rattle.tb_keep.specs.Steps.{IsRefusal, Appends, HoldsReply, KeepsPair, KeepsNext, HandsOut, Tells, MayTell, EndsTold, is_end_of_time, with_record};
+ghost use Rattle.tb_keep.specs.private.Steps.{IsRefusal, Appends, HoldsReply, KeepsPair, HandsOut, Tells, is_end_of_time, with_record, MayTellOver, EndsToldOver, KeepsNextOver};
 
 use crate::faults::KeepFault;
 use crate::keepers::Keeper;
@@ -152,8 +152,7 @@ fn tell_before_waiting<D: Device, A: Allocator + Clone, R: Source, W: Sink>(
 ) -> Result<(), KeepFault>
     requires usable { keeper.old.journal.usable ≡ true }
     requires ready { D.tells → IsReady D.disk keeper.old.journal }
-    ensures may { MayTell D.tells D.disk (R.input reader.now).at_hand result keeper.old keeper.new
-        replies.old.bytes.items replies.new.bytes.items (W.output writer.old) (W.output writer.new) }
+    ensures may { MayTellOver D.tells D.disk W.output (R.input reader.now).at_hand result keeper.old keeper.new replies.old replies.new writer.old writer.new }
     ensures cut { keeper.new.cut ≡ keeper.old.cut }
 {
     if holds_pair(reader.at_hand())
@@ -181,8 +180,7 @@ fn tell_and_stop<D: Device, A: Allocator + Clone, W: Sink>(
 ) -> KeepFault
     requires usable { keeper.old.journal.usable ≡ true }
     requires ready { D.tells → IsReady D.disk keeper.old.journal }
-    ensures ends { EndsTold D.tells D.disk stop result keeper.old keeper.new replies.old.bytes.items
-        replies.new.bytes.items (W.output writer.old) (W.output writer.new) }
+    ensures ends { EndsToldOver D.tells D.disk W.output stop result keeper.old keeper.new replies.old replies.new writer.old writer.new }
     ensures cut { keeper.new.cut ≡ keeper.old.cut }
 {
     match tell(keeper, replies, writer) {
@@ -202,8 +200,7 @@ fn keep_next<D: Device, A: Allocator + Clone, R: Source, W: Sink>(
 ) -> Result<bool, KeepFault>
     requires usable { keeper.old.journal.usable ≡ true }
     requires ready { D.tells → IsReady D.disk keeper.old.journal }
-    ensures keeps { KeepsNext D.tells D.disk result keeper.old keeper.new (R.input reader.old) (R.input reader.new)
-        replies.old.bytes.items replies.new.bytes.items (W.output writer.old) (W.output writer.new) }
+    ensures keeps { KeepsNextOver D.tells D.disk W.output R.input result keeper.old keeper.new reader.old reader.new replies.old replies.new writer.old writer.new }
     ensures cut { keeper.new.cut ≡ keeper.old.cut }
 {
     match read_timed_from(alloc, reader) {

@@ -22,7 +22,7 @@ use Rattle.tb_keep_commands.specs.declared.faults.Damage.{Damage}
 use Rattle.tb_keep_commands.specs.declared.faults.Damage.TheVariants.{Block}
 use Rattle.tb_keep_commands.specs.declared.faults.Fault.{Fault}
 use Rattle.tb_keep_commands.specs.declared.faults.Fault.TheVariants.{Damaged, Opening, Making}
-use Rattle.tb_keep_commands.specs.declared.openers.OpeningFault.{OpeningFault}
+use Rattle.tb_keep_commands.specs.Ends.{KnownFiles}
 use Rattle.tb_keep_commands.specs.Naming.{Names}
 use Rattle.tb_keep_commands.specs.Outcomes.{Outcome, PrintsText, IsMeasured, IsRefused, Opens}
 use Rattle.tb_keep_commands.specs.Statuses.{damage_text, disk_fault, new_fault, started_fault}
@@ -129,24 +129,26 @@ module _ {E : Type 0} (its : devices.Ghosts E) (whole_read : E → List ℕ → 
     pub copies : MatchResult len (λ n. CopiesLong n whole outcome into between after start written)
         (λ fault. (outcome ≡ Err (disk_fault fault)) × (after ≡ between) × (written ≡ start))
 
-  -- the new file was made, and a file was copied into it; or it was not, and nothing was read
-  abbrev pub MakesCopy : {O : Type 0} → (Result D OpeningFault → O → Type 0) → O → Bool → Outcome → E → E → Output → Output → Type 0
-  MakesCopy may left whole outcome from after start written =
-      Opens Making may left outcome ((after ≡ from) × (written ≡ start)) (λ into. CopiesFile whole outcome into from after start written)
+module _ {O D E : Type 0} (its : KnownFiles O D E) (new : List ℕ) where
+  -- the new file of a name was made, and a file was copied into it; or it was not, and nothing was read
+  abbrev pub MakesCopy : O → O → Bool → Outcome → E → E → Output → Output → Type 0
+  MakesCopy before left whole outcome from after start written =
+      Opens Making (its.opener.makes_new before new) left outcome ((after ≡ from) × (written ≡ start))
+      (λ into. CopiesFile its.reading its.whole its.file whole outcome into from after start written)
 
   -- the first record of a file was read, and then it was copied into a new one. Of one that does not begin as a ledger's none was made
-  pub record CopiesHeaded {O : Type 0} (may : Result D OpeningFault → O → Type 0) (before left : O) (whole : Bool) (outcome : Outcome) (from after : E) (start written : Output) : Type 0 where
+  pub record CopiesHeaded (before left : O) (whole : Bool) (outcome : Outcome) (from after : E) (start written : Output) : Type 0 where
     pub rules : Result Rules StartFault
     pub between : E
-    pub head : IsHeadRead its rules from between
-    pub copies : MatchResult rules (λ read. MakesCopy may left whole outcome between after start written)
-        (λ fault. IsRefused its fault outcome between after × (left ≡ before) × (written ≡ start))
+    pub head : IsHeadRead its.reading rules from between
+    pub copies : MatchResult rules (λ read. MakesCopy before left whole outcome between after start written)
+        (λ fault. IsRefused its.reading fault outcome between after × (left ≡ before) × (written ≡ start))
 
-  -- a file was opened and copied into a new one; or it was not opened, and none was made
-  pub record CopiesOver {O : Type 0} (opens : Result E OpeningFault → O → Type 0) (makes : O → List ℕ → Result D OpeningFault → O → Type 0) (new : List ℕ) (left : O) (whole : Bool) (outcome : Outcome) (start written : Output) : Type 0 where
+  -- the file of a name was opened and copied into a new one; or it was not opened, and none was made
+  pub record CopiesOver (name : List ℕ) (before left : O) (whole : Bool) (outcome : Outcome) (start written : Output) : Type 0 where
     pub middle : O
-    pub copies : Opens Opening opens middle outcome ((left ≡ middle) × (written ≡ start))
-        (λ from. (after : E) × CopiesHeaded (makes middle new) middle left whole outcome from after start written)
+    pub copies : Opens Opening (its.opener.opens before name) middle outcome ((left ≡ middle) × (written ≡ start))
+        (λ from. (after : E) × CopiesHeaded middle left whole outcome from after start written)
 
 -- rows
 

@@ -1,8 +1,9 @@
 -- How a command ends: its outcome, exit status and line.
 -- Cited by public contracts of: commands.
-use Rattle.std.specs.Prelude.{ℕ, true, false, ◌||◌, ◌≡◌, List, [], Ok, Err}
+use Rattle.std.specs.Prelude.{ℕ, true, false, ◌||◌, ◌≡◌, List, [], Option, Some, None, Ok, Err, map, string_bytes}
+use Rattle.std.specs.declared.alloc.Global.{Global}
+use Rattle.std.specs.declared.string.String.{String}
 use Rattle.tb_records.specs.Transport.{Input, Output, Sent, CutOff}
-use Rattle.tb_journal.specs.declared.devices.Device as devices
 use Rattle.tb_keep.specs.Reading.{rules_of}
 use Rattle.tb_keep_commands.specs.declared.arguments.Form.{Form}
 use Rattle.tb_keep_commands.specs.declared.arguments.Form.TheVariants as form
@@ -10,8 +11,9 @@ use Rattle.tb_keep_commands.specs.declared.commands.Terminals.{Terminals}
 use Rattle.tb_keep_commands.specs.declared.faults.Fault.TheVariants.{Device}
 use Rattle.tb_keep_commands.specs.declared.faults.Failed.TheVariants as failed
 use Rattle.tb_keep_commands.specs.declared.help.TheConstants.{USAGE, VERSION}
-use Rattle.tb_keep_commands.specs.declared.openers.Opener as openers
 use Rattle.tb_keep_commands.specs.Copies.{CopiesOver}
+use Rattle.tb_keep_commands.specs.Ends.{KnownEnds, KnownFiles, On}
+use Rattle.tb_keep_commands.specs.Forms.{file_word, form_of, new_word}
 use Rattle.tb_keep_commands.specs.Outcomes.{Outcome, Prints, RunsOver, DumpsOver, ChecksOver}
 use Rattle.tb_keep_commands.specs.Statuses.{SaysLine, fault_line, fault_path, fault_status}
 
@@ -30,24 +32,22 @@ abbrev pub Tells : Outcome → List ℕ → List ℕ → Output → Output → T
 Tells (Ok done) file new before after = after ≡ before
 Tells (Err fault) file new before after = SaysLine (fault_line fault (fault_path fault file new)) before after
 
-module _ {D : Type 0} (file : devices.Ghosts D) {E : Type 0} (reading : devices.Ghosts E) (whole : E → List ℕ → Type 0) {O : Type 0} (opener : openers.Ghosts O D E) (ends : Terminals) (before : O) (name new : List ℕ) (left : O) where
+module _ {O D E : Type 0} (its : KnownFiles O D E) (ends : Terminals) (before : O) (name new : List ℕ) (left : O) where
   -- what a form does over what opens devices: `run` has the device of a name made where there is none, `dump` and `check` open one that is
   -- there, `salvage` and `backup` open one and make another, and the other forms open none. What it reports while it goes on comes before
   -- the line of its outcome
   abbrev pub Performs : Form → Outcome → Input → Input → Output → Output → Output → Output → Type 0
   Performs (form.Run clients_max profile reports) outcome first last start written quiet told =
-      RunsOver file (opener.makes before name) left outcome (rules_of profile clients_max) name (reports || ends.faults) ends.input
+      RunsOver its.file (its.opener.makes before name) left outcome (rules_of profile clients_max) name (reports || ends.faults) ends.input
       first last start written quiet told
   Performs (form.Dump from follows) outcome first last start written quiet told =
-      (last ≡ first) × (told ≡ quiet) × DumpsOver reading (opener.opens before name) left (opener.ended left) from follows outcome start written
+      (last ≡ first) × (told ≡ quiet) × DumpsOver its name before left from follows outcome start written
   Performs form.Check outcome first last start written quiet told =
-      (last ≡ first) × (told ≡ quiet) × ChecksOver reading (opener.opens before name) left whole outcome start written
+      (last ≡ first) × (told ≡ quiet) × ChecksOver its name before left outcome start written
   Performs form.Salvage outcome first last start written quiet told =
-      (last ≡ first) × (told ≡ quiet)
-      × CopiesOver reading whole file (opener.opens before name) opener.makes_new new left false outcome start written
+      (last ≡ first) × (told ≡ quiet) × CopiesOver its new name before left false outcome start written
   Performs form.Backup outcome first last start written quiet told =
-      (last ≡ first) × (told ≡ quiet)
-      × CopiesOver reading whole file (opener.opens before name) opener.makes_new new left true outcome start written
+      (last ≡ first) × (told ≡ quiet) × CopiesOver its new name before left true outcome start written
   Performs form.Help outcome first last start written quiet told =
       (left ≡ before) × (last ≡ first) × (told ≡ quiet) × Prints USAGE.now outcome start written
   Performs form.Version outcome first last start written quiet told =
@@ -63,3 +63,15 @@ module _ {D : Type 0} (file : devices.Ghosts D) {E : Type 0} (reading : devices.
     pub finishes : Finishes gone performed outcome middle written
     pub status_is : status ≡ outcome_status outcome
     pub line : Tells outcome name new noted told
+
+module _ {O D E R W L : Type 0} (its : KnownEnds O D E R W L) where
+  -- the form that words ask for was done, or not to its end; nothing is said of words that ask for none
+  abbrev pub DoesForm : Option Form → Terminals → List (List ℕ) → O → O → ℕ → R → R → W → W → L → L → Type 0
+  DoesForm None ends words before left status first last start written quiet told = Unit {0}
+  DoesForm (Some form) ends words before left status first last start written quiet told =
+      On its.source its.sink its.lines (Exits its.files ends before (file_word words) (new_word words) left (its.gone written) form status)
+      first last start written quiet told
+
+  abbrev pub Does : Terminals → List (String Global) → O → O → ℕ → R → R → W → W → L → L → Type 0
+  Does ends words before left status first last start written quiet told =
+      DoesForm (form_of (map string_bytes words)) ends (map string_bytes words) before left status first last start written quiet told

@@ -9,6 +9,7 @@ use Rattle.tb_records.specs.declared.limits.Profile.{Profile}
 use Rattle.tb_records.specs.declared.limits.Profile.TheVariants.{One}
 use Rattle.tb_keep_commands.specs.declared.arguments.Form.{Form}
 use Rattle.tb_keep_commands.specs.declared.arguments.Form.TheVariants as form
+use Rattle.tb_keep_commands.specs.declared.arguments.TheConstants.{CLIENTS_MISSING, CLIENTS_WRONG}
 
 -- `--help`, `-h` or `--version`
 abbrev pub form_alone : List ℕ → Option Form
@@ -135,7 +136,7 @@ so_wrong shown what = record { shown = shown; what = what }
 
 -- of four words the last is wrong where the third is a number of clients
 abbrev pub wrong_last : Option ℕ → List ℕ
-wrong_last None = codes "CLIENTS_MAX is 1 to 64"
+wrong_last None = CLIENTS_WRONG.now
 wrong_last (Some clients_max) = codes "PROFILE is 1 or 2"
 
 -- of five words the last is wrong where it does not have the start reported
@@ -151,8 +152,8 @@ wrong_file words other =
 abbrev pub wrong_clients : List (List ℕ) → Wrong
 wrong_clients [] = so_wrong [] (codes "no words")
 wrong_clients (word ∷ []) = so_wrong (word ∷ []) (codes "FILE and CLIENTS_MAX are missing")
-wrong_clients (word ∷ file ∷ []) = so_wrong (word ∷ file ∷ []) (codes "CLIENTS_MAX is missing, 1 to 64")
-wrong_clients (word ∷ file ∷ clients ∷ []) = so_wrong (word ∷ file ∷ clients ∷ []) (codes "CLIENTS_MAX is 1 to 64")
+wrong_clients (word ∷ file ∷ []) = so_wrong (word ∷ file ∷ []) CLIENTS_MISSING.now
+wrong_clients (word ∷ file ∷ clients ∷ []) = so_wrong (word ∷ file ∷ clients ∷ []) CLIENTS_WRONG.now
 wrong_clients (word ∷ file ∷ clients ∷ profile ∷ []) = so_wrong (word ∷ file ∷ clients ∷ profile ∷ []) (wrong_last (clients_of clients))
 wrong_clients (word ∷ file ∷ clients ∷ profile ∷ last ∷ []) = so_wrong (word ∷ file ∷ clients ∷ profile ∷ last ∷ []) (wrong_five (clients_of clients) last)
 wrong_clients (word ∷ file ∷ clients ∷ profile ∷ last ∷ more ∷ rest) = so_wrong (word ∷ []) (codes "too many words")

@@ -1,19 +1,20 @@
 -- What a command does between a std reader and a std writer, each behind a buffer.
 -- Cited by public contracts of: host.
-use Rattle.std.specs.Prelude.{ℕ, ◌≡◌, ◌^◌, List, [], Option, Some, None}
+use Rattle.std.specs.Prelude.{ℕ, ◌≡◌, ◌⊎◌, ◌^◌, List, [], Option, Some, None, map, string_bytes}
 use Rattle.std.specs.Io.Buffered.{reader_buffer, reader_capacity, reader_inner, reader_remaining, writer_buffer, writer_capacity, writer_contents, writer_inner}
 use Rattle.std.specs.declared.io.buffered.BufReader.{BufReader}
 use Rattle.std.specs.declared.io.buffered.BufWriter.{BufWriter}
 use Rattle.std.specs.declared.alloc.Global.{Global}
+use Rattle.std.specs.declared.string.String.{String}
 use Rattle.tb_records.specs.Transport.{Input, Output}
-use Rattle.tb_journal.specs.declared.devices.Device as devices
+use Rattle.tb_records.specs.declared.devices.Sink as sinks
 use Rattle.tb_keep_commands.specs.declared.arguments.Form.{Form}
 use Rattle.tb_keep_commands.specs.declared.commands.Terminals.{Terminals}
 use Rattle.tb_keep_commands.specs.declared.arguments.Form.TheVariants as form
 use Rattle.tb_keep_commands.specs.declared.faults.Fault.TheVariants.{NoMemory}
 use Rattle.tb_keep_commands.specs.Exits.{Exits}
 use Rattle.tb_keep_commands.specs.Forms.{form_of, file_word, new_word}
-use Rattle.tb_keep_commands.specs.declared.openers.Opener as openers
+use Rattle.tb_keep_commands.specs.Ends.{KnownFiles}
 use Rattle.tb_keep_commands.specs.Outlets.{Watched, outgoing}
 use Rattle.tb_keep_commands.specs.Statuses.{SaysLine, fault_line, usage_lines}
 
@@ -37,12 +38,12 @@ output_of contents w = record { written = writer_contents contents w.inner; fail
 abbrev pub WantsMemory : {O : Type 0} → O → O → ℕ → Output → Output → Type 0
 WantsMemory before left status quiet told = (status ≡ 1) × (left ≡ before) × SaysLine (fault_line NoMemory []) quiet told
 
-module _ {D : Type 0} (file : devices.Ghosts D) {E : Type 0} (reading : devices.Ghosts E) (whole : E → List ℕ → Type 0) {O : Type 0} (opener : openers.Ghosts O D E) (ends : Terminals) (before left : O) {R W : Type 0} (remaining : R → Option (List ℕ)) (contents : W → Option (List ℕ)) where
+module _ {O D E : Type 0} (its : KnownFiles O D E) (ends : Terminals) (before left : O) {R W : Type 0} (remaining : R → Option (List ℕ)) (contents : W → Option (List ℕ)) where
   -- a form was done, or not to its end; where it was done the buffer of the output is empty at its end
   pub record Hosted (form : Form) (name new : List ℕ) (status : ℕ) (input : BufReader R Global) (output : BufWriter W Global) (quiet told : Output) : Type 0 where
     pub last : Watched (BufReader R Global)
     pub final : Watched (BufWriter W Global)
-    pub exits : Exits file reading whole opener ends before name new left (writer_buffer final.inner ≡ []) form status
+    pub exits : Exits its ends before name new left (writer_buffer final.inner ≡ []) form status
         (input_of remaining (outgoing input)) (input_of remaining last) (output_of contents (outgoing output)) (output_of contents final) quiet told
 
   -- the form that words ask for was done, or not to its end; or they ask for none, and that is reported
@@ -61,3 +62,17 @@ module _ {D : Type 0} (file : devices.Ghosts D) {E : Type 0} (reading : devices.
     pub held_back : writer_buffer writer ≡ []
     pub holds_output : writer_capacity writer ≡ output_size (form_of words)
     pub commands : Commands (form_of words) words status reader writer quiet told
+
+module _ {O D E : Type 0} (its : KnownFiles O D E) {R W L : Type 0} (remaining : R → Option (List ℕ)) (contents : W → Option (List ℕ)) (lines : sinks.Ghosts L) where
+  -- the command that words are was done over an input and an output; or there is no memory for the buffers
+  abbrev pub ServesOn : Terminals → List (String Global) → O → O → ℕ → R → W → L → L → Type 0
+  ServesOn ends words before left status input output quiet told =
+      Serves its ends before left remaining contents (map string_bytes words) status input output (lines.output quiet) (lines.output told)
+      ⊎ WantsMemory before left status (lines.output quiet) (lines.output told)
+
+  -- what private functions alone cite
+
+  abbrev pub CommandsOn : Terminals → List (String Global) → O → O → ℕ → BufReader R Global → BufWriter W Global → L → L → Type 0
+  CommandsOn ends words before left status input output quiet told =
+      Commands its ends before left remaining contents (form_of (map string_bytes words)) (map string_bytes words) status input output
+      (lines.output quiet) (lines.output told)

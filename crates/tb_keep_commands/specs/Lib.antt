@@ -1,5 +1,6 @@
 pub mod Copies
 pub mod DumpLaws
+pub mod Ends
 pub mod Exits
 pub mod Following
 pub mod Forms
@@ -11,3 +12,4 @@ pub mod Outcomes
 pub mod Outlets
 pub mod Statuses
 pub mod Summaries
+pub mod private

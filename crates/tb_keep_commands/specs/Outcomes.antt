@@ -22,6 +22,7 @@ use Rattle.tb_keep_commands.specs.declared.faults.Failed.{Failed}
 use Rattle.tb_keep_commands.specs.declared.faults.Failed.TheVariants as failed
 use Rattle.tb_keep_commands.specs.declared.openers.OpeningFault.{OpeningFault}
 use Rattle.tb_keep_commands.specs.declared.summaries.Found.{Found}
+use Rattle.tb_keep_commands.specs.Ends.{KnownFiles}
 use Rattle.tb_keep_commands.specs.Statuses.{disk_fault, started_fault, kept_fault, failed_pipe, TellsMade, TellsCut, TellsReading, TellsReady, TellsFrames}
 use Rattle.tb_keep_commands.specs.Live.{IsWholeLength}
 use Rattle.tb_keep_commands.specs.Following.{WritesPart, HasPartCause, dump_outcome}
@@ -197,10 +198,13 @@ module _ {D : Type 0} (its : devices.Ghosts D) {O : Type 0} (may : Result D Open
     pub runs : Opens Opening may left outcome ((last ≡ first) × (written ≡ start) × (told ≡ noted))
         (λ device. ServesFile its outcome rules path reports device first last start written noted told)
 
-  abbrev pub DumpsOver : Type 0 → Option ℕ → Bool → Outcome → Output → Output → Type 0
-  DumpsOver Ended from follows outcome start written =
-      Opens Opening may left outcome (written ≡ start) (λ device. (after : D) × DumpsPart its Ended from follows outcome device after start written)
+module _ {O D E : Type 0} (its : KnownFiles O D E) (name : List ℕ) (before left : O) where
+  abbrev pub DumpsOver : Option ℕ → Bool → Outcome → Output → Output → Type 0
+  DumpsOver from follows outcome start written =
+      Opens Opening (its.opener.opens before name) left outcome (written ≡ start)
+      (λ device. (after : E) × DumpsPart its.reading (its.opener.ended left) from follows outcome device after start written)
 
-  abbrev pub ChecksOver : (D → List ℕ → Type 0) → Outcome → Output → Output → Type 0
-  ChecksOver whole outcome start written =
-      Opens Opening may left outcome (written ≡ start) (λ device. (after : D) × ChecksFile its whole outcome device after start written)
+  abbrev pub ChecksOver : Outcome → Output → Output → Type 0
+  ChecksOver outcome start written =
+      Opens Opening (its.opener.opens before name) left outcome (written ≡ start)
+      (λ device. (after : E) × ChecksFile its.reading its.whole outcome device after start written)

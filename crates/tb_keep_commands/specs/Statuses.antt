@@ -8,6 +8,7 @@ use Rattle.std.specs.declared.io.ErrorKind.{ErrorKind}
 use Rattle.std.specs.declared.io.ErrorKind.TheVariants as kinds
 use Rattle.tb_records.specs.declared.faults.FrameFault.TheVariants as frame
 use Rattle.tb_records.specs.DumpBytes.{profile_number}
+use Rattle.tb_records.specs.declared.limits.TheConstants.{CLIENTS_MAX}
 use Rattle.tb_records.specs.Faults.{fault_name}
 use Rattle.tb_records.specs.declared.faults.FrameFault.{FrameFault}
 use Rattle.tb_records.specs.Transport.{Output, Sent, CutOff}
@@ -41,6 +42,7 @@ use Rattle.tb_keep_commands.specs.declared.faults.Mismatch.{Mismatch}
 use Rattle.tb_keep_commands.specs.declared.faults.Numbers.{Numbers}
 use Rattle.tb_keep_commands.specs.declared.kinds.Kind.{Kind}
 use Rattle.tb_keep_commands.specs.declared.kinds.Kind.TheVariants as kind
+use Rattle.tb_keep_commands.specs.declared.arguments.TheConstants.{CLIENTS_MISSING, CLIENTS_WRONG}
 use Rattle.tb_keep_commands.specs.declared.help.TheConstants.{USAGE}
 use Rattle.tb_keep_commands.specs.declared.openers.OpeningFault.{OpeningFault}
 use Rattle.tb_keep_commands.specs.declared.openers.OpeningFault.TheVariants as opening
@@ -351,5 +353,15 @@ line_of_reading = refl
 pub line_of_a_new_file : made_line (codes "ledger") ≡ codes "tbd: made ledger\n"
 line_of_a_new_file = refl
 
-pub line_of_words : usage_lines (codes "run" ∷ codes "ledger" ∷ []) ≡ codes "tbd: Usage: run ledger: CLIENTS_MAX is missing, 1 to 64\n"
+pub line_of_words : usage_lines (codes "run" ∷ []) ≡ codes "tbd: Usage: run: FILE and CLIENTS_MAX are missing\n"
 line_of_words = refl
+
+-- the texts about a number of clients say its range
+
+pub range_of_a_wrong_number : CLIENTS_WRONG.now ≡ codes "CLIENTS_MAX is 1 to " ++ decimal CLIENTS_MAX
+unfolding digits
+range_of_a_wrong_number = refl
+
+pub range_of_no_number : CLIENTS_MISSING.now ≡ codes "CLIENTS_MAX is missing, 1 to " ++ decimal CLIENTS_MAX
+unfolding digits
+range_of_no_number = refl

@@ -241,12 +241,18 @@ pub fn read_form(words: &[String]) -> Option<Form>
     form_by(words)
 }
 
+/// What is wrong with a number of clients that is out of its range.
+pub const CLIENTS_WRONG: &str = "CLIENTS_MAX is 1 to 64";
+
+/// What is wrong where no number of clients is given.
+pub const CLIENTS_MISSING: &str = "CLIENTS_MAX is missing, 1 to 64";
+
 /// What is wrong with four words that begin with `run`, of which the third is to be a number of clients.
 fn wrong_last(clients_max: &str) -> &'static str
     ensures { result.now ≡ wrong_last (clients_of clients_max.now) }
 {
     match read_clients_max(clients_max.as_bytes()) {
-        None => "CLIENTS_MAX is 1 to 64",
+        None => CLIENTS_WRONG,
         Some(_) => "PROFILE is 1 or 2",
     }
 }
@@ -286,8 +292,8 @@ fn wrong_clients(words: &[String]) -> (&[String], &'static str)
     match words {
         [] => (words, "no words"),
         [_] => (words, "FILE and CLIENTS_MAX are missing"),
-        [_, _] => (words, "CLIENTS_MAX is missing, 1 to 64"),
-        [_, _, _] => (words, "CLIENTS_MAX is 1 to 64"),
+        [_, _] => (words, CLIENTS_MISSING),
+        [_, _, _] => (words, CLIENTS_WRONG),
         [_, _, clients_max, _] => (words, wrong_last(clients_max.as_str())),
         [_, _, clients_max, _, last] => (words, wrong_five(clients_max.as_str(), last.as_str())),
         [_, ..] => (&words[..1], "too many words"),

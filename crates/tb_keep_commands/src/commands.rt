@@ -1,13 +1,14 @@
 //! The program's forms, over what opens devices, any reader and any writer, and the exit status of each outcome.
-ghost use Rattle.std.specs.Prelude.{◌≡◌, ◌||◌, None, Some, map, string_bytes};
-ghost use Rattle.tb_keep_commands.specs.declared.arguments.Form.{Form};
-ghost use Rattle.tb_keep_commands.specs.Forms.{form_of, file_word, new_word};
+ghost use Rattle.std.specs.Prelude.{◌≡◌, ◌||◌, None, map, string_bytes};
+ghost use Rattle.tb_keep_commands.specs.Forms.{form_of};
 ghost use Rattle.tb_keep_commands.specs.Statuses.{SaysLine, usage_lines};
-ghost use Rattle.tb_keep_commands.specs.Exits.{Performs, Finishes, Exits};
-ghost use Rattle.tb_keep_commands.specs.Outcomes.{Prints, RunsOver, DumpsPart, DumpsOver, ChecksOver};
+ghost use Rattle.tb_keep_commands.specs.Exits.{Does, Finishes};
+ghost use Rattle.tb_keep_commands.specs.private.Stages.{ExitsOn, PerformsOn, Runs};
+ghost use Rattle.tb_keep_commands.specs.Outcomes.{Prints, DumpsPart, DumpsOver, ChecksOver};
 
 use crate::arguments::{Form, file_word, new_word, read_form};
 use crate::copying::copy_over;
+use crate::ends::{Ends, Files};
 use crate::faults::{Failed, Fault};
 use crate::files::{check, dump};
 use crate::following::{Part, follow};
@@ -31,7 +32,7 @@ pub struct Terminals {
 
 /// Serves a ledger over the device of a path, which is made where there is none. Where requests would come from a terminal it is
 /// reported first where words are read.
-fn run_over<O: Opener, R: Source, W: Sink, E: Sink>(
+fn run_over<O: Opener, R: Source, W: Outlet, E: Sink>(
     alloc: Global,
     opener: &mut O,
     rules: Rules,
@@ -41,9 +42,8 @@ fn run_over<O: Opener, R: Source, W: Sink, E: Sink>(
     writer: &mut W,
     faults: &mut E,
 ) -> Result<(), Fault>
-    ensures { RunsOver O.File.Device (O.makes opener.old told.now.path.now) opener.new result
-        rules told.now.path.now told.now.reports talks (R.input reader.old) (R.input reader.new) (W.output writer.old) (W.output writer.new)
-        (E.output faults.old) (E.output faults.new) }
+    ensures { Runs ⟦<O as Ends<R, W, E>>⟧.its rules told.now talks opener.old opener.new result
+        reader.old reader.new writer.old writer.new faults.old faults.new }
 {
     tell_frames(talks, faults);
     match opener.make(told.path) {
@@ -77,8 +77,8 @@ fn dump_over<O: Opener, W: Outlet>(
     writer: &mut W,
     part: Part,
 ) -> Result<(), Fault>
-    ensures { DumpsOver O.Reading.Device (O.opens opener.old name.now) opener.new (O.ended opener.new)
-        part.after part.follows result (W.output writer.old) (W.output writer.new) }
+    ensures { DumpsOver ⟦<O as Files>⟧.its name.now opener.old opener.new part.after part.follows result
+        (W.output writer.old) (W.output writer.new) }
 {
     let opened = opener.open(name);
     match opened {
@@ -99,8 +99,7 @@ fn check_over<O: Opener, W: Sink>(
     name: &str,
     writer: &mut W,
 ) -> Result<(), Fault>
-    ensures { ChecksOver O.Reading.Device (O.opens opener.old name.now) opener.new O.Reading.whole
-        result (W.output writer.old) (W.output writer.new) }
+    ensures { ChecksOver ⟦<O as Files>⟧.its name.now opener.old opener.new result (W.output writer.old) (W.output writer.new) }
 {
     let found = opener.open(name);
     match found {
@@ -131,31 +130,29 @@ fn is_reported(reports: bool, terminals: Terminals) -> bool
     reports || terminals.faults
 }
 
-/// The paths that the words name.
+/// What the words ask for: a form, over the files that they name. And which of the program's ends are terminals.
 #[derive(Clone, Copy)]
-struct Paths<'a> {
+struct Asked<'a> {
+    form: Form,
     file: &'a str,
     new: &'a str,
+    ends: Terminals,
 }
 
 /// Does what the form asks for, over the device of a name.
 fn perform<O: Opener, R: Source, W: Outlet, E: Sink>(
     alloc: Global,
     opener: &mut O,
-    form: Form,
-    terminals: Terminals,
-    paths: &Paths,
+    asked: &Asked,
     reader: &mut R,
     writer: &mut W,
     faults: &mut E,
 ) -> Result<(), Fault>
-    ensures { Performs O.File.Device O.Reading.Device O.Reading.whole
-        O.Opener terminals opener.old paths.now.file.now paths.now.new.now opener.new form
-        result (R.input reader.old) (R.input reader.new) (W.output writer.old) (W.output writer.new)
-        (E.output faults.old) (E.output faults.new) }
+    ensures { PerformsOn ⟦<O as Ends<R, W, E>>⟧.its asked.now opener.old opener.new result
+        reader.old reader.new writer.old writer.new faults.old faults.new }
 {
-    let name = paths.file;
-    match form {
+    let name = asked.file;
+    match asked.form {
         Form::Run(clients_max, profile, reports) => {
             let rules = Rules {
                 profile,
@@ -163,17 +160,17 @@ fn perform<O: Opener, R: Source, W: Outlet, E: Sink>(
             };
             let told = Told {
                 path: name,
-                reports: is_reported(reports, terminals),
+                reports: is_reported(reports, asked.ends),
             };
-            let talks = terminals.input;
+            let talks = asked.ends.input;
             run_over(alloc, opener, rules, &told, talks, reader, writer, faults)
         }
         Form::Dump(after, follows) => {
             dump_over(alloc, opener, name, writer, Part { after, follows })
         }
         Form::Check => check_over(alloc, opener, name, writer),
-        Form::Salvage => copy_over(alloc, opener, name, paths.new, false, writer),
-        Form::Backup => copy_over(alloc, opener, name, paths.new, true, writer),
+        Form::Salvage => copy_over(alloc, opener, name, asked.new, false, writer),
+        Form::Backup => copy_over(alloc, opener, name, asked.new, true, writer),
         Form::Help => print(writer, USAGE),
         Form::Version => print(writer, VERSION),
     }
@@ -196,25 +193,19 @@ fn finish<W: Outlet>(done: Result<(), Fault>, writer: &mut W) -> Result<(), Faul
 fn exit<O: Opener, R: Source, W: Outlet, E: Sink>(
     alloc: Global,
     opener: &mut O,
-    form: Form,
-    terminals: Terminals,
-    paths: &Paths,
+    asked: &Asked,
     reader: &mut R,
     writer: &mut W,
     faults: &mut E,
 ) -> u8
-    ensures { Exits O.File.Device O.Reading.Device O.Reading.whole
-        O.Opener terminals opener.old paths.now.file.now paths.now.new.now opener.new
-        (W.gone writer.new) form result (R.input reader.old) (R.input reader.new) (W.output writer.old)
-        (W.output writer.new) (E.output faults.old) (E.output faults.new) }
+    ensures { ExitsOn ⟦<O as Ends<R, W, E>>⟧.its asked.now opener.old opener.new result
+        reader.old reader.new writer.old writer.new faults.old faults.new }
 {
-    let done = perform(
-        alloc, opener, form, terminals, paths, reader, writer, faults,
-    );
+    let done = perform(alloc, opener, asked, reader, writer, faults);
     match finish(done, writer) {
         Ok(()) => 0,
         Err(fault) => {
-            tell(fault, fault.path(paths.file, paths.new), faults);
+            tell(fault, fault.path(asked.file, asked.new), faults);
             fault.status()
         }
     }
@@ -227,7 +218,7 @@ pub fn command<O: Opener, R: Source, W: Outlet, E: Sink>(
     alloc: Global,
     opener: &mut O,
     words: &[String],
-    terminals: Terminals,
+    ends: Terminals,
     reader: &mut R,
     writer: &mut W,
     faults: &mut E,
@@ -238,22 +229,18 @@ pub fn command<O: Opener, R: Source, W: Outlet, E: Sink>(
     ensures unwritten { form_of (map string_bytes words.now) ≡ None → writer.new ≡ writer.old }
     ensures told { let said = map string_bytes words.now in
         form_of said ≡ None → SaysLine (usage_lines said) (E.output faults.old) (E.output faults.new) }
-    ensures served { (form : Form) → form_of (map string_bytes words.now) ≡ Some form
-        → Exits O.File.Device O.Reading.Device O.Reading.whole
-        O.Opener terminals opener.old
-        (file_word (map string_bytes words.now)) (new_word (map string_bytes words.now)) opener.new (W.gone writer.new) form result
-        (R.input reader.old) (R.input reader.new) (W.output writer.old) (W.output writer.new)
-        (E.output faults.old) (E.output faults.new) }
+    ensures served { Does ⟦<O as Ends<R, W, E>>⟧.its ends words.now opener.old opener.new result
+        reader.old reader.new writer.old writer.new faults.old faults.new }
 {
     match read_form(words) {
         Some(form) => {
-            let paths = Paths {
+            let asked = Asked {
+                form,
                 file: file_word(words),
                 new: new_word(words),
+                ends,
             };
-            exit(
-                alloc, opener, form, terminals, &paths, reader, writer, faults,
-            )
+            exit(alloc, opener, &asked, reader, writer, faults)
         }
         None => {
             tell_usage(words, faults);

@@ -4,6 +4,7 @@ ghost use Rattle.tb_keep_commands.specs.Copies.{copied_of, copied_text, refused_
 ghost use Rattle.tb_keep_commands.specs.Outcomes.{PrintsText};
 
 use crate::copies::{Copied, damage_of};
+use crate::ends::Files;
 use crate::faults::{Failed, Fault, disk_fault, new_fault, started_fault};
 use crate::live::Live;
 use crate::naming::named;
@@ -137,9 +138,8 @@ fn copy_made<O: Opener, W: Sink>(
     whole: bool,
     writer: &mut W,
 ) -> Result<(), Fault>
-    ensures { MakesCopy O.Reading.Device O.Reading.whole O.File.Device
-        (O.makes_new opener.old new.now) opener.new whole result from.old from.new (W.output writer.old)
-        (W.output writer.new) }
+    ensures { MakesCopy ⟦<O as Files>⟧.its new.now opener.old opener.new whole result from.old from.new
+        (W.output writer.old) (W.output writer.new) }
 {
     let made = opener.make_new(new);
     match made {
@@ -157,9 +157,8 @@ fn copy_headed<O: Opener, W: Sink>(
     whole: bool,
     writer: &mut W,
 ) -> Result<(), Fault>
-    ensures { CopiesHeaded O.Reading.Device O.Reading.whole O.File.Device
-        (O.makes_new opener.old new.now) opener.old opener.new whole result from.old from.new (W.output writer.old)
-        (W.output writer.new) }
+    ensures { CopiesHeaded ⟦<O as Files>⟧.its new.now opener.old opener.new whole result from.old from.new
+        (W.output writer.old) (W.output writer.new) }
 {
     match read_rules(alloc, from) {
         Ok(_rules) => copy_made(alloc, opener, new, from, whole, writer),
@@ -176,9 +175,8 @@ pub(crate) fn copy_over<O: Opener, W: Sink>(
     whole: bool,
     writer: &mut W,
 ) -> Result<(), Fault>
-    ensures { CopiesOver O.Reading.Device O.Reading.whole O.File.Device
-        (O.opens opener.old name.now) O.makes_new new.now opener.new whole result (W.output writer.old)
-        (W.output writer.new) }
+    ensures { CopiesOver ⟦<O as Files>⟧.its new.now name.now opener.old opener.new whole result
+        (W.output writer.old) (W.output writer.new) }
 {
     let opened = opener.open(name);
     match opened {

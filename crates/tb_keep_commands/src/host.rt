@@ -1,11 +1,11 @@
 //! The way from a program's arguments, input and output to its commands.
-ghost use Rattle.std.specs.Prelude.{◌≡◌, ◌⊎◌, [], map, string_bytes};
-ghost use Rattle.tb_keep_commands.specs.Forms.{form_of};
-ghost use Rattle.tb_keep_commands.specs.Hosts.{input_size, output_size, Commands, Serves, WantsMemory};
+ghost use Rattle.std.specs.Prelude.{◌≡◌, []};
+ghost use Rattle.tb_keep_commands.specs.Hosts.{input_size, output_size, CommandsOn, ServesOn};
 ghost use Rattle.tb_keep_commands.specs.Statuses.{SaysLine, fault_status, fault_line};
 
 use crate::arguments::{Form, read_form};
 use crate::commands::{Terminals, command};
+use crate::ends::Files;
 use crate::faults::Fault;
 use crate::lines::tell;
 use crate::openers::Opener;
@@ -15,10 +15,10 @@ use std::io::{BufReader, BufWriter, Read, Write};
 use tb_records::{Buffered, Sink};
 
 /// The bytes of input that `run` holds at a time. What is held goes behind one commit, so fewer bytes would need more syncs.
-const INPUT: usize = 1 << 20;
+const INPUT_BYTES: usize = 1 << 20;
 
 /// The bytes of output that `dump` holds at a time.
-const OUTPUT: usize = 65536;
+const OUTPUT_BYTES: usize = 65536;
 
 /// The bytes that a form's reader and writer hold. Replies are written at once, each time all that are buffered; and a form that
 /// writes once needs no buffer.
@@ -27,8 +27,8 @@ fn capacities(form: Option<Form>) -> (usize, usize)
     ensures output { result.1 ≡ output_size form }
 {
     match form {
-        Some(Form::Run(_, _, _)) => (INPUT, 0),
-        Some(Form::Dump(_, _)) => (0, OUTPUT),
+        Some(Form::Run(_, _, _)) => (INPUT_BYTES, 0),
+        Some(Form::Dump(_, _)) => (0, OUTPUT_BYTES),
         _ => (0, 0),
     }
 }
@@ -43,10 +43,8 @@ fn between<O: Opener, R: Read + Drop, W: Write + Drop, E: Sink>(
     output: BufWriter<W>,
     faults: &mut E,
 ) -> u8
-    ensures { let said = map string_bytes words.now in
-        Commands O.File.Device O.Reading.Device O.Reading.whole
-        O.Opener terminals opener.old opener.new R.remaining
-        W.contents (form_of said) said result input output (E.output faults.old) (E.output faults.new) }
+    ensures { CommandsOn ⟦<O as Files>⟧.its R.remaining W.contents E.Sink terminals words.now
+        opener.old opener.new result input output faults.old faults.new }
 {
     let mut reader = Buffered::new(input);
     let mut writer = Outgoing::new(output);
@@ -71,10 +69,8 @@ pub fn serve<O: Opener, R: Read + Drop, W: Write + Drop, E: Sink>(
     output: W,
     faults: &mut E,
 ) -> u8
-    ensures { Serves O.File.Device O.Reading.Device O.Reading.whole
-        O.Opener terminals opener.old opener.new R.remaining
-        W.contents (map string_bytes words.now) result input output (E.output faults.old) (E.output faults.new)
-        ⊎ WantsMemory opener.old opener.new result (E.output faults.old) (E.output faults.new) }
+    ensures { ServesOn ⟦<O as Files>⟧.its R.remaining W.contents E.Sink terminals words.now
+        opener.old opener.new result input output faults.old faults.new }
 {
     let (held_in, held_out) = capacities(read_form(words));
     let Ok(input) = BufReader::with_capacity(alloc, held_in, input) else {

@@ -27,7 +27,7 @@ pub const DUMP: &[u8] = b"TBSDUMP1";
 pub const REGISTER: &[u8] = b"\0\0\0\0\0\0\0\0\0\0\0\0\x02\0\0\0\0\0\0\0\0\0\0\0\0\0\0\0\0\0\0\0";
 
 /// The first bytes of a file that are looked at: a moment and the header of a request.
-pub(crate) const FIRST: usize = 56;
+pub(crate) const FIRST_BYTES: usize = 56;
 
 /// Says that a byte is one of a text: a space, a tab, an end of a line, or none that controls a terminal.
 fn is_text(byte: u8) -> bool

@@ -8,6 +8,7 @@
 //! - `laws`: what holds of every dump of a file that grows.
 //! - `openers`: `Opener`, what opens the device of a name, and why it does not.
 //! - `outlets`: `Outlet`, a writer that says at its end whether all that was put went out.
+//! - `ends`: `Files` and `Ends`, what contracts know of what a command works with.
 //! - `kinds`: what a file is that holds no ledger, by its first bytes.
 //! - `faults`: why a command ends with a status other than 0.
 //! - `lines`: the lines that say so.
@@ -30,6 +31,7 @@ mod arguments;
 mod commands;
 mod copies;
 mod copying;
+mod ends;
 mod faults;
 mod files;
 mod following;
@@ -49,6 +51,7 @@ mod summaries;
 pub use arguments::{Form, file_word, is_no_file, new_word, read_form, wrong};
 pub use commands::{Terminals, command};
 pub use copies::Copied;
+pub use ends::{Ends, Files};
 pub use faults::{Damage, Failed, Fault, Mismatch, Numbers, disk_fault, opened_fault, words_fault};
 pub use help::{USAGE, VERSION};
 pub use host::{refuse, serve};

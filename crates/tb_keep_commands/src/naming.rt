@@ -4,7 +4,7 @@ ghost use Rattle.tb_keep_commands.specs.Naming.{IsOfKind, IsMadeWith, Names, Nam
 ghost use Rattle.tb_keep_commands.specs.Statuses.{started_fault};
 
 use crate::faults::{Fault, Mismatch, numbers_of, started_fault};
-use crate::kinds::{FIRST, Kind, kind_of};
+use crate::kinds::{FIRST_BYTES, Kind, kind_of};
 use std::alloc::Global;
 use tb_journal::Device;
 use tb_keep::{Rules, StartFault, read_rules};
@@ -13,7 +13,7 @@ use tb_keep::{Rules, StartFault, read_rules};
 fn kind_in<D: Device>(device: &mut D) -> Kind
     ensures { IsOfKind D.Device result device.old device.new }
 {
-    let mut first = [0; FIRST];
+    let mut first = [0; FIRST_BYTES];
     let first: &mut [u8] = &mut first;
     match device.read_at(0, first) {
         Ok(count) => kind_of(&first[..count]),

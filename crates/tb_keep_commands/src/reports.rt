@@ -9,7 +9,7 @@ use tb_journal::{Device, Fault};
 use tb_records::Sink;
 
 /// The bytes between two reports.
-const STEP: usize = 64 * MEGABYTE;
+const STEP_BYTES: usize = 64 * MEGABYTE;
 
 /// A file that reports how far it was read, each 64 MB. It is the file in all else.
 #[derive(Drop)]
@@ -49,7 +49,7 @@ impl<D: Device + Drop, E: Sink + Drop> Reported<D, E> {
             lines,
             path,
             len,
-            due: if reports { STEP } else { usize::MAX },
+            due: if reports { STEP_BYTES } else { usize::MAX },
         })
     }
 
@@ -61,7 +61,7 @@ impl<D: Device + Drop, E: Sink + Drop> Reported<D, E> {
         if at >= self.due {
             let (read, all) = ((at / MEGABYTE) as u64, (self.len / MEGABYTE) as u64);
             tell_read(self.path.as_str(), read, all, &mut self.lines);
-            self.due = at.saturating_add(STEP);
+            self.due = at.saturating_add(STEP_BYTES);
         }
     }
 }

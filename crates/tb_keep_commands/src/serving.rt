@@ -1,8 +1,10 @@
 //! The serving of a ledger over a device.
 ghost use Rattle.std.specs.Prelude.{◌≡◌, true};
 ghost use Rattle.tb_keep.specs.Keeping.{IsFresh, IsUsable};
+ghost use Rattle.tb_keep_commands.specs.Ends.{On};
 ghost use Rattle.tb_keep_commands.specs.Naming.{NamesAsked, Left};
-ghost use Rattle.tb_keep_commands.specs.Outcomes.{ServesKept, ServesLong, ServesFile, kept_outcome};
+ghost use Rattle.tb_keep_commands.specs.Outcomes.{kept_outcome};
+ghost use Rattle.tb_keep_commands.specs.private.Stages.{KeepsTold, RunsTold, StartsTold};
 ghost use Rattle.tb_keep_commands.specs.Statuses.{failed_pipe};
 
 use crate::faults::{Failed, Fault, disk_fault, kept_fault};
@@ -66,8 +68,8 @@ fn serve<D: Device + Drop, A: Allocator + Clone, R: Source, W: Sink, E: Sink>(
 ) -> Result<(), Fault>
     requires usable { IsUsable keeper }
     requires fresh { D.tells → IsFresh D.disk keeper }
-    ensures { ServesKept D.Device result keeper told.now.path.now told.now.reports len (R.input reader.old) (R.input reader.new)
-        (W.output writer.old) (W.output writer.new) (E.output faults.old) (E.output faults.new) }
+    ensures { On R.Source W.Sink E.Sink (KeepsTold D.Device result keeper told.now len)
+        reader.old reader.new writer.old writer.new faults.old faults.new }
 {
     let mut keeper = keeper;
     let cut = keeper.cut_bytes();
@@ -95,8 +97,8 @@ fn start<D: Device + Drop, A: Allocator + Copy, R: Source, W: Sink, E: Sink>(
     faults: &mut E,
 ) -> Result<(), Fault>
     requires { D.tells → (D.disk device).sound ≡ true }
-    ensures { ServesLong D.Device result rules told.now.path.now told.now.reports len device (R.input reader.old) (R.input reader.new)
-        (W.output writer.old) (W.output writer.new) (E.output faults.old) (E.output faults.new) }
+    ensures { On R.Source W.Sink E.Sink (StartsTold D.Device result rules told.now len device)
+        reader.old reader.new writer.old writer.new faults.old faults.new }
 {
     tell_reading(told.reports, told.path, len, faults);
     let asked = rules;
@@ -117,8 +119,8 @@ pub(crate) fn run<D: Device + Drop, R: Source, W: Sink, E: Sink>(
     faults: &mut E,
 ) -> Result<(), Fault>
     requires { D.tells → (D.disk device).sound ≡ true }
-    ensures { ServesFile D.Device result rules told.now.path.now told.now.reports device (R.input reader.old) (R.input reader.new)
-        (W.output writer.old) (W.output writer.new) (E.output faults.old) (E.output faults.new) }
+    ensures { On R.Source W.Sink E.Sink (RunsTold D.Device result rules told.now device)
+        reader.old reader.new writer.old writer.new faults.old faults.new }
 {
     let mut device = device;
     match device.len() {

@@ -2,11 +2,10 @@
 -- Cited by public contracts of: commands.
 use Rattle.std.specs.Prelude.{ℕ, ◌≡◌, List, [], Ok, Err}
 use Rattle.tb_records.specs.Transport.{Input, Output, Sent, CutOff}
-use Rattle.tb_journal.specs.declared.devices.Device as devices
 use Rattle.tb_keep.specs.Reading.{rules_of}
 use Rattle.tb_keep_commands.specs.declared.faults.Failed.TheVariants as failed
 use Rattle.tb_keep_commands.specs.declared.faults.Fault.TheVariants.{Device}
-use Rattle.tb_keep_commands.specs.declared.openers.Opener as openers
+use Rattle.tb_keep_commands.specs.Ends.{KnownEnds, KnownFiles, On}
 use Rattle.tb_keep_commands.specs.Statuses.{SaysLine}
 use Rattle.tb_keep_follow.specs.declared.arguments.Form.{Form}
 use Rattle.tb_keep_follow.specs.declared.arguments.Form.TheVariants as form
@@ -29,14 +28,13 @@ abbrev pub Tells : Outcome → List ℕ → Output → Output → Type 0
 Tells (Ok done) path before after = after ≡ before
 Tells (Err fault) path before after = SaysLine (follow_line fault path) before after
 
-module _ {D : Type 0} (file : devices.Ghosts D) {E : Type 0} (reading : devices.Ghosts E) {O : Type 0}
-    (opener : openers.Ghosts O D E) (before : O) (name : List ℕ) (left : O) where
+module _ {O D E : Type 0} (its : KnownFiles O D E) (before : O) (name : List ℕ) (left : O) where
   -- what a form does over what opens devices: `follow` has the device of a name made where there is none, `dump` opens one that is there
   abbrev pub Performs : Form → Outcome → Input → Input → Output → Output → Output → Output → Type 0
   Performs (form.Follow clients_max profile) outcome first last start written quiet told =
-      FollowsOver file (opener.makes before name) left outcome (rules_of profile clients_max) name first last start written quiet told
+      FollowsOver its.file (its.opener.makes before name) left outcome (rules_of profile clients_max) name first last start written quiet told
   Performs (form.Dump clients_max profile) outcome first last start written quiet told =
-      (last ≡ first) × (told ≡ quiet) × DumpsOver reading (opener.opens before name) left outcome (rules_of profile clients_max) start written
+      (last ≡ first) × (told ≡ quiet) × DumpsOver its.reading (its.opener.opens before name) left outcome (rules_of profile clients_max) start written
 
   -- a form was done, or not to its end; what it wrote went out; and the exit status and the line are those of the outcome
   pub record Exits (gone : Type 0) (form : Form) (status : ℕ) (first last : Input) (start written quiet told : Output) : Type 0 where
@@ -48,3 +46,15 @@ module _ {D : Type 0} (file : devices.Ghosts D) {E : Type 0} (reading : devices.
     pub finishes : Finishes gone performed outcome middle written
     pub status_is : status ≡ outcome_status outcome
     pub line : Tells outcome name noted told
+
+module _ {O D E R W L : Type 0} (its : KnownEnds O D E R W L) (form : Form) (name : List ℕ) (before left : O) where
+  -- the same, between the ends of a command
+  abbrev pub ExitsOn : ℕ → R → R → W → W → L → L → Type 0
+  ExitsOn status first last start written quiet told =
+      On its.source its.sink its.lines (Exits its.files before name left (its.gone written) form status) first last start written quiet told
+
+  -- what private functions alone cite
+
+  abbrev pub PerformsOn : Outcome → R → R → W → W → L → L → Type 0
+  PerformsOn outcome first last start written quiet told =
+      On its.source its.sink its.lines (Performs its.files before name left form outcome) first last start written quiet told

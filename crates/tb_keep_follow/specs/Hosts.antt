@@ -1,14 +1,15 @@
 -- What a form over a log does between a std reader and a std writer, each behind a buffer.
 -- Cited by public contracts of: host.
-use Rattle.std.specs.Prelude.{ℕ, ◌≡◌, ◌⊎◌, ◌^◌, List, [], Option, Some, None}
+use Rattle.std.specs.Prelude.{ℕ, ◌≡◌, ◌⊎◌, ◌^◌, List, [], Option, Some, None, map, string_bytes}
 use Rattle.std.specs.Io.Buffered.{reader_buffer, reader_capacity, reader_inner, writer_buffer, writer_capacity, writer_inner}
 use Rattle.std.specs.declared.io.buffered.BufReader.{BufReader}
 use Rattle.std.specs.declared.io.buffered.BufWriter.{BufWriter}
 use Rattle.std.specs.declared.alloc.Global.{Global}
+use Rattle.std.specs.declared.string.String.{String}
 use Rattle.tb_records.specs.Transport.{Output}
-use Rattle.tb_journal.specs.declared.devices.Device as devices
+use Rattle.tb_records.specs.declared.devices.Sink as sinks
 use Rattle.tb_keep_commands.specs.declared.commands.Terminals.{Terminals}
-use Rattle.tb_keep_commands.specs.declared.openers.Opener as openers
+use Rattle.tb_keep_commands.specs.Ends.{KnownFiles}
 use Rattle.tb_keep_commands.specs.Forms.{file_word}
 use Rattle.tb_keep_commands.specs.Hosts as commands
 use Rattle.tb_keep_commands.specs.Hosts.{WantsMemory, input_of, output_of}
@@ -16,6 +17,7 @@ use Rattle.tb_keep_commands.specs.Outlets.{Watched, outgoing}
 use Rattle.tb_keep_follow.specs.declared.arguments.Form.{Form}
 use Rattle.tb_keep_follow.specs.declared.arguments.Form.TheVariants as form
 use Rattle.tb_keep_follow.specs.Exits.{Exits}
+use Rattle.tb_keep_follow.specs.Forms.{form_of}
 
 -- the bytes of input that a form holds at a time; a dump reads none
 abbrev pub input_size : Form → ℕ
@@ -27,14 +29,13 @@ abbrev pub output_size : Form → ℕ
 output_size (form.Follow clients_max profile) = 0
 output_size (form.Dump clients_max profile) = 2 ^ 16
 
-module _ {D : Type 0} (file : devices.Ghosts D) {E : Type 0} (reading : devices.Ghosts E) {O : Type 0}
-    (opener : openers.Ghosts O D E) (before left : O) {R W : Type 0} (remaining : R → Option (List ℕ)) (contents : W → Option (List ℕ)) where
+module _ {O D E : Type 0} (its : KnownFiles O D E) (before left : O) {R W : Type 0} (remaining : R → Option (List ℕ)) (contents : W → Option (List ℕ)) where
   -- a form was done, or not to its end; where it was done the buffer of the output is empty at its end
   pub record Hosted (form : Form) (name : List ℕ) (status : ℕ) (input : BufReader R Global) (output : BufWriter W Global)
       (quiet told : Output) : Type 0 where
     pub last : Watched (BufReader R Global)
     pub final : Watched (BufWriter W Global)
-    pub exits : Exits file reading opener before name left (writer_buffer final.inner ≡ []) form status
+    pub exits : Exits its before name left (writer_buffer final.inner ≡ []) form status
         (input_of remaining (outgoing input)) (input_of remaining last) (output_of contents (outgoing output)) (output_of contents final) quiet told
 
   -- over an input and an output, each behind a buffer with nothing in it
@@ -49,14 +50,34 @@ module _ {D : Type 0} (file : devices.Ghosts D) {E : Type 0} (reading : devices.
     pub holds_output : writer_capacity writer ≡ output_size form
     pub hosted : Hosted form name status reader writer quiet told
 
-module _ {D : Type 0} (file : devices.Ghosts D) {E : Type 0} (reading : devices.Ghosts E) (whole : E → List ℕ → Type 0) {O : Type 0}
-    (opener : openers.Ghosts O D E) (ends : Terminals) (before left : O) {R W : Type 0} (remaining : R → Option (List ℕ)) (contents : W → Option (List ℕ)) where
+module _ {O D E : Type 0} (its : KnownFiles O D E) (ends : Terminals) (before left : O) {R W : Type 0} (remaining : R → Option (List ℕ))
+    (contents : W → Option (List ℕ)) where
   -- the form over a log that words ask for was done, or not to its end; or, where they ask for none, what they ask for over a ledger; or there
   -- is no memory for the buffers
   abbrev pub ServesWords : Option Form → List (List ℕ) → ℕ → R → W → Output → Output → Type 0
   ServesWords (Some form) words status input output quiet told =
-      Serves file reading opener before left remaining contents form (file_word words) status input output quiet told
+      Serves its before left remaining contents form (file_word words) status input output quiet told
       ⊎ WantsMemory before left status quiet told
   ServesWords None words status input output quiet told =
-      commands.Serves file reading whole opener ends before left remaining contents words status input output quiet told
+      commands.Serves its ends before left remaining contents words status input output quiet told
       ⊎ WantsMemory before left status quiet told
+
+module _ {O D E : Type 0} (its : KnownFiles O D E) {R W L : Type 0} (remaining : R → Option (List ℕ)) (contents : W → Option (List ℕ))
+    (lines : sinks.Ghosts L) where
+  -- a form was done over an input and an output; or there is no memory for the buffers
+  abbrev pub ServesOn : Form → List ℕ → O → O → ℕ → R → W → L → L → Type 0
+  ServesOn form name before left status input output quiet told =
+      Serves its before left remaining contents form name status input output (lines.output quiet) (lines.output told)
+      ⊎ WantsMemory before left status (lines.output quiet) (lines.output told)
+
+  -- what the words ask for
+  abbrev pub WordsOn : Terminals → List (String Global) → O → O → ℕ → R → W → L → L → Type 0
+  WordsOn ends words before left status input output quiet told =
+      ServesWords its ends before left remaining contents (form_of (map string_bytes words)) (map string_bytes words) status input output
+      (lines.output quiet) (lines.output told)
+
+  -- what private functions alone cite
+
+  abbrev pub HostedOn : Form → List ℕ → O → O → ℕ → BufReader R Global → BufWriter W Global → L → L → Type 0
+  HostedOn form name before left status input output quiet told =
+      Hosted its before left remaining contents form name status input output (lines.output quiet) (lines.output told)

@@ -2,8 +2,6 @@
 -- Public contracts reach it through: Exits.
 use Rattle.std.specs.Prelude.{ℕ, true, ◌≡◌, ◌-◌, List, Result, Ok, Err, MatchResult}
 use Rattle.tb_records.specs.Transport.{Input, Output}
-use Rattle.tb_records.specs.declared.devices.Sink as sinks
-use Rattle.tb_records.specs.declared.devices.Source as sources
 use Rattle.tb_journal.specs.declared.devices.Device as devices
 use Rattle.tb_journal.specs.declared.faults.Fault as journal
 use Rattle.tb_journal.specs.declared.reading.Extent.{Extent}
@@ -23,6 +21,7 @@ use Rattle.tb_keep_log.specs.Serving.{Served, point}
 use Rattle.tb_keep_commands.specs.declared.faults.Failed.{Failed}
 use Rattle.tb_keep_commands.specs.declared.faults.Fault.TheVariants.{Opening}
 use Rattle.tb_keep_commands.specs.declared.openers.OpeningFault.{OpeningFault}
+use Rattle.tb_keep_commands.specs.Ends.{KnownEnds, On}
 use Rattle.tb_keep_commands.specs.Outcomes.{IsAsked}
 use Rattle.tb_keep_commands.specs.Statuses.{SaysLine, TellsCut, TellsMade, disk_fault, failed_pipe}
 use Rattle.tb_keep_follow.specs.declared.faults.FollowFault.{FollowFault}
@@ -129,12 +128,6 @@ module _ {D : Type 0} (its : devices.Ghosts D) where
     pub follows : MatchResult len (λ n. FollowsLong outcome rules path n between first last start written quiet told)
         (λ fault. (outcome ≡ Err (Kept (disk_fault fault))) × (last ≡ first) × (written ≡ start) × (told ≡ quiet))
 
--- of what a reader gave, and a writer and a writer of lines took, before and after a call
-abbrev pub On : {R W E : Type 0} → sources.Ghosts R → sinks.Ghosts W → sinks.Ghosts E
-    → (Input → Input → Output → Output → Output → Output → Type 0) → R → R → W → W → E → E → Type 0
-On source sink lines Does first last start written quiet told =
-    Does (source.input first) (source.input last) (sink.output start) (sink.output written) (lines.output quiet) (lines.output told)
-
 -- an opening may answer so, and leave what opens like this: with a device that was done; at a fault nothing was
 pub record Opens {D O : Type 0} (may : Result D OpeningFault → O → Type 0) (left : O) (outcome : Outcome) (Nothing : Type 0)
     (Does : D → Type 0) : Type 0 where
@@ -151,3 +144,11 @@ module _ {D : Type 0} (its : devices.Ghosts D) {O : Type 0} (may : Result D Open
   abbrev pub DumpsOver : Outcome → Rules → Output → Output → Type 0
   DumpsOver outcome rules start written =
       Opens may left outcome (written ≡ start) (λ device. (after : D) × DumpsFile its outcome rules device after start written)
+
+-- what private functions alone cite
+
+-- a log of these rules was followed over the file of a name, between the ends of a command
+abbrev pub FollowsOn : {O D E R W L : Type 0} → KnownEnds O D E R W L → Rules → List ℕ → O → O → Outcome → R → R → W → W → L → L → Type 0
+FollowsOn its rules name before left outcome first last start written quiet told =
+    On its.source its.sink its.lines (FollowsOver its.files.file (its.files.opener.makes before name) left outcome rules name)
+    first last start written quiet told

@@ -1,6 +1,6 @@
 //! The forms over a log, over what opens devices, any reader and any writer, and the exit status of each outcome.
-ghost use Rattle.tb_keep_follow.specs.Exits.{Performs, Finishes, Exits};
-ghost use Rattle.tb_keep_follow.specs.Outcomes.{FollowsOver, DumpsOver};
+ghost use Rattle.tb_keep_follow.specs.Exits.{ExitsOn, Finishes, PerformsOn};
+ghost use Rattle.tb_keep_follow.specs.Outcomes.{DumpsOver, FollowsOn};
 
 use crate::arguments::Form;
 use crate::dumping::dump;
@@ -9,11 +9,11 @@ use crate::following::follow;
 use crate::lines::tell_fault;
 use std::alloc::Global;
 use tb_keep::Rules;
-use tb_keep_commands::{Failed, Fault, Opener, Outlet};
+use tb_keep_commands::{Ends, Failed, Fault, Opener, Outlet};
 use tb_records::{Sink, Source};
 
 /// Follows a log over the device of a path, which is made where there is none.
-fn follow_over<O: Opener, R: Source, W: Sink, E: Sink>(
+fn follow_over<O: Opener, R: Source, W: Outlet, E: Sink>(
     alloc: Global,
     opener: &mut O,
     rules: Rules,
@@ -22,9 +22,8 @@ fn follow_over<O: Opener, R: Source, W: Sink, E: Sink>(
     writer: &mut W,
     faults: &mut E,
 ) -> Result<(), FollowFault>
-    ensures { FollowsOver O.File.Device (O.makes opener.old path.now) opener.new result rules path.now
-        (R.input reader.old) (R.input reader.new) (W.output writer.old) (W.output writer.new)
-        (E.output faults.old) (E.output faults.new) }
+    ensures { FollowsOn ⟦<O as Ends<R, W, E>>⟧.its rules path.now opener.old opener.new result
+        reader.old reader.new writer.old writer.new faults.old faults.new }
 {
     match opener.make(path) {
         Ok(device) => follow(alloc, rules, device, path, reader, writer, faults),
@@ -55,7 +54,7 @@ fn dump_over<O: Opener, W: Sink>(
 }
 
 /// Does what the form asks for, over the device of a path.
-fn perform<O: Opener, R: Source, W: Sink, E: Sink>(
+fn perform<O: Opener, R: Source, W: Outlet, E: Sink>(
     alloc: Global,
     opener: &mut O,
     form: Form,
@@ -64,9 +63,8 @@ fn perform<O: Opener, R: Source, W: Sink, E: Sink>(
     writer: &mut W,
     faults: &mut E,
 ) -> Result<(), FollowFault>
-    ensures { Performs O.File.Device O.Reading.Device O.Opener opener.old path.now opener.new form result
-        (R.input reader.old) (R.input reader.new) (W.output writer.old) (W.output writer.new)
-        (E.output faults.old) (E.output faults.new) }
+    ensures { PerformsOn ⟦<O as Ends<R, W, E>>⟧.its form path.now opener.old opener.new result
+        reader.old reader.new writer.old writer.new faults.old faults.new }
 {
     match form {
         Form::Follow(clients_max, profile) => {
@@ -110,9 +108,8 @@ pub fn command<O: Opener, R: Source, W: Outlet, E: Sink>(
     writer: &mut W,
     faults: &mut E,
 ) -> u8
-    ensures { Exits O.File.Device O.Reading.Device O.Opener opener.old path.now opener.new (W.gone writer.new) form
-        result (R.input reader.old) (R.input reader.new) (W.output writer.old) (W.output writer.new)
-        (E.output faults.old) (E.output faults.new) }
+    ensures { ExitsOn ⟦<O as Ends<R, W, E>>⟧.its form path.now opener.old opener.new result
+        reader.old reader.new writer.old writer.new faults.old faults.new }
 {
     let done = perform(alloc, opener, form, path, reader, writer, faults);
     match finish(done, writer) {

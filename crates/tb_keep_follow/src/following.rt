@@ -2,7 +2,8 @@
 ghost use Rattle.std.specs.Prelude.{◌≡◌, true};
 ghost use Rattle.tb_journal.specs.Ready.{IsReady};
 ghost use Rattle.tb_keep_log.specs.Keeping.{IsUsable};
-ghost use Rattle.tb_keep_follow.specs.Outcomes.{FollowsKept, FollowsLong, FollowsFile, On, kept_outcome};
+ghost use Rattle.tb_keep_commands.specs.Ends.{On};
+ghost use Rattle.tb_keep_follow.specs.Outcomes.{FollowsKept, FollowsLong, FollowsFile, kept_outcome};
 
 use crate::faults::{FollowFault, kept_fault, started_fault};
 use crate::lines::tell_wanted;

@@ -1,21 +1,19 @@
 //! The way from a program's arguments, input and output to its commands.
-ghost use Rattle.std.specs.Prelude.{◌≡◌, ◌⊎◌, map, string_bytes};
-ghost use Rattle.tb_keep_commands.specs.Hosts.{WantsMemory};
-ghost use Rattle.tb_keep_follow.specs.Hosts.{input_size, output_size, Hosted, Serves, ServesWords};
-ghost use Rattle.tb_keep_follow.specs.Forms.{form_of};
+ghost use Rattle.std.specs.Prelude.{◌≡◌};
+ghost use Rattle.tb_keep_follow.specs.Hosts.{input_size, output_size, HostedOn, ServesOn, WordsOn};
 
 use crate::arguments::{Form, read_form};
 use crate::commands::command;
 use std::alloc::Global;
 use std::io::{BufReader, BufWriter, Read, Write};
-use tb_keep_commands::{Fault, Opener, Outgoing, Terminals, file_word, refuse};
+use tb_keep_commands::{Fault, Files, Opener, Outgoing, Terminals, file_word, refuse};
 use tb_records::{Buffered, Sink};
 
 /// The bytes of input that `follow` holds at a time.
-const INPUT: usize = 1 << 20;
+const INPUT_BYTES: usize = 1 << 20;
 
 /// The bytes of output that `dump` holds at a time.
-const OUTPUT: usize = 1 << 16;
+const OUTPUT_BYTES: usize = 1 << 16;
 
 /// The bytes that a form's reader and writer hold. Replies are written at once.
 fn capacities(form: &Form) -> (usize, usize)
@@ -23,8 +21,8 @@ fn capacities(form: &Form) -> (usize, usize)
     ensures output { result.1 ≡ output_size form.now }
 {
     match form {
-        Form::Follow(_, _) => (INPUT, 0),
-        Form::Dump(_, _) => (0, OUTPUT),
+        Form::Follow(_, _) => (INPUT_BYTES, 0),
+        Form::Dump(_, _) => (0, OUTPUT_BYTES),
     }
 }
 
@@ -38,8 +36,8 @@ fn between<O: Opener, R: Read + Drop, W: Write + Drop, E: Sink>(
     output: BufWriter<W>,
     faults: &mut E,
 ) -> u8
-    ensures { Hosted O.File.Device O.Reading.Device O.Opener opener.old opener.new R.remaining W.contents
-        form path.now result input output (E.output faults.old) (E.output faults.new) }
+    ensures { HostedOn ⟦<O as Files>⟧.its R.remaining W.contents E.Sink form path.now
+        opener.old opener.new result input output faults.old faults.new }
 {
     let mut reader = Buffered::new(input);
     let mut writer = Outgoing::new(output);
@@ -56,9 +54,8 @@ pub fn serve<O: Opener, R: Read + Drop, W: Write + Drop, E: Sink>(
     output: W,
     faults: &mut E,
 ) -> u8
-    ensures { Serves O.File.Device O.Reading.Device O.Opener opener.old opener.new R.remaining W.contents
-        form path.now result input output (E.output faults.old) (E.output faults.new)
-        ⊎ WantsMemory opener.old opener.new result (E.output faults.old) (E.output faults.new) }
+    ensures { ServesOn ⟦<O as Files>⟧.its R.remaining W.contents E.Sink form path.now
+        opener.old opener.new result input output faults.old faults.new }
 {
     let (held_in, held_out) = capacities(&form);
     let Ok(input) = BufReader::with_capacity(alloc, held_in, input) else {
@@ -80,10 +77,8 @@ pub fn serve_words<O: Opener, R: Read + Drop, W: Write + Drop, E: Sink>(
     output: W,
     faults: &mut E,
 ) -> u8
-    ensures { let said = map string_bytes words.now in
-        ServesWords O.File.Device O.Reading.Device O.Reading.whole
-        O.Opener terminals opener.old opener.new R.remaining W.contents (form_of said) said
-        result input output (E.output faults.old) (E.output faults.new) }
+    ensures { WordsOn ⟦<O as Files>⟧.its R.remaining W.contents E.Sink terminals words.now
+        opener.old opener.new result input output faults.old faults.new }
 {
     match read_form(words) {
         Some(form) => {

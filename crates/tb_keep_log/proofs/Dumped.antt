@@ -26,7 +26,7 @@ use Rattle.tb_keep_log.specs.declared.faults.DumpLogFault.TheVariants as dump
 use Rattle.tb_keep_log.specs.declared.faults.LogStartFault.{LogStartFault}
 use Rattle.tb_keep_log.specs.declared.faults.LogStartFault.TheVariants as start_faults
 use Rattle.tb_keep_log.specs.Dumping.{AreFirst, AreTimely, DumpsFirst, DumpsLog, HasDumpCause, IsDumpCause, StopsBehind, StopsDump, StopsRecord, dump_of_pairs, no_pair}
-use Rattle.tb_keep_log.specs.DumpSteps.{AreFront, AreNext, DumpsPair, DumpsPairs, DumpsContent, DumpsNext, DumpsRecord, Dumped, DumpsAll, Halts}
+use Rattle.tb_keep_log.specs.private.DumpSteps.{AreFront, AreNext, DumpsPair, DumpsPairs, DumpsContent, DumpsNext, DumpsRecord, Dumped, DumpsAll, Halts}
 use Rattle.tb_keep_log.proofs.Entering.{has_log_then}
 
 state_join : (S : State) (ps qs : List Pair) → state_from S (ps ++ qs) ≡ state_from (state_from S ps) qs

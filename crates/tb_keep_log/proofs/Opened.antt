@@ -24,7 +24,7 @@ use Rattle.tb_keep_log.specs.declared.opening.NotStarted.{NotStarted}
 use Rattle.tb_keep_log.specs.Keeping.{Keeping, IsKept}
 use Rattle.tb_keep_log.specs.Restoring.{HasLogCause, IsLogCause, IsRestored, IsTornTooLong, StopsReading, StopsOpening}
 use Rattle.tb_keep_log.specs.Opening.{HasStartCause, IsCreatedCause, IsOpened, IsStartCause, IsStarted, IsStartRefused, IsRefused, MayBeOpened, MayBeStarted, OpensFile, StartsFile}
-use Rattle.tb_keep_log.specs.Steps.{IsOfDevice, OpensAs}
+use Rattle.tb_keep_log.specs.private.Steps.{IsOfDevice, OpensAs}
 
 -- the keeper of a journal that was opened
 pub opened_as : {D : Type 0} (disk : D → Disk) (file : List ℕ) (journal : Kept D) (keeper : Keeping D) (rules : Rules) (F : Following) (extent : Extent) (cut : ℕ)

@@ -22,7 +22,7 @@ use Rattle.tb_keep_log.specs.declared.faults.KeepLogFault.TheVariants as keep
 use Rattle.tb_keep_log.specs.Keeping.{record_bytes, record_of}
 use Rattle.tb_keep_log.specs.Restoring.{IsHaltedContent}
 use Rattle.tb_keep_log.specs.Serving.{point, IsHalted, RefusesItem, IsRead, Turn, IsUncommitted, Halts}
-use Rattle.tb_keep_log.specs.Steps.{DropsEntry, TakesEntry, MissesEntry, TellsBytes, Answers, IsPut, IsUnput, PutsAndTells, ReadsWhole, KeepsEntry, FailsEntry, EntersEntry}
+use Rattle.tb_keep_log.specs.private.Steps.{DropsEntry, TakesEntry, MissesEntry, TellsBytes, Answers, IsPut, IsUnput, PutsAndTells, ReadsWhole, KeepsEntry, FailsEntry, EntersEntry}
 
 -- an entry that is taken
 

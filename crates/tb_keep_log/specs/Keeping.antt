@@ -12,6 +12,7 @@ use Rattle.tb_log.specs.Format.{content_of, standing_item}
 use Rattle.tb_log.specs.Following.{Following, begun, Item, Entry, Question, with_item, after_items, AllAnswered}
 use Rattle.tb_log.specs.Follows.{ItemFits}
 use Rattle.tb_keep.specs.declared.heads.Rules.{Rules}
+use Rattle.tb_journal.specs.Scans.{HasRead, Place}
 
 -- the first bytes of each record: the text TBF1, the profile's number, and the number of clients that can have a session at one time
 abbrev pub mark : Profile → ℕ → List ℕ
@@ -70,3 +71,7 @@ mark_of_profile_two = refl
 -- a question leaves nothing
 pub no_record_of_a_question : records_from Two 8 (begun Two 8) (Question ∷ []) ≡ []
 no_record_of_a_question = refl
+
+-- of each file that the reads are of, and of the records that a scan has read of it
+abbrev pub OfEachRead : (List ℕ → Type 0) → Place → (List (List ℕ) → List ℕ → Type 0) → Type 0
+OfEachRead holds scan P = (file : List ℕ) (read : List (List ℕ)) → holds file → HasRead read file scan → P read file

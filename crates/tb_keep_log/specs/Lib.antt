@@ -1,4 +1,3 @@
--- what public contracts cite, or reach through what they cite
 pub mod Faults
 pub mod Keeping
 pub mod Restoring
@@ -6,6 +5,4 @@ pub mod Opening
 pub mod Serving
 pub mod Dumping
 pub mod Laws
--- what private contracts alone cite
-pub mod Steps
-pub mod DumpSteps
+pub mod private

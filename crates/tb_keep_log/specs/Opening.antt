@@ -8,14 +8,16 @@ use Rattle.tb_journal.specs.Device.{Disk, FailsNone}
 use Rattle.tb_journal.specs.Contents.{Records, contents, recorded}
 use Rattle.tb_journal.specs.Opening.{IsAsBefore}
 use Rattle.tb_journal.specs.Creating.{is_blank, IsCreateCause, MayBeCreated}
-use Rattle.tb_log.specs.Following.{begun}
+use Rattle.tb_log.specs.Following.{begun, Following}
 use Rattle.tb_keep.specs.Opening.{IsUntouched}
 use Rattle.tb_keep.specs.Restoration.{torn_bytes}
 use Rattle.tb_keep_log.specs.declared.faults.LogStartFault.{LogStartFault}
 use Rattle.tb_keep_log.specs.declared.faults.LogStartFault.TheVariants as start
 use Rattle.tb_keep_log.specs.declared.opening.NotStarted.{NotStarted}
 use Rattle.tb_keep_log.specs.Keeping.{Keeping, Keeps, IsKept}
-use Rattle.tb_keep_log.specs.Restoring.{IsLogCause, StopsOpening}
+use Rattle.tb_keep_log.specs.Restoring.{IsLogCause, StopsOpening, IsRestored}
+use Rattle.tb_keep.specs.declared.heads.Rules.{Rules}
+use Rattle.tb_journal.specs.declared.reading.Extent.{Extent}
 
 -- the device of a keeper, or the one that is given back
 abbrev pub device_left : {D : Type 0} → Result (Keeping D) (NotStarted D) → D
@@ -88,3 +90,7 @@ IsStartCause before after fault = IsCreatedCause before after fault ⊎ IsLogCau
 pub record HasStartCause {T : Type 0} (result : Result T LogStartFault) (before after : Disk) : Type 0 where
   pub ok : OnOk result (FailsNone before after)
   pub cause : IfErr result (IsStartCause before after)
+
+-- a file of which this follower was restored is opened by it, or it is reported why not
+abbrev pub OpensRestored : {D : Type 0} → Result (Keeping D) (NotStarted D) → Rules → Following → Extent → List ℕ → Type 0
+OpensRestored result rules F extent file = IsRestored rules.profile rules.clients_max file F extent → OpensFile result rules.profile rules.clients_max file

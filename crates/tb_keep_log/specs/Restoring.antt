@@ -21,6 +21,7 @@ use Rattle.tb_keep.specs.Restoration.{torn_bytes}
 use Rattle.tb_keep_log.specs.declared.faults.LogStartFault.{LogStartFault}
 use Rattle.tb_keep_log.specs.declared.faults.LogStartFault.TheVariants as start
 use Rattle.tb_keep_log.specs.Keeping.{mark, record_bytes, IsKept}
+use Rattle.tb_keep.specs.declared.heads.Rules.{Rules}
 
 -- the record of an entry that comes next behind a follower, which it leads on
 pub record EntersRecord (profile : Profile) (clients_max : ℕ) (bytes : List ℕ) (F G : Following) : Type 0 where
@@ -123,3 +124,9 @@ IsLogCause before after fault = FailsNone before after
 pub record HasLogCause {T : Type 0} (result : Result T LogStartFault) (before after : Disk) : Type 0 where
   pub ok : OnOk result (FailsNone before after)
   pub cause : IfErr result (IsLogCause before after)
+
+-- a record is not the one that its entry leaves behind this follower; or there was no memory to see it
+abbrev pub IsOtherRecord : Rules → Following → ℕ → List ℕ → List ℕ → LogStartFault → Type 0
+IsOtherRecord rules F position bytes content fault =
+    (fault ≡ start.NoMemory)
+    ⊎ ((fault ≡ start.OtherHashes position) × (bytes ≢ record_bytes rules.profile rules.clients_max F content))

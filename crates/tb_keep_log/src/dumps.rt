@@ -3,13 +3,14 @@ ghost use Rattle.std.specs.Prelude.{◌≡◌, ◌≤◌, true, ℕ, List, [], l
 ghost use Rattle.tb_journal.specs.Scans.{HasRead, GoesFurther};
 ghost use Rattle.tb_log.specs.Format.{content_max};
 ghost use Rattle.tb_machine.specs.Runs.{is_new_in};
-ghost use Rattle.tb_keep.specs.Entering.{StaysKept};
+ghost use Rattle.tb_keep.specs.private.Entering.{StaysKept};
 ghost use Rattle.tb_keep.specs.Opening.{IsUntouched};
 ghost use Rattle.tb_keep_log.specs.Dumping.{DumpsLog, HasDumpCause, no_pair};
-ghost use Rattle.tb_keep_log.specs.DumpSteps.{DumpsPair, DumpsContent, DumpsRecord, DumpsNext, DumpsAll, ReadCause};
+ghost use Rattle.tb_keep_log.specs.private.DumpSteps.{DumpsPair, DumpsContent, DumpsRecord, ReadCause, DumpsNextOver, DumpsAllOver, DumpsLogOver};
+ghost use Rattle.tb_keep_log.specs.Keeping.{OfEachRead};
 
 use crate::faults::{DumpLogFault, LogStartFault};
-use crate::marks::{FIXED, check_mark};
+use crate::marks::{FIXED_BYTES, check_mark};
 use crate::restoring::read_record;
 use std::alloc::Global;
 use tb_journal::{Device, Scan};
@@ -112,7 +113,7 @@ fn dump_record<W: Sink>(
         (W.output writer.new) }
 {
     match check_mark(bytes, rules, last) {
-        Ok(_) => dump_content(global, machine, &bytes[FIXED..], writer),
+        Ok(_) => dump_content(global, machine, &bytes[FIXED_BYTES..], writer),
         Err(fault) => Err(DumpLogFault::Start(fault)),
     }
 }
@@ -126,9 +127,7 @@ fn dump_next<D: Device, W: Sink>(
     device: &mut D,
     writer: &mut W,
 ) -> Result<bool, DumpLogFault>
-    ensures dumps { (file : List ℕ) (read : List (List ℕ)) → D.holds device.old file → HasRead read file scan.old
-        → DumpsNext result rules.profile rules.clients_max read file scan.new machine.old machine.new
-        (W.output writer.old) (W.output writer.new) }
+    ensures dumps { OfEachRead (D.holds device.old) scan.old (DumpsNextOver rules W.output result scan.new machine.old machine.new writer.old writer.new) }
     ensures same { (file : List ℕ) → D.holds device.old file → D.holds device.new file }
     ensures stays { D.tells → StaysKept (D.disk device.old) (D.disk device.new) }
     ensures cause { D.tells → ReadCause result scan.old (D.disk device.old) (D.disk device.new) }
@@ -154,9 +153,7 @@ fn dump_all<D: Device, W: Sink>(
     device: &mut D,
     writer: &mut W,
 ) -> Result<(), DumpLogFault>
-    ensures dumps { (file : List ℕ) (read : List (List ℕ)) → D.holds device.old file → HasRead read file scan.old
-        → DumpsAll result rules.profile rules.clients_max read file machine.old (W.output writer.old)
-        (W.output writer.new) }
+    ensures dumps { OfEachRead (D.holds device.old) scan.old (DumpsAllOver rules W.output result machine.old writer.old writer.new) }
     ensures same { (file : List ℕ) → D.holds device.old file → D.holds device.new file }
     ensures stays { D.tells → StaysKept (D.disk device.old) (D.disk device.new) }
     ensures cause { D.tells → ReadCause result scan.old (D.disk device.old) (D.disk device.new) }
@@ -179,8 +176,7 @@ fn dump_by<D: Device, W: Sink>(
     device: &mut D,
     writer: &mut W,
 ) -> Result<(), DumpLogFault>
-    ensures dumps { (file : List ℕ) → D.holds device.old file → HasRead [] file scan.old
-        → DumpsLog result rules.profile rules.clients_max file (W.output writer.old) (W.output writer.new) }
+    ensures dumps { (file : List ℕ) → D.holds device.old file → HasRead [] file scan.old → DumpsLogOver rules W.output result file writer.old writer.new }
     ensures same { (file : List ℕ) → D.holds device.old file → D.holds device.new file }
     ensures stays { D.tells → StaysKept (D.disk device.old) (D.disk device.new) }
     ensures cause { D.tells → HasRead [] (D.disk device.old).seen scan.old

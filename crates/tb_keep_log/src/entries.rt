@@ -1,13 +1,13 @@
 //! An entry served in memory; the entry of a record entered again, and compared with it.
-ghost use Rattle.std.specs.Prelude.{◌≡◌, ◌≢◌, ◌≤◌, ◌+◌, ◌⊎◌, true, nat_eq, length, drop, IfOk, IfErr, OnOk};
+ghost use Rattle.std.specs.Prelude.{◌≡◌, ◌≤◌, ◌+◌, true, nat_eq, length, drop, IfOk, IfErr, OnOk};
 ghost use Rattle.std.specs.List.{starts_with};
 ghost use Rattle.tb_log.specs.Format.{content_max};
 ghost use Rattle.tb_keep_log.specs.Keeping.{mark, record_bytes};
-ghost use Rattle.tb_keep_log.specs.Restoring.{fixed_bytes};
-ghost use Rattle.tb_keep_log.specs.Steps.{in_memory, of_log, HoldsEntry, DropsEntry, Enters};
+ghost use Rattle.tb_keep_log.specs.Restoring.{fixed_bytes, IsOtherRecord};
+ghost use Rattle.tb_keep_log.specs.private.Steps.{in_memory, of_log, HoldsEntry, DropsEntry, Enters};
 
 use crate::faults::LogStartFault;
-use crate::marks::{FIXED, check_mark, record_of};
+use crate::marks::{FIXED_BYTES, check_mark, record_of};
 use std::alloc::{Allocator, Global};
 use tb_keep::Rules;
 use tb_log::{Follower, LogFault, check_pairs, serve_content};
@@ -65,11 +65,7 @@ fn compare<A: Allocator + Clone>(
 ) -> Result<(), LogStartFault>
     ensures same { OnOk result
         (bytes.now ≡ record_bytes rules.profile rules.clients_max follower.now content.now) }
-    ensures other { IfErr result
-        (λ fault.
-        (fault ≡ LogStartFault.NoMemory)
-        ⊎ ((fault ≡ LogStartFault.OtherHashes position)
-        × (bytes.now ≢ record_bytes rules.profile rules.clients_max follower.now content.now))) }
+    ensures other { IfErr result (IsOtherRecord rules follower.now position bytes.now content.now) }
 {
     match record_of(global, rules, follower, content) {
         Ok(record) => {
@@ -96,7 +92,7 @@ fn enter_at<A: Allocator + Clone>(
     requires few { length bytes.now ≤ fixed_bytes + content_max }
     ensures { Enters result rules.profile rules.clients_max bytes.now follower.old follower.new }
 {
-    let content = &bytes[FIXED..];
+    let content = &bytes[FIXED_BYTES..];
     match check_pairs(global, position, content) {
         Ok(()) => {}
         Err(fault) => return Err(of_log(fault)),

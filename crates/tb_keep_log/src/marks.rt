@@ -12,10 +12,10 @@ use tb_log::Follower;
 use tb_records::Profile;
 
 /// The bytes of a record before the pairs of its entry: the mark, a position and two hashes.
-pub(crate) const FIXED: usize = 79;
+pub(crate) const FIXED_BYTES: usize = 79;
 
 /// The greatest number of bytes of an entry's pairs: 16 MiB less one.
-const CONTENT_MAX: usize = 0xFF_FFFF;
+const CONTENT_BYTES_MAX: usize = 0xFF_FFFF;
 
 /// The first bytes of each record of these rules.
 fn write_mark(rules: Rules) -> [u8; 6]
@@ -72,7 +72,7 @@ pub(crate) fn check_mark(bytes: &[u8], rules: Rules, last: u64) -> Result<u64, L
     if !bytes.starts_with(&write_mark(same)) {
         return Err(other_mark(bytes, rules, last));
     }
-    if bytes.len() < FIXED || bytes.len() - FIXED > CONTENT_MAX {
+    if bytes.len() < FIXED_BYTES || bytes.len() - FIXED_BYTES > CONTENT_BYTES_MAX {
         return Err(LogStartFault::NoEntry(last));
     }
     match last.checked_add(1) {

@@ -1,16 +1,17 @@
 //! The file of a kept log is created, or opened after a crash.
 ghost use Rattle.std.specs.Prelude.{◌≡◌, ◌≤◌, true, ℕ, List, Ok, IfOk, IfErr};
 ghost use Rattle.tb_journal.specs.Device.{IsOnDisk, LeavesOnly, HasCause, IsOfCall};
-ghost use Rattle.tb_journal.specs.Contents.{Records, contents, recorded};
+ghost use Rattle.tb_journal.specs.Contents.{contents};
 ghost use Rattle.tb_journal.specs.Creating.{MayBeCreated};
 ghost use Rattle.tb_journal.specs.Reading.{extent_of};
 ghost use Rattle.tb_journal.specs.Ready.{IsReady};
-ghost use Rattle.tb_keep.specs.Entering.{StaysKept};
+ghost use Rattle.tb_keep.specs.private.Entering.{StaysKept};
 ghost use Rattle.tb_keep.specs.Restoration.{torn_bytes};
 ghost use Rattle.tb_keep_log.specs.Keeping.{IsUsable};
 ghost use Rattle.tb_keep_log.specs.Restoring.{HasLogCause, IsRestored};
-ghost use Rattle.tb_keep_log.specs.Opening.{HasStartCause, IsOpened, IsRefused, IsStartRefused, IsStarted, MayBeOpened, MayBeStarted, OpensFile, StartsFile, device_left, why_left};
-ghost use Rattle.tb_keep_log.specs.Steps.{CreatesIn, HasCreatedCause, IsCreated, IsNotCreated, OpensAs};
+ghost use Rattle.tb_keep_log.specs.Opening.{HasStartCause, IsOpened, IsRefused, IsStartRefused, IsStarted, MayBeOpened, MayBeStarted, OpensFile, StartsFile, device_left, why_left, OpensRestored};
+ghost use Rattle.tb_keep_log.specs.private.Steps.{CreatesIn, HasCreatedCause, IsCreated, IsNotCreated, OpensAs};
+ghost use Rattle.tb_journal.specs.Opening.{LeavesSameRecords};
 
 use crate::faults::LogStartFault;
 use crate::keepers::LogKeeper;
@@ -21,7 +22,7 @@ use tb_keep::Rules;
 use tb_log::Follower;
 
 /// A torn commit leaves at most so many bytes behind the records and the latch there: one record and its latch.
-const TORN_MAX: u64 = (1 << 24) + 8;
+const TORN_BYTES_MAX: u64 = (1 << 24) + 8;
 
 /// A device whose file was not opened as a kept log, and why.
 #[derive(Drop)]
@@ -74,9 +75,7 @@ fn open_read<D: Device, A: Allocator + Clone>(
         → IfOk result (IsOpened D.disk (D.disk device).seen) }
     ensures ready { D.tells → (D.disk device).sound ≡ true
         → IfOk result (λ keeper. IsReady D.disk keeper.journal) }
-    ensures any_moment { D.tells → (D.disk device).sound ≡ true
-        → LeavesOnly (D.disk device) (D.disk (device_left result))
-        (λ c. contents c ≡ Records (recorded (D.disk device).seen)) }
+    ensures any_moment { D.tells → LeavesSameRecords (D.disk device) (D.disk (device_left result)) }
     ensures cause { D.tells → HasLogCause (why_left result) (D.disk device) (D.disk (device_left result)) }
     ensures usable { IfOk result IsUsable }
     ensures any_device { OpensAs result rules follower cut }
@@ -113,14 +112,12 @@ fn open_short<D: Device, A: Allocator + Clone>(
     ensures cause { D.tells → HasLogCause (why_left result) (D.disk device) (D.disk (device_left result)) }
     ensures usable { IfOk result IsUsable }
     ensures rules { IfOk result (λ keeper. keeper.rules ≡ rules) }
-    ensures handed { (file : List ℕ) → D.holds device file
-        → IsRestored rules.profile rules.clients_max file follower extent
-        → OpensFile result rules.profile rules.clients_max file }
+    ensures handed { (file : List ℕ) → D.holds device file → OpensRestored result rules follower extent file }
 {
     let mut device = device;
     match torn_behind(&mut device, extent) {
         Ok(torn) => {
-            if torn > TORN_MAX {
+            if torn > TORN_BYTES_MAX {
                 let fault = LogStartFault::TornTooLong {
                     at: extent.end as u64,
                     bytes: torn,

@@ -1,13 +1,13 @@
 //! A follower behind all records of a file.
 ghost use Rattle.std.specs.Prelude.{◌≡◌, ◌≤◌, true, ℕ, List, [], IfOk, OnOk};
 ghost use Rattle.tb_journal.specs.Device.{IsOnDisk};
-ghost use Rattle.tb_journal.specs.Opening.{HasOpenCause};
-ghost use Rattle.tb_journal.specs.Scans.{HasRead, GoesFurther};
-ghost use Rattle.tb_keep.specs.Entering.{StaysKept};
+ghost use Rattle.tb_journal.specs.Scans.{HasRead, GoesFurther, ScanCause};
+ghost use Rattle.tb_keep.specs.private.Entering.{StaysKept};
 ghost use Rattle.tb_keep.specs.Opening.{IsUntouched};
-ghost use Rattle.tb_keep.specs.Sources.{IsNext};
+ghost use Rattle.tb_keep.specs.private.Sources.{IsNext};
 ghost use Rattle.tb_keep_log.specs.Restoring.{HasLogCause, Restores};
-ghost use Rattle.tb_keep_log.specs.Steps.{EntersNext, EntersAll, ReadCause};
+ghost use Rattle.tb_keep_log.specs.private.Steps.{ReadCause, EntersNextBy, EntersAllBy};
+ghost use Rattle.tb_keep_log.specs.Keeping.{OfEachRead};
 
 use crate::entries::enter_record;
 use crate::faults::LogStartFault;
@@ -22,8 +22,7 @@ pub(crate) fn read_record<D: Device>(scan: &mut Scan, device: &mut D) -> Result<
         → D.holds device.old file → HasRead read file scan.old → IsNext result read file scan.new }
     ensures same { (file : List ℕ) → D.holds device.old file → D.holds device.new file }
     ensures stays { D.tells → StaysKept (D.disk device.old) (D.disk device.new) }
-    ensures cause { D.tells → (read : List (List ℕ)) → HasRead read (D.disk device.old).seen scan.old
-        → HasOpenCause result (D.disk device.old) (D.disk device.new) }
+    ensures cause { D.tells → ScanCause result scan.old (D.disk device.old) (D.disk device.new) }
     ensures further { IfOk result (λ more. more ≡ true → GoesFurther scan.old scan.new) }
 {
     scan.next(device)
@@ -37,8 +36,7 @@ fn enter_next<D: Device, A: Allocator + Clone>(
     scan: &mut Scan,
     device: &mut D,
 ) -> Result<bool, LogStartFault>
-    ensures enters { (file : List ℕ) (read : List (List ℕ)) → D.holds device.old file → HasRead read file scan.old
-        → EntersNext result rules.profile rules.clients_max read file scan.new follower.old follower.new }
+    ensures enters { OfEachRead (D.holds device.old) scan.old (EntersNextBy rules result scan.new follower.old follower.new) }
     ensures same { (file : List ℕ) → D.holds device.old file → D.holds device.new file }
     ensures stays { D.tells → StaysKept (D.disk device.old) (D.disk device.new) }
     ensures cause { D.tells → ReadCause result scan.old (D.disk device.old) (D.disk device.new) }
@@ -62,8 +60,7 @@ fn enter_all<D: Device, A: Allocator + Clone>(
     scan: &mut Scan,
     device: &mut D,
 ) -> Result<(), LogStartFault>
-    ensures enters { (file : List ℕ) (read : List (List ℕ)) → D.holds device.old file → HasRead read file scan.old
-        → EntersAll result rules.profile rules.clients_max read file scan.new follower.old follower.new }
+    ensures enters { OfEachRead (D.holds device.old) scan.old (EntersAllBy rules result scan.new follower.old follower.new) }
     ensures same { (file : List ℕ) → D.holds device.old file → D.holds device.new file }
     ensures stays { D.tells → StaysKept (D.disk device.old) (D.disk device.new) }
     ensures cause { D.tells → ReadCause result scan.old (D.disk device.old) (D.disk device.new) }

@@ -2,8 +2,8 @@
 ghost use Rattle.std.specs.Prelude.{◌≡◌, true, false, [], IfOk, IfErr, OnOk, OnErr};
 ghost use Rattle.tb_journal.specs.Ready.{IsReady};
 ghost use Rattle.tb_keep_log.specs.Keeping.{IsUsable};
-ghost use Rattle.tb_keep_log.specs.Serving.{KeepsLog, Served, point};
-ghost use Rattle.tb_keep_log.specs.Steps.{TakesEntry, MissesEntry, TellsBytes, Answers, Puts, PutsAndTells, EntersEntry, Next};
+ghost use Rattle.tb_keep_log.specs.Serving.{KeepsLog};
+ghost use Rattle.tb_keep_log.specs.private.Steps.{TakesEntry, MissesEntry, TellsBytes, Answers, Puts, PutsAndTells, EntersEntryOver, NextOver, ServedOver};
 
 use crate::entries::serve_entry;
 use crate::faults::KeepLogFault;
@@ -111,9 +111,7 @@ fn keep_entry<D: Device, A: Allocator + Clone, R: Source, W: Sink>(
     requires usable { journal.old.usable ≡ true }
     requires none_waits { journal.old.waiting ≡ [] }
     requires ready { D.tells → IsReady D.disk journal.old }
-    ensures { EntersEntry D.tells D.disk rules.profile rules.clients_max result follower.old follower.new
-        journal.old journal.new (R.input reader.old) (R.input reader.new) (W.output writer.old)
-        (W.output writer.new) }
+    ensures { EntersEntryOver D.tells D.disk R.input W.output rules result follower.old journal.old reader.old writer.old follower.new journal.new reader.new writer.new }
 {
     match take_entry(global, follower, reader) {
         Ok((content, held)) => match record_of(global, rules, follower, &content) {
@@ -136,9 +134,7 @@ fn keep_next<D: Device, A: Allocator + Clone, R: Source, W: Sink>(
     requires usable { journal.old.usable ≡ true }
     requires none_waits { journal.old.waiting ≡ [] }
     requires ready { D.tells → IsReady D.disk journal.old }
-    ensures next { Next D.tells D.disk rules.profile rules.clients_max result
-        (point follower.old journal.old (R.input reader.old) (W.output writer.old))
-        (point follower.new journal.new (R.input reader.new) (W.output writer.new)) }
+    ensures next { NextOver D.tells D.disk R.input W.output rules result follower.old journal.old reader.old writer.old follower.new journal.new reader.new writer.new }
     ensures usable { OnOk result (journal.new.usable ≡ true) }
     ensures none_waits { OnOk result (journal.new.waiting ≡ []) }
     ensures ready { D.tells → OnOk result (IsReady D.disk journal.new) }
@@ -170,9 +166,7 @@ fn keep_all<D: Device, A: Allocator + Clone, R: Source, W: Sink>(
     requires usable { journal.old.usable ≡ true }
     requires none_waits { journal.old.waiting ≡ [] }
     requires ready { D.tells → IsReady D.disk journal.old }
-    ensures served { Served D.tells D.disk rules.profile rules.clients_max result
-        (point follower.old journal.old (R.input reader.old) (W.output writer.old))
-        (point follower.new journal.new (R.input reader.new) (W.output writer.new)) }
+    ensures served { ServedOver D.tells D.disk R.input W.output rules result follower.old journal.old reader.old writer.old follower.new journal.new reader.new writer.new }
     ensures usable { OnOk result (journal.new.usable ≡ true) }
     ensures none_waits { OnOk result (journal.new.waiting ≡ []) }
     ensures ready { D.tells → OnOk result (IsReady D.disk journal.new) }

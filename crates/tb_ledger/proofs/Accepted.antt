@@ -1,5 +1,5 @@
 -- What a verdict of 0 says: each test of its tables fails.
-use Rattle.tb_ledger.proofs.Common.{◌≡◌, ◌≢◌, ℕ, ◌+◌, ◌*◌, ◌≤◌, Bool, true, false, not, ◌&&◌, if◌then◌else◌, eqb, ltb, ◌==◌, List, [], ◌∷◌, Option, Some, None, option_map, bit_and, bit_or, refl, sym, ap, subst, ◌∙◌, arith, ltb-false, nat_tests, and_parts, and_from, and_or_apart, and_or_self, Account, Transfer, Each, found_key, State, Open, Posted, Voided, Expired, Books, has, closed, debits_limited, credits_limited, pending, resolves, is_open, is_posted, is_voided, is_expired, state_of, stands_closed, account_at, account_now, as_it_stands, transfer_at, debits_pending, debits_posted, credits_pending, credits_posted, Test, first_of, first_code, is_not, int_max, max_time, account_own_tests, account_exists_tests, account_new_tests, account_verdict, transfer_own_tests, transfer_exists_tests, failed_tests, transfer_verdict, filled, filled_amount, filled_from, given_or, differs, id_code, resolve_own_tests, named_tests, closed_tests, closed_at, named_code, resolve_code, single_own_tests, pair_tests, pair_code, amount_tests, single_code, balanced_amount, balanced_between, blank, FoundPending}
+use Rattle.tb_ledger.proofs.Common.{◌≡◌, ◌≢◌, ℕ, ◌+◌, ◌*◌, ◌≤◌, Bool, true, false, not, ◌&&◌, if◌then◌else◌, eqb, ltb, ◌==◌, List, [], ◌∷◌, Option, Some, None, option_map, bit_and, bit_or, refl, sym, ap, subst, ◌∙◌, arith, ltb-false, nat_tests, and_parts, and_from, and_or_apart, and_or_self, Account, Transfer, Each, found_key, State, Open, Posted, Voided, Expired, Books, has, closed, debits_limited, credits_limited, pending, resolves, is_open, is_posted, is_voided, is_expired, state_of, stands_closed, account_at, account_now, as_it_stands, transfer_at, debits_pending, debits_posted, credits_pending, credits_posted, Test, first_of, first_code, is_not, int_max, max_time, account_own_tests, account_exists_tests, account_new_tests, account_verdict, transfer_own_tests, transfer_exists_tests, failed_tests, transfer_verdict, filled, filled_amount, filled_from, given_or, differs, id_code, resolve_own_tests, named_tests, closed_tests, closed_at, named_code, resolve_code, two_party_own_tests, pair_tests, pair_code, amount_tests, single_code, balanced_amount, balanced_between, blank, FoundPending}
 use Rattle.tb_ledger.proofs.FoundPairs.{FoundPair}
 
 -- no test's code is 0
@@ -164,8 +164,8 @@ pair_of B t time d c d_is c_is apart ok = by (balanced_amount (as_it_stands B d)
 pub found_pair : (B : Books) (t : Transfer) (time : ℕ) → resolves t ≡ false → transfer_verdict B t time ≡ 0 → FoundPair B (record t { amount = balanced_between (account_now B t.debit_account_id) (account_now B t.credit_account_id) t; timestamp = time })
 found_pair B t time is ok =
     let single : single_code B t time ≡ 0 = subst (λ b. (if b then resolve_code B t else single_code B t time) ≡ 0) is (own_code B t time ok) in
-    let codes = none_fails (first_of (single_own_tests t) ∷ pair_code (account_now B t.debit_account_id) (account_now B t.credit_account_id) t time ∷ []) single in
-    let own = fail (single_own_tests t) refl codes.0 in
+    let codes = none_fails (first_of (two_party_own_tests t) ∷ pair_code (account_now B t.debit_account_id) (account_now B t.credit_account_id) t time ∷ []) single in
+    let own = fail (two_party_own_tests t) refl codes.0 in
     by (other_numbers t.debit_account_id t.credit_account_id own.1.1.1.1.0) (account_at B t.debit_account_id) (account_at B t.credit_account_id) refl refl codes.1.0
   where
     by : t.debit_account_id ≢ t.credit_account_id → (d c : Option Account) → account_at B t.debit_account_id ≡ d → account_at B t.credit_account_id ≡ c → pair_code (option_map (as_it_stands B) d) (option_map (as_it_stands B) c) t time ≡ 0 → FoundPair B (record t { amount = balanced_between (option_map (as_it_stands B) d) (option_map (as_it_stands B) c) t; timestamp = time })
@@ -174,8 +174,8 @@ found_pair B t time is ok =
     by apart (Some d) (Some c) e f z = pair_of B t time d c e f apart z
 
 -- a transfer that is right by itself names two accounts
-pub accounts_apart : (t : Transfer) → first_of (single_own_tests t) ≡ 0 → t.debit_account_id ≢ t.credit_account_id
-accounts_apart t own = other_numbers t.debit_account_id t.credit_account_id (fail (single_own_tests t) refl own).1.1.1.1.0
+pub accounts_apart : (t : Transfer) → first_of (two_party_own_tests t) ≡ 0 → t.debit_account_id ≢ t.credit_account_id
+accounts_apart t own = other_numbers t.debit_account_id t.credit_account_id (fail (two_party_own_tests t) refl own).1.1.1.1.0
 
 -- a stamp changes nothing of what a post or void finds
 pub found_stamped : (B : Books) (f : Transfer) (time : ℕ) → FoundPending B f → FoundPending B (record f { timestamp = time })

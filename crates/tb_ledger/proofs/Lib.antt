@@ -16,11 +16,11 @@ pub mod Pairs
 pub mod States
 pub mod Standing
 pub mod Settled
-pub mod Singles
+pub mod TwoParties
 pub mod Passing
 pub mod Expiries
 pub mod CodeLaws
-pub mod BlockLaws
+pub mod ChainLaws
 pub mod ResultLaws
 pub mod Refusals
 pub mod Capacities

@@ -1,6 +1,6 @@
 -- What passes between two accounts, or is settled there, changes their rows as the books say.
 use Rattle.tb_ledger.proofs.Common.{◌≡◌, ◌≢◌, ℕ, Bool, true, false, cond, eqb, ◌==◌, List, [], ◌∷◌, find, Some, Result, Ok, Err, refl, ap, ◌∙◌, arith, Transfer, CreateTransferResult, replaced, changed, replaced-changed, AccountRow, IsNoted, closing_debit, closing_credit, account_row_key, gained, released_and_gained, on_debits, on_credits, as_recorded, Exchanges, ExchangesIn, account_row_at, CanSettle, Settles, SettlesIn, Noted, with_noted}
-use Rattle.tb_ledger.specs.declared.tables.undo_log.Undo.TheVariants.{Account}
+use Rattle.tb_ledger.specs.declared.tables.work.Undo.TheVariants.{Account}
 use Rattle.tb_ledger.proofs.Settled.{both_written, found_still, refound}
 use Rattle.tb_ledger.proofs.UndoLogs.{grown_by, grows_both, leads_by, leads_both}
 

@@ -1,5 +1,5 @@
 -- The verdicts, by the rows that are found.
-use Rattle.tb_ledger.proofs.Common.{◌≡◌, ◌≢◌, ℕ, suc, zero, eqb, ◌==◌, ◌||◌, ◌&&◌, Bool, true, false, List, [], ◌∷◌, find, is_some, Option, Some, None, option_map, if◌then◌else◌, refl, sym, ap, ap₂, subst, ◌∙◌, arith, Bor, not, bit_or, nat_tests, list_any, option_map_or, option_copied, Account, Transfer, CreateAccountResult, CreateTransferResult, PendingTransferNotFound, account_result_code, transfer_result_code, Books, has, closed, posts, resolves, pending, transfer_at, account_now, as_it_stands, state_of, recorded_transfer, Test, closed_tests, closed_at, named_tests, named_code, resolve_own_tests, resolve_code, transfer_verdict, first_of, first_code, account_own_tests, account_exists_tests, account_new_tests, account_verdict, transfer_own_tests, transfer_exists_tests, failed_tests, filled, filled_from, single_own_tests, balanced_amount, balanced_between, single_code, pair_code, id_code, Rows, books_in, IsKept, row_now, row_closed, HasSums, HasState, find-map, each-find, AccountRow, and_or_self, State, TransferRow, FoundPending, account_row_at, closed_code}
+use Rattle.tb_ledger.proofs.Common.{◌≡◌, ◌≢◌, ℕ, suc, zero, eqb, ◌==◌, ◌||◌, ◌&&◌, Bool, true, false, List, [], ◌∷◌, find, is_some, Option, Some, None, option_map, if◌then◌else◌, refl, sym, ap, ap₂, subst, ◌∙◌, arith, Bor, not, bit_or, nat_tests, list_any, option_map_or, option_copied, Account, Transfer, CreateAccountResult, CreateTransferResult, PendingTransferNotFound, account_result_code, transfer_result_code, Books, has, closed, posts, resolves, pending, transfer_at, account_now, as_it_stands, state_of, recorded_transfer, Test, closed_tests, closed_at, named_tests, named_code, resolve_own_tests, resolve_code, transfer_verdict, first_of, first_code, account_own_tests, account_exists_tests, account_new_tests, account_verdict, transfer_own_tests, transfer_exists_tests, failed_tests, filled, filled_from, two_party_own_tests, balanced_amount, balanced_between, single_code, pair_code, id_code, Rows, books_in, IsKept, row_now, row_closed, HasSums, HasState, find-map, each-find, AccountRow, and_or_self, State, TransferRow, FoundPending, account_row_at, closed_code}
 use Rattle.tb_ledger.proofs.SoundLaws.{filled_keeps}
 use Rattle.tb_ledger.proofs.Standing.{row_stands}
 use Rattle.tb_ledger.proofs.Accepted.{fail, found_from, found_pair, found_pending, found_stamped}
@@ -162,17 +162,17 @@ pub recorded_pending : (B : Books) (t f : Transfer) (time : ℕ) → resolves t 
 recorded_pending B t f time resolving ok is = found_stamped B f time (subst (λ f. FoundPending B f) (sym is) (found_pending B t time resolving ok))
 
 -- a transfer between two accounts that is wrong by itself, and one that isn't
-pub own_refused : (B : Books) (t : Transfer) (time code : ℕ) → code ≡ first_of (single_own_tests t) → code ≢ 0 → single_code B t time ≡ code
+pub own_refused : (B : Books) (t : Transfer) (time code : ℕ) → code ≡ first_of (two_party_own_tests t) → code ≢ 0 → single_code B t time ≡ code
 own_refused B t time code is refused =
-    let some : eqb (first_of (single_own_tests t)) 0 ≡ false = let differs : first_of (single_own_tests t) ≢ 0 = λ e. refused (is ∙ e) in grind (arith, nat_tests) in
-    let here : single_code B t time ≡ first_of (single_own_tests t) = rw some refl in
+    let some : eqb (first_of (two_party_own_tests t)) 0 ≡ false = let differs : first_of (two_party_own_tests t) ≢ 0 = λ e. refused (is ∙ e) in grind (arith, nat_tests) in
+    let here : single_code B t time ≡ first_of (two_party_own_tests t) = rw some refl in
     here ∙ sym is
 
-pair_left : (B : Books) (t : Transfer) (time : ℕ) → first_of (single_own_tests t) ≡ 0 → single_code B t time ≡ pair_code (account_now B t.debit_account_id) (account_now B t.credit_account_id) t time
+pair_left : (B : Books) (t : Transfer) (time : ℕ) → first_of (two_party_own_tests t) ≡ 0 → single_code B t time ≡ pair_code (account_now B t.debit_account_id) (account_now B t.credit_account_id) t time
 pair_left B t time own = rw own (only (pair_code (account_now B t.debit_account_id) (account_now B t.credit_account_id) t time))
 
 -- its verdict, by the rows of its accounts
-pub verdict_by_rows : {A : Type 0} (rows : Rows A) → IsKept rows → (t : Transfer) (time : ℕ) → id_code (books_in rows) t ≡ 0 → resolves t ≡ false → first_of (single_own_tests t) ≡ 0
+pub verdict_by_rows : {A : Type 0} (rows : Rows A) → IsKept rows → (t : Transfer) (time : ℕ) → id_code (books_in rows) t ≡ 0 → resolves t ≡ false → first_of (two_party_own_tests t) ≡ 0
     → transfer_verdict (books_in rows) t time ≡ pair_code (option_map row_now (account_row_at rows.accounts.items t.debit_account_id)) (option_map row_now (account_row_at rows.accounts.items t.credit_account_id)) t time
 verdict_by_rows rows kept t time free single own =
     let B = books_in rows in

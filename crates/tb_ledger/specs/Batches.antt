@@ -93,16 +93,16 @@ module _ {E : Type 0} (kind : Kind E) where
   -- the chains: each but its last event is linked, and only the last chain may end linked
   abbrev pub joined : Timed E → List (List (Timed E)) → List (List (Timed E))
   joined x [] = (x ∷ []) ∷ []
-  joined x (block ∷ blocks) = (x ∷ block) ∷ blocks
+  joined x (chain ∷ chains) = (x ∷ chain) ∷ chains
 
-  abbrev pub blocks : List (Timed E) → List (List (Timed E))
-  blocks [] = []
-  blocks (x ∷ xs) = if kind.linked x.0 then joined x (blocks xs) else (x ∷ []) ∷ blocks xs
+  abbrev pub chains : List (Timed E) → List (List (Timed E))
+  chains [] = []
+  chains (x ∷ xs) = if kind.linked x.0 then joined x (chains xs) else (x ∷ []) ∷ chains xs
 
   -- the number of events in the first chain
-  abbrev pub block_length : List E → ℕ
-  block_length [] = 0
-  block_length (e ∷ es) = if kind.linked e then suc (block_length es) else 1
+  abbrev pub chain_length : List E → ℕ
+  chain_length [] = 0
+  chain_length (e ∷ es) = if kind.linked e then suc (chain_length es) else 1
 
   -- an event and what comes after it in its chain: linked with nothing after it, the chain is open
   abbrev pub code_in_chain : Books → Timed E → List (Timed E) → ℕ
@@ -132,26 +132,26 @@ module _ {E : Type 0} (kind : Kind E) where
   undone (x ∷ xs) = undone_code x xs ∷ undone xs
 
   abbrev pub chain_outcome : Books → List (Timed E) → Option (Failure E) → Outcome
-  chain_outcome B block None = record { books = all_recorded B block; codes = replicate (length block) 0 }
-  chain_outcome B block (Some f) = record {
+  chain_outcome B chain None = record { books = all_recorded B chain; codes = replicate (length chain) 0 }
+  chain_outcome B chain (Some f) = record {
     books = kind.refused B f.event f.code;
     codes = replicate f.place chain_failed ++ f.code ∷ undone f.rest;
   }
 
   -- one chain: all of it, or what the failure leaves
-  abbrev pub block_after : Books → List (Timed E) → Outcome
-  block_after B block = chain_outcome B block (failure_from 0 B block)
+  abbrev pub chain_after : Books → List (Timed E) → Outcome
+  chain_after B chain = chain_outcome B chain (failure_from 0 B chain)
 
-  abbrev pub blocks_after : Books → List (List (Timed E)) → Outcome
-  blocks_after B [] = record { books = B; codes = [] }
-  blocks_after B (block ∷ rest) =
-      let first = block_after B block in
-      let later = blocks_after first.books rest in
+  abbrev pub chains_after : Books → List (List (Timed E)) → Outcome
+  chains_after B [] = record { books = B; codes = [] }
+  chains_after B (chain ∷ rest) =
+      let first = chain_after B chain in
+      let later = chains_after first.books rest in
       record { books = later.books; codes = first.codes ++ later.codes }
 
   -- a batch at the time T
   abbrev pub batch_after : Books → List E → ℕ → Outcome
-  batch_after B events T = blocks_after (record B { time = T }) (blocks (timed T events))
+  batch_after B events T = chains_after (record B { time = T }) (chains (timed T events))
 
 -- the reply: a pair (index, code) for each event whose code isn't 0, by rising index
 abbrev pub results_from : ℕ → List ℕ → List EventResult

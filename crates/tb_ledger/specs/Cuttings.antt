@@ -2,19 +2,19 @@
 -- Cited by public contracts of: laws.
 use Rattle.std.specs.Prelude.{◌≡◌, ◌↔◌, Bool, true, false, List, [], ◌∷◌, ◌++◌}
 use Rattle.tb_records.specs.Ordered.{Each}
-use Rattle.tb_ledger.specs.Batches.{Kind, Timed, blocks}
+use Rattle.tb_ledger.specs.Batches.{Kind, Timed, chains}
 
--- blocks one after another
+-- chains one after another
 abbrev pub in_turn : {X : Type 0} → List (List X) → List X
 in_turn [] = []
-in_turn (block ∷ rest) = block ++ in_turn rest
+in_turn (chain ∷ rest) = chain ++ in_turn rest
 
 module _ {E : Type 0} (kind : Kind E) where
-  -- a block isn't empty, and all its events but the last are linked
-  abbrev pub IsBlock : List (Timed E) → Type 0
-  IsBlock [] = ⊥
-  IsBlock (x ∷ []) = Unit {0}
-  IsBlock (x ∷ y ∷ ys) = (kind.linked x.0 ≡ true) × IsBlock (y ∷ ys)
+  -- a chain isn't empty, and all its events but the last are linked
+  abbrev pub IsChain : List (Timed E) → Type 0
+  IsChain [] = ⊥
+  IsChain (x ∷ []) = Unit {0}
+  IsChain (x ∷ y ∷ ys) = (kind.linked x.0 ≡ true) × IsChain (y ∷ ys)
 
   -- its last event is linked
   abbrev pub ends_linked : List (Timed E) → Bool
@@ -22,18 +22,18 @@ module _ {E : Type 0} (kind : Kind E) where
   ends_linked (x ∷ []) = kind.linked x.0
   ends_linked (x ∷ y ∷ ys) = ends_linked (y ∷ ys)
 
-  -- the last event of each block but the final one isn't linked
+  -- the last event of each chain but the final one isn't linked
   abbrev pub AreEnded : List (List (Timed E)) → Type 0
   AreEnded [] = Unit {0}
-  AreEnded (block ∷ []) = Unit {0}
-  AreEnded (block ∷ next ∷ rest) = (ends_linked block ≡ false) × AreEnded (next ∷ rest)
+  AreEnded (chain ∷ []) = Unit {0}
+  AreEnded (chain ∷ next ∷ rest) = (ends_linked chain ≡ false) × AreEnded (next ∷ rest)
 
-  -- a cutting of the events into blocks
+  -- a cutting of the events into chains
   pub record IsCutting (events : List (Timed E)) (cutting : List (List (Timed E))) : Type 0 where
     pub whole : in_turn cutting ≡ events
-    pub are_blocks : Each IsBlock cutting
+    pub are_chains : Each IsChain cutting
     pub are_ended : AreEnded cutting
 
   -- the only one
   abbrev pub CutsOneWay : Type 0
-  CutsOneWay = (events : List (Timed E)) (cutting : List (List (Timed E))) → IsCutting events cutting ↔ (cutting ≡ blocks kind events)
+  CutsOneWay = (events : List (Timed E)) (cutting : List (List (Timed E))) → IsCutting events cutting ↔ (cutting ≡ chains kind events)

@@ -14,7 +14,7 @@ use Rattle.tb_ledger.specs.declared.tables.rows.Rows.{Rows}
 use Rattle.tb_ledger.specs.declared.tables.timeouts.Timeout.{Timeout}
 use Rattle.tb_ledger.specs.Books.{Books, closed, debit, credit, share, pending, posts, moves, resolves, is_open, is_due, state_of, expires_at, closing_debit, closing_credit}
 use Rattle.tb_ledger.specs.Verdicts.{int_max, max_time}
-use Rattle.tb_ledger.specs.Timeouts.{timeout_key, AreTimeouts, with_timeout, without_timeout}
+use Rattle.tb_ledger.specs.private.Timeouts.{timeout_key, AreTimeouts, with_timeout, without_timeout}
 use Rattle.tb_ledger.specs.Sound.{IdsRise, Sound}
 use Rattle.tb_ledger.specs.Tables.{Stored}
 

@@ -1,6 +1,6 @@
 -- What a table keeps in a tree.
 -- Cited by public contracts of: ledgers.
-use Rattle.std.specs.Prelude.{ℕ, ◌≡◌, ◌≢◌, ◌<◌, ◌≤◌, ◌==◌, find, map, true, List, [], ◌∷◌, Option, Some, if◌then◌else◌}
+use Rattle.std.specs.Prelude.{ℕ, ◌≡◌, ◌≢◌, ◌<◌, ◌≤◌, ◌==◌, find, map, true, List, [], ◌∷◌, Option, Some, if◌then◌else◌, ◌⊎◌, None}
 use Rattle.std.specs.Fn.{Mut, CalledAtMut, CalledAtPairMut}
 use denote.Ref.{MutBor}
 use Rattle.std.specs.Option.{is_some, option_map_or}
@@ -87,3 +87,7 @@ pub record ChangedRows {F V R : Type 0} (key : V → ℕ) (c : Mut F (MutBor V �
   pub other_found : find (λ x. key x == b) rows ≡ Some other
   pub called : CalledAtPairMut c f row other r f' left other_left
   pub written : later ≡ replaced key other_left (replaced key left rows)
+
+-- no row has one of two keys
+abbrev pub LacksOneOf : {V : Type 0} → (V → ℕ) → ℕ → ℕ → List V → Type 0
+LacksOneOf key a b rows = (find (λ x. key x == a) rows ≡ None) ⊎ (find (λ x. key x == b) rows ≡ None)

@@ -209,8 +209,8 @@ resolve_code B t = first_code (first_of (resolve_own_tests t) ∷ named_code B t
 
 -- any other transfer
 
-abbrev pub single_own_tests : Transfer → List Test
-single_own_tests t =
+abbrev pub two_party_own_tests : Transfer → List Test
+two_party_own_tests t =
     transfer_test transfer.DebitAccountIdMustNotBeZero (t.debit_account_id == 0)
     ∷ transfer_test transfer.DebitAccountIdMustNotBeIntMax (t.debit_account_id == int_max)
     ∷ transfer_test transfer.CreditAccountIdMustNotBeZero (t.credit_account_id == 0)
@@ -265,7 +265,7 @@ pair_code (Some d) None t time = transfer_result_code transfer.CreditAccountNotF
 pair_code (Some d) (Some c) t time = first_code (first_of (pair_tests d c t) ∷ first_of (amount_tests d c t (balanced_amount d c t) time) ∷ [])
 
 abbrev pub single_code : Books → Transfer → ℕ → ℕ
-single_code B t time = first_code (first_of (single_own_tests t) ∷ pair_code (account_now B t.debit_account_id) (account_now B t.credit_account_id) t time ∷ [])
+single_code B t time = first_code (first_of (two_party_own_tests t) ∷ pair_code (account_now B t.debit_account_id) (account_now B t.credit_account_id) t time ∷ [])
 
 -- either kind
 

@@ -3,8 +3,8 @@ ghost use Rattle.tb_ledger.specs.Batches.{account_events, transfer_events};
 ghost use Rattle.tb_ledger.specs.Cuttings.{CutsOneWay};
 ghost use Rattle.tb_ledger.specs.Meanings.{HeldWhileOpen, SettlesBoth};
 
-/// A batch is cut into chains in one way: into nonempty blocks, one after another, in which all events but the last are
-/// linked, and the last event of each block but the final one isn't.
+/// A batch is cut into chains in one way: into nonempty chains, one after another, in which all events but the last are
+/// linked, and the last event of each chain but the final one isn't.
 pub fn chains_are_cut_one_way()
     ensures accounts { CutsOneWay account_events }
     ensures transfers { CutsOneWay transfer_events }

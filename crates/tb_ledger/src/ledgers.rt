@@ -3,16 +3,15 @@ ghost use Rattle.std.specs.Prelude.{◌≡◌, ◌↔◌, ◌+◌, ◌<◌, ◌�
 ghost use Rattle.tb_records.specs.declared.limits.TheConstants.{ITEMS_MAX};
 ghost use Rattle.tb_ledger.specs.Batches.{account_events, batch_after, results, transfer_events};
 ghost use Rattle.tb_ledger.specs.Books.{account_now, empty_books, found_accounts, found_transfers, moved_to_two, profile_of, transfer_at};
-ghost use Rattle.tb_ledger.specs.Capacity.{HasTransfers, capacity_of};
-ghost use Rattle.tb_ledger.specs.Entering.{CanEnter};
+ghost use Rattle.tb_ledger.specs.private.Capacity.{HasTransfers, capacity_of};
+ghost use Rattle.tb_ledger.specs.private.Entering.{CanEnter};
 ghost use Rattle.tb_ledger.specs.Kept.{books_in, IsKept};
 ghost use Rattle.tb_ledger.specs.Sound.{IdsRise};
 ghost use Rattle.tb_ledger.specs.Tables.{IsShortSearch};
 ghost use Rattle.tb_ledger.specs.Verdicts.{max_time};
 
-use crate::batches::events::Event;
-use crate::batches::run_batch;
-use crate::changes::expiry::expire;
+use crate::batches::{Event, run_batch};
+use crate::expiry::expire;
 use crate::lookups;
 use crate::tables::rows::Rows;
 use crate::tables::work::Work;

@@ -2,7 +2,7 @@
 ghost use Rattle.std.specs.Prelude.{◌≡◌, ◌+◌, ◌≤◌, ◌++◌, length, vec_len, vec_capacity};
 ghost use Rattle.std.specs.List.{filter_map};
 ghost use Rattle.std.specs.Option.{option_copied, option_map};
-ghost use Rattle.tb_ledger.specs.Lookups.{found_in};
+ghost use Rattle.tb_ledger.specs.private.Lookups.{found_in};
 
 use crate::tables::accounts::AccountRow;
 use crate::tables::map::{Keyed, Table};
@@ -66,8 +66,8 @@ fn fill_eights<'a, V: Found, A: Allocator + Clone>(
     out: &mut Vec<V::Record>,
 ) -> &'a [u128]
     requires { vec_len out.old + length ids.now ≤ vec_capacity out.old }
-    ensures items { out.new.items ++ filter_map (found_in V.key V.record_now table.now.items) result.now
-        ≡ out.old.items ++ filter_map (found_in V.key V.record_now table.now.items) ids.now }
+    ensures items { let found = filter_map (found_in V.key V.record_now table.now.items) in
+        out.new.items ++ found result.now ≡ out.old.items ++ found ids.now }
     ensures rest { vec_len out.new + length result.now ≤ vec_capacity out.new }
     ensures capacity { vec_capacity out.new ≡ vec_capacity out.old }
 {

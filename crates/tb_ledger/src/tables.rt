@@ -7,5 +7,4 @@ pub(crate) mod map;
 pub(crate) mod rows;
 pub(crate) mod timeouts;
 pub(crate) mod transfers;
-pub(crate) mod undo_log;
 pub(crate) mod work;

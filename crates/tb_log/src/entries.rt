@@ -12,7 +12,7 @@ use tb_records::streams::read_timed_from;
 use tb_records::{Counting, FrameFault, Source};
 
 /// The greatest number of bytes of an entry's pairs: 16 MiB less one.
-const CONTENT_MAX: u32 = 0xFF_FFFF;
+const CONTENT_BYTES_MAX: u32 = 0xFF_FFFF;
 
 /// What comes before the pairs of an entry.
 #[derive(Clone, Copy)]
@@ -49,7 +49,7 @@ fn judge_head(head: &Head, last: u64) -> Result<(), LogFault>
     if position - last > 1 {
         return Err(LogFault::Gap(position));
     }
-    if head.length > CONTENT_MAX {
+    if head.length > CONTENT_BYTES_MAX {
         return Err(LogFault::TooLong(position));
     }
     Ok(())

@@ -18,10 +18,10 @@ use Rattle.tb_records.specs.ReplyFrames.{ReplyBodyFits}
 use Rattle.tb_records.proofs.ByKey.{each-find, each-put}
 use Rattle.tb_ledger.specs.Books.{Books, empty_books, posts, resolves, balancing_debit, balancing_credit, account_at, account_now, as_it_stands, stands_closed, transfer_at}
 use Rattle.tb_ledger.specs.Verdicts.{max_time, recorded_account, given_or, filled_amount, filled_from, filled, debit_room, credit_room, balanced_debit, balanced_amount, balanced_between, recorded_transfer}
-use Rattle.tb_ledger.specs.Batches.{Kind, Timed, Failure, is_final, account_events, transfer_events, timed_from, timed, joined, blocks, failure_from, all_recorded, chain_outcome, block_after, blocks_after, batch_after, results_from}
+use Rattle.tb_ledger.specs.Batches.{Kind, Timed, Failure, is_final, account_events, transfer_events, timed_from, timed, joined, chains, failure_from, all_recorded, chain_outcome, chain_after, chains_after, batch_after, results_from}
 use Rattle.tb_ledger.specs.Limits.{KeepsLimits}
 use Rattle.tb_ledger.specs.Sound.{Sound}
-use Rattle.tb_ledger.proofs.BlockLaws.{length-batch}
+use Rattle.tb_ledger.proofs.ChainLaws.{length-batch}
 use Rattle.tb_ledger.proofs.SoundLaws.{sound_later, sound_limits}
 use Rattle.tb_machine.specs.Histories.{at_time, executed, found}
 use Rattle.tb_machine.proofs.CodesFit.{short_account, short_transfer, short_batch, results_fit}
@@ -40,16 +40,16 @@ module _ {E : Type 0} (kind : Kind E) (Fits : E → Type 0) (T : ℕ) where
   abbrev FitsAt : Timed E → Type 0
   FitsAt x = Fits x.0 × (x.1 ≤ T)
 
-  fit_joined : (x : Timed E) (chains : List (List (Timed E))) → FitsAt x → Each (λ block. Each FitsAt block) chains → Each (λ block. Each FitsAt block) (joined kind x chains)
+  fit_joined : (x : Timed E) (chains : List (List (Timed E))) → FitsAt x → Each (λ chain. Each FitsAt chain) chains → Each (λ chain. Each FitsAt chain) (joined kind x chains)
   fit_joined x [] fits each = ((fits, tt), tt)
-  fit_joined x (block ∷ chains) fits each = ((fits, each.0), each.1)
+  fit_joined x (chain ∷ chains) fits each = ((fits, each.0), each.1)
 
-  fit_blocks : (xs : List (Timed E)) → Each FitsAt xs → Each (λ block. Each FitsAt block) (blocks kind xs)
+  fit_blocks : (xs : List (Timed E)) → Each FitsAt xs → Each (λ chain. Each FitsAt chain) (chains kind xs)
   fit_blocks [] each = tt
   fit_blocks (x ∷ xs) each = by (kind.linked x.0) (fit_blocks xs each.1)
     where
-      by : (b : Bool) → Each (λ block. Each FitsAt block) (blocks kind xs) → Each (λ block. Each FitsAt block) (if b then joined kind x (blocks kind xs) else (x ∷ []) ∷ blocks kind xs)
-      by true later = fit_joined x (blocks kind xs) each.0 later
+      by : (b : Bool) → Each (λ chain. Each FitsAt chain) (chains kind xs) → Each (λ chain. Each FitsAt chain) (if b then joined kind x (chains kind xs) else (x ∷ []) ∷ chains kind xs)
+      by true later = fit_joined x (chains kind xs) each.0 later
       by false later = ((each.0, tt), later)
 
   fit_timed : (time : ℕ) (events : List E) → time + length events ≤ T + 1 → Each Fits events → Each FitsAt (timed_from time events)
@@ -59,23 +59,23 @@ module _ {E : Type 0} (kind : Kind E) (Fits : E → Type 0) (T : ℕ) where
   module _ (P : Books → Type 0)
       (recorded : (B : Books) (e : E) (time : ℕ) → P B → Fits e → time ≤ T → P (kind.recorded B e time))
       (refused : (B : Books) (e : E) (code : ℕ) → P B → P (kind.refused B e code)) where
-    recorded_all : (B : Books) (block : List (Timed E)) → Each FitsAt block → P B → P (all_recorded kind B block)
+    recorded_all : (B : Books) (chain : List (Timed E)) → Each FitsAt chain → P B → P (all_recorded kind B chain)
     recorded_all B [] each kept = kept
     recorded_all B (x ∷ xs) each kept = recorded_all (kind.recorded B x.0 x.1) xs each.1 (recorded B x.0 x.1 kept each.0.0 each.0.1)
 
-    kept_block : (B : Books) (block : List (Timed E)) → Each FitsAt block → P B → P (block_after kind B block).books
-    kept_block B block each kept = by (failure_from kind 0 B block)
+    kept_block : (B : Books) (chain : List (Timed E)) → Each FitsAt chain → P B → P (chain_after kind B chain).books
+    kept_block B chain each kept = by (failure_from kind 0 B chain)
       where
-        by : (o : Option (Failure E)) → P (chain_outcome kind B block o).books
-        by None = recorded_all B block each kept
+        by : (o : Option (Failure E)) → P (chain_outcome kind B chain o).books
+        by None = recorded_all B chain each kept
         by (Some f) = refused B f.event f.code kept
 
-    kept_blocks : (B : Books) (chains : List (List (Timed E))) → Each (λ block. Each FitsAt block) chains → P B → P (blocks_after kind B chains).books
+    kept_blocks : (B : Books) (chains : List (List (Timed E))) → Each (λ chain. Each FitsAt chain) chains → P B → P (chains_after kind B chains).books
     kept_blocks B [] each kept = kept
-    kept_blocks B (block ∷ chains) each kept = kept_blocks (block_after kind B block).books chains each.1 (kept_block B block each.0 kept)
+    kept_blocks B (chain ∷ chains) each kept = kept_blocks (chain_after kind B chain).books chains each.1 (kept_block B chain each.0 kept)
 
     kept_batch : (B : Books) (events : List E) → length events ≤ T + 1 → Each Fits events → P (record B { time = T }) → P (batch_after kind B events T).books
-    kept_batch B events few each kept = kept_blocks (record B { time = T }) (blocks kind (timed T events)) (fit_blocks (timed T events) (fit_timed (T + 1 - length events) events (omega arith) each)) kept
+    kept_batch B events few each kept = kept_blocks (record B { time = T }) (chains kind (timed T events)) (fit_blocks (timed T events) (fit_timed (T + 1 - length events) events (omega arith) each)) kept
 
 -- the books
 

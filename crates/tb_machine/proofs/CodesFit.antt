@@ -7,8 +7,8 @@ use Rattle.tb_records.specs.declared.records.EventResult.{EventResult}
 use Rattle.tb_records.specs.Ordered.{Each}
 use Rattle.tb_records.specs.RecordBytes.{IsResult}
 use Rattle.tb_ledger.specs.Books.{Books, resolves, account_now, transfer_at, state_of}
-use Rattle.tb_ledger.specs.Verdicts.{Test, first_of, first_code, account_own_tests, account_exists_tests, account_new_tests, account_code, transfer_own_tests, transfer_exists_tests, failed_tests, filled, id_code, resolve_own_tests, named_tests, closed_tests, closed_at, named_code, resolve_code, single_own_tests, pair_tests, amount_tests, balanced_amount, pair_code, single_code}
-use Rattle.tb_ledger.specs.Batches.{Kind, Timed, Failure, account_events, transfer_events, timed, blocks, code_in_chain, failure_from, undone_code, undone, chain_outcome, block_after, blocks_after, batch_after, results_from}
+use Rattle.tb_ledger.specs.Verdicts.{Test, first_of, first_code, account_own_tests, account_exists_tests, account_new_tests, account_code, transfer_own_tests, transfer_exists_tests, failed_tests, filled, id_code, resolve_own_tests, named_tests, closed_tests, closed_at, named_code, resolve_code, two_party_own_tests, pair_tests, amount_tests, balanced_amount, pair_code, single_code}
+use Rattle.tb_ledger.specs.Batches.{Kind, Timed, Failure, account_events, transfer_events, timed, chains, code_in_chain, failure_from, undone_code, undone, chain_outcome, chain_after, chains_after, batch_after, results_from}
 use Rattle.tb_machine.proofs.Rows.{some_one}
 use Rattle.tb_machine.proofs.Judging.{both_of}
 
@@ -77,8 +77,8 @@ short_pair (Some d) (Some c) t time = codes_short (first_of (pair_tests d c t) �
     (first_short (pair_tests d c t) refl, (first_short (amount_tests d c t (balanced_amount d c t) time) refl, tt))
 
 short_single : (B : Books) (t : Transfer) (time : ℕ) → IsShort (single_code B t time)
-short_single B t time = codes_short (first_of (single_own_tests t) ∷ pair_code (account_now B t.debit_account_id) (account_now B t.credit_account_id) t time ∷ [])
-    (first_short (single_own_tests t) refl, (short_pair (account_now B t.debit_account_id) (account_now B t.credit_account_id) t time, tt))
+short_single B t time = codes_short (first_of (two_party_own_tests t) ∷ pair_code (account_now B t.debit_account_id) (account_now B t.credit_account_id) t time ∷ [])
+    (first_short (two_party_own_tests t) refl, (short_pair (account_now B t.debit_account_id) (account_now B t.credit_account_id) t time, tt))
 
 pub short_transfer : (B : Books) (t : Transfer) (time : ℕ) → IsShort (transfer_events.verdict B t time)
 short_transfer B t time = codes_short (id_code B t ∷ (if resolves t then resolve_code B t else single_code B t time) ∷ []) (short_id B t, (by (resolves t), tt))
@@ -118,7 +118,7 @@ module _ {E : Type 0} (kind : Kind E) (verdict : (B : Books) (e : E) (time : ℕ
   short_undone [] = tt
   short_undone (x ∷ xs) = (short_undone_code x xs, short_undone xs)
 
-  failed : (place : ℕ) (B : Books) (block : List (Timed E)) (f : Failure E) → failure_from kind place B block ≡ Some f → IsShort f.code
+  failed : (place : ℕ) (B : Books) (chain : List (Timed E)) (f : Failure E) → failure_from kind place B chain ≡ Some f → IsShort f.code
   failed place B [] f is = absurd cc
   failed place B (x ∷ xs) f is = by (code_in_chain kind B x xs == 0) (failed (place + 1) (kind.recorded B x.0 x.1) xs f) is
     where
@@ -127,19 +127,19 @@ module _ {E : Type 0} (kind : Kind E) (verdict : (B : Books) (e : E) (time : ℕ
       by true later is = later is
       by false later is = let same : code_in_chain kind B x xs ≡ f.code = ap (λ (g : Failure E). g.code) (some_one is) in let here = in_chain B x xs in omega arith
 
-  short_block : (B : Books) (block : List (Timed E)) → Each IsShort (block_after kind B block).codes
-  short_block B block = by (failure_from kind 0 B block) refl
+  short_block : (B : Books) (chain : List (Timed E)) → Each IsShort (chain_after kind B chain).codes
+  short_block B chain = by (failure_from kind 0 B chain) refl
     where
-      by : (o : Option (Failure E)) → failure_from kind 0 B block ≡ o → Each IsShort (chain_outcome kind B block o).codes
-      by None is = each_replicate (length block) 0 (omega arith)
-      by (Some f) is = each_append IsShort (replicate f.place 1) (f.code ∷ undone kind f.rest) (each_replicate f.place 1 (omega arith)) (failed 0 B block f is, short_undone f.rest)
+      by : (o : Option (Failure E)) → failure_from kind 0 B chain ≡ o → Each IsShort (chain_outcome kind B chain o).codes
+      by None is = each_replicate (length chain) 0 (omega arith)
+      by (Some f) is = each_append IsShort (replicate f.place 1) (f.code ∷ undone kind f.rest) (each_replicate f.place 1 (omega arith)) (failed 0 B chain f is, short_undone f.rest)
 
-  short_blocks : (B : Books) (chains : List (List (Timed E))) → Each IsShort (blocks_after kind B chains).codes
+  short_blocks : (B : Books) (chains : List (List (Timed E))) → Each IsShort (chains_after kind B chains).codes
   short_blocks B [] = tt
-  short_blocks B (block ∷ rest) = each_append IsShort (block_after kind B block).codes (blocks_after kind (block_after kind B block).books rest).codes (short_block B block) (short_blocks (block_after kind B block).books rest)
+  short_blocks B (chain ∷ rest) = each_append IsShort (chain_after kind B chain).codes (chains_after kind (chain_after kind B chain).books rest).codes (short_block B chain) (short_blocks (chain_after kind B chain).books rest)
 
   pub short_batch : (B : Books) (events : List E) (T : ℕ) → Each IsShort (batch_after kind B events T).codes
-  short_batch B events T = short_blocks (record B { time = T }) (blocks kind (timed T events))
+  short_batch B events T = short_blocks (record B { time = T }) (chains kind (timed T events))
 
 -- results
 

@@ -13,7 +13,7 @@ use Rattle.tb_machine.specs.declared.entries.Entry.{Entry}
 use Rattle.tb_machine.specs.Histories.{State, start, step, to_two, row_at}
 use Rattle.tb_machine.specs.Scripts.{Pair, entry_of, has_time}
 use Rattle.tb_machine.specs.Runs.{Reads, is_new_in, PairAnswered}
-use Rattle.tb_machine.specs.Serving.{EntersPair}
+use Rattle.tb_machine.specs.private.Serving.{EntersPair}
 use Rattle.tb_machine.specs.Dumps.{dumped, history_bytes, IsDumpedEntry, IsPlace, DumpSpells, after_with, place_in, after_at}
 use Rattle.tb_machine.specs.DumpRuns.{marks_at, mark_before, changed_profile, added_bytes, DumpsPair, history_of, DumpsHistory}
 use Rattle.tb_machine.proofs.Rows.{some_one, each_snoc}

@@ -10,12 +10,12 @@ use Rattle.tb_records.specs.declared.records.Account.{Account}
 use Rattle.tb_records.specs.declared.records.Transfer.{Transfer}
 use Rattle.tb_records.specs.Ordered.{put, Rising}
 use Rattle.tb_records.proofs.ByKey.{rising-put}
-use Rattle.tb_ledger.specs.Batches.{Timed, Failure, account_events, transfer_events, timed, blocks, is_final, code_in_chain, failure_from, all_recorded, chain_outcome, block_after, blocks_after}
+use Rattle.tb_ledger.specs.Batches.{Timed, Failure, account_events, transfer_events, timed, chains, is_final, code_in_chain, failure_from, all_recorded, chain_outcome, chain_after, chains_after}
 use Rattle.tb_ledger.specs.Books.{Books, empty_books, resolves, account_now, transfer_at}
 use Rattle.tb_ledger.specs.Sound.{account_key, transfer_key, IdsRise}
 use Rattle.tb_ledger.specs.Verdicts.{account_verdict, recorded_account, transfer_verdict, recorded_transfer, balanced_between, filled}
 use Rattle.tb_ledger.proofs.Accepted.{new_account, new_transfer}
-use Rattle.tb_ledger.proofs.BatchLaws.{batch_kept, block_kept}
+use Rattle.tb_ledger.proofs.BatchLaws.{batch_kept, chain_kept}
 use Rattle.tb_ledger.proofs.FailedLaws.{final_is_new, absent}
 use Rattle.tb_ledger.proofs.MeaningLaws.{settles_both}
 use Rattle.tb_ledger.proofs.VerdictLaws.{filled_id}
@@ -72,7 +72,7 @@ code_fresh B x [] final = by (transfer_events.linked x.0) final
     by false final = final_is_new B x.0 x.1 (transfer_verdict B x.0 x.1) refl final
 code_fresh B x (y ∷ ys) final = final_is_new B x.0 x.1 (transfer_verdict B x.0 x.1) refl final
 
-failure_fresh : (place : ℕ) (B : Books) (block : List (Timed Transfer)) (f : Failure Transfer) → failure_from transfer_events place B block ≡ Some f → is_final f.code ≡ true → IsFresh B f.event
+failure_fresh : (place : ℕ) (B : Books) (chain : List (Timed Transfer)) (f : Failure Transfer) → failure_from transfer_events place B chain ≡ Some f → is_final f.code ≡ true → IsFresh B f.event
 failure_fresh place B [] f is final = absurd cc
 failure_fresh place B (x ∷ xs) f is final = by (eqb (code_in_chain transfer_events B x xs) 0) (λ is. failure_fresh (place + 1) (transfer_events.recorded B x.0 x.1) xs f is final) is
   where
@@ -97,15 +97,15 @@ rise_refused B t code rise fresh = by (is_final code) fresh
 -- chains
 
 -- of all recorded the failed ids stay, and the others rise
-all_failed : (B : Books) (block : List (Timed Transfer)) → (all_recorded transfer_events B block).failed ≡ B.failed
+all_failed : (B : Books) (chain : List (Timed Transfer)) → (all_recorded transfer_events B chain).failed ≡ B.failed
 all_failed B [] = refl
 all_failed B (x ∷ xs) = all_failed (transfer_events.recorded B x.0 x.1) xs
 
 abbrev TablesRise : Books → Type 0
 TablesRise B = Rising account_key B.accounts × Rising transfer_key B.transfers
 
-tables_block : (B : Books) (block : List (Timed Transfer)) → IdsRise B → TablesRise (block_after transfer_events B block).books
-tables_block B block rise = block_kept transfer_events TablesRise recorded refused B block (rise.accounts, rise.transfers)
+tables_block : (B : Books) (chain : List (Timed Transfer)) → IdsRise B → TablesRise (chain_after transfer_events B chain).books
+tables_block B chain rise = chain_kept transfer_events TablesRise recorded refused B chain (rise.accounts, rise.transfers)
   where
     recorded : (B : Books) (t : Transfer) (time : ℕ) → TablesRise B → transfer_verdict B t time ≡ 0 → TablesRise (transfer_events.recorded B t time)
     recorded B t time rise ok = (rise.0, rising-put transfer_key (recorded_transfer B t time) B.transfers (ap (transfer_at B) (recorded_id B t time) ∙ new_transfer B t time ok) rise.1)
@@ -117,24 +117,24 @@ tables_block B block rise = block_kept transfer_events TablesRise recorded refus
         by true = rise
         by false = rise
 
-rise_block : (B : Books) (block : List (Timed Transfer)) → IdsRise B → IdsRise (block_after transfer_events B block).books
-rise_block B block rise =
-    let tables = tables_block B block rise in
-    record { accounts = tables.0; transfers = tables.1; failed = by (failure_from transfer_events 0 B block) refl }
+rise_block : (B : Books) (chain : List (Timed Transfer)) → IdsRise B → IdsRise (chain_after transfer_events B chain).books
+rise_block B chain rise =
+    let tables = tables_block B chain rise in
+    record { accounts = tables.0; transfers = tables.1; failed = by (failure_from transfer_events 0 B chain) refl }
   where
-    by : (o : Option (Failure Transfer)) → failure_from transfer_events 0 B block ≡ o → (ids : List ℕ) → (chain_outcome transfer_events B block o).books.failed ≡ Some ids → Rising (λ id. id) ids
-    by None is ids found = rise.failed ids (sym (all_failed B block) ∙ found)
-    by (Some f) is ids found = (rise_refused B f.event f.code rise (failure_fresh 0 B block f is)).failed ids found
+    by : (o : Option (Failure Transfer)) → failure_from transfer_events 0 B chain ≡ o → (ids : List ℕ) → (chain_outcome transfer_events B chain o).books.failed ≡ Some ids → Rising (λ id. id) ids
+    by None is ids found = rise.failed ids (sym (all_failed B chain) ∙ found)
+    by (Some f) is ids found = (rise_refused B f.event f.code rise (failure_fresh 0 B chain f is)).failed ids found
 
-rise_blocks : (B : Books) (chains : List (List (Timed Transfer))) → IdsRise B → IdsRise (blocks_after transfer_events B chains).books
+rise_blocks : (B : Books) (chains : List (List (Timed Transfer))) → IdsRise B → IdsRise (chains_after transfer_events B chains).books
 rise_blocks B [] rise = rise
-rise_blocks B (block ∷ chains) rise = rise_blocks (block_after transfer_events B block).books chains (rise_block B block rise)
+rise_blocks B (chain ∷ chains) rise = rise_blocks (chain_after transfer_events B chain).books chains (rise_block B chain rise)
 
 -- entries
 
 rise_executed : (B : Books) (body : Body) (time : ℕ) → IdsRise B → IdsRise (executed B body time)
 rise_executed B (CreateAccounts events) time rise = batch_kept account_events IdsRise rise_account (λ B a code rise. rise) B events time (rise_at B time rise)
-rise_executed B (CreateTransfers events) time rise = rise_blocks (at_time B time) (blocks transfer_events (timed time events)) (rise_at B time rise)
+rise_executed B (CreateTransfers events) time rise = rise_blocks (at_time B time) (chains transfer_events (timed time events)) (rise_at B time rise)
 rise_executed B body time rise = rise_at B time rise
 
 rise_from : (S : State) (h : List Entry) → IdsRise S.books → IdsRise (fold step S h).books
@@ -150,19 +150,19 @@ ids_rise_after profile clients_max (Some n) h =
 
 -- the books in which an event is judged
 
-rise_in : (B : Books) (block : List (Timed Transfer)) (x : Timed Transfer) (C : Books) → IdsRise B → JudgedIn transfer_events B block x C → IdsRise C
+rise_in : (B : Books) (chain : List (Timed Transfer)) (x : Timed Transfer) (C : Books) → IdsRise B → JudgedIn transfer_events B chain x C → IdsRise C
 rise_in B [] x C rise judged = absurd judged
 rise_in B (y ∷ ys) x C rise (inl here) = subst IdsRise here.1 rise
 rise_in B (y ∷ ys) x C rise (inr later) = rise_in (transfer_events.recorded B y.0 y.1) ys x C (rise_transfer B y.0 y.1 rise later.0) later.1
 
 rise_among : (B : Books) (chains : List (List (Timed Transfer))) (x : Timed Transfer) (C : Books) → IdsRise B → JudgedAmong transfer_events B chains x C → IdsRise C
 rise_among B [] x C rise judged = absurd judged
-rise_among B (block ∷ chains) x C rise (inl here) = rise_in B block x C rise here
-rise_among B (block ∷ chains) x C rise (inr later) = rise_among (block_after transfer_events B block).books chains x C (rise_block B block rise) later
+rise_among B (chain ∷ chains) x C rise (inl here) = rise_in B chain x C rise here
+rise_among B (chain ∷ chains) x C rise (inr later) = rise_among (chain_after transfer_events B chain).books chains x C (rise_block B chain rise) later
 
 pub posts_and_voids_settle : PostsAndVoidsSettle
 posts_and_voids_settle profile clients_max mark h e t timestamp C judged is ok =
     settles_both C t timestamp
-    (rise_among (at_time (next_in profile clients_max mark h).books e.time) (blocks transfer_events (timed e.time judged.0)) (t, timestamp) C
+    (rise_among (at_time (next_in profile clients_max mark h).books e.time) (chains transfer_events (timed e.time judged.0)) (t, timestamp) C
     (rise_at (next_in profile clients_max mark h).books e.time (ids_rise_after profile clients_max (met mark h) h)) judged.2)
     is ok

@@ -16,8 +16,8 @@ use Rattle.tb_machine.specs.declared.serving.RunFault.TheVariants as fault
 use Rattle.tb_machine.proofs.PairAnswers.{entered_answer}
 use Rattle.tb_machine.specs.Histories.{State, time_of, fits, executed, reply_at, step}
 use Rattle.tb_machine.specs.Scripts.{Pair, entry_of, has_time}
-use Rattle.tb_machine.specs.Serving.{made, row_in, MayBeExecuted, Tells, served_as, ServesPair}
-use Rattle.tb_machine.specs.Sound.{IsSound}
+use Rattle.tb_machine.specs.private.Serving.{made, row_in, MayBeExecuted, Tells, served_as, ServesPair}
+use Rattle.tb_machine.specs.private.Sound.{IsSound}
 use Rattle.tb_machine.proofs.Judging.{comes}
 use Rattle.tb_machine.proofs.SoundSteps.{may_be_executed, commits_before, sound_step}
 

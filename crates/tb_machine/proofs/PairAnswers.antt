@@ -17,7 +17,7 @@ use Rattle.tb_records.specs.ReplyFrames.{reply_bytes, IsReply}
 use Rattle.tb_records.specs.Transport.{Output, Sent, CutOff}
 use Rattle.tb_machine.specs.declared.serving.RunFault.{RunFault}
 use Rattle.tb_machine.specs.Runs.{is_new_in, AnswersPair}
-use Rattle.tb_machine.specs.Serving.{Delivers}
+use Rattle.tb_machine.specs.private.Serving.{Delivers}
 use Rattle.tb_records.proofs.ByKey.{find-put_here, find-replaced_here}
 use Rattle.tb_machine.proofs.Lawful.{lawful_numbers}
 use Rattle.tb_machine.proofs.Rows.{still_absent}

@@ -23,7 +23,7 @@ use Rattle.tb_machine.specs.declared.entries.Entry.{Entry}
 use Rattle.tb_machine.specs.Histories.{State, start, fits, row_at, reply_at, step, to_two, LegalFrom, IsLegal, after, status_of, refusal, answer_by, answer_to}
 use Rattle.tb_machine.specs.Dumps.{replies_along, marked_after, after_with, IsLegalWith, after_at, accepted_at}
 use Rattle.tb_machine.specs.Scripts.{Pair, entry_of, is_entered, grown, with_pair, replies_from, replies_to}
-use Rattle.tb_machine.specs.Sound.{IsSound}
+use Rattle.tb_machine.specs.private.Sound.{IsSound}
 use Rattle.tb_machine.specs.ReplyLaws.{AreRequests, HoldRequests, RepliesFit, RepliesReadBack, AnswersFit, GivenFit, AcceptedAreRequests}
 use Rattle.tb_machine.proofs.Rows.{each_snoc, row_found}
 use Rattle.tb_machine.proofs.Judging.{MayCome, may_come, repeat_by}

@@ -9,8 +9,8 @@ use Rattle.tb_sessions.specs.Judged.{row_of}
 use Rattle.tb_sessions.specs.Admission.{admitted}
 use Rattle.tb_machine.specs.declared.entries.Entry.{Entry}
 use Rattle.tb_machine.specs.Histories.{State, fits, is_lawful, session_of, body_at, reply_at, executed}
-use Rattle.tb_machine.specs.Serving.{MayBeExecuted}
-use Rattle.tb_machine.specs.Sound.{IsNumbered, IsSound}
+use Rattle.tb_machine.specs.private.Serving.{MayBeExecuted}
+use Rattle.tb_machine.specs.private.Sound.{IsNumbered, IsSound}
 use Rattle.tb_records.proofs.ByKey.{each-map}
 use Rattle.tb_sessions.proofs.LaterRows.{each_admitted}
 use Rattle.tb_machine.proofs.Rows.{row_found}

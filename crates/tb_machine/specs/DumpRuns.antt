@@ -11,7 +11,7 @@ use Rattle.tb_machine.specs.declared.serving.RunFault.TheVariants as fault
 use Rattle.tb_machine.specs.Histories.{State, step, to_two}
 use Rattle.tb_machine.specs.Scripts.{Pair, entry_of, has_time}
 use Rattle.tb_machine.specs.Runs.{Reads, is_new_in, PairAnswered, HasTimes}
-use Rattle.tb_machine.specs.Worked.{EndsBy, Done, Worked}
+use Rattle.tb_machine.specs.Worked.{EndsBy, Done, Worked, GoesOn}
 use Rattle.tb_machine.specs.Dumps.{dumped, DumpSpells, place_in, after_at, accepted_at}
 
 -- one pair
@@ -42,6 +42,10 @@ DumpsPair at (Err (fault.Frame f)) S T p before after = (is_new_in S p ≡ true)
 DumpsPair at (Err fault.NoMemory) S T p before after = (is_new_in S p ≡ true) × (has_time S p ≡ true) × (after ≡ before)
 DumpsPair at (Err fault.TimeExhausted) S T p before after = (is_new_in S p ≡ true) × (has_time S p ≡ false) × (after ≡ before)
 DumpsPair at (Err fault.TooLong) S T p before after = ⊥
+
+-- the next pair is read and dumped, or there is none
+abbrev pub DumpsNext : Option ℕ → Result Bool RunFault → State → State → Input → Input → Output → Output → Type 0
+DumpsNext at = GoesOn PairAnswered (DumpsPair at)
 
 -- a script
 

@@ -1,7 +1,7 @@
 -- Entries, the state that they lead to, and the answers that it gives: a request is executed once, in its turn, and its reply is kept in its client's row.
--- Cited by public contracts of: answering, machines, serving.
+-- Cited by public contracts of: answering, executing, machines, serving.
 use Rattle.std.specs.Prelude.{ℕ, Bool, true, false, ◌&&◌, ◌==◌, ◌+◌, max, nat_le, IsTrue, List, [], ◌∷◌, Option, Some, if◌then◌else◌, fold}
-use Rattle.std.specs.Option.{is_none}
+use Rattle.std.specs.Option.{is_none, option_map}
 use Rattle.tb_records.specs.declared.bodies.Body.{Body}
 use Rattle.tb_records.specs.declared.bodies.Body.TheVariants.{Register, CreateAccounts, CreateTransfers, LookupAccounts, LookupTransfers}
 use Rattle.tb_records.specs.declared.bodies.ReplyBody.{ReplyBody}
@@ -151,6 +151,10 @@ status_of NewerRequest = status.NewerRequest
 -- a refusal names what the request names, and has commit 0 and no body
 abbrev pub refusal : Status → Message → Answer
 refusal status r = answered r.client r.session r.request (operation r.body) status 0 Empty
+
+-- the reply to a client's last request
+abbrev pub stored_reply : State → ℕ → Option Answer
+stored_reply S client = option_map (λ (row : Row). row.reply) (row_of S.rows client)
 
 -- a repeat gets the reply that its client's row keeps
 abbrev pub answer_by : Class → Option Row → Message → Answer

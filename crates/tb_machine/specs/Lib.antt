@@ -1,4 +1,3 @@
--- what public contracts cite, or reach through what they cite
 pub mod Histories
 pub mod Scripts
 pub mod Answering
@@ -17,6 +16,4 @@ pub mod ScriptLaws
 pub mod ReplyLaws
 pub mod ReplicaLaws
 pub mod WorkedRows
--- what private contracts alone cite
-pub mod Serving
-pub mod Sound
+pub mod private

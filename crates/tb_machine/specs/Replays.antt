@@ -46,6 +46,11 @@ ReplaysEntry (Err fault.NotLegal) S T e before after = (fits S e ≡ false) × (
 ReplaysEntry (Err fault.NoMemory) S T e before after = IsTrue (fits S e) × (after ≡ before)
 ReplaysEntry (Err f) S T e before after = ⊥
 
+-- a mark leads from profile 1 to profile 2; where that serves already, it is a fault
+abbrev pub ReplaysMark : Result (Unit {0}) DumpFault → State → State → Type 0
+ReplaysMark (Ok done) S T = (profile_of S.books ≡ One) × (T ≡ to_two S)
+ReplaysMark (Err f) S T = (f ≡ fault.Mark) × (profile_of S.books ≡ Two)
+
 -- an item is taken: an entry is replayed, and a mark leads to profile 2 and writes nothing; it is a fault where profile 2
 -- serves already, from the head on or from a first mark
 abbrev pub ReplaysItem : Result (Unit {0}) DumpFault → State → State → DumpItem → Output → Output → Type 0

@@ -4,7 +4,7 @@ use Rattle.std.specs.Prelude.{ℕ, true, ◌≡◌, ◌⊎◌, List, [], ◌∷�
 use Rattle.tb_records.specs.declared.records.Transfer.{Transfer}
 use Rattle.tb_records.specs.declared.bodies.Body.TheVariants.{CreateTransfers}
 use Rattle.tb_records.specs.declared.limits.Profile.{Profile}
-use Rattle.tb_ledger.specs.Batches.{Kind, Timed, transfer_events, timed, blocks, block_after}
+use Rattle.tb_ledger.specs.Batches.{Kind, Timed, transfer_events, timed, chains, chain_after}
 use Rattle.tb_ledger.specs.Books.{Books, resolves}
 use Rattle.tb_ledger.specs.Meanings.{SettlesNamed}
 use Rattle.tb_ledger.specs.Sound.{IdsRise}
@@ -23,13 +23,13 @@ module _ {E : Type 0} (kind : Kind E) where
   -- the same in one of the chains of a batch
   abbrev pub JudgedAmong : Books → List (List (Timed E)) → Timed E → Books → Type 0
   JudgedAmong B [] x C = ⊥
-  JudgedAmong B (block ∷ blocks) x C = JudgedIn B block x C ⊎ JudgedAmong (block_after kind B block).books blocks x C
+  JudgedAmong B (chain ∷ chains) x C = JudgedIn B chain x C ⊎ JudgedAmong (chain_after kind B chain).books chains x C
 
 -- the transfer t of the entry e, with its timestamp, is judged in the books C
 abbrev pub IsJudged : State → Entry → Transfer → ℕ → Books → Type 0
 IsJudged S e t timestamp C =
     (events : List Transfer) × (e.request.body ≡ CreateTransfers events)
-    × JudgedAmong transfer_events (at_time S.books e.time) (blocks transfer_events (timed e.time events)) (t, timestamp) C
+    × JudgedAmong transfer_events (at_time S.books e.time) (chains transfer_events (timed e.time events)) (t, timestamp) C
 
 -- in the books after entries, with a mark or none, each id is there once
 abbrev pub IdsRiseAfter : Type 0

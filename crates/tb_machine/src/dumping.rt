@@ -1,15 +1,13 @@
 //! The dump of a script: its new requests are executed, and the history that they make is written.
-ghost use Rattle.std.specs.Prelude.{◌≡◌, ◌++◌, true, false, IfOk, MatchResult, Some};
+ghost use Rattle.std.specs.Prelude.{◌≡◌, ◌++◌, true, false, IfOk, Some};
 ghost use Rattle.std.specs.Option.{is_some};
 ghost use Rattle.tb_records.specs.declared.limits.Profile.TheVariants.{One};
 ghost use Rattle.tb_records.specs.DumpBytes.{head_bytes, entry_bytes, IsClients};
-ghost use Rattle.tb_records.specs.Transport.{Sent, CutOff, IsSent};
+ghost use Rattle.tb_records.specs.Transport.{IsSent};
 ghost use Rattle.tb_ledger.specs.Books.{profile_of};
-ghost use Rattle.tb_sessions.specs.Judged.{class_of, row_of};
-ghost use Rattle.tb_machine.specs.DumpRuns.{mark_before, marks_at, changed_profile, DumpRan, DumpsPair};
-ghost use Rattle.tb_machine.specs.Runs.{PairAnswered};
-ghost use Rattle.tb_machine.specs.Serving.{IsPromptForPair};
-ghost use Rattle.tb_machine.specs.Worked.{GoesOn};
+ghost use Rattle.tb_sessions.specs.Judged.{row_of};
+ghost use Rattle.tb_machine.specs.DumpRuns.{mark_before, marks_at, changed_profile, DumpRan, DumpsPair, DumpsNext};
+ghost use Rattle.tb_machine.specs.private.Serving.{IsPromptForPair, Delivers};
 
 use crate::machines::Machine;
 use crate::serving::{RunFault, enter, pass_on_before_waiting};
@@ -52,11 +50,7 @@ fn stored_row(machine: &Machine<Global>, client: u128) -> &Row
 
 /// Writes the head of a dump that begins by profile 1.
 fn write_head<W: Sink>(writer: &mut W, clients_max: ClientsMax) -> Result<(), RunFault>
-    ensures sent { MatchResult result
-        (λ _. Sent (head_bytes One clients_max) (W.output writer.old) (W.output writer.new))
-        (λ f.
-        (f ≡ RunFault.Frame FrameFault.Device)
-        × CutOff (head_bytes One clients_max) (W.output writer.old) (W.output writer.new)) }
+    ensures sent { Delivers result (head_bytes One clients_max) (W.output writer.old) (W.output writer.new) }
     ensures right { IsClients clients_max }
 {
     let head = DumpHead {
@@ -125,8 +119,8 @@ fn dump_next<R: Source, W: Sink>(
 ) -> Result<bool, RunFault>
     requires by_one { marks_at at machine.old.commit ≡ true → profile_of machine.old.books ≡ Profile.One }
     requires prompt { IsPromptForPair (R.input reader.old) (W.output writer.old) }
-    ensures { GoesOn PairAnswered (DumpsPair at) result machine.old machine.new
-        (R.input reader.old) (R.input reader.new) (W.output writer.old) (W.output writer.new) }
+    ensures { DumpsNext at result machine.old machine.new (R.input reader.old) (R.input reader.new)
+        (W.output writer.old) (W.output writer.new) }
 {
     let Some((moment, request)) = read_timed_from(alloc, reader)? else {
         return Ok(false)

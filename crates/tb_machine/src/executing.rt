@@ -1,16 +1,148 @@
-//! What a request does to the ledger, and what its reply says.
-ghost use Rattle.std.specs.Prelude.{◌≡◌, ◌+◌, ◌≤◌, max, OnOk, OnErr, MatchResult, IsTrue};
-ghost use Rattle.tb_records.specs.Messages.{count, item_count, items_max, operation, IsRight};
+//! The steps of a machine: how a request becomes an entry, what it does to the ledger, what its reply says, and the row that keeps both.
+ghost use Rattle.std.specs.Prelude.{◌≡◌, ◌+◌, ◌≤◌, max, OnOk, OnErr, ◌<◌, MatchResult, IsTrue, None, Some};
+ghost use Rattle.tb_records.specs.Messages.{count, item_count, items_max, operation, IsRight, IsLawful};
 ghost use Rattle.tb_ledger.specs.Verdicts.{max_time};
-ghost use Rattle.tb_machine.specs.Histories.{executed, found, reply_with, row_with, session_of};
-ghost use Rattle.tb_machine.specs.Serving.{made, row_in, MayBeExecuted, Tells};
+ghost use Rattle.tb_machine.specs.Histories.{executed, reply_with, session_of, step, fits};
+ghost use Rattle.tb_machine.specs.private.Serving.{made, row_in, MayBeExecuted, Tells, ExecutesBody, MakesRow, served_as, ServesPair, IfNotNew, EntersAndTells};
+ghost use Rattle.tb_machine.specs.Scripts.{MakesEntry};
 
 use crate::entries::Entry;
+use crate::machines::Machine;
 use std::alloc::{AllocError, Allocator, Global};
 use std::mem;
 use tb_ledger::Ledger;
 use tb_records::{Body, FrameFault, Items, Reply, ReplyBody, Request, Sink, Status, send_reply};
-use tb_sessions::Row;
+use tb_sessions::{Class, Row};
+
+/// How a request was served that was to be executed by its client's row.
+#[derive(Clone, Copy)]
+pub(crate) enum Served {
+    /// It was executed, and its reply was written.
+    Told,
+    /// It was executed, and the writer's fault left a prefix of its reply.
+    Untold(FrameFault),
+    /// There is no memory for it: nothing was changed.
+    NoMemory,
+    /// It is of this class and not New there, or there is no time for it: nothing was called or changed.
+    NotNew(Class),
+}
+
+impl Served {
+    /// What became of a request that was called for, by what became of its reply.
+    fn of(told: Result<Result<(), FrameFault>, AllocError>) -> Served
+        ensures { result ≡ served_as told }
+    {
+        match told {
+            Ok(Ok(())) => Served::Told,
+            Ok(Err(fault)) => Served::Untold(fault),
+            Err(AllocError) => Served::NoMemory,
+        }
+    }
+}
+
+impl<A: Allocator + Clone> Machine<A> {
+    /// The entry that a request makes which comes at a moment: of the next commit number, at its [`Machine::next_time`]. None
+    /// where there is no time for it. That of a new request may come next.
+    pub fn next_entry(&self, request: Request, now: u64) -> Option<Entry>
+        ensures entry { MakesEntry result self.now (now, request) }
+        ensures lawful { IsLawful request }
+    {
+        let events = request.body().event_count() as u64;
+        let time = self.next_time(now, events)?;
+        Some(Entry {
+            commit: self.commit + 1,
+            time,
+            request,
+        })
+    }
+
+    /// Enters an entry that may come next: its request is executed, and its client's row keeps the request and the
+    /// reply. On a refusal the machine is unchanged.
+    pub fn apply(&mut self, entry: &Entry) -> Result<(), AllocError>
+        requires { IsTrue (fits self.old entry.now) }
+        ensures { MatchResult result (λ _. self.new ≡ step self.old entry.now) (λ _. self.new ≡ self.old) }
+    {
+        let entry = entry.copy(self.global)?;
+        self.enter(entry).map_err(|_| AllocError)
+    }
+
+    /// As `apply`, of an entry whose request moves into its client's row. An allocation that fails gives the entry
+    /// back.
+    pub fn enter(&mut self, entry: Entry) -> Result<(), Entry>
+        requires { IsTrue (fits self.old entry) }
+        ensures { MatchResult result (λ _. self.new ≡ step self.old entry)
+            (λ back. (back ≡ entry) × (self.new ≡ self.old)) }
+    {
+        let commit = entry.commit;
+        let row = match row_for(self.global, &mut self.ledger, entry) {
+            Ok(row) => row,
+            Err(entry) => return Err(entry),
+        };
+        let _left = self.sessions.record(row);
+        self.commit = commit;
+        Ok(())
+    }
+
+    /// Serves a request that comes at a moment, where it is New compared with its client's row: by one search of the sessions it is
+    /// executed, the row keeps it and the reply, and the reply is written. Any other request gets its class, and so do a
+    /// register of a client without a row and a request for which there is no time: nothing is called or changed then.
+    pub(crate) fn serve_in_session<W: Sink>(
+        &mut self,
+        writer: &mut W,
+        moment: u64,
+        request: &mut Request,
+    ) -> Served
+        ensures served { ServesPair result self.old self.new (moment, request.old)
+            (W.output writer.old) (W.output writer.new) }
+        ensures unchanged { IfNotNew result (request.new ≡ request.old) }
+    {
+        let events = request.body().event_count() as u64;
+        let Some(time) = self.next_time(moment, events) else {
+            return Served::NotNew(self.class(request));
+        };
+        let commit = self.commit + 1;
+        let global = self.global;
+        let ledger = &mut self.ledger;
+        let served = self.sessions.renew_with(
+            request,
+            &mut |request: &mut Request, row: &mut Row| {
+                serve_row(global, ledger, writer, commit, time, request, row)
+            },
+        );
+        match served {
+            Ok(told) => {
+                let refused = told.is_err();
+                if refused {
+                    return Served::NoMemory;
+                }
+                self.commit = commit;
+                Served::of(told)
+            }
+            Err(class) => Served::NotNew(class),
+        }
+    }
+
+    /// As `enter`, and writes the reply before the row that keeps it goes to the others. Where the writer failed, the
+    /// entry has been entered all the same.
+    pub(crate) fn enter_and_tell<W: Sink>(
+        &mut self,
+        writer: &mut W,
+        entry: Entry,
+    ) -> Result<Result<(), FrameFault>, Entry>
+        requires { IsTrue (fits self.old entry) }
+        ensures { EntersAndTells W.output result self.old self.new entry writer.old writer.new }
+    {
+        let commit = entry.commit;
+        let row = match row_for(self.global, &mut self.ledger, entry) {
+            Ok(row) => row,
+            Err(entry) => return Err(entry),
+        };
+        let told = send_reply(writer, &row.reply);
+        let _left = self.sessions.record(row);
+        self.commit = commit;
+        Ok(told)
+    }
+}
 
 /// Does what a body asks for, at a time, and reports what its reply says; on a refusal the ledger is unchanged.
 pub(crate) fn execute<A: Allocator + Clone>(
@@ -22,10 +154,7 @@ pub(crate) fn execute<A: Allocator + Clone>(
     requires few { item_count body.now ≤ items_max }
     requires later { ledger.old.time + max (count body.now) 1 ≤ time }
     requires in_range { time ≤ max_time }
-    ensures { MatchResult result
-        (λ answer.
-        (ledger.new ≡ executed ledger.old body.now time)
-        × (answer ≡ found ledger.old body.now time)) (λ _. ledger.new ≡ ledger.old) }
+    ensures { ExecutesBody result ledger.old body.now time ledger.new }
 {
     match body {
         Body::Register => {
@@ -95,11 +224,7 @@ pub(crate) fn row_for<A: Allocator + Clone>(
     entry: Entry,
 ) -> Result<Row, Entry>
     requires { MayBeExecuted ledger.old entry }
-    ensures { MatchResult result
-        (λ row.
-        (ledger.new ≡ executed ledger.old entry.request.body entry.time)
-        × (row ≡ row_with entry (found ledger.old entry.request.body entry.time)))
-        (λ back. (back ≡ entry) × (ledger.new ≡ ledger.old)) }
+    ensures { MakesRow result ledger.old entry ledger.new }
 {
     let body = match execute(global, ledger, entry.time, entry.request.body()) {
         Ok(body) => body,

@@ -1,66 +1,31 @@
 //! The machine: a ledger and the sessions of its clients, which entries move on.
-ghost use Rattle.std.specs.Prelude.{◌≡◌, ◌↔◌, ◌+◌, ◌≤◌, ◌<◌, max, length, true, false, IfOk, IfErr, MatchOption, MatchResult, OnOk, OnErr, IsTrue, None, Some};
-ghost use Rattle.std.specs.Option.{option_map};
+ghost use Rattle.std.specs.Prelude.{◌≡◌, ◌↔◌, ◌+◌, ◌≤◌, ◌<◌, max, length, IfOk, MatchOption, IsTrue, None, Some};
 ghost use Rattle.tb_records.specs.Messages.{IsLawful};
 ghost use Rattle.tb_ledger.specs.Books.{account_now, profile_of, transfer_at, found_accounts, found_transfers};
 ghost use Rattle.tb_ledger.specs.Verdicts.{max_time};
 ghost use Rattle.tb_sessions.specs.Judged.{class_of, row_of};
-ghost use Rattle.tb_records.specs.ReplyFrames.{reply_bytes, IsReply};
-ghost use Rattle.tb_records.specs.Transport.{IsSent};
-ghost use Rattle.tb_machine.specs.Histories.{start, step, reply_at, to_two, fits, is_new, least_time};
-ghost use Rattle.tb_machine.specs.Scripts.{entry_of, has_time};
-ghost use Rattle.tb_machine.specs.Serving.{served_as, ServesPair, IfNotNew};
+ghost use Rattle.tb_machine.specs.Histories.{start, to_two, fits, least_time, stored_reply};
 
 use crate::entries::Entry;
-use crate::executing::{row_for, serve_row};
 use std::alloc::{AllocError, Allocator, Global};
 use std::marker::Model;
 use tb_ledger::Ledger;
-use tb_records::{
-    Account, ClientsMax, FrameFault, LAST_MOMENT, Profile, Reply, Request, Sink, Transfer,
-    send_reply,
-};
+use tb_records::{Account, ClientsMax, LAST_MOMENT, Profile, Reply, Request, Transfer};
 use tb_sessions::{Class, Row, Sessions};
-
-/// How a request was served that was to be executed by its client's row.
-#[derive(Clone, Copy)]
-pub(crate) enum Served {
-    /// It was executed, and its reply was written.
-    Told,
-    /// It was executed, and the writer's fault left a prefix of its reply.
-    Untold(FrameFault),
-    /// There is no memory for it: nothing was changed.
-    NoMemory,
-    /// It is of this class and not New there, or there is no time for it: nothing was called or changed.
-    NotNew(Class),
-}
-
-impl Served {
-    /// What became of a request that was called for, by what became of its reply.
-    fn of(told: Result<Result<(), FrameFault>, AllocError>) -> Served
-        ensures { result ≡ served_as told }
-    {
-        match told {
-            Ok(Ok(())) => Served::Told,
-            Ok(Err(fault)) => Served::Untold(fault),
-            Err(AllocError) => Served::NoMemory,
-        }
-    }
-}
 
 /// A ledger and the sessions of its clients, after a history. Requests, replies and the rows of the sessions take their
 /// memory of the global allocator, the records of `A`.
 #[derive(Drop)]
 pub struct Machine<A: Allocator + Clone> {
-    global: Global,
-    ledger: Ledger<A>,
-    sessions: Sessions,
-    commit: u64,
+    pub(crate) global: Global,
+    pub(crate) ledger: Ledger<A>,
+    pub(crate) sessions: Sessions,
+    pub(crate) commit: u64,
 }
 
 impl<A: Allocator + Clone> Model for Machine<A> {
     ghost use Rattle.tb_machine.specs.Histories.{State};
-    ghost use Rattle.tb_machine.specs.Sound.{IsSound};
+    ghost use Rattle.tb_machine.specs.private.Sound.{IsSound};
 
     ghost Value = { State };
 
@@ -115,25 +80,6 @@ impl<A: Allocator + Clone> Machine<A> {
         Some(time)
     }
 
-    /// The entry that a request makes which comes at a moment: of the next commit number, at its [`Machine::next_time`]. None
-    /// where there is no time for it. That of a new request may come next.
-    pub fn next_entry(&self, request: Request, now: u64) -> Option<Entry>
-        ensures entry { MatchOption result (has_time self.now (now, request) ≡ false)
-            (λ entry.
-            (has_time self.now (now, request) ≡ true)
-            × (entry ≡ entry_of self.now (now, request))
-            × (is_new (class_of self.now.rows request) ≡ true → IsTrue (fits self.now entry))) }
-        ensures lawful { IsLawful request }
-    {
-        let events = request.body().event_count() as u64;
-        let time = self.next_time(now, events)?;
-        Some(Entry {
-            commit: self.commit + 1,
-            time,
-            request,
-        })
-    }
-
     /// The profile that it goes by.
     pub fn profile(&self) -> Profile
         ensures { result ≡ profile_of self.now.books }
@@ -173,7 +119,7 @@ impl<A: Allocator + Clone> Machine<A> {
 
     /// The reply to a client's last request; None of a client without a session.
     pub fn reply_of(&self, client: u128) -> Option<&Reply>
-        ensures { let stored = option_map (λ (row : Row). row.reply) (row_of self.now.rows client) in
+        ensures { let stored = stored_reply self.now client in
             MatchOption result (stored ≡ None) (λ reply. stored ≡ Some reply.now) }
     {
         match self.sessions.stored(client) {
@@ -251,98 +197,5 @@ impl<A: Allocator + Clone> Machine<A> {
             && self.least_time(&entry.request) <= entry.time
             && entry.time <= LAST_MOMENT
             && matches!(self.class(&entry.request), Class::New)
-    }
-
-    /// Enters an entry that may come next: its request is executed, and its client's row keeps the request and the
-    /// reply. On a refusal the machine is unchanged.
-    pub fn apply(&mut self, entry: &Entry) -> Result<(), AllocError>
-        requires { IsTrue (fits self.old entry.now) }
-        ensures { MatchResult result (λ _. self.new ≡ step self.old entry.now) (λ _. self.new ≡ self.old) }
-    {
-        let entry = entry.copy(self.global)?;
-        self.enter(entry).map_err(|_| AllocError)
-    }
-
-    /// As `apply`, of an entry whose request moves into its client's row. An allocation that fails gives the entry
-    /// back.
-    pub fn enter(&mut self, entry: Entry) -> Result<(), Entry>
-        requires { IsTrue (fits self.old entry) }
-        ensures { MatchResult result (λ _. self.new ≡ step self.old entry)
-            (λ back. (back ≡ entry) × (self.new ≡ self.old)) }
-    {
-        let commit = entry.commit;
-        let row = match row_for(self.global, &mut self.ledger, entry) {
-            Ok(row) => row,
-            Err(entry) => return Err(entry),
-        };
-        let _left = self.sessions.record(row);
-        self.commit = commit;
-        Ok(())
-    }
-
-    /// Serves a request that comes at a moment, where it is New compared with its client's row: by one search of the sessions it is
-    /// executed, the row keeps it and the reply, and the reply is written. Any other request gets its class, and so do a
-    /// register of a client without a row and a request for which there is no time: nothing is called or changed then.
-    pub(crate) fn serve_in_session<W: Sink>(
-        &mut self,
-        writer: &mut W,
-        moment: u64,
-        request: &mut Request,
-    ) -> Served
-        ensures served { ServesPair result self.old self.new (moment, request.old)
-            (W.output writer.old) (W.output writer.new) }
-        ensures unchanged { IfNotNew result (request.new ≡ request.old) }
-    {
-        let events = request.body().event_count() as u64;
-        let Some(time) = self.next_time(moment, events) else {
-            return Served::NotNew(self.class(request));
-        };
-        let commit = self.commit + 1;
-        let global = self.global;
-        let ledger = &mut self.ledger;
-        let served = self.sessions.renew_with(
-            request,
-            &mut |request: &mut Request, row: &mut Row| {
-                serve_row(global, ledger, writer, commit, time, request, row)
-            },
-        );
-        match served {
-            Ok(told) => {
-                let refused = told.is_err();
-                if refused {
-                    return Served::NoMemory;
-                }
-                self.commit = commit;
-                Served::of(told)
-            }
-            Err(class) => Served::NotNew(class),
-        }
-    }
-
-    /// As `enter`, and writes the reply before the row that keeps it goes to the others. Where the writer failed, the
-    /// entry has been entered all the same.
-    pub(crate) fn enter_and_tell<W: Sink>(
-        &mut self,
-        writer: &mut W,
-        entry: Entry,
-    ) -> Result<Result<(), FrameFault>, Entry>
-        requires { IsTrue (fits self.old entry) }
-        ensures { MatchResult result
-            (λ told.
-            (self.new ≡ step self.old entry)
-            × IsSent told (reply_bytes (reply_at self.old entry)) (W.output writer.old)
-            (W.output writer.new)
-            × OnOk told (IsReply (reply_at self.old entry)))
-            (λ back. (back ≡ entry) × (self.new ≡ self.old) × (writer.new ≡ writer.old)) }
-    {
-        let commit = entry.commit;
-        let row = match row_for(self.global, &mut self.ledger, entry) {
-            Ok(row) => row,
-            Err(entry) => return Err(entry),
-        };
-        let told = send_reply(writer, &row.reply);
-        let _left = self.sessions.record(row);
-        self.commit = commit;
-        Ok(told)
     }
 }

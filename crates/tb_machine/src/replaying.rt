@@ -1,10 +1,8 @@
 //! The replay of a dump: its history is checked entry by entry, and the reply to each is written.
-ghost use Rattle.std.specs.Prelude.{◌≡◌, [], false, IfOk, MatchResult};
+ghost use Rattle.std.specs.Prelude.{◌≡◌, [], false, IfOk};
 ghost use Rattle.tb_records.specs.Transport.{Sent};
-ghost use Rattle.tb_ledger.specs.Books.{profile_of};
-ghost use Rattle.tb_machine.specs.Histories.{to_two};
-ghost use Rattle.tb_machine.specs.Replays.{EntersNext, ReadsNext, ReplayRan, ReplaysEntry, ReplaysItem};
-ghost use Rattle.tb_machine.specs.Serving.{IsPromptForItem};
+ghost use Rattle.tb_machine.specs.Replays.{EntersNext, ReadsNext, ReplayRan, ReplaysEntry, ReplaysItem, ReplaysMark};
+ghost use Rattle.tb_machine.specs.private.Serving.{IsPromptForItem};
 ghost use Rattle.tb_machine.specs.Worked.{GoesOn};
 
 use crate::entries::Entry;
@@ -41,9 +39,7 @@ fn replay_entry<W: Sink>(
 
 /// Goes over to profile 2, where that does not serve yet.
 fn replay_mark(machine: &mut Machine<Global>) -> Result<(), DumpFault>
-    ensures { MatchResult result
-        (λ _. (profile_of machine.old.books ≡ Profile.One) × (machine.new ≡ to_two machine.old))
-        (λ f. (f ≡ DumpFault.Mark) × (profile_of machine.old.books ≡ Profile.Two)) }
+    ensures { ReplaysMark result machine.old machine.new }
 {
     match machine.profile() {
         Profile::One => {

@@ -1,19 +1,19 @@
 //! The serving of a script: moments and requests are read, executed and answered, one after another.
-ghost use Rattle.std.specs.Prelude.{◌≡◌, ◌≢◌, true, false, [], IfOk, IsTrue, MatchResult, OnOk, Some};
-ghost use Rattle.std.specs.Option.{is_some, option_map};
+ghost use Rattle.std.specs.Prelude.{◌≡◌, ◌≢◌, true, false, [], IfOk, OnOk, Some};
+ghost use Rattle.std.specs.Option.{is_some};
 ghost use Rattle.tb_records.specs.Messages.{IsLawful};
 ghost use Rattle.tb_records.specs.ReplyFrames.{reply_bytes, IsReply};
 ghost use Rattle.tb_records.specs.Transport.{Sent};
 ghost use Rattle.tb_sessions.specs.Judged.{class_of, row_of};
-ghost use Rattle.tb_machine.specs.Histories.{status_of, answer_to, fits};
+ghost use Rattle.tb_machine.specs.Histories.{status_of, answer_to, fits, stored_reply};
 ghost use Rattle.tb_machine.specs.RunFaults.{run_fault_number, run_fault_name};
 ghost use Rattle.tb_machine.specs.Runs.{is_new_in, AnswersPair, PairAnswered, Ran};
-ghost use Rattle.tb_machine.specs.Scripts.{entry_of, has_time};
-ghost use Rattle.tb_machine.specs.Serving.{EntersPair, Delivers, IsPromptForPair};
+ghost use Rattle.tb_machine.specs.private.Serving.{EntersPair, Delivers, IsPromptForPair};
 ghost use Rattle.tb_machine.specs.Worked.{GoesOn};
 
 use crate::entries::Entry;
-use crate::machines::{Machine, Served};
+use crate::executing::Served;
+use crate::machines::Machine;
 use bumpalo::Bump;
 use std::alloc::{AllocError, Allocator, Global};
 use std::fmt;
@@ -129,7 +129,7 @@ pub(crate) fn enter<A: Allocator + Clone>(
 /// The reply that a client's row keeps.
 pub(crate) fn stored_reply<A: Allocator + Clone>(machine: &Machine<A>, client: u128) -> &Reply
     requires { is_some (row_of machine.now.rows client) ≡ true }
-    ensures { option_map (λ (row : Row). row.reply) (row_of machine.now.rows client) ≡ Some result.now }
+    ensures { stored_reply machine.now client ≡ Some result.now }
 {
     let Some(reply) = machine.reply_of(client) else {
         unreachable!()

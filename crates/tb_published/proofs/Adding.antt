@@ -9,7 +9,7 @@ use Rattle.tb_machine.specs.declared.entries.Entry.{Entry}
 use Rattle.tb_records.specs.declared.limits.Profile.{Profile}
 use Rattle.tb_machine.specs.Histories.{fits, IsLegal, after}
 use Rattle.tb_machine.proofs.Legal.{legal_snoc}
-use Rattle.tb_published.specs.Counting.{CountsEntries, Adds}
+use Rattle.tb_published.specs.private.Counting.{CountsEntries, Adds}
 use Rattle.tb_published.proofs.Prefixes.{prefix_whole}
 
 abbrev shown : List Entry → List Entry

@@ -15,12 +15,12 @@ use Rattle.tb_published.specs.declared.faults.Taken.{Taken}
 use Rattle.tb_published.specs.declared.faults.Taken.TheVariants as taken
 use Rattle.tb_published.specs.declared.faults.TakeFault.{TakeFault}
 use Rattle.tb_published.specs.declared.faults.TakeFault.TheVariants as fault
-use Rattle.tb_published.specs.Entering.{EntersBy}
+use Rattle.tb_published.specs.private.Entering.{EntersBy}
 use Rattle.tb_published.specs.Openings.{Opening, LegalIn, after_in}
-use Rattle.tb_published.specs.Prefixes.{Prefix}
-use Rattle.tb_published.specs.PostedEntries.{TwoCopies}
+use Rattle.tb_published.specs.private.Prefixes.{Prefix}
+use Rattle.tb_published.specs.private.PostedEntries.{TwoCopies}
 use Rattle.tb_published.specs.Taking.{Enters, TakesRequest, ShowsAll}
-use Rattle.tb_published.specs.Ties.{Ties}
+use Rattle.tb_published.specs.private.Ties.{Ties}
 use Rattle.tb_published.proofs.Prefixes.{prefix_trans, prefix_whole}
 
 -- the entry of a new request that has a time may come next

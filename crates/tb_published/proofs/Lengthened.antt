@@ -5,7 +5,7 @@ use Rattle.tb_machine.specs.declared.entries.Entry.{Entry}
 use Rattle.tb_machine.specs.Histories.{fits, step}
 use Rattle.tb_machine.proofs.Legal.{after_snoc, legal_front, legal_at}
 use Rattle.tb_published.specs.Openings.{Opening, LegalIn, after_in}
-use Rattle.tb_published.specs.Prefixes.{Prefix, state_of, IsPrefixOf, EndsWith}
+use Rattle.tb_published.specs.private.Prefixes.{Prefix, state_of, IsPrefixOf, EndsWith}
 use Rattle.tb_published.proofs.Prefixes.{prefix_shorter, prefix_whole}
 
 pub one_more : (xs ys : List Entry) (e : Entry) → IsPrefix xs ys → EndsWith ys e → length ys ≡ length xs + 1 → ys ≡ xs ++ e ∷ []

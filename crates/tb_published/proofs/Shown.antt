@@ -4,9 +4,9 @@ use mathlib.Core.Option.{some, some-injective}
 use lib.ListN.{get_elem?}
 use Rattle.crossbeam_utils.specs.Register.{Admits, Turns, TurnsAt, Forks, Merges}
 use Rattle.atomic_table.proofs.Lists.{at_set, at_snoc}
-use Rattle.tb_published.specs.Prefixes.{Prefix, IsPrefixOf, with_entry}
-use Rattle.tb_published.specs.PostedEntries.{PostedEntry, absorbed, Follows, prefix_after}
-use Rattle.tb_published.specs.Sharing.{Shows, Sees, Swapped}
+use Rattle.tb_published.specs.private.Prefixes.{Prefix, IsPrefixOf, with_entry}
+use Rattle.tb_published.specs.private.PostedEntries.{PostedEntry, absorbed, Follows, prefix_after}
+use Rattle.tb_published.specs.private.Sharing.{Shows, Sees, Swapped}
 use Rattle.tb_published.proofs.Prefixes.{prefix_self, prefix_trans, prefix_shorter}
 
 -- prefixes

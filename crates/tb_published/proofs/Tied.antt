@@ -6,10 +6,10 @@ use Rattle.tb_machine.specs.declared.entries.Entry.{Entry}
 use Rattle.tb_machine.specs.Histories.{State}
 use Rattle.tb_machine.proofs.Legal.{fold_append}
 use Rattle.tb_published.specs.Openings.{Opening, OneBegins}
-use Rattle.tb_published.specs.Prefixes.{Prefix, with_entry}
-use Rattle.tb_published.specs.PostedEntries.{PostedEntry, TwoCopies, Follows, prefix_after, and_waiting}
-use Rattle.tb_published.specs.Sharing.{Swapped}
-use Rattle.tb_published.specs.Ties.{Ties}
+use Rattle.tb_published.specs.private.Prefixes.{Prefix, with_entry}
+use Rattle.tb_published.specs.private.PostedEntries.{PostedEntry, TwoCopies, Follows, prefix_after, and_waiting}
+use Rattle.tb_published.specs.private.Sharing.{Swapped}
+use Rattle.tb_published.specs.private.Ties.{Ties}
 use Rattle.tb_published.proofs.Prefixes.{prefix_self, prefix_trans, prefix_whole}
 use Rattle.tb_published.proofs.Shown.{posted_extend}
 

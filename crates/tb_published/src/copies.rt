@@ -1,15 +1,15 @@
 //! The two copies, and how the writer shows what they have taken in.
-ghost use Rattle.std.specs.Prelude.{◌≡◌, ◌++◌, ◌∷◌, [], IfOk, MatchResult};
+ghost use Rattle.std.specs.Prelude.{◌≡◌, [], Some, IfOk, MatchResult};
 ghost use Rattle.left_right.specs.Sides.{view};
-ghost use Rattle.tb_published.specs.PostedEntries.{Follows, showing};
-ghost use Rattle.tb_published.specs.Sharing.{Swapped};
+ghost use Rattle.tb_published.specs.private.PostedEntries.{Follows, and_waiting, showing};
+ghost use Rattle.tb_published.specs.private.Sharing.{Swapped};
 
 use crate::front::Front;
 use crate::limits::SeatCount;
-use crate::looking::Place;
 use crate::naming::Naming;
 use crate::replica::{Posted, Replica};
 use crate::rule::{Look, Notes, Published, View};
+use crate::seat::Place;
 use core::mem::replace_with;
 use left_right::Absorb;
 use left_right::writer::Writer;
@@ -32,7 +32,7 @@ where
 {
     ghost use Rattle.std.specs.Prelude.{drop};
     ghost use Rattle.left_right.specs.Sides.{view as known};
-    ghost use Rattle.tb_published.specs.PostedEntries.{TwoCopies};
+    ghost use Rattle.tb_published.specs.private.PostedEntries.{TwoCopies};
 
     ghost Value = { TwoCopies };
 
@@ -104,7 +104,7 @@ impl<J: Naming> Copies<J> {
     /// One posted entry more; it comes back where there is no capacity for it.
     pub(crate) fn append(&mut self, posted: Posted<J>) -> Result<(), Posted<J>>
         ensures { MatchResult result
-            (λ _. self.new ≡ record self.old { posted = self.old.posted ++ posted ∷ [] })
+            (λ _. self.new ≡ and_waiting self.old (Some posted))
             (λ back. (back ≡ posted) × (self.new ≡ self.old)) }
     {
         self.writer.append(posted)

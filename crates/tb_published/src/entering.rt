@@ -1,10 +1,10 @@
 //! How the writer judges a request by its machine, and enters it.
-ghost use Rattle.std.specs.Prelude.{◌≡◌, ◌<◌, ◌++◌, ◌∷◌, [], true, false, IsTrue, MatchOption, MatchResult, OnOk, vec_len, vec_capacity};
+ghost use Rattle.std.specs.Prelude.{◌≡◌, ◌<◌, true, false, IsTrue, MatchOption, OnOk, vec_len, vec_capacity};
 ghost use Rattle.tb_records.specs.Messages.{IsLawful};
 ghost use Rattle.tb_sessions.specs.Judged.{class_of};
 ghost use Rattle.tb_sessions.specs.declared.classes.Class.TheVariants as class;
-ghost use Rattle.tb_machine.specs.Histories.{answer_to, fits, step};
-ghost use Rattle.tb_published.specs.Entering.{IsKnown, EntersBy};
+ghost use Rattle.tb_machine.specs.Histories.{answer_to, fits};
+ghost use Rattle.tb_published.specs.private.Entering.{AddsEntry, IsKnown, EntersBy};
 
 use crate::faults::{TakeFault, Taken};
 use std::alloc::{AllocError, Global};
@@ -28,7 +28,7 @@ pub(crate) fn stored_commit(machine: &Machine<Global>, request: &Request) -> u64
 /// What becomes of a request that is not new; None where it is.
 pub(crate) fn known(machine: &Machine<Global>, request: &Request) -> Option<Taken>
     ensures { MatchOption result (class_of machine.now.rows request.now ≡ class.New)
-        (λ taken. IsKnown machine.now request.now taken) }
+        (IsKnown machine.now request.now) }
 {
     match machine.class(request) {
         Class::New => None,
@@ -57,12 +57,7 @@ pub(crate) fn add_to(
     entry: Entry,
 ) -> Result<u64, AllocError>
     requires { IsTrue (fits machine.old entry) }
-    ensures { MatchResult result
-        (λ c.
-        (c ≡ entry.commit)
-        × (machine.new ≡ step machine.old entry)
-        × (history.new.items ≡ history.old.items ++ entry ∷ []))
-        (λ _. (machine.new ≡ machine.old) × (history.new.items ≡ history.old.items)) }
+    ensures { AddsEntry machine.old history.old.items entry result machine.new history.new.items }
 {
     let mut entry = entry;
     if let Err(AllocError) = make_ready(global, history, &mut entry) {

@@ -1,8 +1,8 @@
 //! Prefixes of a history as tokens: each gives the number of its entries, and the entries themselves to proofs alone.
 ghost use Rattle.std.specs.Prelude.{◌≡◌, ◌+◌, ◌<◌, ◌^◌, [], length, IsTrue, IfSome, MatchBool};
 ghost use Rattle.tb_published.specs.Openings.{LegalIn};
-ghost use Rattle.tb_published.specs.Prefixes.{state_of, with_entry, IsPrefixOf, longer};
-ghost use Rattle.tb_published.specs.Counting.{head_of};
+ghost use Rattle.tb_published.specs.private.Prefixes.{state_of, with_entry, IsPrefixOf, longer};
+ghost use Rattle.tb_published.specs.private.Counting.{head_of};
 ghost use Rattle.tb_machine.specs.Histories.{fits};
 
 use logbook::{Gain, Offer, Plain, Play, Rule, Seen, Start, Word};
@@ -16,7 +16,7 @@ pub struct Law;
 impl Rule<Entry, u64> for Law {
     ghost use Rattle.std.specs.Prelude.{[]};
     ghost use base.Fml.{ftrue};
-    ghost use Rattle.tb_published.specs.Counting.{CountsEntries};
+    ghost use Rattle.tb_published.specs.private.Counting.{CountsEntries};
 
     ghost holds = { λ cells log. CountsEntries cells log };
 
@@ -44,7 +44,7 @@ impl Gain<Entry, u64> for Nothing {
 struct Add;
 
 impl Play<Entry, u64> for Add {
-    ghost use Rattle.tb_published.specs.Counting.{Adds};
+    ghost use Rattle.tb_published.specs.private.Counting.{Adds};
 
     ghost then = { Adds };
 }
@@ -69,7 +69,7 @@ pub struct Front {
 impl Model for Front {
     ghost use Rattle.std.specs.Prelude.{◌≡◌, length};
     ghost use Rattle.tb_machine.specs.Histories.{IsLegal};
-    ghost use Rattle.tb_published.specs.Prefixes.{Prefix};
+    ghost use Rattle.tb_published.specs.private.Prefixes.{Prefix};
 
     ghost Value = { Prefix };
 
@@ -170,8 +170,8 @@ pub struct HistoryHead {
 
 impl Model for HistoryHead {
     ghost use Rattle.std.specs.Prelude.{◌≡◌};
-    ghost use Rattle.tb_published.specs.Prefixes.{Prefix};
-    ghost use Rattle.tb_published.specs.Counting.{head_of};
+    ghost use Rattle.tb_published.specs.private.Prefixes.{Prefix};
+    ghost use Rattle.tb_published.specs.private.Counting.{head_of};
 
     ghost Value = { Prefix };
 

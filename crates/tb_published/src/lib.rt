@@ -11,11 +11,10 @@
 //! - `ahead`: the accounts that the next requests need, searched for beforehand where accounts are many.
 //! - `replica`: `Replica`, a copy, which is a machine and a front; `Posted`, what the writer hands to the copies.
 //! - `rule`: the rule of the copies: all that any reader has seen is a prefix of what is shown.
-//! - `looking`: how a reader looks at the copy that is shown.
 //! - `entering`: how the writer judges a request by its own machine, and enters it.
 //! - `offering`: the next entry, made ready for the copies.
 //! - `copies`: `Copies`, the two copies: how they begin, take in what was offered, and are swapped.
-//! - `seat`: `Seat`, what a client thread reads through.
+//! - `seat`: `Seat`, what a client thread reads through; how it looks at the copy that is shown.
 //! - `told`: `Told`, what the publisher tells seats.
 //! - `publisher`: `Publisher`, the one writer.
 //! - `holder`: `HeldPublisher`, a publisher that closes when it is dropped.
@@ -31,7 +30,6 @@ mod front;
 mod holder;
 pub mod laws;
 mod limits;
-mod looking;
 mod naming;
 mod offering;
 mod opening;

@@ -1,8 +1,8 @@
 //! How the writer posts the history's entries.
-ghost use Rattle.std.specs.Prelude.{◌≡◌, MatchOption};
+ghost use Rattle.std.specs.Prelude.{◌≡◌};
 ghost use mathlib.Core.List.{IsPrefix};
 ghost use Rattle.tb_published.specs.Openings.{LegalIn};
-ghost use Rattle.tb_published.specs.Prefixes.{with_entry};
+ghost use Rattle.tb_published.specs.private.PostedEntries.{PostsNext};
 
 use crate::front::HistoryHead;
 use crate::naming::Naming;
@@ -20,11 +20,7 @@ pub(crate) fn next_posted<J: Naming>(
     requires named { offered.old.opening ≡ J.opening }
     requires begins { IsPrefix offered.old.list history.now }
     requires legal { LegalIn J.opening history.now }
-    ensures { MatchOption result (offered.new ≡ offered.old)
-        (λ posted.
-        (posted.front ≡ offered.new)
-        × (offered.new ≡ with_entry offered.old posted.entry)
-        × IsPrefix offered.new.list history.now) }
+    ensures { PostsNext offered.old offered.new history.now result }
 {
     let count = offered.front().len();
     let entry = history.get(count as usize)?;

@@ -1,6 +1,6 @@
 //! How an opening is made.
 ghost use Rattle.std.specs.Prelude.{◌≡◌, [], All, IfOk, vec_len};
-ghost use Rattle.tb_published.specs.Prefixes.{prefix};
+ghost use Rattle.tb_published.specs.private.Prefixes.{prefix};
 
 use crate::faults::OpenFault;
 use crate::front::HistoryHead;

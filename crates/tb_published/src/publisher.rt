@@ -43,9 +43,9 @@ impl<J: Naming> Model for Publisher<J>
 where
     Replica<J>: Absorb<Posted<J>, State = Replica<J>>,
 {
-    ghost use Rattle.tb_published.specs.PostedEntries.{and_waiting};
+    ghost use Rattle.tb_published.specs.private.PostedEntries.{and_waiting};
     ghost use Rattle.tb_published.specs.Openings.{Ends};
-    ghost use Rattle.tb_published.specs.Ties.{Ties};
+    ghost use Rattle.tb_published.specs.private.Ties.{Ties};
 
     ghost Value = { Ends };
 

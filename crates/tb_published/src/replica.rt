@@ -1,7 +1,7 @@
 //! A copy of the machine, and the posted entries that it takes in.
 ghost use Rattle.std.specs.Prelude.{◌≡◌, ◌+◌, ◌==◌, [], length, IfOk, IsTrue};
 ghost use Rattle.tb_machine.specs.Histories.{fits, step};
-ghost use Rattle.tb_published.specs.Prefixes.{prefix, state_of, with_entry, EndsWith};
+ghost use Rattle.tb_published.specs.private.Prefixes.{prefix, state_of, with_entry, EndsWith};
 
 use crate::ahead::accounts_of_entries;
 use crate::front::Front;
@@ -23,8 +23,8 @@ pub struct Posted<J: Naming> {
 
 impl<J: Naming> Model for Posted<J> {
     ghost use Rattle.std.specs.Prelude.{◌≡◌};
-    ghost use Rattle.tb_published.specs.Prefixes.{EndsWith};
-    ghost use Rattle.tb_published.specs.PostedEntries.{PostedEntry};
+    ghost use Rattle.tb_published.specs.private.Prefixes.{EndsWith};
+    ghost use Rattle.tb_published.specs.private.PostedEntries.{PostedEntry};
 
     ghost Value = { PostedEntry };
 
@@ -72,7 +72,7 @@ pub struct Replica<J: Naming> {
 
 impl<J: Naming> Model for Replica<J> {
     ghost use Rattle.std.specs.Prelude.{◌≡◌};
-    ghost use Rattle.tb_published.specs.Prefixes.{Prefix, state_of};
+    ghost use Rattle.tb_published.specs.private.Prefixes.{Prefix, state_of};
 
     ghost Value = { Prefix };
 
@@ -139,7 +139,7 @@ impl<J: Naming> Replica<J> {
 }
 
 impl<J: Naming> Absorb<Posted<J>> for Replica<J> {
-    ghost use Rattle.tb_published.specs.PostedEntries.{absorbed};
+    ghost use Rattle.tb_published.specs.private.PostedEntries.{absorbed};
 
     type State = Replica<J>;
 

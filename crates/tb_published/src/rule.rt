@@ -12,7 +12,7 @@ pub struct Published;
 
 impl<J: Naming> Protocol<Replica<J>, View> for Published {
     ghost use Rattle.std.specs.Prelude.{None};
-    ghost use Rattle.tb_published.specs.Sharing.{Shows};
+    ghost use Rattle.tb_published.specs.private.Sharing.{Shows};
 
     ghost holds = { Shows };
 
@@ -23,7 +23,7 @@ impl<J: Naming> Protocol<Replica<J>, View> for Published {
 pub struct Look;
 
 impl<J: Naming> Outcome<Replica<J>, View> for Look {
-    ghost use Rattle.tb_published.specs.Sharing.{Sees};
+    ghost use Rattle.tb_published.specs.private.Sharing.{Sees};
 
     ghost then = { Sees };
 }

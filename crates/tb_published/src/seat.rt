@@ -1,22 +1,24 @@
-//! Seats: what a client thread reads by.
-ghost use Rattle.std.specs.Prelude.{◌≡◌, ◌↔◌, ◌≤◌, length, IsTrue, IfOk, IfErr};
+//! Seats: what a client thread reads by, and how a reader looks at the copy that is shown.
+ghost use Rattle.std.specs.Prelude.{◌≡◌, ◌↔◌, ◌≤◌, length, IsTrue, IfOk, IfErr, IfSome, MatchOption};
 ghost use mathlib.Core.List.{IsPrefix};
 ghost use Rattle.std.specs.Fn.{FnOnceReturnsAt};
-ghost use Rattle.left_right.specs.Sides.{view as known};
+ghost use Rattle.left_right.specs.Sides.{view as known, view};
 ghost use Rattle.tb_records.specs.Messages.{IsLawful};
 ghost use Rattle.tb_sessions.specs.Judged.{class_of};
-ghost use Rattle.tb_ledger.specs.Books.{found_accounts, found_transfers};
 ghost use Rattle.tb_machine.specs.Histories.{answer_to};
+ghost use Rattle.tb_published.specs.Openings.{LegalIn, AnswersIn, FindsAccounts, FindsTransfers, HasStatusIn, after_in, longer_of, OneBegins};
+ghost use Rattle.tb_published.specs.private.Sharing.{Knows, Looked};
+ghost use Rattle.tb_published.specs.private.Prefixes.{IsPrefixOf};
 ghost use Rattle.tb_published.specs.declared.faults.SeatFault.TheVariants as seat_fault;
-ghost use Rattle.tb_published.specs.Openings.{LegalIn, IsAnswerIn, after_in, longer_of, OneBegins};
-ghost use Rattle.tb_published.specs.Sharing.{Knows};
 
 use crate::faults::SeatFault;
 use crate::front::Front;
-use crate::looking::{Place, look};
 use crate::naming::Naming;
+use crate::replica::Replica;
+use crate::rule::{Look, Published, View};
 use crate::told::Told;
 use core::mem::replace_with;
+use left_right::reader::{Reader, Reading};
 use std::alloc::{AllocError, Global};
 use std::marker::Model;
 use tb_machine::{Machine, answer_of, status_of};
@@ -42,7 +44,7 @@ impl<J: Naming> Model for Seat<J> {
     ghost use Rattle.std.specs.Prelude.{◌≡◌, List};
     ghost use Rattle.left_right.specs.Sides.{view as known};
     ghost use Rattle.tb_machine.specs.declared.entries.Entry.{Entry};
-    ghost use Rattle.tb_published.specs.Sharing.{Knows};
+    ghost use Rattle.tb_published.specs.private.Sharing.{Knows};
 
     ghost Value = { List Entry };
 
@@ -94,10 +96,7 @@ impl<J: Naming> Seat<J> {
     /// its refusal. It takes no memory.
     pub fn status(&mut self, request: &Request) -> Result<Status, SeatFault>
         ensures begins { IsPrefix self.old self.new }
-        ensures status { IfOk result
-            (λ status.
-            LegalIn J.opening self.new
-            × (status ≡ (answer_to (after_in J.opening self.new) request.now).status)) }
+        ensures status { IfOk result (HasStatusIn J.opening self.new request.now) }
         ensures fault { IfErr result (λ f. (f ≡ seat_fault.NoCopy) × (self.new ≡ self.old)) }
     {
         let class = self.ask(
@@ -112,9 +111,7 @@ impl<J: Naming> Seat<J> {
     /// the copy of a reply's body finds none; the seat has then seen what is shown all the same.
     pub fn answer(&mut self, request: &Request) -> Result<Reply, SeatFault>
         ensures begins { IsPrefix self.old self.new }
-        ensures answer { IfOk result
-            (λ reply.
-            LegalIn J.opening self.new × IsAnswerIn J.opening self.new request.now reply) }
+        ensures answer { IfOk result (AnswersIn J.opening self.new request.now) }
         ensures fault { IfErr result (λ f. f ≡ seat_fault.NoCopy → self.new ≡ self.old) }
     {
         let global = self.global;
@@ -132,11 +129,7 @@ impl<J: Naming> Seat<J> {
     /// number of those entries.
     pub fn lookup_accounts(&mut self, ids: &[u128]) -> Result<(u64, Vec<Account>), SeatFault>
         ensures begins { IsPrefix self.old self.new }
-        ensures found { IfOk result
-            (λ t.
-            LegalIn J.opening self.new
-            × (t.0 ≡ length self.new)
-            × (t.1.items ≡ found_accounts (after_in J.opening self.new).books ids.now)) }
+        ensures found { IfOk result (λ t. FindsAccounts J.opening self.new ids.now t.0 t.1.items) }
         ensures fault { IfErr result (λ f. f ≡ seat_fault.NoCopy → self.new ≡ self.old) }
     {
         match self.ask(|machine| machine.lookup_accounts(ids))? {
@@ -149,11 +142,7 @@ impl<J: Naming> Seat<J> {
     /// are shown.
     pub fn lookup_transfers(&mut self, ids: &[u128]) -> Result<(u64, Vec<Transfer>), SeatFault>
         ensures begins { IsPrefix self.old self.new }
-        ensures found { IfOk result
-            (λ t.
-            LegalIn J.opening self.new
-            × (t.0 ≡ length self.new)
-            × (t.1.items ≡ found_transfers (after_in J.opening self.new).books ids.now)) }
+        ensures found { IfOk result (λ t. FindsTransfers J.opening self.new ids.now t.0 t.1.items) }
         ensures fault { IfErr result (λ f. f ≡ seat_fault.NoCopy → self.new ≡ self.old) }
     {
         match self.ask(|machine| machine.lookup_transfers(ids))? {
@@ -195,5 +184,60 @@ impl<J: Naming> Seat<J> {
         ensures legal { LegalIn J.opening self.now }
     {
         self.front.len()
+    }
+}
+
+/// A reader's place at the copies.
+pub(crate) type Place<J> = Reader<Replica<J>, View, Published>;
+
+/// A reader with the copy that it reads, until it leaves.
+pub(crate) type Looking<J> = Reading<Replica<J>, View, Published>;
+
+/// Enters the copy that is shown, and tells its front; the place comes back where there is no copy. A copy that shows
+/// less than the reader knows is refused too: there is none, since a reader knows only what was shown.
+pub(crate) fn enter<J: Naming>(
+    place: Place<J>,
+    front: &Front,
+) -> Result<(Looking<J>, Front), Place<J>>
+    requires knows { Knows (view place.place) front.now }
+    requires named { front.now.opening ≡ J.opening }
+    ensures known { IfOk result (λ r. Knows (view r.0.place) r.1) }
+    ensures begins { IfOk result (λ r. IsPrefixOf front.now r.1) }
+    ensures named { IfOk result (λ r. r.1.opening ≡ J.opening) }
+    ensures legal { IfOk result (λ r. LegalIn J.opening r.1.list) }
+    ensures value { IfOk result (λ r. r.0.part.value ≡ r.1) }
+    ensures back { IfErr result (λ p. Knows (view p.place) front.now) }
+{
+    let reading = place.enter_as::<Look>()?;
+    let shown = reading.get().front();
+    let both = front.longer(shown);
+    drop(both);
+    if shown.len() < front.len() {
+        return Err(reading.leave());
+    }
+    let shown = shown.again();
+    Ok((reading, shown))
+}
+
+/// Asks a question of the machine of the copy that is shown: answers the front of the copy, and what the machine answered.
+pub(crate) fn look<J: Naming, T, Q: FnOnce(&Machine<Global>) -> T>(
+    place: Place<J>,
+    front: &Front,
+    question: Q,
+) -> (Place<J>, Option<(Front, T)>)
+    requires knows { Knows (view place.place) front.now }
+    requires named { front.now.opening ≡ J.opening }
+    requires asks { Q.IsAlwaysCallable question }
+    ensures looked { MatchOption result.1 (Knows (view result.0.place) front.now)
+        (λ t. Looked J.opening (view result.0.place) front.now t.0) }
+    ensures answer { IfSome result.1
+        (λ t. FnOnceReturnsAt Q.FnOnce question (after_in J.opening t.0.list) t.1) }
+{
+    match enter(place, front) {
+        Ok((reading, shown)) => {
+            let answer = question(reading.get().machine());
+            (reading.leave(), Some((shown, answer)))
+        }
+        Err(place) => (place, None),
     }
 }

@@ -6,12 +6,12 @@ use Rattle.tb_records.specs.declared.faults.FrameFault.{FrameFault}
 use Rattle.tb_records.specs.declared.faults.FrameFault.TheVariants.{Short, Device}
 use Rattle.tb_records.specs.declared.limits.Profile.{Profile}
 use Rattle.tb_records.specs.DumpBytes.{signature, profile_number, head_bytes, numbers_bytes, IsClients, HasNoHead, HeadAnswers, ItemAnswers, ItemFaulted, Begins}
-use Rattle.tb_records.specs.DumpNumbers.{ReadsNumbers}
+use Rattle.tb_records.specs.private.DumpNumbers.{ReadsNumbers}
 use Rattle.tb_records.specs.Frames.{length_at}
 use Rattle.tb_records.specs.Inputs.{Answers, Faulted}
 use Rattle.tb_records.specs.Numbers.{le_bytes}
 use Rattle.tb_records.specs.Sizes.{length-le_bytes}
-use Rattle.tb_records.specs.Reading.{Filled}
+use Rattle.tb_records.specs.private.Reading.{Filled}
 use Rattle.tb_records.proofs.FrameFaults.{cut_header}
 use Rattle.tb_records.proofs.NumberBytes.{split_at}
 use Rattle.tb_records.proofs.Rows.{Fit, Stand, row_stands, one_row}

@@ -7,7 +7,7 @@ use Rattle.std.proofs.lemmas.Bool.Decides.{nat_tests}
 use Rattle.tb_records.specs.declared.faults.FrameFault.{FrameFault}
 use Rattle.tb_records.specs.declared.headers.Header.{Header}
 use Rattle.tb_records.specs.Frames.{item_size, header_bytes, header_fault, header_tests, length_tests, client_at, session_at, request_at, operation_at, length_at}
-use Rattle.tb_records.specs.HeaderFields.{HeaderOf, HeaderSpelled, IsHeader, numbers_fault}
+use Rattle.tb_records.specs.private.HeaderFields.{HeaderOf, HeaderSpelled, IsHeader, numbers_fault}
 use Rattle.tb_records.specs.Operations.{operation_code}
 use Rattle.tb_records.proofs.NumberBytes.{le_at-fits}
 use Rattle.tb_records.proofs.Rows.{row_bytes, row_read}

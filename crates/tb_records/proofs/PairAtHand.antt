@@ -12,7 +12,7 @@ use Rattle.tb_records.specs.Messages.{Message}
 use Rattle.tb_records.specs.Frames.{request_fault, header_fault}
 use Rattle.tb_records.specs.Inputs.{Found, TimedAnswers}
 use Rattle.tb_records.specs.Numbers.{le_bytes}
-use Rattle.tb_records.specs.PairAtHand.{BeginsWithPair, BeginsWithHeader}
+use Rattle.tb_records.specs.private.PairAtHand.{BeginsWithPair, BeginsWithHeader}
 use Rattle.tb_records.proofs.FrameFaults.{header_first, header_fault-append}
 
 -- a moment, and the request that the bytes behind it begin with

@@ -16,7 +16,7 @@ use Rattle.std.proofs.lemmas.Slice.{between_to_end}
 use Rattle.std.specs.List.{between}
 use borrow.Rule.Slice.PartMut.{put_mid}
 use Rattle.tb_records.specs.Transport.{Input, Output, Fails, Takes, Refuses, CutOff}
-use Rattle.tb_records.specs.Reading.{ReadFault, BodyFault}
+use Rattle.tb_records.specs.private.Reading.{ReadFault, BodyFault}
 
 -- a beginning that was filled, and then a part of the rest
 pub filled : (at n k : ℕ) (xs ys : List ℕ) → at ≤ length xs → n ≤ length ys → take (at + n) (put_mid at k xs ys) ≡ take at xs ++ take n ys

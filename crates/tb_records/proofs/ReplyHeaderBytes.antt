@@ -11,7 +11,7 @@ use Rattle.tb_records.specs.declared.faults.FrameFault.TheVariants.{ClientZero, 
 use Rattle.tb_records.specs.Messages.{status_code, is_operation, has_register_numbers, has_reply_numbers, kind_of, kind_for, items_max, IsRight}
 use Rattle.tb_records.specs.Numbers.{le_bytes, le_at}
 use Rattle.tb_records.specs.ReplyFrames.{reply_header_bytes, reply_header_fault, reply_header_tests, reply_body_bytes, has_reply_length, SpellsReply}
-use Rattle.tb_records.specs.ReplyHeaders.{IsReplyHeader, IsReplyBody}
+use Rattle.tb_records.specs.private.ReplyHeaders.{IsReplyHeader, IsReplyBody}
 use Rattle.tb_records.specs.ReplyTests.{answer_of}
 use Rattle.tb_records.proofs.NumberBytes.{le_at-fits}
 use Rattle.tb_records.proofs.ReplyFaults.{cut_reply_header, found_header_fault, cut_reply_body, whole_reply}

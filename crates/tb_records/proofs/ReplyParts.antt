@@ -5,7 +5,7 @@ use Rattle.tb_records.specs.declared.faults.FrameFault.{FrameFault}
 use Rattle.tb_records.specs.Frames.{session_at, request_at, operation_at, length_at}
 use Rattle.tb_records.specs.Messages.{status_code, first_fault}
 use Rattle.tb_records.specs.ReplyFrames.{status_at, commit_at, reply_header_fault}
-use Rattle.tb_records.specs.ReplyHeaders.{HasReplyFields}
+use Rattle.tb_records.specs.private.ReplyHeaders.{HasReplyFields}
 use Rattle.tb_records.specs.ReplyTests.{reply_field_tests, reply_number_tests, number_tests, reply_length_tests}
 use Rattle.tb_records.proofs.FirstFaults.{first_fault-some, first_fault-none}
 

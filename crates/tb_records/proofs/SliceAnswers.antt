@@ -8,7 +8,7 @@ use Rattle.tb_records.specs.declared.faults.FrameFault.TheVariants.{Short}
 use Rattle.tb_records.specs.declared.headers.Header.{Header}
 use Rattle.tb_records.specs.Messages.{Message, operation}
 use Rattle.tb_records.specs.Frames.{header_bytes, body_bytes, request_fault, header_fault, Spells}
-use Rattle.tb_records.specs.HeaderFields.{HeaderOf, HeaderSpelled, ReadsRequest, body_length}
+use Rattle.tb_records.specs.private.HeaderFields.{HeaderOf, HeaderSpelled, ReadsRequest, body_length}
 use Rattle.tb_records.specs.Inputs.{Found}
 use Rattle.tb_records.proofs.FrameFaults.{is_of_header, cut_header, header_first, cut_body, whole_frame}
 use Rattle.tb_records.proofs.StreamAnswers.{header_of_request, read_length, length_of}

@@ -8,10 +8,10 @@ use Rattle.tb_records.specs.declared.faults.FrameFault.TheVariants.{Short, Devic
 use Rattle.tb_records.specs.declared.headers.Header.{Header}
 use Rattle.tb_records.specs.Messages.{Message, operation, item_count}
 use Rattle.tb_records.specs.Frames.{header_bytes, body_bytes, request_fault, header_fault, operation_at, length_at, header_tests, item_size}
-use Rattle.tb_records.specs.HeaderFields.{HeaderOf, HeaderSpelled, ReadsHeader, ReadsRequest, body_length}
+use Rattle.tb_records.specs.private.HeaderFields.{HeaderOf, HeaderSpelled, ReadsHeader, ReadsRequest, body_length}
 use Rattle.tb_records.specs.Inputs.{Faulted, TimedFaulted, Answers, TimedAnswers}
 use Rattle.tb_records.specs.Transport.{Input, FaultCounts}
-use Rattle.tb_records.specs.Reading.{Filled, BodyFault, ReadsMoment}
+use Rattle.tb_records.specs.private.Reading.{Filled, BodyFault, ReadsMoment}
 use Rattle.tb_records.specs.Numbers.{le_bytes}
 use Rattle.tb_records.specs.RecordBytes.{account_bytes, transfer_bytes}
 use Rattle.tb_records.specs.Sizes.{length-le_bytes, length-account, length-transfer, length-id}

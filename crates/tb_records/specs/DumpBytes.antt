@@ -9,10 +9,10 @@ use Rattle.tb_records.specs.declared.dumps.DumpItem.TheVariants as item
 use Rattle.tb_records.specs.declared.faults.FrameFault.{FrameFault}
 use Rattle.tb_records.specs.declared.faults.FrameFault.TheVariants.{Short, Device}
 use Rattle.tb_records.specs.declared.limits.Profile.{Profile}
-use Rattle.tb_records.specs.declared.limits.TheConstants.{CLIENTS_MAX}
 use Rattle.tb_records.specs.declared.limits.Profile.TheVariants.{One, Two}
 use Rattle.tb_records.specs.Frames.{request_bytes, request_fault, length_at, IsRequest}
 use Rattle.tb_records.specs.Inputs.{Faulted}
+pub use Rattle.tb_records.specs.Limits.{IsClients}
 use Rattle.tb_records.specs.Messages.{Message}
 use Rattle.tb_records.specs.Numbers.{le_bytes}
 use Rattle.tb_records.specs.Transport.{Input, IsOfBytes, Fails, FaultCounts}
@@ -28,9 +28,6 @@ profile_number Two = 2
 -- the head: the signature, the profile, and the number of clients that can have a session at one time
 unfoldable pub head_bytes : Profile → ℕ → List ℕ
 head_bytes profile clients_max = signature ++ le_bytes 4 (profile_number profile) ++ le_bytes 4 clients_max
-
-abbrev pub IsClients : ℕ → Type 0
-IsClients n = (0 < n) × (n ≤ CLIENTS_MAX)
 
 -- two numbers of 8 bytes: those of an entry, or a mark's
 unfoldable pub numbers_bytes : ℕ → ℕ → List ℕ

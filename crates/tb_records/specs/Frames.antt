@@ -30,9 +30,13 @@ body_bytes (CreateTransfers events) = flat_map transfer_bytes events
 body_bytes (LookupAccounts ids) = flat_map (le_bytes 16) ids
 body_bytes (LookupTransfers ids) = flat_map (le_bytes 16) ids
 
+-- the header of a request before a body of a length
+abbrev pub header_of_request : Message → ℕ → List ℕ
+header_of_request r len = header_bytes r.client r.session r.request (operation r.body) len
+
 -- the bytes of a request
 abbrev pub request_bytes : Message → List ℕ
-request_bytes r = header_bytes r.client r.session r.request (operation r.body) (length (body_bytes r.body)) ++ body_bytes r.body
+request_bytes r = header_of_request r (length (body_bytes r.body)) ++ body_bytes r.body
 
 -- an id fits its 16 bytes
 abbrev pub IsId : ℕ → Type 0

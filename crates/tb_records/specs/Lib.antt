@@ -1,4 +1,3 @@
--- what public contracts cite, or reach through what they cite
 pub mod Numbers
 pub mod RecordBytes
 pub mod Flags
@@ -14,6 +13,8 @@ pub mod Frames
 pub mod ReplyFrames
 pub mod Faults
 pub mod Inputs
+pub mod Limits
+pub mod Named
 pub mod DumpBytes
 pub mod DumpFaults
 pub mod Transport
@@ -22,9 +23,4 @@ pub mod Ordered
 pub mod HeldBodies
 pub mod ReplyTests
 pub mod Sizes
--- what private contracts alone cite
-pub mod HeaderFields
-pub mod ReplyHeaders
-pub mod Reading
-pub mod PairAtHand
-pub mod DumpNumbers
+pub mod private

@@ -1,8 +1,8 @@
 //! The flags of accounts, by TigerBeetle's names.
-ghost use Rattle.std.specs.Prelude.{◌≡◌, ◌↔◌, find, nat_eq, Some};
-ghost use Rattle.std.specs.Cmp.Lexicographic.{pointwise};
+ghost use Rattle.std.specs.Prelude.{◌≡◌, Some};
 ghost use Rattle.tb_records.specs.AccountFlags.{account_flag_bit, account_flag_name};
 ghost use Rattle.tb_records.specs.Flags.{has_flag};
+ghost use Rattle.tb_records.specs.Named.{IsOnly, first_named};
 
 use std::fmt;
 
@@ -67,7 +67,7 @@ impl AccountFlag {
 
     /// The flag that has a name; None where none has it.
     pub fn from_name(name: &[u8]) -> Option<AccountFlag>
-        ensures { (flag : AccountFlag) → (result ≡ Some flag) ↔ (account_flag_name flag ≡ name.now) }
+        ensures { IsOnly result (λ flag. account_flag_name flag ≡ name.now) }
     {
         first_flag_named(&AccountFlag::ALL, name)
     }
@@ -83,7 +83,7 @@ impl fmt::Display for AccountFlag {
 
 /// The first of some flags that has a name.
 fn first_flag_named(flags: &[AccountFlag], name: &[u8]) -> Option<AccountFlag>
-    ensures { result ≡ find (λ flag. pointwise nat_eq (account_flag_name flag) name.now) flags.now }
+    ensures { result ≡ first_named account_flag_name name.now flags.now }
 {
     flags
         .iter()

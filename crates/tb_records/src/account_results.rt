@@ -1,7 +1,7 @@
 //! The result codes of accounts, by TigerBeetle's names.
-ghost use Rattle.std.specs.Prelude.{◌≡◌, ◌↔◌, ◌==◌, find, nat_eq, Some};
-ghost use Rattle.std.specs.Cmp.Lexicographic.{pointwise};
+ghost use Rattle.std.specs.Prelude.{◌≡◌, ◌==◌, find, Some};
 ghost use Rattle.tb_records.specs.AccountResults.{account_result_code, account_result_name};
+ghost use Rattle.tb_records.specs.Named.{IsOnly, first_named};
 
 use std::fmt;
 
@@ -123,16 +123,14 @@ impl CreateAccountResult {
 
     /// The verdict that has a number; None where none has it.
     pub fn from_code(code: u32) -> Option<CreateAccountResult>
-        ensures { (verdict : CreateAccountResult)
-            → (result ≡ Some verdict) ↔ (account_result_code verdict ≡ code) }
+        ensures { IsOnly result (λ verdict. account_result_code verdict ≡ code) }
     {
         first_verdict_numbered(&CreateAccountResult::ALL, code)
     }
 
     /// The verdict that has a name; None where none has it.
     pub fn from_name(name: &[u8]) -> Option<CreateAccountResult>
-        ensures { (verdict : CreateAccountResult)
-            → (result ≡ Some verdict) ↔ (account_result_name verdict ≡ name.now) }
+        ensures { IsOnly result (λ verdict. account_result_name verdict ≡ name.now) }
     {
         first_verdict_named(&CreateAccountResult::ALL, name)
     }
@@ -161,8 +159,7 @@ fn first_verdict_numbered(
 
 /// The first of some verdicts that has a name.
 fn first_verdict_named(verdicts: &[CreateAccountResult], name: &[u8]) -> Option<CreateAccountResult>
-    ensures { result
-        ≡ find (λ verdict. pointwise nat_eq (account_result_name verdict) name.now) verdicts.now }
+    ensures { result ≡ first_named account_result_name name.now verdicts.now }
 {
     verdicts
         .iter()

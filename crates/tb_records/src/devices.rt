@@ -4,7 +4,7 @@ ghost use Rattle.std.specs.Io.{ReadsAtMost, WritesAtMost, StartsWith};
 ghost use Rattle.std.specs.Io.Buffered.{reader_buffer, reader_remaining};
 ghost use Rattle.std.specs.Io.KnownBytes.{Consumes, ReadConsumes, WriteAppends};
 ghost use Rattle.tb_records.specs.Transport.{uncounted, Input, Output, Fails, Gives, Counts, Takes, Errs, Sent, IsSent};
-ghost use Rattle.tb_records.specs.Reading.{Filled, Lost, ReadsItems, ReadFault, BodyFault};
+ghost use Rattle.tb_records.specs.private.Reading.{Fills, FillsAll, ReadsItems, ReadsOr};
 
 use crate::faults::FrameFault;
 use crate::layout::Item;
@@ -245,11 +245,7 @@ fn skip_buffered<R: Read>(reader: &mut BufReader<R>, n: usize)
 
 /// Fills the buffer, and answers how many of its bytes were filled: fewer than all only at the end of the input.
 pub(crate) fn fill<S: Source>(source: &mut S, buf: &mut [u8]) -> Result<usize, FrameFault>
-    ensures bytes { MatchResult result
-        (λ n. Filled n buf.new (S.input source.old).left (S.input source.new).left)
-        (λ f.
-        (f ≡ FrameFault.Device)
-        × Lost (length buf.old) (S.input source.old).left (S.input source.new).left) }
+    ensures bytes { Fills result buf.old buf.new (S.input source.old) (S.input source.new) }
     ensures counted { Counts result (S.input source.old) (S.input source.new) }
 {
     let mut at = 0;
@@ -280,9 +276,7 @@ pub fn put_all<W: Sink>(sink: &mut W, bytes: &[u8]) -> Result<(), FrameFault>
 
 /// Fills the buffer. Short where the input ends before.
 fn fill_all<S: Source>(source: &mut S, buf: &mut [u8]) -> Result<(), FrameFault>
-    ensures bytes { MatchResult result
-        (λ _. Consumes (S.input source.old).left (S.input source.new).left buf.new)
-        (λ f. ReadFault f (length buf.old) (S.input source.old).left (S.input source.new).left) }
+    ensures bytes { FillsAll result buf.old buf.new (S.input source.old) (S.input source.new) }
     ensures counted { Counts result (S.input source.old) (S.input source.new) }
 {
     if fill(source, buf)? < buf.len() {
@@ -320,11 +314,8 @@ fn fill_items<S: Source, T: Item>(
     requires buffer { at_once * T.SIZE ≤ length buf.old }
     requires empty { items.old.items ≡ [] }
     requires capacity { count ≤ vec_capacity items.old }
-    ensures bytes { MatchResult result
-        (λ _.
-        ReadsItems T.spelling T.Fits count items.new.items (S.input source.old).left
-        (S.input source.new).left)
-        (λ f. BodyFault f (count * T.SIZE) (S.input source.old).left (S.input source.new).left) }
+    ensures bytes { ReadsOr result (λ _. ReadsItems T.spelling T.Fits count items.new.items) (count * T.SIZE)
+        (S.input source.old) (S.input source.new) }
     ensures counted { Counts result (S.input source.old) (S.input source.new) }
 {
     while items.len() < count {
@@ -352,11 +343,8 @@ pub(crate) fn items_from<S: Source, T: Item>(
     source: &mut S,
     count: usize,
 ) -> Result<Items<T>, FrameFault>
-    ensures bytes { MatchResult result
-        (λ items.
-        ReadsItems T.spelling T.Fits count items (S.input source.old).left
-        (S.input source.new).left)
-        (λ f. BodyFault f (count * T.SIZE) (S.input source.old).left (S.input source.new).left) }
+    ensures bytes { ReadsOr result (ReadsItems T.spelling T.Fits count) (count * T.SIZE)
+        (S.input source.old) (S.input source.new) }
     ensures counted { Counts result (S.input source.old) (S.input source.new) }
 {
     let mut items = Vec::with_capacity(alloc, count)?;

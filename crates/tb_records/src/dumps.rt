@@ -1,7 +1,7 @@
 //! The bytes of a dump: its head, and behind it the entries of a history and at most one mark among them.
 ghost use Rattle.std.specs.Prelude.{◌≡◌, ◌<◌, IfSome, OnOk, None, length};
 ghost use Rattle.tb_records.specs.DumpBytes.{head_bytes, entry_bytes, mark_bytes, numbers_bytes, profile_number, HasNoHead, HeadAnswers, HeadCounts, IsClients, IsDumped, ItemAnswers, ItemCounts};
-ghost use Rattle.tb_records.specs.DumpNumbers.{NumbersAnswers};
+ghost use Rattle.tb_records.specs.private.DumpNumbers.{IsHead, NumbersAnswers};
 ghost use Rattle.tb_records.specs.DumpFaults.{dump_fault_name, dump_fault_number};
 ghost use Rattle.tb_records.specs.Transport.{Counts, IsSent};
 ghost use Rattle.tb_records.specs.AtHand.{holds_item};
@@ -145,10 +145,7 @@ fn number_of(profile: Profile) -> u32
 /// The head that 16 bytes encode.
 fn head_in(bytes: &[u8]) -> Option<DumpHead>
     requires { length bytes.now ≡ 16 }
-    ensures some { IfSome result
-        (λ head.
-        (bytes.now ≡ head_bytes head.profile head.clients_max)
-        × IsClients head.clients_max) }
+    ensures some { IfSome result (IsHead bytes.now) }
     ensures none { result ≡ None → HasNoHead bytes.now }
 {
     if u64_at(bytes, 0) != SIGNATURE {

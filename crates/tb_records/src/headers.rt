@@ -1,8 +1,8 @@
 //! The header of a request's frame, and its tests in their order.
-ghost use Rattle.std.specs.Prelude.{◌≡◌, ◌==◌, ◌≤◌, ◌<◌, ◌+◌, ◌/◌, Some, None, false, MatchOption, MatchResult, OnOk, IfOk, length, take};
-ghost use Rattle.tb_records.specs.Frames.{header_bytes, header_fault, item_size, length_at, length_tests};
-ghost use Rattle.tb_records.specs.HeaderFields.{HeaderOf, HeaderSpelled};
-ghost use Rattle.tb_records.specs.Messages.{first_fault, is_operation};
+ghost use Rattle.std.specs.Prelude.{◌≡◌, ◌==◌, ◌≤◌, ◌<◌, ◌+◌, ◌/◌, Some, false, MatchOption, OnOk, IfOk, length, take};
+ghost use Rattle.tb_records.specs.Frames.{header_bytes, header_fault, item_size, length_at};
+ghost use Rattle.tb_records.specs.private.HeaderFields.{CountAnswers, HeaderOf, HeaderSpelled, RightOr};
+ghost use Rattle.tb_records.specs.Messages.{is_operation};
 ghost use Rattle.tb_records.specs.Operations.{operation_code};
 
 use crate::encoding::{u8_at, u24_at, u32_at, u64_at, u96_at, u128_at};
@@ -36,9 +36,7 @@ pub(crate) struct Header {
 
 /// The number of items in a body of this length.
 fn count_of(operation: Operation, length: usize) -> Result<usize, FrameFault>
-    ensures { let code = operation_code operation in MatchResult result
-        (λ n. (n ≡ length / item_size code) × (first_fault (length_tests code length) ≡ None))
-        (λ f. first_fault (length_tests code length) ≡ Some f) }
+    ensures { CountAnswers result (operation_code operation) length }
 {
     let size = size_of_item(operation);
     let register = matches!(operation, Operation::Register);
@@ -57,7 +55,7 @@ fn count_of(operation: Operation, length: usize) -> Result<usize, FrameFault>
 #[tactic(auto, unfolding(crate::specs::Frames::header_fault))]
 fn header_fields(bytes: &[u8]) -> Result<Header, FrameFault>
     requires { 48 ≤ length bytes.now }
-    ensures { MatchResult result (λ h. HeaderOf bytes.now h) (λ f. header_fault bytes.now ≡ Some f) }
+    ensures { RightOr result (HeaderOf bytes.now) (header_fault bytes.now) }
 {
     let client = u128_at(bytes, 0);
     if client == 0 {
@@ -88,7 +86,7 @@ fn header_fields(bytes: &[u8]) -> Result<Header, FrameFault>
 #[tactic(auto, using(crate::proofs::HeaderBytes::ok_spelled))]
 pub(crate) fn request_header(bytes: &[u8]) -> Result<Header, FrameFault>
     requires { 48 ≤ length bytes.now }
-    ensures fields { MatchResult result (λ h. HeaderOf bytes.now h) (λ f. header_fault bytes.now ≡ Some f) }
+    ensures fields { RightOr result (HeaderOf bytes.now) (header_fault bytes.now) }
     ensures spelled { OnOk result (HeaderSpelled bytes.now) }
 {
     header_fields(bytes)

@@ -1,5 +1,6 @@
 //! Which rules a ledger goes by, how many clients it serves, and how many items a body has.
 ghost use Rattle.std.specs.Prelude.{◌≡◌, ◌≤◌, ◌<◌, IfSome, IsSome, ◌↔◌};
+ghost use Rattle.tb_records.specs.Limits.{IsClients};
 
 use std::marker::Model;
 
@@ -34,14 +35,14 @@ pub struct ClientsMax {
 }
 
 impl Model for ClientsMax {
-    ghost use Rattle.std.specs.Prelude.{ℕ, ◌<◌, ◌≤◌};
-    ghost use Rattle.tb_records.specs.declared.limits.TheConstants.{CLIENTS_MAX};
+    ghost use Rattle.std.specs.Prelude.{ℕ};
+    ghost use Rattle.tb_records.specs.Limits.{IsClients};
 
     ghost Value = { ℕ };
 
     ghost view = { λ c. c.number };
 
-    ghost invariant = { λ c. (0 < c.number) × (c.number ≤ CLIENTS_MAX) };
+    ghost invariant = { λ c. IsClients c.number };
 
     ghost inverse = { λ n. record { number = n } };
 }
@@ -50,7 +51,7 @@ impl ClientsMax {
     /// None where the number is not from 1 to `CLIENTS_MAX`.
     pub fn new(number: u32) -> Option<ClientsMax>
         ensures value { IfSome result (λ c. c ≡ number) }
-        ensures range { IsSome result ↔ ((0 < number) × (number ≤ CLIENTS_MAX)) }
+        ensures range { IsSome result ↔ IsClients number }
     {
         if number < 1 || CLIENTS_MAX < number {
             return None;

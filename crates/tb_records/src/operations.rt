@@ -1,8 +1,8 @@
 //! The operations of requests, by TigerBeetle's names.
-ghost use Rattle.std.specs.Prelude.{◌≡◌, ◌↔◌, find, nat_eq, false, MatchOption, Some};
-ghost use Rattle.std.specs.Cmp.Lexicographic.{pointwise};
+ghost use Rattle.std.specs.Prelude.{◌≡◌, false, MatchOption, Some};
 ghost use Rattle.tb_records.specs.Messages.{is_operation};
 ghost use Rattle.tb_records.specs.Operations.{operation_code, operation_name};
+ghost use Rattle.tb_records.specs.Named.{IsOnly, first_named};
 
 use std::fmt;
 
@@ -42,7 +42,7 @@ impl Operation {
     pub fn from_code(code: u8) -> Option<Operation>
         ensures value { MatchOption result (is_operation code ≡ false)
             (λ operation. operation_code operation ≡ code) }
-        ensures only { (operation : Operation) → (result ≡ Some operation) ↔ (operation_code operation ≡ code) }
+        ensures only { IsOnly result (λ operation. operation_code operation ≡ code) }
     {
         match code {
             2 => Some(Operation::Register),
@@ -69,8 +69,7 @@ impl Operation {
 
     /// The operation that has a name; None where none has it.
     pub fn from_name(name: &[u8]) -> Option<Operation>
-        ensures { (operation : Operation)
-            → (result ≡ Some operation) ↔ (operation_name operation ≡ name.now) }
+        ensures { IsOnly result (λ operation. operation_name operation ≡ name.now) }
     {
         first_operation_named(&Operation::ALL, name)
     }
@@ -86,8 +85,7 @@ impl fmt::Display for Operation {
 
 /// The first of some operations that has a name.
 fn first_operation_named(operations: &[Operation], name: &[u8]) -> Option<Operation>
-    ensures { result
-        ≡ find (λ operation. pointwise nat_eq (operation_name operation) name.now) operations.now }
+    ensures { result ≡ first_named operation_name name.now operations.now }
 {
     operations
         .iter()

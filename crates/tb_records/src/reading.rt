@@ -1,7 +1,7 @@
 //! A request that is read from bytes.
 ghost use Rattle.std.specs.Prelude.{◌≡◌, ◌++◌, ◌*◌, ℕ, List, [], Some, IfOk, MatchResult, length};
 ghost use Rattle.tb_records.specs.Frames.{item_size, Spells};
-ghost use Rattle.tb_records.specs.HeaderFields.{body_length, IsHeader, ReadsBody, ReadsRequest};
+ghost use Rattle.tb_records.specs.private.HeaderFields.{body_length, IsHeader, ReadsBody, ReadsRequest};
 ghost use Rattle.tb_records.specs.Operations.{operation_code};
 ghost use Rattle.tb_records.specs.Inputs.{Found, OnlyThis};
 ghost use Rattle.tb_records.specs.Messages.{Message};

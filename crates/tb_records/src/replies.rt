@@ -1,9 +1,10 @@
 //! Replies whose numbers and bodies go together.
-ghost use Rattle.std.specs.Prelude.{◌≡◌, ◌≢◌, ◌↔◌, ◌==◌, ◌<◌, find, nat_eq, MatchOption, MatchResult, Some, None, IfOk, Ok, Err, if◌then◌else◌};
-ghost use Rattle.std.specs.Cmp.Lexicographic.{pointwise};
-ghost use Rattle.tb_records.specs.Messages.{status_code, operation, answered, answer_fault, first_fault, has_reply_numbers, has_register_numbers, is_operation, kind_for, IsRight};
+ghost use Rattle.std.specs.Prelude.{◌≡◌, ◌≢◌, ◌==◌, ◌<◌, MatchOption, Some, None, IfOk, Ok, Err, if◌then◌else◌};
+ghost use Rattle.tb_records.specs.private.HeaderFields.{PassesOr};
+ghost use Rattle.tb_records.specs.Messages.{status_code, operation, answered, answer_fault, has_reply_numbers, has_register_numbers, is_operation, kind_for, IsRight};
 ghost use Rattle.tb_records.specs.ReplyTests.{answer_of, number_tests};
 ghost use Rattle.tb_records.specs.Statuses.{status_name};
+ghost use Rattle.tb_records.specs.Named.{IsOnly, first_named};
 
 use crate::bodies::ReplyBody;
 use crate::faults::FrameFault;
@@ -98,7 +99,7 @@ impl Status {
 
     /// The status that has a name; None where none has it.
     pub fn from_name(name: &[u8]) -> Option<Status>
-        ensures { (status : Status) → (result ≡ Some status) ↔ (status_name status ≡ name.now) }
+        ensures { IsOnly result (λ status. status_name status ≡ name.now) }
     {
         first_status_named(&Status::ALL, name)
     }
@@ -114,7 +115,7 @@ impl fmt::Display for Status {
 
 /// The first of some statuses that has a name.
 fn first_status_named(statuses: &[Status], name: &[u8]) -> Option<Status>
-    ensures { result ≡ find (λ status. pointwise nat_eq (status_name status) name.now) statuses.now }
+    ensures { result ≡ first_named status_name name.now statuses.now }
 {
     statuses
         .iter()
@@ -198,8 +199,7 @@ impl Numbers {
     /// What is wrong with the numbers together: the request of a register or of any other operation, or the session and
     /// the commit number.
     pub(crate) fn check(&self) -> Result<(), FrameFault>
-        ensures { let tests = number_tests self.now in
-            MatchResult result (λ _. first_fault tests ≡ None) (λ f. first_fault tests ≡ Some f) }
+        ensures { PassesOr result (number_tests self.now) }
     {
         let status = self.status.code();
         if self.operation == 2 && !suits_register(status, self.session, self.request) {

@@ -1,8 +1,9 @@
 //! Replies read from bytes.
-ghost use Rattle.std.specs.Prelude.{◌≡◌, ◌≤◌, ◌*◌, ◌++◌, ℕ, List, Some, None, length, IsTrue, IfOk, MatchResult};
+ghost use Rattle.std.specs.Prelude.{◌≡◌, ◌≤◌, ◌*◌, ◌++◌, ℕ, List, Some, length, IsTrue, IfOk};
+ghost use Rattle.tb_records.specs.private.HeaderFields.{PassesOr, RightOr};
 ghost use Rattle.tb_records.specs.Messages.{Answer, first_fault};
 ghost use Rattle.tb_records.specs.ReplyFrames.{reply_header_fault, reply_item_size, has_reply_length, SpellsReply, FoundReply, OnlyThisReply};
-ghost use Rattle.tb_records.specs.ReplyHeaders.{HasReplyFields, IsReplyHeader, IsReplyBody, SpelledItems};
+ghost use Rattle.tb_records.specs.private.ReplyHeaders.{HasReplyFields, IsReplyHeader, IsReplyBody, SpelledItems};
 ghost use Rattle.tb_records.specs.ReplyTests.{reply_field_tests, reply_length_tests};
 
 use crate::bodies::ReplyBody;
@@ -26,8 +27,7 @@ pub(crate) struct ReplyHeader {
 /// The fields at the beginning of the bytes; or what is wrong with the client, the operation, the status or the zero bytes.
 fn fields_in(bytes: &[u8]) -> Result<ReplyHeader, FrameFault>
     requires { 48 ≤ length bytes.now }
-    ensures { MatchResult result (λ h. HasReplyFields bytes.now h)
-        (λ f. first_fault (reply_field_tests bytes.now) ≡ Some f) }
+    ensures { RightOr result (HasReplyFields bytes.now) (first_fault (reply_field_tests bytes.now)) }
 {
     let client = u128_at(bytes, 0);
     if client == 0 {
@@ -61,8 +61,7 @@ fn fields_in(bytes: &[u8]) -> Result<ReplyHeader, FrameFault>
 
 /// What is wrong with the length of a reply's body.
 fn check_length(operation: u8, status: u8, len: u32) -> Result<(), FrameFault>
-    ensures { let tests = reply_length_tests operation status len in
-        MatchResult result (λ _. first_fault tests ≡ None) (λ f. first_fault tests ≡ Some f) }
+    ensures { PassesOr result (reply_length_tests operation status len) }
 {
     if !is_long(operation, status, len) {
         return Err(FrameFault::BadLength);
@@ -76,8 +75,7 @@ fn check_length(operation: u8, status: u8, len: u32) -> Result<(), FrameFault>
 /// The header at the beginning of the bytes, or what is wrong with it.
 fn header_in(bytes: &[u8]) -> Result<ReplyHeader, FrameFault>
     requires { 48 ≤ length bytes.now }
-    ensures { MatchResult result (λ h. IsReplyHeader bytes.now h)
-        (λ f. reply_header_fault bytes.now ≡ Some f) }
+    ensures { RightOr result (IsReplyHeader bytes.now) (reply_header_fault bytes.now) }
 {
     let header = fields_in(bytes)?;
     let numbers = &header.numbers;

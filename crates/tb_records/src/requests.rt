@@ -1,7 +1,7 @@
 //! Requests whose numbers keep the rules of sessions.
-ghost use Rattle.std.specs.Prelude.{◌≡◌, MatchOption, MatchResult, IfOk, Ok, Err, Some, None};
-ghost use Rattle.tb_records.specs.Messages.{asked, first_fault, number_fault, operation, IsLawful};
-ghost use Rattle.tb_records.specs.HeaderFields.{number_tests};
+ghost use Rattle.std.specs.Prelude.{◌≡◌, MatchOption, IfOk, Ok, Err};
+ghost use Rattle.tb_records.specs.Messages.{asked, number_fault, operation, IsLawful};
+ghost use Rattle.tb_records.specs.private.HeaderFields.{number_tests, PassesOr};
 
 use crate::bodies::Body;
 use crate::faults::FrameFault;
@@ -32,8 +32,7 @@ impl Model for Request {
 
 /// What is wrong with the session and the number of a request, by whether it is a register.
 pub(crate) fn check_numbers(register: bool, session: u64, request: u32) -> Result<(), FrameFault>
-    ensures { let tests = number_tests register session request in
-        MatchResult result (λ _. first_fault tests ≡ None) (λ f. first_fault tests ≡ Some f) }
+    ensures { PassesOr result (number_tests register session request) }
 {
     if register && (session != 0 || request != 0) {
         return Err(FrameFault::RegisterNumbers);

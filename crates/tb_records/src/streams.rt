@@ -1,13 +1,13 @@
 //! Requests that are read from a stream, one by one.
-ghost use Rattle.std.specs.Prelude.{◌≡◌, ◌*◌, ◌+◌, ◌&&◌, nat_le, length, Some, None, Ok, Err, IfOk, IfSome, MatchOption, MatchResult};
-ghost use Rattle.tb_records.specs.Frames.{item_size, length_at, IsRequest};
-ghost use Rattle.tb_records.specs.HeaderFields.{body_length, HeaderAnswers, IsHeader, ReadsBody, ReadsRequest};
+ghost use Rattle.std.specs.Prelude.{◌≡◌, ◌+◌, ◌&&◌, nat_le, length, Some, None, Ok, Err, IfOk, IfSome, MatchOption};
+ghost use Rattle.tb_records.specs.Frames.{length_at, IsRequest};
+ghost use Rattle.tb_records.specs.private.HeaderFields.{BodyAnswers, HeaderAnswers, IsHeader, RequestAnswers};
 ghost use Rattle.tb_records.specs.Operations.{operation_code};
 ghost use Rattle.tb_records.specs.Inputs.{opened, fault_in, Answers, IsTimed, TimedAnswers};
 ghost use Rattle.tb_records.specs.Transport.{Counts};
 ghost use Rattle.tb_records.specs.AtHand.{holds_frame, holds_pair};
-ghost use Rattle.tb_records.specs.Reading.{BodyFault, MomentAnswers};
-ghost use Rattle.tb_records.specs.PairAtHand.{BeginsWithPair, BeginsWithHeader};
+ghost use Rattle.tb_records.specs.private.Reading.{MomentAnswers};
+ghost use Rattle.tb_records.specs.private.PairAtHand.{PairAnswers};
 
 use crate::bodies::Body;
 use crate::devices::{Source, fill, items_from};
@@ -118,13 +118,7 @@ fn body_from<S: Source>(
     count: usize,
 ) -> Result<Body, FrameFault>
     requires { operation_code operation ≡ operation_code Operation.Register → count ≡ 0 }
-    ensures bytes { MatchResult result
-        (λ b.
-        ReadsBody (operation_code operation) count b (S.input source.old).left
-        (S.input source.new).left)
-        (λ f.
-        BodyFault f (count * item_size (operation_code operation))
-        (S.input source.old).left (S.input source.new).left) }
+    ensures bytes { BodyAnswers result operation count (S.input source.old) (S.input source.new) }
     ensures counted { Counts result (S.input source.old) (S.input source.new) }
 {
     Ok(match operation {
@@ -143,11 +137,7 @@ fn request_behind<S: Source>(
     header: &Header,
 ) -> Result<Request, FrameFault>
     requires { IsHeader header.now }
-    ensures bytes { MatchResult result
-        (λ r. ReadsRequest header.now r (S.input source.old).left (S.input source.new).left)
-        (λ f.
-        BodyFault f (body_length header.now) (S.input source.old).left
-        (S.input source.new).left) }
+    ensures bytes { RequestAnswers result header.now (S.input source.old) (S.input source.new) }
     ensures counted { Counts result (S.input source.old) (S.input source.new) }
 {
     let body = body_from(alloc, source, header.operation, header.count)?;
@@ -219,8 +209,7 @@ pub fn read_timed_from<R: Source>(
 #[inline(always)]
 #[tactic(auto, using(crate::proofs::PairAtHand::pair_found))]
 fn pair_in(alloc: Global, bytes: &[u8]) -> Result<Option<(u64, Request, usize)>, AllocError>
-    ensures { MatchResult result (λ found. IfSome found (λ pair. BeginsWithPair pair.0 pair.1 pair.2 bytes.now))
-        (λ _. BeginsWithHeader bytes.now) }
+    ensures { PairAnswers result bytes.now }
 {
     if !holds_pair(bytes) {
         return Ok(None);

@@ -1,8 +1,8 @@
 //! The flags of transfers, by TigerBeetle's names.
-ghost use Rattle.std.specs.Prelude.{◌≡◌, ◌↔◌, find, nat_eq, Some};
-ghost use Rattle.std.specs.Cmp.Lexicographic.{pointwise};
+ghost use Rattle.std.specs.Prelude.{◌≡◌, Some};
 ghost use Rattle.tb_records.specs.TransferFlags.{transfer_flag_bit, transfer_flag_name};
 ghost use Rattle.tb_records.specs.Flags.{has_flag};
+ghost use Rattle.tb_records.specs.Named.{IsOnly, first_named};
 
 use std::fmt;
 
@@ -79,7 +79,7 @@ impl TransferFlag {
 
     /// The flag that has a name; None where none has it.
     pub fn from_name(name: &[u8]) -> Option<TransferFlag>
-        ensures { (flag : TransferFlag) → (result ≡ Some flag) ↔ (transfer_flag_name flag ≡ name.now) }
+        ensures { IsOnly result (λ flag. transfer_flag_name flag ≡ name.now) }
     {
         first_flag_named(&TransferFlag::ALL, name)
     }
@@ -95,7 +95,7 @@ impl fmt::Display for TransferFlag {
 
 /// The first of some flags that has a name.
 fn first_flag_named(flags: &[TransferFlag], name: &[u8]) -> Option<TransferFlag>
-    ensures { result ≡ find (λ flag. pointwise nat_eq (transfer_flag_name flag) name.now) flags.now }
+    ensures { result ≡ first_named transfer_flag_name name.now flags.now }
 {
     flags
         .iter()

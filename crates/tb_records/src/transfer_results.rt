@@ -1,7 +1,7 @@
 //! The result codes of transfers, by TigerBeetle's names.
-ghost use Rattle.std.specs.Prelude.{◌≡◌, ◌↔◌, ◌==◌, find, nat_eq, Some};
-ghost use Rattle.std.specs.Cmp.Lexicographic.{pointwise};
+ghost use Rattle.std.specs.Prelude.{◌≡◌, ◌==◌, find, Some};
 ghost use Rattle.tb_records.specs.TransferResults.{transfer_result_code, transfer_result_name};
+ghost use Rattle.tb_records.specs.Named.{IsOnly, first_named};
 
 use std::fmt;
 
@@ -291,16 +291,14 @@ impl CreateTransferResult {
 
     /// The verdict that has a number; None where none has it.
     pub fn from_code(code: u32) -> Option<CreateTransferResult>
-        ensures { (verdict : CreateTransferResult)
-            → (result ≡ Some verdict) ↔ (transfer_result_code verdict ≡ code) }
+        ensures { IsOnly result (λ verdict. transfer_result_code verdict ≡ code) }
     {
         first_verdict_numbered(&CreateTransferResult::ALL, code)
     }
 
     /// The verdict that has a name; None where none has it.
     pub fn from_name(name: &[u8]) -> Option<CreateTransferResult>
-        ensures { (verdict : CreateTransferResult)
-            → (result ≡ Some verdict) ↔ (transfer_result_name verdict ≡ name.now) }
+        ensures { IsOnly result (λ verdict. transfer_result_name verdict ≡ name.now) }
     {
         first_verdict_named(&CreateTransferResult::ALL, name)
     }
@@ -332,8 +330,7 @@ fn first_verdict_named(
     verdicts: &[CreateTransferResult],
     name: &[u8],
 ) -> Option<CreateTransferResult>
-    ensures { result
-        ≡ find (λ verdict. pointwise nat_eq (transfer_result_name verdict) name.now) verdicts.now }
+    ensures { result ≡ first_named transfer_result_name name.now verdicts.now }
 {
     verdicts
         .iter()

@@ -1,8 +1,8 @@
 //! Requests and replies written as frames, to a vector or to a sink.
 ghost use Rattle.std.specs.Prelude.{◌≡◌, ◌≤◌, ◌+◌, ◌*◌, ◌++◌, ◌<◌, ◌^◌, length, All, vec_len, vec_capacity, OnOk, OnErr};
 ghost use Rattle.std.specs.List.{flat_map};
-ghost use Rattle.tb_records.specs.Frames.{header_bytes, body_bytes, request_bytes, BodyFits, IsRequest};
-ghost use Rattle.tb_records.specs.Messages.{operation, item_count, items_max, answer_count};
+ghost use Rattle.tb_records.specs.Frames.{header_of_request, body_bytes, request_bytes, BodyFits, IsRequest};
+ghost use Rattle.tb_records.specs.Messages.{item_count, items_max, answer_count};
 ghost use Rattle.tb_records.specs.ReplyFrames.{reply_header_bytes, header_of_reply, reply_body_bytes, reply_bytes, ReplyBodyFits, IsReply};
 ghost use Rattle.tb_records.specs.Transport.{IsSent};
 
@@ -43,9 +43,7 @@ fn header(
 
 /// The header of a request before a body of this length.
 fn request_header(request: &Request, len: u32) -> [u8; 48]
-    ensures header { result
-        ≡ header_bytes request.now.client request.now.session request.now.request
-        (operation request.now.body) len }
+    ensures header { result ≡ header_of_request request.now len }
     ensures fits { (request.now.client < 2 ^ 128)
         × (request.now.session < 2 ^ 64)
         × (request.now.request < 2 ^ 32) }

@@ -11,7 +11,7 @@ use Rattle.tb_service.specs.declared.ends.Ended.TheVariants as way
 use Rattle.tb_service.specs.Sent.{requests_in, requests_of, is_closed}
 use Rattle.tb_service.specs.Names.{Name}
 use Rattle.tb_service.specs.Ports.{Offers, AreNumbered}
-use Rattle.tb_service.specs.Rule.{taken_in, Accounts}
+use Rattle.tb_service.specs.private.Rule.{taken_in, Accounts}
 use Rattle.tb_service.specs.Places.{requests, ports, places_from}
 use Rattle.tb_service.specs.Finished.{IsOffered}
 

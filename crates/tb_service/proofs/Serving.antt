@@ -16,7 +16,7 @@ use Rattle.tb_service.specs.Places.{requests, ports, HaveOwners}
 use Rattle.tb_service.specs.Names.{service_of}
 use Rattle.tb_service.specs.History.{Serves, ServesOn}
 use Rattle.tb_service.specs.Clerks.{server_state, Uses}
-use Rattle.tb_service.specs.Desks.{ServesOrders}
+use Rattle.tb_service.specs.private.Desks.{ServesOrders}
 use Rattle.tb_service.specs.Servers.{Finishes}
 use Rattle.tb_service.proofs.Turns.{serves_on_none, serves_on_more, serves_on_at}
 

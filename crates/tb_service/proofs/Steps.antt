@@ -11,7 +11,7 @@ use Rattle.tb_records.specs.Messages.{Message}
 use Rattle.tb_service.specs.declared.orders.Order.{Order}
 use Rattle.tb_service.specs.declared.rule.View.{View}
 use Rattle.tb_service.specs.Sent.{requests_in, requests_of, is_closed, has_none_of, ends_at_close}
-use Rattle.tb_service.specs.Rule.{spent, port_view, server_view, server_with, sent, taken_in, IsPort, IsServer, Fits, Queued, Accounts}
+use Rattle.tb_service.specs.private.Rule.{spent, port_view, server_view, server_with, sent, taken_in, IsPort, IsServer, Fits, Queued, Accounts}
 use Rattle.tb_service.proofs.SentOrders.{requests_of-append, requests_of-none, is_closed-none, requests_of-own, requests_of-other, is_closed-own, is_closed-other, has_none_of-other, ends_at_close-own, ends_at_close-other, nothing_behind, has_none_here}
 
 -- a fact of every view, after one is set or one is added

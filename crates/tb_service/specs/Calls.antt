@@ -1,12 +1,13 @@
 -- What a call offers.
 -- Cited by public contracts of: ports.
-use Rattle.std.specs.Prelude.{◌≡◌, List}
+use Rattle.std.specs.Prelude.{◌≡◌, ◌⊎◌, List, [], ◌∷◌, ◌++◌}
 use mathlib.Core.List.{IsPrefix}
 use Rattle.tb_records.specs.declared.replies.Status.TheVariants as status
 use Rattle.tb_records.specs.Messages.{Message}
 use Rattle.tb_machine.specs.declared.entries.Entry.{Entry}
 use Rattle.tb_machine.specs.Histories.{answer_to}
 use Rattle.tb_published.specs.Openings.{Opening, LegalIn, after_in}
+use Rattle.tb_service.specs.Ports.{Offers}
 
 -- After some list between the two, with which the seat was asked, the answer to the request was NotYet.
 pub record WasNotYet (o : Opening) (old new : List Entry) (request : Message) : Type 0 where
@@ -15,3 +16,8 @@ pub record WasNotYet (o : Opening) (old new : List Entry) (request : Message) : 
   pub grows : IsPrefix seen new
   pub legal : LegalIn o seen
   pub waits : (answer_to (after_in o seen) request).status ≡ status.NotYet
+
+-- A call offered nothing, or the request once, which was not answered yet.
+abbrev pub OffersOnce : Opening → List Entry → List Entry → Message → Offers → Offers → Type 0
+OffersOnce o old new request before after =
+    (after.offered ≡ before.offered) ⊎ ((after.offered ≡ before.offered ++ request ∷ []) × WasNotYet o old new request)

@@ -1,5 +1,5 @@
 -- What a server makes of requests, one after another.
--- Public contracts reach it through: Clerks, OfferedLaws, Servers, ToldLaws.
+-- Cited by public contracts of: starting.
 use Rattle.std.specs.Prelude.{ℕ, Bool, true, false, ◌≡◌, ◌+◌, List, [], ◌∷◌, ◌++◌, Option, Some, None}
 use Rattle.tb_records.specs.Messages.{Message}
 use Rattle.tb_sessions.specs.declared.classes.Class.{Class}
@@ -89,6 +89,9 @@ pub record ServerState (M G : Type 0) : Type 0 where
   pub history : List Entry
   pub moments : M
   pub gate : G
+
+abbrev pub state_with : {M G : Type 0} → List Entry → M → G → ServerState M G
+state_with history moments gate = record { history = history; moments = moments; gate = gate }
 
 module _ {M G : Type 0} (o : Opening) (tells : M → ℕ → M → Type 0) (passes : G → ℕ → G → Type 0) where
   -- The requests had their turns, from the place n on, and these were left out. The new history is what the others made of the

@@ -1,4 +1,3 @@
--- what public contracts cite, or reach through what they cite
 pub mod Sent
 pub mod Places
 pub mod Names
@@ -10,6 +9,4 @@ pub mod Finished
 pub mod Servers
 pub mod OfferedLaws
 pub mod ToldLaws
--- what private contracts alone cite
-pub mod Rule
-pub mod Desks
+pub mod private

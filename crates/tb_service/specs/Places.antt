@@ -11,10 +11,14 @@ abbrev pub requests : List Order → List Message
 requests [] = []
 requests (o ∷ os) = requests_in o.what ++ requests os
 
+-- the port of each request of an order
+abbrev pub ports_in : Order → List ℕ
+ports_in o = replicate (length (requests_in o.what)) o.port
+
 -- the port of each place
 abbrev pub ports : List Order → List ℕ
 ports [] = []
-ports (o ∷ os) = replicate (length (requests_in o.what)) o.port ++ ports os
+ports (o ∷ os) = ports_in o ++ ports os
 
 -- the places of port p in a list of ports, whose first is the place n
 abbrev pub places_from : ℕ → ℕ → List ℕ → List ℕ

@@ -1,7 +1,7 @@
 //! A call: a request is sent, and a seat is asked for its reply.
 ghost use Rattle.std.specs.Prelude.{IfOk};
 ghost use mathlib.Core.List.{IsPrefix};
-ghost use Rattle.tb_published.specs.Openings.{LegalIn, IsAnswerIn};
+ghost use Rattle.tb_published.specs.Openings.{AnswersIn, LegalIn, IsAnswerIn};
 
 use std::mem::replace;
 use std::thread;
@@ -18,8 +18,7 @@ pub(crate) fn ask<J: Naming>(
     requires legal { LegalIn J.opening seat.old }
     requires answer { IsAnswerIn J.opening seat.old request.now reply }
     ensures begins { IsPrefix seat.old seat.new }
-    ensures answer { IfOk result
-        (λ reply. LegalIn J.opening seat.new × IsAnswerIn J.opening seat.new request.now reply) }
+    ensures answer { IfOk result (AnswersIn J.opening seat.new request.now) }
 {
     for _ in 0..turns {
         let newest = match seat.answer(request) {

@@ -1,5 +1,5 @@
 //! What the requests of an order do to the history, each in its turn.
-ghost use Rattle.std.specs.Prelude.{◌≡◌, ◌+◌, ◌≤◌, ◌<◌, [], ◌∷◌, ◌++◌, length, vec_len, vec_capacity, OnOk};
+ghost use Rattle.std.specs.Prelude.{◌≡◌, ◌≤◌, ◌<◌, [], ◌∷◌, ◌++◌, length, OnOk};
 ghost use Rattle.tb_service.specs.History.{turn_of, HasTurn};
 
 use crate::gates::{Gate, Moments};
@@ -33,15 +33,13 @@ pub struct Clerk<J: Naming, W: Wait + Drop, M: Moments + Drop, G: Gate + Drop> {
 impl<J: Naming, W: Wait + Drop, M: Moments + Drop, G: Gate + Drop> Clerk<J, W, M, G> {
     ghost use Rattle.std.specs.Prelude.{replicate};
     ghost use Rattle.tb_service.specs.Sent.{requests_in};
-    ghost use Rattle.tb_service.specs.History.{ServesOn};
-    ghost use Rattle.tb_service.specs.Clerks.{server_state, HasCapacity, Uses};
+    ghost use Rattle.tb_service.specs.Places.{ports_in};
+    ghost use Rattle.tb_service.specs.Clerks.{ChangesCapacityAlone, HasCapacity, KeepsCapacity, ServesMore, Uses};
 
     /// Takes memory for the requests of one order.
     pub fn reserve(&mut self) -> Result<(), AllocError>
         ensures capacity { OnOk result (HasCapacity 8 self.new) }
-        ensures same { (server_state self.new ≡ server_state self.old)
-            × (self.new.ports.items ≡ self.old.ports.items)
-            × (self.new.refused.items ≡ self.old.refused.items) }
+        ensures same { ChangesCapacityAlone self.old self.new }
     {
         self.ports.reserve(REQUESTS_MAX)?;
         self.refused.reserve(REQUESTS_MAX)
@@ -50,8 +48,7 @@ impl<J: Naming, W: Wait + Drop, M: Moments + Drop, G: Gate + Drop> Clerk<J, W, M
     /// One request has its turn.
     fn serve(&mut self, port: u32, request: Request)
         requires { HasCapacity 1 self.old }
-        ensures served { ServesOn J.opening M.tells G.passes (server_state self.old) (length self.old.ports.items + 1)
-            (request ∷ []) self.old.refused.items self.new.refused.items (server_state self.new) }
+        ensures served { ServesMore J.opening M.tells G.passes self.old (request ∷ []) self.new }
         ensures ports { self.new.ports.items ≡ self.old.ports.items ++ port ∷ [] }
         ensures capacity { Uses 1 self.old self.new }
     {
@@ -67,8 +64,7 @@ impl<J: Naming, W: Wait + Drop, M: Moments + Drop, G: Gate + Drop> Clerk<J, W, M
     /// Requests have their turns, one after another.
     fn serve_all(&mut self, port: u32, requests: Vec<Request>)
         requires { HasCapacity (length requests.items) self.old }
-        ensures served { ServesOn J.opening M.tells G.passes (server_state self.old) (length self.old.ports.items + 1)
-            requests.items self.old.refused.items self.new.refused.items (server_state self.new) }
+        ensures served { ServesMore J.opening M.tells G.passes self.old requests.items self.new }
         ensures ports { self.new.ports.items ≡ self.old.ports.items ++ replicate (length requests.items) port }
     {
         for request in requests {
@@ -86,11 +82,8 @@ impl<J: Naming, W: Wait + Drop, M: Moments + Drop, G: Gate + Drop> Clerk<J, W, M
     /// The requests of an order have their turns.
     pub fn serve_order(&mut self, order: Order)
         requires { HasCapacity 8 self.old }
-        ensures served { ServesOn J.opening M.tells G.passes (server_state self.old) (length self.old.ports.items + 1)
-            (requests_in order.what) self.old.refused.items self.new.refused.items
-            (server_state self.new) }
-        ensures ports { self.new.ports.items
-            ≡ self.old.ports.items ++ replicate (length (requests_in order.what)) order.port }
+        ensures served { ServesMore J.opening M.tells G.passes self.old (requests_in order.what) self.new }
+        ensures ports { self.new.ports.items ≡ self.old.ports.items ++ ports_in order }
     {
         let Order { port, what } = order;
         match what {
@@ -105,11 +98,8 @@ impl<J: Naming, W: Wait + Drop, M: Moments + Drop, G: Gate + Drop> Clerk<J, W, M
 
     /// Shows what was entered. Where there is no memory for it, a later call shows the rest.
     pub fn show<R: Wait>(&mut self, rt: &R)
-        ensures same { (server_state self.new ≡ server_state self.old)
-            × (self.new.ports.items ≡ self.old.ports.items)
-            × (self.new.refused.items ≡ self.old.refused.items) }
-        ensures capacity { (vec_capacity self.new.ports ≡ vec_capacity self.old.ports)
-            × (vec_capacity self.new.refused ≡ vec_capacity self.old.refused) }
+        ensures same { ChangesCapacityAlone self.old self.new }
+        ensures capacity { KeepsCapacity self.old self.new }
     {
         let _ = self.held.publisher.show(rt);
     }

@@ -1,9 +1,8 @@
 //! A run that has ended, and its audit.
-ghost use Rattle.std.specs.Prelude.{◌≡◌, ℕ, ◌<◌, true, IfOk};
+ghost use Rattle.std.specs.Prelude.{◌≡◌, true, IfOk};
 ghost use Rattle.crossbeam_channel.specs.Claims.{view, IsSeatAt};
 ghost use Rattle.crossbeam_channel.specs.Ends.{sends_on};
 ghost use Rattle.tb_service.specs.declared.ends.Ended.TheVariants as way;
-ghost use Rattle.tb_service.specs.Sent.{is_closed};
 ghost use Rattle.tb_service.specs.Places.{ports, places_from};
 
 use crate::ends::Ended;
@@ -35,21 +34,11 @@ pub struct Finished<J: Naming> {
 impl<J: Naming> Model for Finished<J> {
     ghost use Rattle.crossbeam_channel.specs.Claims.{view as known, IsSeatAt};
     ghost use Rattle.crossbeam_channel.specs.Ends.{sends_on};
-    ghost use Rattle.tb_service.specs.Names.{service_of};
-    ghost use Rattle.tb_service.specs.Places.{requests, ports};
-    ghost use Rattle.tb_service.specs.Finished.{Finish, IsServed};
+    ghost use Rattle.tb_service.specs.Finished.{Finish, IsServed, finish_of};
 
     ghost Value = { Finish };
 
-    ghost view = { λ f.
-        record {
-          publisher = f.publisher;
-          ended = f.ended;
-          taken = requests (known f.pass).taken;
-          owners = ports (known f.pass).taken;
-          refused = f.refused.items;
-          service = service_of f.pass;
-        } };
+    ghost view = { λ f. finish_of f.publisher f.ended f.refused.items f.pass };
 
     ghost invariant = { λ f.
         IsSeatAt (sends_on f.sender) f.pass × IsServed (known f.pass) f.places.items f.ended };
@@ -73,7 +62,7 @@ impl<J: Naming> Finished<J> {
     ghost use Rattle.tb_published.specs.Openings.{LegalIn};
     ghost use Rattle.tb_service.specs.Places.{requests};
     ghost use Rattle.tb_service.specs.Names.{service_of};
-    ghost use Rattle.tb_service.specs.Finished.{IsOffered};
+    ghost use Rattle.tb_service.specs.Finished.{AllAreClosed, IsOffered};
 
     pub(crate) fn new(
         alloc: Global,
@@ -87,9 +76,7 @@ impl<J: Naming> Finished<J> {
         requires seated { IsSeatAt (sends_on sender) pass }
         requires serves { (view pass).serves ≡ true }
         requires placed { ports (view pass).taken ≡ places.items }
-        requires over { ended ≡ way.Closed
-            → (p : ℕ) → p < (view pass).ports
-            → is_closed p (view pass).taken ≡ true }
+        requires over { ended ≡ way.Closed → AllAreClosed (view pass) }
         ensures parts { (result.publisher ≡ publisher)
             × (result.ended ≡ ended)
             × (result.refused ≡ refused.items) }

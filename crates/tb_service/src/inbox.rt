@@ -37,7 +37,9 @@ fn mark(flags: &mut Vec<bool>, at: usize)
 }
 
 impl Inbox {
-    ghost use Rattle.std.specs.Prelude.{[], ◌∷◌, ◌++◌, ◌+◌, MatchOption, IfSome, IfOk};
+    ghost use Rattle.std.specs.Prelude.{[], ◌+◌, IfSome, IfOk};
+    ghost use Rattle.tb_service.specs.Finished.{AllAreClosed};
+    ghost use Rattle.tb_service.specs.private.Inboxes.{IsFresh, MakesNone, TakesNext, TakesNone};
     ghost use Rattle.tb_service.specs.Names.{service_of};
 
     /// A queue with no port.
@@ -56,14 +58,9 @@ impl Inbox {
     /// One port more.
     pub fn port(&mut self, alloc: Global, number: u32) -> Result<Port, AllocError>
         requires { number ≡ (view self.old.pass).ports }
-        ensures port { IfOk result
-            (λ port.
-            (port.offered ≡ [])
-            × (port.number ≡ number)
-            × (port.service ≡ service_of self.old.pass)) }
+        ensures port { IfOk result (IsFresh (service_of self.old.pass) number) }
         ensures more { IfOk result (λ port. (view self.new.pass).ports ≡ (view self.old.pass).ports + 1) }
-        ensures same { ((view self.new.pass).taken ≡ (view self.old.pass).taken)
-            × (service_of self.new.pass ≡ service_of self.old.pass) }
+        ensures same { TakesNone self.old.pass self.new.pass }
     {
         let sender = self.sender.try_clone()?;
         self.closed.push(false)?;
@@ -74,10 +71,8 @@ impl Inbox {
     /// Waits for an order; none where the receive failed.
     pub fn take<R: Wait>(&mut self, rt: &R) -> Option<Order>
         ensures owned { IfSome result (λ order. order.port < (view self.old.pass).ports) }
-        ensures taken { MatchOption result ((view self.new.pass).taken ≡ (view self.old.pass).taken)
-            (λ order. (view self.new.pass).taken ≡ (view self.old.pass).taken ++ order ∷ []) }
-        ensures same { ((view self.new.pass).ports ≡ (view self.old.pass).ports)
-            × (service_of self.new.pass ≡ service_of self.old.pass) }
+        ensures taken { TakesNext result self.old.pass self.new.pass }
+        ensures same { MakesNone self.old.pass self.new.pass }
     {
         let Ok(order) = self.receiver.recv_as::<TakesOrder, R>(rt, &mut self.pass) else {
             return None;
@@ -90,9 +85,7 @@ impl Inbox {
 
     /// Each port was closed.
     pub fn is_over(&self) -> bool
-        ensures { result ≡ true
-            → (p : ℕ) → p < (view self.now.pass).ports
-            → is_closed p (view self.now.pass).taken ≡ true }
+        ensures { result ≡ true → AllAreClosed (view self.now.pass) }
     {
         self.closed.iter().all(|is_closed| *is_closed)
     }

@@ -6,9 +6,8 @@
 //! - `batches`: `Batch`, one to eight requests that go together.
 //! - `orders`: `Order`, what a port sends in one step.
 //! - `rule`: what the holders of passes know, and the steps of the queue.
-//! - `sending`: how a port sends an order; where the queue is full it naps first.
 //! - `calling`: a seat asked again until it has the reply.
-//! - `ports`: `Port`, `Closed`, what a client thread hands its requests over by.
+//! - `ports`: `Port`, `Closed`, what a client thread hands its requests over by; where the queue is full it naps first.
 //! - `gates`: `Moments`, where moments come from; `Gate`, what each request passes; `Open`, a gate that lets all pass.
 //! - `inbox`: the server's end of the queue.
 //! - `clerk`: what the requests of an order do to the history, each in its turn.
@@ -31,7 +30,6 @@ mod limits;
 mod orders;
 mod ports;
 mod rule;
-mod sending;
 mod server;
 mod starting;
 

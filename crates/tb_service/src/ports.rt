@@ -1,17 +1,19 @@
-//! Ports: what the threads of clients send requests through.
-ghost use Rattle.std.specs.Prelude.{◌≡◌, true, [], length};
+//! Ports: what the threads of clients send requests through, and how an order is sent.
+ghost use Rattle.std.specs.Prelude.{◌≡◌, true, [], length, false};
 ghost use Rattle.crossbeam_channel.specs.Claims.{view, IsSeatAt};
 ghost use Rattle.crossbeam_channel.specs.Ends.{sends_on};
+ghost use Rattle.tb_service.specs.private.Rule.{SentOrBack};
 
 use crate::batches::Batch;
 use crate::calling::ask;
 use crate::orders::{Order, What};
-use crate::rule::{Sender, View};
-use crate::sending::send;
-use crossbeam_channel::Pass;
+use crate::rule::{Sender, Sends, View};
+use crossbeam_channel::{Pass, TrySendError};
 use std::alloc::Global;
 use std::marker::Model;
 use std::sync::Wait;
+use std::thread::Parker;
+use std::time::Duration;
 use tb_published::{Naming, Seat, SeatFault};
 use tb_records::{Reply, Request, Status};
 
@@ -63,12 +65,12 @@ impl Model for Closed {
 }
 
 impl Port {
-    ghost use Rattle.std.specs.Prelude.{◌++◌, ◌∷◌, ◌<◌, ◌≤◌, ◌⊎◌, false, IfOk, MatchResult};
+    ghost use Rattle.std.specs.Prelude.{◌∷◌, ◌<◌, ◌≤◌, false, IfOk};
     ghost use mathlib.Core.List.{IsPrefix};
-    ghost use Rattle.tb_published.specs.Openings.{LegalIn, IsAnswerIn};
-    ghost use Rattle.tb_service.specs.Rule.{port_view};
-    ghost use Rattle.tb_service.specs.Ports.{offers_of};
-    ghost use Rattle.tb_service.specs.Calls.{WasNotYet};
+    ghost use Rattle.tb_published.specs.Openings.{AnswersIn};
+    ghost use Rattle.tb_service.specs.private.Rule.{port_view};
+    ghost use Rattle.tb_service.specs.Ports.{SendsOrReturns, offers_of};
+    ghost use Rattle.tb_service.specs.Calls.{OffersOnce};
 
     pub(crate) fn new(sender: Sender, pass: Pass<Order, View>, number: u32, alloc: Global) -> Port
         requires seated { IsSeatAt (sends_on sender) pass }
@@ -86,8 +88,7 @@ impl Port {
 
     /// Sends a request. It comes back only where the server is gone, or the port sent 2^64 - 1 requests.
     pub fn offer<R: Wait>(&mut self, rt: &R, request: Request) -> Result<(), Request>
-        ensures offered { MatchResult result (λ _. self.new.offered ≡ self.old.offered ++ request ∷ [])
-            (λ back. (back ≡ request) × (self.new.offered ≡ self.old.offered)) }
+        ensures offered { SendsOrReturns result request (request ∷ []) self.old self.new }
         ensures same { (self.new.service ≡ self.old.service) × (self.new.number ≡ self.old.number) }
     {
         if self.count == u64::MAX {
@@ -118,8 +119,7 @@ impl Port {
     ) -> Result<(), Vec<Request>>
         requires some { 0 < length requests.items }
         requires few { length requests.items ≤ 8 }
-        ensures offered { MatchResult result (λ _. self.new.offered ≡ self.old.offered ++ requests.items)
-            (λ back. (back ≡ requests) × (self.new.offered ≡ self.old.offered)) }
+        ensures offered { SendsOrReturns result requests requests.items self.old self.new }
         ensures same { (self.new.service ≡ self.old.service) × (self.new.number ≡ self.old.number) }
     {
         let more = requests.len() as u64;
@@ -153,12 +153,8 @@ impl Port {
         turns: u32,
     ) -> Result<Reply, SeatFault>
         ensures begins { IsPrefix seat.old seat.new }
-        ensures answer { IfOk result
-            (λ reply.
-            LegalIn J.opening seat.new × IsAnswerIn J.opening seat.new request.now reply) }
-        ensures offered { (self.new.offered ≡ self.old.offered)
-            ⊎ ((self.new.offered ≡ self.old.offered ++ request.now ∷ [])
-            × WasNotYet J.opening seat.old seat.new request.now) }
+        ensures answer { IfOk result (AnswersIn J.opening seat.new request.now) }
+        ensures offered { OffersOnce J.opening seat.old seat.new request.now self.old self.new }
         ensures same { (self.new.service ≡ self.old.service) × (self.new.number ≡ self.old.number) }
     {
         let reply = seat.answer(request)?;
@@ -226,5 +222,53 @@ impl Closed {
             handed_over: _,
         } = self;
         pass
+    }
+}
+
+/// So many times a port naps where the queue is full, before it sleeps until the server wakes it.
+const NAPS: u32 = 16;
+
+/// The first nap with an order of one request, in microseconds. It is over before a server has taken what is in a full queue.
+const NAP_US: u64 = 20;
+
+/// The same with an order of several requests, which take the server longer.
+const LONG_NAP_US: u64 = 160;
+
+/// Gives the core away for a moment: after each nap for twice as long, up to four times the first.
+fn nap<R: Wait>(rt: &R, what: &What, naps: u32) {
+    let first = if let What::Many(_) = what {
+        LONG_NAP_US
+    } else {
+        NAP_US
+    };
+    Parker::new().park_timeout(rt, Duration::from_micros(first << naps.min(2)));
+}
+
+/// Sends an order. It comes back where the server is gone. A server wakes one sleeper with each order that it takes, which takes it longer
+/// than a small request does. So a port whose order finds the queue full naps at first, and then finds space for several orders.
+pub(crate) fn send<R: Wait>(
+    sender: &Sender,
+    pass: &mut Pass<Order, View>,
+    rt: &R,
+    mut order: Order,
+) -> Result<(), Order>
+    requires seated { IsSeatAt (sends_on sender.now) pass.old }
+    requires offers { (view pass.old).offers ≡ true }
+    requires own { order.port ≡ (view pass.old).port }
+    requires fresh { (view pass.old).closed ≡ false }
+    ensures seated { IsSeatAt (sends_on sender.now) pass.new × (pass.new.id ≡ pass.old.id) }
+    ensures sent { SentOrBack result order (view pass.old) (view pass.new) }
+{
+    for naps in 0..NAPS {
+        match sender.try_send_as::<Sends, R>(rt, pass, order) {
+            Ok(()) => return Ok(()),
+            Err(TrySendError::Full(back)) => order = back,
+            Err(refused) => return Err(refused.into_inner()),
+        }
+        nap(rt, &order.what, naps);
+    }
+    match sender.send_as::<Sends, R>(rt, pass, order) {
+        Ok(()) => Ok(()),
+        Err(refused) => Err(refused.into_inner()),
     }
 }

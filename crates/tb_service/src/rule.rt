@@ -29,7 +29,7 @@ pub struct Orderly;
 
 impl Protocol<Order, View> for Orderly {
     ghost use Rattle.std.specs.Prelude.{[]};
-    ghost use Rattle.tb_service.specs.Rule.{Queued, server_view};
+    ghost use Rattle.tb_service.specs.private.Rule.{Queued, server_view};
 
     ghost holds = { Queued };
 
@@ -41,7 +41,7 @@ pub struct Opens;
 
 impl Split<View> for Opens {
     ghost use Rattle.std.specs.Prelude.{◌+◌, false, []};
-    ghost use Rattle.tb_service.specs.Rule.{port_view, server_with};
+    ghost use Rattle.tb_service.specs.private.Rule.{port_view, server_with};
 
     ghost left = { λ v. server_with v (v.ports + 1) v.taken };
 
@@ -52,7 +52,7 @@ impl Split<View> for Opens {
 pub struct Sends;
 
 impl Outcome<Order, View> for Sends {
-    ghost use Rattle.tb_service.specs.Rule.{sent};
+    ghost use Rattle.tb_service.specs.private.Rule.{sent};
 
     ghost then = { λ v o w. w ≡ sent v o };
 }
@@ -66,7 +66,7 @@ pub struct TakesOrder;
 
 impl Outcome<Order, View> for TakesOrder {
     ghost use Rattle.std.specs.Prelude.{[], ◌∷◌, ◌++◌, ◌<◌};
-    ghost use Rattle.tb_service.specs.Rule.{server_with};
+    ghost use Rattle.tb_service.specs.private.Rule.{server_with};
 
     ghost then = { λ v o w. (w ≡ server_with v v.ports (v.taken ++ o ∷ [])) × (o.port < v.ports) };
 }
@@ -79,7 +79,7 @@ impl Lesson<Order, View> for TakesOrder {
 pub struct TakesIn;
 
 impl Join<View> for TakesIn {
-    ghost use Rattle.tb_service.specs.Rule.{taken_in, spent};
+    ghost use Rattle.tb_service.specs.private.Rule.{taken_in, spent};
 
     ghost both = { taken_in };
 
@@ -90,7 +90,7 @@ impl Join<View> for TakesIn {
 pub struct Account;
 
 impl Lesson<Order, View> for Account {
-    ghost use Rattle.tb_service.specs.Rule.{Accounts};
+    ghost use Rattle.tb_service.specs.private.Rule.{Accounts};
 
     ghost fact = { Accounts };
 }

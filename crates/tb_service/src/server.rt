@@ -22,23 +22,15 @@ struct Desk<J: Naming, W: Wait + Drop, M: Moments + Drop, G: Gate + Drop> {
 }
 
 impl<J: Naming, W: Wait + Drop, M: Moments + Drop, G: Gate + Drop> Desk<J, W, M, G> {
-    ghost use Rattle.std.specs.Prelude.{ℕ, ◌+◌, ◌++◌, ◌<◌, true, length, List, IfSome, Some};
-    ghost use Rattle.tb_service.specs.declared.orders.Order.{Order};
+    ghost use Rattle.std.specs.Prelude.{Some};
     ghost use Rattle.tb_service.specs.declared.ends.Ended.TheVariants as way;
-    ghost use Rattle.tb_service.specs.Sent.{is_closed};
-    ghost use Rattle.tb_service.specs.Places.{requests};
-    ghost use Rattle.tb_service.specs.Names.{service_of};
-    ghost use Rattle.tb_service.specs.History.{ServesOn};
-    ghost use Rattle.tb_service.specs.Clerks.{server_state};
-    ghost use Rattle.tb_service.specs.Desks.{ServesOrders};
+    ghost use Rattle.tb_service.specs.Finished.{AllAreClosed};
+    ghost use Rattle.tb_service.specs.private.Desks.{DeskServes};
 
     /// Takes one order and serves it; or says that all is over.
     fn step<R: Wait>(&mut self, rt: &R) -> Option<Ended>
-        ensures served { ServesOrders J.opening M.tells G.passes self.old.inbox.pass self.old.clerk
-            self.new.inbox.pass self.new.clerk }
-        ensures over { result ≡ Some way.Closed
-            → (p : ℕ) → p < (view self.new.inbox.pass).ports
-            → is_closed p (view self.new.inbox.pass).taken ≡ true }
+        ensures served { DeskServes J.opening M.tells G.passes self.old self.new }
+        ensures over { result ≡ Some way.Closed → AllAreClosed (view self.new.inbox.pass) }
     {
         if self.inbox.is_over() {
             return Some(Ended::Closed);
@@ -54,11 +46,8 @@ impl<J: Naming, W: Wait + Drop, M: Moments + Drop, G: Gate + Drop> Desk<J, W, M,
 
     /// Serves orders until all is over.
     fn serve<R: Wait>(&mut self, rt: &R) -> Ended
-        ensures served { ServesOrders J.opening M.tells G.passes self.old.inbox.pass self.old.clerk
-            self.new.inbox.pass self.new.clerk }
-        ensures over { result ≡ way.Closed
-            → (p : ℕ) → p < (view self.new.inbox.pass).ports
-            → is_closed p (view self.new.inbox.pass).taken ≡ true }
+        ensures served { DeskServes J.opening M.tells G.passes self.old self.new }
+        ensures over { result ≡ way.Closed → AllAreClosed (view self.new.inbox.pass) }
     {
         for _ in rt.forever() {
             if let Some(ended) = self.step(rt) {

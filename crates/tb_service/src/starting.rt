@@ -1,8 +1,10 @@
 //! A server and its ports.
-ghost use Rattle.std.specs.Prelude.{◌≡◌, length, IfOk};
+ghost use Rattle.std.specs.Prelude.{◌≡◌, IfOk};
 ghost use Rattle.crossbeam_channel.specs.Claims.{view};
 ghost use Rattle.tb_service.specs.Names.{service_of};
-ghost use Rattle.tb_service.specs.Ports.{AreNumbered};
+ghost use Rattle.tb_service.specs.History.{state_with};
+ghost use Rattle.tb_service.specs.private.Inboxes.{TakesNone};
+ghost use Rattle.tb_service.specs.Ports.{ArePortsOf};
 
 use crate::clerk::Clerk;
 use crate::gates::{Gate, Moments};
@@ -17,13 +19,9 @@ use tb_published::{HeldPublisher, Naming, Publisher};
 // The ports of a queue that has none, numbered from 0.
 fn make_ports(inbox: &mut Inbox, alloc: Global, count: u32) -> Result<Vec<Port>, AllocError>
     requires { (view inbox.old.pass).ports ≡ 0 }
-    ensures ports { IfOk result
-        (λ ports.
-        AreNumbered (service_of inbox.old.pass) 0 ports.items
-        × (length ports.items ≡ count)) }
+    ensures ports { IfOk result (λ ports. ArePortsOf (service_of inbox.old.pass) count ports.items) }
     ensures made { IfOk result (λ _. (view inbox.new.pass).ports ≡ count) }
-    ensures same { ((view inbox.new.pass).taken ≡ (view inbox.old.pass).taken)
-        × (service_of inbox.new.pass ≡ service_of inbox.old.pass) }
+    ensures same { TakesNone inbox.old.pass inbox.new.pass }
 {
     let mut ports = Vec::new(alloc);
     for number in 0..count {
@@ -43,12 +41,8 @@ pub fn service<J: Naming, W: Wait + Drop, M: Moments + Drop, G: Gate + Drop>(
     moments: M,
     gate: G,
 ) -> Result<(Server<J, W, M, G>, Vec<Port>), AllocError>
-    ensures begins { IfOk result
-        (λ made.
-        made.0.state
-        ≡ record { history = publisher.history; moments = moments; gate = gate }) }
-    ensures ports { IfOk result
-        (λ made. AreNumbered made.0.service 0 made.1.items × (length made.1.items ≡ count)) }
+    ensures begins { IfOk result (λ made. made.0.state ≡ state_with publisher.history moments gate) }
+    ensures ports { IfOk result (λ made. ArePortsOf made.0.service count made.1.items) }
     ensures count { IfOk result (λ made. made.0.port_count ≡ count) }
 {
     let held = HeldPublisher::new(publisher, rt);

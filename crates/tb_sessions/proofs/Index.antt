@@ -18,7 +18,7 @@ use Rattle.tb_records.proofs.Entries.{found-row, own-replaced, own-inserted, own
 use Rattle.tb_sessions.specs.declared.rows.Row.{Row}
 use Rattle.tb_sessions.specs.Judged.{client_of}
 use Rattle.tb_sessions.specs.Admission.{oldest, driven_out}
-use Rattle.tb_sessions.specs.Indexed.{kept_row, client_at, IsLinked, IsIndexed, IsFirstBehind, FindsOldest}
+use Rattle.tb_sessions.specs.private.Indexed.{kept_row, client_at, IsLinked, IsIndexed, IsFirstBehind, FindsOldest}
 use Rattle.tb_sessions.proofs.LookUps.{GoneAt, PutAt, decide, at_itself, removed, written, inserted, first_least, each_found}
 
 pub inside : {X : Type 0} {x y : X} → Some x ≡ Some y → x ≡ y

@@ -2,7 +2,6 @@
 use Rattle.std.proofs.Common.{◌≡◌, ℕ, Result, Ok, Err, OnOk, OnErr, IfOk, Some, sym, ap, ◌∙◌, subst, ⊎_elim, arith, length}
 use Rattle.std.proofs.lemmas.Map.Steps.{set_value_same}
 use Rattle.std.specs.Ordering.{nat_cmp}
-use Rattle.std.specs.List.{slice_get}
 use Rattle.std.specs.List.Sorted.{IsStrictlySortedBy}
 use Rattle.std.specs.Map.{values_of, keys_of, lookup, set_value}
 use Rattle.std.specs.BTreeMap.{is_at}
@@ -15,7 +14,7 @@ use Rattle.tb_sessions.specs.declared.rows.Row.{Row}
 use Rattle.tb_sessions.specs.declared.classes.Class.{Class}
 use Rattle.tb_sessions.specs.declared.classes.Class.TheVariants.{New}
 use Rattle.tb_sessions.specs.Judged.{client_of, class_beside}
-use Rattle.tb_sessions.specs.Indexed.{IsIndexed, IsLinked, FindsOldest, kept_row, client_at}
+use Rattle.tb_sessions.specs.private.Indexed.{IsIndexed, IsLinked, FindsOldest, kept_row, client_at}
 use Rattle.tb_sessions.specs.Renewal.{Serving, IsNewBeside, IsLater, IsRenewal, CalledBeside, Renews, Served}
 use Rattle.tb_sessions.proofs.Index.{index_renewed}
 

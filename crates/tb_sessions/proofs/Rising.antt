@@ -13,7 +13,7 @@ use Rattle.tb_records.proofs.ByKey.{each-map, each-find}
 use Rattle.tb_records.proofs.Entries.{found-row}
 use Rattle.tb_sessions.specs.declared.rows.Row.{Row}
 use Rattle.tb_sessions.specs.Judged.{client_of}
-use Rattle.tb_sessions.specs.Indexed.{kept_row, IsIndexed, IsFirstBehind}
+use Rattle.tb_sessions.specs.private.Indexed.{kept_row, IsIndexed, IsFirstBehind}
 use Rattle.tb_sessions.proofs.LookUps.{less_is}
 use Rattle.tb_sessions.proofs.Index.{inside, first_found}
 

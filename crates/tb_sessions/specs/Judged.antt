@@ -1,6 +1,6 @@
 -- How a request relates to the sessions: its class.
 -- Cited by public contracts of: table.
-use Rattle.std.specs.Prelude.{ℕ, Bool, ◌&&◌, ◌==◌, ◌+◌, nat_lt, List, [], ◌∷◌, Option, Some, None, if◌then◌else◌, find}
+use Rattle.std.specs.Prelude.{ℕ, Bool, ◌&&◌, ◌==◌, ◌+◌, ◌≡◌, nat_lt, List, [], ◌∷◌, Option, Some, None, if◌then◌else◌, find}
 use Rattle.tb_records.specs.Messages.{Message, is_register}
 use Rattle.tb_records.specs.Same.{same_body}
 use Rattle.tb_sessions.specs.declared.classes.Class.{Class}
@@ -52,3 +52,7 @@ class_by (Some row) r = class_beside row r
 -- the class of a request by the rows
 abbrev pub class_of : List Row → Message → Class
 class_of rows r = class_by (row_of rows r.client) r
+
+-- the class of a request that is not served by a row: its own, and New only where its client has no session
+abbrev pub GetsClass : List Row → Message → Class → Type 0
+GetsClass rows r class = (class ≡ class_of rows r) × (class ≡ New → row_of rows r.client ≡ None)

@@ -1,7 +1,7 @@
 //! The clients in the order in which their sessions end where the table is full.
 ghost use Rattle.std.specs.Prelude.{IfSome};
 ghost use Rattle.std.specs.Option.{IfNone};
-ghost use Rattle.tb_sessions.specs.Indexed.{IsIndexed, IsFirstDue, IsFirstBehind, FindsOldest};
+ghost use Rattle.tb_sessions.specs.private.Indexed.{IsIndexed, IsFirstDue, IsFirstBehind, FindsOldest};
 
 use crate::rows::Row;
 use avl_tree::AvlMap;

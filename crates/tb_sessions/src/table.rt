@@ -1,9 +1,10 @@
 //! The sessions of the clients: at most one of each, and at most so many in all.
 ghost use Rattle.std.specs.Prelude.{◌≡◌, ◌≢◌, ◌<◌, ◌≤◌, true, false, IfOk, IfErr, OnOk, OnErr, MatchOption, Some, None, [], length};
 ghost use Rattle.std.specs.Option.{option_map};
-ghost use Rattle.tb_records.specs.Ordered.{Each, put, replaced, taken_out};
-ghost use Rattle.tb_sessions.specs.Judged.{class_beside, class_by, class_of, client_of, row_of};
+ghost use Rattle.tb_records.specs.Ordered.{Each, put, taken_out};
+ghost use Rattle.tb_sessions.specs.Judged.{class_beside, class_by, class_of, client_of, row_of, GetsClass};
 ghost use Rattle.tb_sessions.specs.Admission.{admitted, driven_out, leaving, oldest};
+ghost use Rattle.tb_sessions.specs.private.Indexed.{Exchanges};
 ghost use Rattle.tb_sessions.specs.Renewal.{MayServe, Renews, CalledBeside, Served, TakesBoth};
 
 use crate::classes::Class;
@@ -28,7 +29,7 @@ impl Model for Sessions {
     ghost use Rattle.std.specs.Map.{values_of};
     ghost use Rattle.avl_tree.specs.Map.{entries};
     ghost use Rattle.tb_sessions.specs.Admission.{Table};
-    ghost use Rattle.tb_sessions.specs.Indexed.{FindsOldest};
+    ghost use Rattle.tb_sessions.specs.private.Indexed.{FindsOldest};
 
     ghost Value = { Table };
 
@@ -164,10 +165,7 @@ impl Sessions {
             (λ answer.
             Served F.FnMut serve.old self.old.rows request.old answer serve.new request.new
             self.new.rows) }
-        ensures told { IfErr result
-            (λ class.
-            (class ≡ class_of self.old.rows request.old)
-            × (class ≡ Class.New → row_of self.old.rows request.old.client ≡ None)) }
+        ensures told { IfErr result (GetsClass self.old.rows request.old) }
         ensures unchanged { OnErr result
             ((self.new ≡ self.old) × (request.new ≡ request.old) × (serve.new ≡ serve.old)) }
     {
@@ -189,9 +187,7 @@ impl Sessions {
     /// Exchanges a row and that of its client, where the client has one, and says that it has.
     fn renew(&mut self, row: &mut Row) -> bool
         requires later { Each (λ (other : Row). other.commit < row.old.commit) self.old.rows }
-        ensures renewed { result ≡ true
-            → (row_of self.old.rows row.old.client ≡ Some row.new)
-            × (self.new ≡ record self.old { rows = replaced client_of row.old self.old.rows }) }
+        ensures renewed { result ≡ true → Exchanges self.old row.old self.new row.new }
         ensures absent { result ≡ false
             → (row.new ≡ row.old)
             × (row_of self.old.rows row.old.client ≡ None)

@@ -9,7 +9,7 @@ use Rattle.tb_published.specs.Openings.{Opening, LegalIn}
 use Rattle.tb_published.proofs.Prefixes.{prefix_trans, prefix_whole, prefix_length}
 use Rattle.tb_storm.specs.declared.totals.Totals.{Totals}
 use Rattle.tb_storm.specs.Totals.{ids_of, AreTotals}
-use Rattle.tb_storm.specs.Found.{replies_of, transfers_after, credited_after, Totaled, TotaledIn}
+use Rattle.tb_storm.specs.private.Found.{replies_of, transfers_after, credited_after, Totaled, TotaledIn}
 
 -- no storm is larger
 pub few : (clients transfers : ℕ) → clients ≤ 16 → transfers ≤ 1000 → clients * (transfers + 1) ≤ 16016

@@ -1,6 +1,6 @@
 //! The clients of a storm.
 ghost use Rattle.std.specs.Prelude.{◌≡◌, ◌≤◌, ◌+◌, OnOk};
-ghost use Rattle.tb_storm.specs.Clients.{offers, repeats_at};
+ghost use Rattle.tb_storm.specs.private.Clients.{offers, repeats_at};
 
 use crate::faults::StormFault;
 use crate::scale::id_of;

@@ -1,6 +1,6 @@
 //! Which fault of a storm is reported.
 ghost use Rattle.std.specs.Prelude.{◌≡◌, ◌≤◌, Ok, IfOk};
-ghost use Rattle.tb_storm.specs.Outcomes.{answered, first_of, outcome_of};
+ghost use Rattle.tb_storm.specs.private.Outcomes.{answered, first_of, outcome_of};
 
 use crate::faults::StormFault;
 use crate::totals::Totals;

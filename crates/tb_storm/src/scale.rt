@@ -1,6 +1,6 @@
 //! How large a storm is.
 ghost use Rattle.std.specs.Prelude.{◌≡◌, ◌≤◌, ◌+◌, ◌*◌, IfOk, OnOk};
-ghost use Rattle.tb_storm.specs.Found.{replies_of};
+ghost use Rattle.tb_storm.specs.private.Found.{replies_of};
 ghost use Rattle.tb_storm.specs.Totals.{ids_of, with_ids_of};
 
 use std::alloc::{AllocError, Global};

@@ -1,14 +1,13 @@
 //! A storm: the server's thread, the clients' threads, and the lines that report on them.
-ghost use Rattle.std.specs.Prelude.{◌≡◌, ◌<◌, ◌≤◌, IfOk, length, map, fold};
+ghost use Rattle.std.specs.Prelude.{◌≡◌, ◌<◌, ◌≤◌, IfOk};
 ghost use mathlib.Core.List.{IsPrefix};
 ghost use Rattle.tb_records.specs.Transport.{risen};
 ghost use Rattle.tb_commands.specs.Statuses.{TellsLine};
 ghost use Rattle.tb_storm.specs.declared.totals.Totals.{Totals};
 ghost use Rattle.tb_storm.specs.declared.faults.StormFault.{StormFault};
-ghost use Rattle.tb_published.specs.Openings.{LegalIn};
-ghost use Rattle.tb_storm.specs.Found.{replies_of, transfers_after, credited_after, Totaled, TotaledIn};
+ghost use Rattle.tb_storm.specs.private.Found.{CountsTransfers, replies_of, credited_after, Totaled, TotaledIn};
 ghost use Rattle.tb_storm.specs.Totals.{first_credits, AreTotals};
-ghost use Rattle.tb_storm.specs.Outcomes.{first_of, Concludes};
+ghost use Rattle.tb_storm.specs.private.Outcomes.{Concludes, fared};
 ghost use Rattle.tb_storm.specs.Storms.{storm_status, storm_line, Writes, TellsOf, StormExits};
 
 use crate::clients::Client;
@@ -105,7 +104,7 @@ fn close_all<J: Naming, R: Wait>(rt: &R, first: &mut Client<J>, others: &mut Vec
 
 /// The fault that is reported of the clients.
 fn fared<J: Naming>(first: Option<StormFault>, others: &[Client<J>]) -> Option<StormFault>
-    ensures { result ≡ fold first_of first (map (λ client. client.fault) others.now) }
+    ensures { result ≡ fared first others.now }
 {
     let mut fared = first;
     for client in others {
@@ -117,8 +116,7 @@ fn fared<J: Naming>(first: Option<StormFault>, others: &[Client<J>]) -> Option<S
 /// How many of the transfers with these ids a seat finds, and after how many entries.
 fn count_transfers<J: Naming>(seat: &mut Seat<J>, ids: &[u128]) -> Result<(u64, usize), StormFault>
     ensures begins { IsPrefix seat.old seat.new }
-    ensures found { IfOk result (λ found. LegalIn J.opening seat.new × (found.0 ≡ length seat.new)
-        × (found.1 ≡ transfers_after J.opening seat.new ids.now)) }
+    ensures found { IfOk result (λ found. CountsTransfers J.opening seat.new ids.now found.0 found.1) }
 {
     let (seen, transfers) = seat.lookup_transfers(ids)?;
     Ok((seen, transfers.len()))
@@ -180,7 +178,7 @@ fn end<J: Naming, R: Wait>(
     scale: Scale,
 ) -> Result<Totals, StormFault>
     ensures told { Concludes (replies_of scale.clients scale.transfers) finished.ended
-        (fold first_of first.old.fault (map (λ client. client.fault) others.now)) result }
+        (fared first.old.fault others.now) result }
     ensures totals { IfOk result
         (Totaled J.opening scale.clients scale.transfers finished.publisher.history) }
     ensures enough { IfOk result

@@ -1,5 +1,5 @@
 -- The bytes of statements, and what entries mean: a field and its number each.
--- Cited by public contracts of: lexemes, text_laws.
+-- Cited by public contracts of: lexemes.
 use Rattle.std.specs.Prelude.{ℕ, Bool, false, not, ◌&&◌, ◌||◌, ◌==◌, ◌-◌, ◌%◌, ◌^◌, nat_le, List, [], ◌∷◌, Option, Some, None, if◌then◌else◌, bit_or}
 use Rattle.tb_records.specs.declared.operations.Operation.{Operation}
 use Rattle.tb_records.specs.declared.operations.Operation.TheVariants.{Register}

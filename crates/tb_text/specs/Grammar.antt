@@ -110,6 +110,10 @@ body_said CreateTransfers events = body.CreateTransfers (map transfer_of events)
 body_said LookupAccounts events = body.LookupAccounts (map (value_of field.Id) events)
 body_said LookupTransfers events = body.LookupTransfers (map (value_of field.Id) events)
 
+-- two accounts, for an example: one of id 1 with two flags, and one of id 10
+abbrev pub two_accounts : Body
+two_accounts = body_said CreateAccounts (((field.Id, 1) ∷ (field.Flags, 1) ∷ (field.Flags, 8) ∷ []) ∷ ((field.Id, 10) ∷ []) ∷ [])
+
 -- the request that a header, an operation and its events say, and its moment
 abbrev pub said : List Entry → Operation → List (List Entry) → ℕ × Message
 said header o events = (

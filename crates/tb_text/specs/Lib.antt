@@ -7,3 +7,4 @@ pub mod Grammar
 pub mod Positions
 pub mod Printed
 pub mod Shown
+pub mod private

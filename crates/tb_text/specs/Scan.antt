@@ -209,6 +209,14 @@ abbrev pub parted_at : Scan → Operation → Place → Option Scan
 parted_at s o (Given f) = if nat_lt (item_count s + 1) 8190 then Some (pushed s o Parted) else None
 parted_at s o place = None
 
+-- behind `;`: the statement is whole
+abbrev pub closed : Scan → Option Scan
+closed s = option_and_then (λ o. closed_at s o s.place) s.operation
+
+-- behind `,`: another event or id is to come
+abbrev pub parted : Scan → Option Scan
+parted s = option_and_then (λ o. parted_at s o s.place) s.operation
+
 abbrev pub valued_at : Scan → Place → Option Scan
 valued_at s (Named f) = Some (moved s (Wanted f))
 valued_at s place = None
@@ -221,8 +229,8 @@ abbrev pub mark : Scan → ℕ → Option Scan
 mark s b =
     if b == 61 then valued_at s s.place
     else if b == 124 then joined_at s s.place
-    else if b == 44 then option_and_then (λ o. parted_at s o s.place) s.operation
-    else if b == 59 then option_and_then (λ o. closed_at s o s.place) s.operation
+    else if b == 44 then parted s
+    else if b == 59 then closed s
     else None
 
 -- bytes

@@ -20,6 +20,10 @@ Scans before text (Some place) after =
     (place < length text) × (last : Scan) × (run before (take place text) ≡ Some last)
     × (step last (get_or text place 0) ≡ None) × (after.pairs ≡ last.pairs)
 
+-- requests, each behind its moment
+abbrev pub Pairs : Type 0
+Pairs = List (ℕ × Message)
+
 -- the statements of a text are these requests at their moments
 pub record Means (text : List ℕ) (pairs : List (ℕ × Message)) : Type 0 where
   pub last : Scan
@@ -38,6 +42,10 @@ pub record Stops (text : List ℕ) (pairs : List (ℕ × Message)) (place : ℕ)
 -- these requests come first among others
 abbrev pub StandFirst : List (ℕ × Message) → List (ℕ × Message) → Type 0
 StandFirst pairs others = (further : List (ℕ × Message)) × (others ≡ pairs ++ further)
+
+-- bytes begin a text of these requests
+abbrev pub GoOnTo : List ℕ → Pairs → Type 0
+GoOnTo bytes pairs = (more : List ℕ) × Means (bytes ++ more) pairs
 
 -- a text of statements begins with these bytes
 abbrev pub BeginsStatements : List ℕ → Type 0

@@ -1,9 +1,8 @@
 //! A reader of statements, byte by byte.
-ghost use Rattle.std.specs.Option.{option_and_then};
 ghost use Rattle.std.specs.Prelude.{nat_lt, ◌≡◌, ◌++◌, ◌∷◌, ◌+◌, [], Some, IfOk};
 ghost use Rattle.tb_text.specs.Scan.{Scan, behind};
 ghost use Rattle.tb_text.specs.Scan.{awaits_field, awaits_operation, wanted, with_items, body_of, is_field, may_stand, begins_word, entered, moved, within, opened, taken};
-ghost use Rattle.tb_text.specs.Scan.{word_ended, number_ended, item_count, pushed, finished, closed_at, parted_at, valued_at, joined_at, mark, word_grown, next_number, decimal_grown, hexadecimal_grown, zero_begun, zero_left, gap, word_left, number_left, step, is_at_rest};
+ghost use Rattle.tb_text.specs.Scan.{word_ended, number_ended, item_count, pushed, finished, closed, parted, valued_at, joined_at, mark, word_grown, next_number, decimal_grown, hexadecimal_grown, zero_begun, zero_left, gap, word_left, number_left, step, is_at_rest};
 ghost use Rattle.tb_text.specs.Awaited.{has_operation};
 ghost use Rattle.tb_text.specs.Steps.{Steps, Scans};
 
@@ -40,19 +39,9 @@ impl Model for Scanner {
 
     ghost Value = { Scan };
 
-    ghost view = { λ s.
-        record {
-          pairs = s.pairs.items;
-          lexeme = s.lexeme;
-          spelled = s.spelled.items;
-          place = s.place;
-          operation = s.operation;
-          header = s.header.items;
-          given = s.given.items;
-          accounts = s.accounts.items;
-          transfers = s.transfers.items;
-          ids = s.ids.items;
-        } };
+    ghost use Rattle.tb_text.specs.private.Scanning.{scan_of};
+
+    ghost view = { scan_of };
 }
 
 impl Place {
@@ -286,9 +275,7 @@ impl Scanner {
 
     /// Takes a `;`.
     fn close(&mut self) -> Result<(), Refusal>
-        ensures { Steps self.old result
-            (option_and_then (λ o. closed_at self.old o self.old.place) self.old.operation)
-            self.new }
+        ensures { Steps self.old result (closed self.old) self.new }
     {
         match (self.operation, self.place) {
             (Some(operation), Place::Opened) => self.finish(operation),
@@ -302,9 +289,7 @@ impl Scanner {
 
     /// Takes a `,`.
     fn part(&mut self) -> Result<(), Refusal>
-        ensures { Steps self.old result
-            (option_and_then (λ o. parted_at self.old o self.old.place) self.old.operation)
-            self.new }
+        ensures { Steps self.old result (parted self.old) self.new }
     {
         match (self.operation, self.place) {
             (Some(operation), Place::Given(_)) if self.has_room() => {

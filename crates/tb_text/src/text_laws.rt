@@ -1,42 +1,45 @@
 //! What holds of every text of statements.
-ghost use Rattle.std.specs.Prelude.{◌≡◌, ◌<◌, ◌+◌, ◌-◌, ◌^◌, ◌++◌, ◌∷◌, [], All, List, None, Option, Some, ℕ, codes, length, take};
+ghost use Rattle.std.specs.Prelude.{◌≡◌, ◌<◌, ◌+◌, ◌-◌, ◌^◌, ◌∷◌, [], All, List, None, Option, Some, ℕ, codes, length, take};
 ghost use Rattle.tb_records.specs.Inputs.{IsTimed};
-ghost use Rattle.tb_records.specs.Messages.{Message, asked};
-ghost use Rattle.tb_records.specs.declared.bodies.Body.TheVariants.{CreateAccounts as AccountsBody, Register};
+ghost use Rattle.tb_records.specs.Messages.{asked};
+ghost use Rattle.tb_records.specs.declared.bodies.Body.TheVariants.{Register};
 ghost use Rattle.tb_records.specs.declared.operations.Operation.TheVariants.{CreateAccounts, CreateTransfers};
 ghost use Rattle.tb_text.specs.declared.words.Field.TheVariants.{Amount, Client, Code, Flags, Id};
 ghost use Rattle.tb_text.specs.declared.words.Flag.TheVariants.{Pending};
 ghost use Rattle.tb_text.specs.declared.words.Word.TheVariants.{AmountMax, Field as FieldWord, Flag as FlagWord};
-ghost use Rattle.tb_text.specs.Entries.{account_of};
-ghost use Rattle.tb_text.specs.Grammar.{Mark, Name, Number, Says, Text, number_as, number_of};
+ghost use Rattle.tb_text.specs.Grammar.{Mark, Name, Number, Says, Text, number_as, number_of, two_accounts};
 ghost use Rattle.tb_text.specs.Printed.{flags_text, printed};
-ghost use Rattle.tb_text.specs.Steps.{BeginsUpTo, Means, Reads, StandFirst, Stops};
+ghost use Rattle.tb_text.specs.Steps.{BeginsStatements, BeginsUpTo, GoOnTo, Means, Pairs, Reads, StandFirst, Stops};
 
 /// What is printed of requests and their moments is a text that means them.
 #[tactic(auto, using(crate::proofs::Statements::read_back))]
 pub fn printed_is_read()
-    ensures { (pairs : List (ℕ × Message)) → All IsTimed pairs → Means (printed pairs) pairs }
+    ensures { (pairs : Pairs) → All IsTimed pairs → Means (printed pairs) pairs }
 {}
 
 /// A text has at most one meaning.
 #[tactic(auto, using(crate::proofs::Statements::one_meaning))]
 pub fn one_meaning()
-    ensures { (text : List ℕ) (ps qs : List (ℕ × Message)) → Means text ps → Means text qs → ps ≡ qs }
+    ensures { (text : List ℕ) (ps qs : Pairs) → Means text ps → Means text qs → ps ≡ qs }
 {}
 
 /// The statements of a text are these requests exactly where the grammar of statements says that the text says them.
 #[tactic(auto, using(crate::proofs::Meanings::means_says, crate::proofs::Meanings::says_means))]
 pub fn means_what_it_says()
-    ensures said { (text : List ℕ) (pairs : List (ℕ × Message)) → Means text pairs → Says text pairs }
-    ensures meant { (text : List ℕ) (pairs : List (ℕ × Message)) → Says text pairs → Means text pairs }
+    ensures said { (text : List ℕ) (pairs : Pairs) → Means text pairs → Says text pairs }
+    ensures meant { (text : List ℕ) (pairs : Pairs) → Says text pairs → Means text pairs }
 {}
 
-/// Numbers and values, as the grammar has them.
-pub fn worked_values()
+/// Numbers, as the grammar has them.
+pub fn worked_numbers()
     ensures decimal { number_of 10 (codes "0070") ≡ Some 70 }
     ensures hexadecimal { number_of 16 (codes "2aF") ≡ Some 687 }
     ensures no_decimal { number_of 10 (codes "2a") ≡ None }
     ensures no_digits { number_of 16 [] ≡ None }
+{}
+
+/// Values of fields, as the grammar has them.
+pub fn worked_values()
     ensures greatest { number_as (Some CreateAccounts) Code (Number 65535) ≡ Some 65535 }
     ensures too_great { number_as (Some CreateAccounts) Code (Number 65536) ≡ None }
     ensures no_client { number_as None Client (Number 0) ≡ None }
@@ -58,26 +61,19 @@ pub fn worked_statement()
 /// A text of two events, with flags, and a comment at its end.
 pub fn worked_events()
     ensures { Says (codes "client=7 session=1 request=1 create_accounts\n id=1 flags=linked|8, id=0xA;  # end")
-        ((
-          0,
-          asked 7 1 1 (AccountsBody (
-              account_of ((Id, 1) ∷ (Flags, 1) ∷ (Flags, 8) ∷ [])
-              ∷ account_of ((Id, 10) ∷ [])
-              ∷ [])),
-        ) ∷ []) }
+        ((0, asked 7 1 1 two_accounts) ∷ []) }
 {}
 
 /// A word does not follow a number directly.
 pub fn worked_fault()
-    ensures { (pairs : List (ℕ × Message)) → Says (codes "at=1client=7 register;") pairs → ⊥ }
+    ensures { (pairs : Pairs) → Says (codes "at=1client=7 register;") pairs → ⊥ }
 {}
 
 /// Where reading stops before the end, no statements begin with the text up to the byte there, that byte with it.
 pub fn nothing_goes_on()
-    ensures { (text : List ℕ) (pairs others : List (ℕ × Message)) (place : ℕ) (more : List ℕ)
-        → place < length text
+    ensures { (text : List ℕ) (pairs : Pairs) (place : ℕ) → place < length text
         → Stops text pairs place
-        → Means (take (place + 1) text ++ more) others
+        → BeginsStatements (take (place + 1) text)
         → ⊥ }
 {}
 
@@ -85,22 +81,22 @@ pub fn nothing_goes_on()
 /// not with the byte there.
 #[tactic(auto, using(crate::proofs::Faults::begins_up_to))]
 pub fn begins_up_to_the_place()
-    ensures { (text : List ℕ) (pairs : List (ℕ × Message)) (place : Option ℕ) → Reads text pairs place
+    ensures { (text : List ℕ) (pairs : Pairs) (place : Option ℕ) → Reads text pairs place
         → BeginsUpTo text place }
 {}
 
 /// However a text goes on behind the place where reading stops, the requests of the statements that were whole there
 /// are its first ones.
 pub fn whole_statements_stay()
-    ensures { (text more : List ℕ) (pairs others : List (ℕ × Message)) (place : ℕ)
+    ensures { (text : List ℕ) (pairs others : Pairs) (place : ℕ)
         → Stops text pairs place
-        → Means (take place text ++ more) others
+        → GoOnTo (take place text) others
         → StandFirst pairs others }
 {}
 
 /// A text in which reading stops has no meaning.
 pub fn no_meaning()
-    ensures { (text : List ℕ) (pairs others : List (ℕ × Message)) (place : ℕ) → Stops text pairs place
+    ensures { (text : List ℕ) (pairs others : Pairs) (place : ℕ) → Stops text pairs place
         → Means text others
         → ⊥ }
 {}

@@ -15,8 +15,8 @@ use Rattle.tb_text_commands.specs.declared.faults.Fault.{Fault}
 use Rattle.tb_text_commands.specs.declared.faults.Fault.TheVariants.{Device}
 use Rattle.tb_text_commands.specs.declared.script_standings.ScriptStandings.{ScriptStandings}
 use Rattle.tb_text_commands.specs.AuditRuns.{PutsAll, PutsNothing}
-use Rattle.tb_text_commands.specs.Noted.{NotesAll}
-use Rattle.tb_text_commands.specs.Putting.{PutsItem, PutsSome, entry_of}
+use Rattle.tb_text_commands.specs.private.Noted.{NotesAll}
+use Rattle.tb_text_commands.specs.private.Putting.{PutsItem, PutsSome, entry_of}
 
 pub puts_some : (Is : List ℕ → Type 0) (r : Result (Unit {0}) Fault) (bytes : List ℕ) (a b : Output) → Is bytes → PutsAll r bytes a b → PutsSome Is r a b
 puts_some Is (Ok done) bytes a b is all = (bytes, is, all)

@@ -10,7 +10,7 @@ use Rattle.tb_records.specs.ReplyFrames.{FoundReply}
 use Rattle.tb_records.specs.Transport.{Input, Output, Sent}
 use Rattle.tb_text_commands.specs.Explanations.{Explains, IsExplained}
 use Rattle.tb_text_commands.specs.declared.intake.Intake.{Intake}
-use Rattle.tb_text_commands.specs.Taken.{Stays, TakesParts, TakesIf, TakesNone, TakesOne, TakesPart, rest_of, waiting}
+use Rattle.tb_text_commands.specs.private.Taken.{Stays, TakesParts, TakesIf, TakesNone, TakesOne, TakesPart, rest_of, waiting}
 use Rattle.tb_text_commands.specs.Whole.{IsReplyFrame, Parts, WasWhole}
 
 abbrev all_of : List (List ℕ) → List ℕ

@@ -15,7 +15,7 @@ use Rattle.tb_text_commands.specs.declared.typing.Typed.{Typed}
 use Rattle.tb_text_commands.specs.declared.typing.Typed.TheVariants as typed
 use Rattle.tb_text_commands.specs.Completed.{completed}
 use Rattle.tb_text_commands.specs.Ends.{is_passing}
-use Rattle.tb_text_commands.specs.Taken.{EndsHere, HoldsEnd, Stays, TakenIfPassing, TakenOf, TakesEnd, TakesIfPassing, TakesIfWrong, TakesNextTyped, TakesPart, TakesParts, TakesTyped, TypedOfRest, goes_on, rest_of, waiting}
+use Rattle.tb_text_commands.specs.private.Taken.{EndsHere, HoldsEnd, Stays, TakenIfPassing, TakenOf, TakesEnd, TakesIfPassing, TakesIfWrong, TakesNextTyped, TakesPart, TakesParts, TakesTyped, TypedOfRest, goes_on, rest_of, waiting}
 use Rattle.tb_text_commands.specs.Typed.{IsTyped, IsTypedPart, IsWrong, Leaves, ask_in, ends_with_cut_line}
 use Rattle.tb_text_commands.specs.Whole.{WasWhole}
 use Rattle.tb_text_commands.proofs.Taking.{part_waits, stays_then_one, takes_more}

@@ -90,6 +90,10 @@ module _ (IsLine : Told → List ℕ → Type 0) (wants : Told → Bool) where
   Telling (Ok done) told start written = Tells told start written
   Telling (Err fault) told start written = StopsTelling fault told start written
 
+  -- the same by a writer's states
+  abbrev pub Prints : {W : Type 0} → Result (Unit {0}) Fault → List Told → (W → Output) → W → W → Type 0
+  Prints result told output start written = Telling result told (output start) (output written)
+
 -- items
 
 -- an entry is not entered, since it may not come next, or since memory ran out
@@ -296,16 +300,20 @@ module _ (IsLine : Told → List ℕ → Type 0) (wants : Told → Bool) where
   AuditRan (Ok done) account before after start written = Audits (Ok done) account before after start written
   AuditRan (Err fault) account before after start written = HeadFails fault before after start written ⊎ Audits (Err fault) account before after start written
 
--- an audit of what is wanted ended with the status of its outcome
+-- an audit of what is wanted
+abbrev pub AuditRanFor : Wanted → Result (Unit {0}) Fault → Input → Input → Output → Output → Type 0
+AuditRanFor wanted result before after start written = AuditRan IsJsonLine (is_wanted wanted) result wanted.account before after start written
+
+-- it ended with the status of its outcome
 pub record AuditedBy (wanted : Wanted) (status : ℕ) (before after : Input) (start written : Output) : Type 0 where
   pub outcome : Result (Unit {0}) Fault
   pub status_is : status ≡ outcome_status outcome
-  pub ran : AuditRan IsJsonLine (is_wanted wanted) outcome wanted.account before after start written
+  pub ran : AuditRanFor wanted outcome before after start written
 
 -- a form that is an audit ran as one
 abbrev pub AuditsBy : Form → Result (Unit {0}) Fault → Input → Input → Output → Output → Type 0
 AuditsBy asked result before after start written =
-    (wanted : Wanted) → asked ≡ form.Audit wanted → AuditRan IsJsonLine (is_wanted wanted) result wanted.account before after start written
+    (wanted : Wanted) → asked ≡ form.Audit wanted → AuditRanFor wanted result before after start written
 
 -- words that ask for an audit: it ended with a status
 abbrev pub AuditedWhere : List (List ℕ) → ℕ → Input → Input → Output → Output → Type 0

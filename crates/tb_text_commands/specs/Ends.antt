@@ -10,6 +10,7 @@ use Rattle.tb_text_commands.specs.declared.arguments.Form.TheVariants as forms
 use Rattle.tb_text_commands.specs.declared.kinds.Awaited.{Awaited}
 use Rattle.tb_text_commands.specs.declared.kinds.Kind.{Kind}
 use Rattle.tb_text_commands.specs.Explanations.{Explained}
+use Rattle.tb_text_commands.specs.Forms.{form_of}
 use Rattle.tb_text_commands.specs.Kinds.{IsForeign, IsNotForeign, awaited_by, foreign_line, is_of_bytes}
 use Rattle.tb_text_commands.specs.Statuses.{device_named, fault_status, TellsOf}
 use Rattle.tb_text_commands.specs.Typed.{IsReadBy, is_typed}
@@ -122,3 +123,9 @@ pub record Exits (form : Form) (talks : Bool) (status : ℕ) (before after : Inp
   pub own : IsOfRead outcome → foreign ≡ None → IsNotForeign (awaited_by form talks) before.left
   pub line : is_typed form talks ≡ false → Tells foreign (named outcome before.failed after.failed) quiet told
   pub explained : form ≡ forms.Explain → status ≡ 0 → Explained before start written
+
+-- so did the form that words ask for, by the states of a reader and of two writers
+abbrev pub ExitsBy : {R W E : Type 0} → List (List ℕ) → Bool → ℕ → (R → Input) → R → R → (W → Output) → W → W → (E → Output) → E → E → Type 0
+ExitsBy words talks status input before after output start written report quiet told =
+    (form : Form) → form_of words ≡ Some form
+    → Exits form talks status (input before) (input after) (output start) (output written) (report quiet) (report told)

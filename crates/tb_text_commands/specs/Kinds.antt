@@ -76,6 +76,15 @@ abbrev pub IsNotForeign : Option Awaited → Option (List ℕ) → Type 0
 IsNotForeign None left = Unit {0}
 IsNotForeign (Some awaited) left = IsOwn awaited left
 
+-- the kind of what a reader holds, once it was asked for its first bytes
+abbrev pub kind_at_hand : Input → Kind
+kind_at_hand input = kind_of (take 56 input.at_hand)
+
+-- what is awaited and the kind of what is there, where that is foreign
+abbrev pub foreign_of : Option Awaited → Kind → Option (Awaited × Kind)
+foreign_of None kind = None
+foreign_of (Some awaited) kind = if is_foreign awaited kind then Some (awaited, kind) else None
+
 -- what is awaited and what is there, where that is foreign
 abbrev pub Finds : Form → Bool → Option (Awaited × Kind) → Option (List ℕ) → Type 0
 Finds form talks None left = IsNotForeign (awaited_by form talks) left
@@ -118,9 +127,10 @@ pub record Lacks (f : Fault) (before after : Input) : Type 0 where
   pub failed : Fails before after
 
 abbrev pub LooksAt : Result Kind Fault → Input → Input → Type 0
-LooksAt (Ok kind) before after = Waits before after × WasWhole (BeginsAs kind) before.left
+LooksAt (Ok kind) before after = Waits before after × (kind ≡ kind_at_hand after) × WasWhole (BeginsAs kind) before.left
 LooksAt (Err f) before after = Lacks f before after
 
 abbrev pub Begins : Form → Bool → Result (Option (Awaited × Kind)) Fault → Input → Input → Type 0
-Begins form talks (Ok found) before after = Waits before after × Finds form talks found before.left
+Begins form talks (Ok found) before after =
+    Waits before after × (found ≡ foreign_of (awaited_by form talks) (kind_at_hand after)) × Finds form talks found before.left
 Begins form talks (Err f) before after = Lacks f before after

@@ -1,8 +1,6 @@
-pub mod Answered
 pub mod AuditLines
 pub mod Audits
 pub mod AuditRuns
-pub mod Audited
 pub mod Completed
 pub mod Ends
 pub mod Explained
@@ -11,14 +9,10 @@ pub mod ExplainLaws
 pub mod Heads
 pub mod Forms
 pub mod Kinds
-pub mod Names
-pub mod Noted
 pub mod Options
-pub mod Putting
-pub mod Refusals
 pub mod Results
 pub mod Statuses
-pub mod Taken
 pub mod Wanted
 pub mod Typed
 pub mod Whole
+pub mod private

@@ -7,7 +7,7 @@ use crate::wanted::Wanted;
 use std::alloc::{AllocError, Global};
 use std::format;
 use tb_commands::{read_clients_max, read_profile};
-use tb_records::{ClientsMax, Profile};
+use tb_records::{CLIENTS_MAX, ClientsMax, Profile};
 use tb_text::nearest_name;
 
 /// What the program is asked to do.
@@ -106,9 +106,9 @@ fn wrong_run(alloc: Global, clients_max: &str, rest: &[String]) -> Result<String
             "tbt: run {clients_max} {profile}: PROFILE is 1 or 2\n"
         ),
         [profile] => format!(in alloc;
-            "tbt: run {clients_max} {profile}: CLIENTS_MAX is 1 to 64\n"
+            "tbt: run {clients_max} {profile}: CLIENTS_MAX is 1 to {CLIENTS_MAX}\n"
         ),
-        [] => format!(in alloc; "tbt: run {clients_max}: CLIENTS_MAX is 1 to 64\n"),
+        [] => format!(in alloc; "tbt: run {clients_max}: CLIENTS_MAX is 1 to {CLIENTS_MAX}\n"),
         _ => format!(in alloc; "tbt: run {clients_max}: too many words\n"),
     }
 }
@@ -140,7 +140,7 @@ fn unknown_word(alloc: Global, word: &str) -> Result<String, AllocError> {
 /// The line that says what is wrong with a word and those behind it, which are none of the program's forms.
 pub fn wrong_words(alloc: Global, word: &str, rest: &[String]) -> Result<String, AllocError> {
     match (word, rest) {
-        ("run", []) => format!(in alloc; "tbt: run: CLIENTS_MAX is missing, 1 to 64\n"),
+        ("run", []) => format!(in alloc; "tbt: run: CLIENTS_MAX is missing, 1 to {CLIENTS_MAX}\n"),
         ("run", [clients_max, rest @ ..]) => wrong_run(alloc, clients_max.as_str(), rest),
         ("audit", options) => wrong_audit(alloc, options),
         (word, [more, ..]) if form_alone(word).is_some() => format!(in alloc;

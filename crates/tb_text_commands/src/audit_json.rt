@@ -17,7 +17,7 @@ use tb_records::{
 };
 
 /// The bytes that most lines have at most.
-const LENGTH: usize = 512;
+const LENGTH_BYTES: usize = 512;
 
 /// Times, in nanoseconds alone or as UTC too.
 #[derive(Clone, Copy)]
@@ -248,7 +248,7 @@ fn ended(text: Vec<u8>) -> Result<Vec<u8>, AllocError>
 fn begun(alloc: Global) -> Result<Vec<u8>, AllocError>
     ensures { IfOk result (λ line. line.items ≡ []) }
 {
-    Vec::with_capacity(alloc, LENGTH)
+    Vec::with_capacity(alloc, LENGTH_BYTES)
 }
 
 /// The number by which a profile is shown.

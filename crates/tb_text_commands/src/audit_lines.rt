@@ -1,7 +1,7 @@
 //! What writes the lines of an audit.
 ghost use Rattle.std.specs.Prelude.{[], ◌∷◌, Bool, List, ℕ};
 ghost use Rattle.tb_text_commands.specs.AuditLines.{IsJsonLine};
-ghost use Rattle.tb_text_commands.specs.AuditRuns.{Telling};
+ghost use Rattle.tb_text_commands.specs.AuditRuns.{Prints, Telling};
 ghost use Rattle.tb_text_commands.specs.Ends.{Written};
 ghost use Rattle.tb_text_commands.specs.Wanted.{Told, begins, enters, expires, is_wanted, moves, opens, settling_by, stands};
 
@@ -56,9 +56,8 @@ pub trait Teller {
         account: &Account,
     ) -> Result<(), Fault>
         ensures written { Written result (W.output writer.old) (W.output writer.new) }
-        ensures told { Telling IsLine (wants self.now) result
-            (opens entry.now place outcome account.now ∷ []) (W.output writer.old)
-            (W.output writer.new) };
+        ensures told { Prints IsLine (wants self.now) result
+            (opens entry.now place outcome account.now ∷ []) W.output writer.old writer.new };
 
     /// Prints what became of a transfer that the event of a place asks for, by the machine behind the entry.
     fn tell_transfer<W: Sink>(
@@ -71,9 +70,9 @@ pub trait Teller {
         transfer: &Transfer,
     ) -> Result<(), Fault>
         ensures written { Written result (W.output writer.old) (W.output writer.new) }
-        ensures told { Telling IsLine (wants self.now) result
+        ensures told { Prints IsLine (wants self.now) result
             (settling_by machine.now.books entry.now place outcome transfer.now ∷ [])
-            (W.output writer.old) (W.output writer.new) };
+            W.output writer.old writer.new };
 
     /// Prints a mark.
     fn tell_mark<W: Sink>(&self, writer: &mut W) -> Result<(), Fault>

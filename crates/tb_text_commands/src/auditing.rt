@@ -3,12 +3,10 @@ ghost use Rattle.std.specs.Prelude.{◌≡◌, [], IfErr, IfOk, OnOk};
 ghost use Rattle.tb_machine.specs.Histories.{start};
 ghost use Rattle.avl_tree.specs.Map.{entries};
 ghost use Rattle.tb_text_commands.specs.Audits.{Enters, GoesOver, NoneIsDue, waits_behind};
-ghost use Rattle.tb_text_commands.specs.AuditLines.{IsJsonLine};
-ghost use Rattle.tb_text_commands.specs.AuditRuns.{AuditRan, AuditsEntry, AuditsItem, AuditsItems, AuditsMark, AuditsNext, Changes, Finds, ReadsHead, RefusesEntry, Telling, TellsAccount, TellsDue, account_of, audited_from};
-ghost use Rattle.tb_text_commands.specs.Audited.{audited, batch_of, events_of, told_of, waiting_of, waits_now};
+ghost use Rattle.tb_text_commands.specs.AuditRuns.{AuditRan, AuditRanFor, AuditsEntry, AuditsItem, AuditsMark, Changes, Finds, Prints, ReadsHead, RefusesEntry, Telling, TellsDue, account_of, audited_from};
+ghost use Rattle.tb_text_commands.specs.private.Audited.{PrintsAccount, PutsItems, PutsNext, audited, batch_of, events_of, told_of, waiting_of, waits_now};
 ghost use Rattle.tb_text_commands.specs.Ends.{Converts, Ended, IsOfInput, Written};
-ghost use Rattle.tb_text_commands.specs.Taken.{TakesIf};
-ghost use Rattle.tb_text_commands.specs.Wanted.{is_wanted};
+ghost use Rattle.tb_text_commands.specs.private.Taken.{TakesIf};
 ghost use Rattle.tb_text_commands.specs.Whole.{IsDump, IsItem, Parts, WasWhole};
 
 use crate::audit_lines::{JsonLines, Teller};
@@ -144,9 +142,8 @@ impl Replay {
         writer: &mut W,
     ) -> Result<(), Fault>
         ensures written { Written result (W.output writer.old) (W.output writer.new) }
-        ensures told { Telling T.IsLine (T.wants teller.now) result
-            (events_of E.told self.now.machine entry.now events.now)
-            (W.output writer.old) (W.output writer.new) }
+        ensures told { Prints T.IsLine (T.wants teller.now) result
+            (events_of E.told self.now.machine entry.now events.now) W.output writer.old writer.new }
     {
         let results = results_of(&self.machine, entry.request.client());
         let outcomes = Outcomes::new(self.alloc, results)?;
@@ -221,9 +218,8 @@ impl Replay {
         ensures machine { self.new.machine ≡ self.old.machine }
         ensures account { self.new.account ≡ self.old.account }
         ensures waits { self.new.waits ≡ self.old.waits }
-        ensures told { TellsAccount T.IsLine (T.wants teller.now) result entry.now
-            (account_of self.old.account self.old.machine) self.old.told self.new.told
-            (W.output writer.old) (W.output writer.new) }
+        ensures told { PrintsAccount T.IsLine (T.wants teller.now) result entry.now self.old self.new
+            W.output writer.old writer.new }
     {
         let Some(account) = self.changed_account() else {
             return Ok(());
@@ -301,9 +297,8 @@ impl Replay {
             (W.output writer.old) (W.output writer.new) }
         ensures taken { IfOk result (λ more.
             TakesIf IsItem more (R.input reader.old).left (R.input reader.new).left) }
-        ensures audits { AuditsNext T.IsLine (T.wants teller.now) result (audited self.old) (audited self.new)
-            (R.input reader.old) (R.input reader.new) (W.output writer.old)
-            (W.output writer.new) }
+        ensures audits { PutsNext T.IsLine (T.wants teller.now) result self.old self.new
+            R.input reader.old reader.new W.output writer.old writer.new }
     {
         let Some(item) = next_item(alloc, reader, writer)? else {
             return Ok(false);
@@ -323,8 +318,8 @@ impl Replay {
         ensures ended { Ended result (R.input reader.old) (R.input reader.new)
             (W.output writer.old) (W.output writer.new) }
         ensures whole { OnOk result (WasWhole (Parts IsItem) (R.input reader.old).left) }
-        ensures audits { AuditsItems T.IsLine (T.wants teller.now) result (audited self.old) (R.input reader.old)
-            (R.input reader.new) (W.output writer.old) (W.output writer.new) }
+        ensures audits { PutsItems T.IsLine (T.wants teller.now) result self.old
+            R.input reader.old reader.new W.output writer.old writer.new }
     {
         for _ in 0..u64::MAX {
             if !self.put_next(alloc, teller, reader, writer)? {
@@ -404,8 +399,8 @@ pub fn audit<R: Source, W: Sink>(
 ) -> Result<(), Fault>
     ensures converts { Converts IsDump result (R.input reader.old) (R.input reader.new)
         (W.output writer.old) (W.output writer.new) }
-    ensures ran { AuditRan IsJsonLine (is_wanted wanted) result wanted.account
-        (R.input reader.old) (R.input reader.new) (W.output writer.old) (W.output writer.new) }
+    ensures ran { AuditRanFor wanted result (R.input reader.old) (R.input reader.new)
+        (W.output writer.old) (W.output writer.new) }
 {
     let account = wanted.account;
     audit_by(alloc, account, &JsonLines { alloc, wanted }, reader, writer)

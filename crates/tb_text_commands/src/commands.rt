@@ -1,12 +1,11 @@
 //! The program's forms, over any reader and writer.
-ghost use Rattle.std.specs.Prelude.{◌≡◌, ◌<◌, false, IfErr, IfSome, None, OnOk, Option, Some, map, string_bytes, true, ℕ};
+ghost use Rattle.std.specs.Prelude.{◌≡◌, ◌<◌, false, IfErr, None, OnOk, Option, map, string_bytes, true, ℕ};
 ghost use Rattle.tb_text_commands.specs.declared.arguments.Form.{Form};
 ghost use Rattle.tb_text_commands.specs.AuditRuns.{AuditedWhere, AuditsBy};
-ghost use Rattle.tb_text_commands.specs.Ends.{Converts, Exits, TellsAs};
+ghost use Rattle.tb_text_commands.specs.Ends.{Converts, ExitsBy, TellsAs};
 ghost use Rattle.tb_text_commands.specs.Explanations.{Explained};
 ghost use Rattle.tb_text_commands.specs.Forms.{form_of};
-ghost use Rattle.tb_text_commands.specs.Kinds.{IsForeign, IsNotForeign, awaited_by, is_of_bytes};
-ghost use Rattle.tb_text_commands.specs.Refusals.{fault_in};
+ghost use Rattle.tb_text_commands.specs.private.Refusals.{NamesForeign, NamesOwn, fault_in};
 ghost use Rattle.tb_text_commands.specs.Typed.{IsReadBy, is_typed};
 ghost use Rattle.tb_text_commands.specs.Whole.{IsInputOf};
 
@@ -115,10 +114,8 @@ fn perform_known<C: Clock, R: Source, W: Sink, E: Sink>(
         (W.output writer.old) (W.output writer.new) }
     ensures explained { form ≡ Form.Explain → OnOk result
         (Explained (R.input reader.old) (W.output writer.old) (W.output writer.new)) }
-    ensures foreign { IfErr result (λ refused. IfSome refused.foreign
-        (λ it. IsForeign form talks it.0 it.1 (R.input reader.old).left)) }
-    ensures own { IfErr result (λ refused. is_of_bytes refused.fault ≡ true → refused.foreign ≡ None
-        → IsNotForeign (awaited_by form talks) (R.input reader.old).left) }
+    ensures foreign { IfErr result (NamesForeign form talks (R.input reader.old).left) }
+    ensures own { IfErr result (NamesOwn form talks (R.input reader.old).left) }
 {
     let foreign = match foreign_in(&form, talks, reader) {
         Ok(foreign) => foreign,
@@ -163,9 +160,8 @@ pub fn command<C: Clock, R: Source, W: Sink, E: Sink>(
     ensures quiet { result ≡ 0 → talks ≡ false → faults.new ≡ faults.old }
     ensures usage { form_of (map string_bytes words.now) ≡ None
         → (result ≡ 2) × (reader.new ≡ reader.old) × (writer.new ≡ writer.old) }
-    ensures ended { (form : Form) → form_of (map string_bytes words.now) ≡ Some form
-        → Exits form talks result (R.input reader.old) (R.input reader.new) (W.output writer.old)
-        (W.output writer.new) (E.output faults.old) (E.output faults.new) }
+    ensures ended { ExitsBy (map string_bytes words.now) talks result R.input reader.old reader.new
+        W.output writer.old writer.new E.output faults.old faults.new }
     ensures audited { AuditedWhere (map string_bytes words.now) result (R.input reader.old) (R.input reader.new)
         (W.output writer.old) (W.output writer.new) }
 {

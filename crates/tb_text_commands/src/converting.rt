@@ -1,16 +1,14 @@
 //! An input that is taken part by part, and what is written for each part.
-ghost use Rattle.std.specs.Prelude.{◌≡◌, IfOk, List, OnOk, Option, Result, ℕ, ⊤};
+ghost use Rattle.std.specs.Prelude.{◌≡◌, IfErr, IfOk, List, OnOk, Option, Result, ℕ, ⊤};
 ghost use Rattle.tb_records.specs.Transport.{Input, Output};
 ghost use Rattle.tb_text_commands.specs.declared.faults.Fault.{Fault};
 ghost use Rattle.tb_text_commands.specs.Ends.{Ended, Written};
-ghost use Rattle.tb_text_commands.specs.Taken.{TakesIf, TakesNext};
+ghost use Rattle.tb_text_commands.specs.private.Putting.{Halts, HaltsNext};
+ghost use Rattle.tb_text_commands.specs.private.Taken.{TakesIf, TakesNext};
 ghost use Rattle.tb_text_commands.specs.Whole.{Parts, WasWhole};
 
 use crate::faults::Fault;
 use tb_records::{Sink, Source};
-
-/// The next part, or none, or the fault that ended the input.
-pub type Next<T> = Result<Option<T>, Fault>;
 
 /// What takes an input part by part, and writes what each part represents.
 pub trait Converter {
@@ -46,6 +44,9 @@ pub trait Converter {
         ensures kept { (input : Input) → remaining self.new input ≡ remaining self.old input };
 }
 
+/// The next part, or none, or the fault that ended the input.
+pub type Next<T> = Result<Option<T>, Fault>;
+
 /// Takes the next part, and writes what it represents: false where there is none.
 pub fn convert_next<C: Converter, R: Source, W: Sink>(
     converter: &mut C,
@@ -57,6 +58,8 @@ pub fn convert_next<C: Converter, R: Source, W: Sink>(
     ensures taken { IfOk result (λ more.
         TakesIf C.Part more (C.remaining converter.old (R.input reader.old))
         (C.remaining converter.new (R.input reader.new))) }
+    ensures halts { IfErr result (HaltsNext C.Reads C.Puts converter.old (R.input reader.old)
+        (R.input reader.new) (W.output writer.new)) }
 {
     let Some(piece) = converter.next(reader, writer)? else {
         return Ok(false);
@@ -74,6 +77,8 @@ pub fn convert<C: Converter + Drop, R: Source, W: Sink>(
     ensures ended { Ended result (R.input reader.old) (R.input reader.new) (W.output writer.old)
         (W.output writer.new) }
     ensures whole { OnOk result (WasWhole (Parts C.Part) (C.remaining converter (R.input reader.old))) }
+    ensures halts { IfErr result (Halts C.Part C.remaining C.Reads C.Puts converter (R.input reader.old)
+        (R.input reader.new) (W.output writer.new)) }
 {
     for _ in 0..u64::MAX {
         if !convert_next(&mut converter, reader, writer)? {

@@ -8,8 +8,8 @@ ghost use Rattle.tb_text_commands.specs.declared.faults.Fault.{Fault};
 ghost use Rattle.tb_text_commands.specs.AuditLines.{IsJsonLine};
 ghost use Rattle.tb_text_commands.specs.AuditRuns.{ReadsItem};
 ghost use Rattle.tb_text_commands.specs.Ends.{Converts, Ended, Written};
-ghost use Rattle.tb_text_commands.specs.Putting.{IsLine, PutsItem, PutsSome, entry_of};
-ghost use Rattle.tb_text_commands.specs.Taken.{TakesNext};
+ghost use Rattle.tb_text_commands.specs.private.Putting.{IsLine, PutsItem, PutsSome, entry_of};
+ghost use Rattle.tb_text_commands.specs.private.Taken.{TakesNext};
 ghost use Rattle.tb_text_commands.specs.Wanted.{moves};
 ghost use Rattle.tb_text_commands.specs.Whole.{IsDump, IsItem, Parts};
 

@@ -14,7 +14,7 @@ use tb_machine::status_of;
 use tb_records::{DumpFault, FrameFault, Sink, Source};
 
 /// The bytes of which it is said whether they look like text.
-const SAMPLE: usize = 32;
+const SAMPLE_BYTES: usize = 32;
 
 /// Why a pair is not served for which no time is left.
 const LATE: &str = "its moment is above 2^63 - 1; where its request is new, no time is left";
@@ -50,7 +50,7 @@ fn dump_words(fault: DumpFault) -> &'static str {
 
 /// What is added where bytes look like text.
 fn hint(bytes: &[u8]) -> &'static str {
-    let sample = bytes.get(..SAMPLE).unwrap_or(bytes);
+    let sample = bytes.get(..SAMPLE_BYTES).unwrap_or(bytes);
     let is_text = sample.iter().all(|byte| matches!(*byte, b'\t' | b'\n' | b'\r' | b' '..=b'~'));
     if is_text && !sample.is_empty() {
         "It looks like text: tbt script makes a script of statements.\n"

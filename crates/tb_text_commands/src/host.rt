@@ -12,7 +12,7 @@ use tb_commands::put_line;
 use tb_records::{Buffered, Counting, Sink};
 
 /// The bytes of input and of output that are held at a time.
-const BUFFER: usize = 65536;
+const BUFFER_BYTES: usize = 65536;
 
 /// The fault where the words cannot be had: a word is no text, or there is no memory for them.
 pub fn fault_of(error: &io::Error) -> Fault {
@@ -59,8 +59,8 @@ pub fn serve<C: Clock, R: Read + Drop, W: Write + Drop, E: Sink>(
     ensures known { result < 3 }
     ensures wrong { form_of (map string_bytes words.now) ≡ None → (result ≡ 2) ⊎ (result ≡ 1) }
 {
-    let input = BufReader::with_capacity(alloc, BUFFER, input);
-    let output = BufWriter::with_capacity(alloc, BUFFER, output);
+    let input = BufReader::with_capacity(alloc, BUFFER_BYTES, input);
+    let output = BufWriter::with_capacity(alloc, BUFFER_BYTES, output);
     let (Ok(input), Ok(output)) = (input, output) else {
         return refuse(&Fault::NoMemory, faults);
     };

@@ -3,7 +3,7 @@ ghost use Rattle.std.specs.List.{list_all};
 ghost use Rattle.std.specs.Prelude.{◌==◌, ◌≡◌, [], IfErr, IfOk, OnOk, Some, drop, false, not, take, true};
 ghost use Rattle.tb_records.specs.Transport.{Input, Sent};
 ghost use Rattle.tb_text_commands.specs.Ends.{Ended, is_passing};
-ghost use Rattle.tb_text_commands.specs.Taken.{HoldsAsBefore, Stays, rest_of, statement_in, waiting};
+ghost use Rattle.tb_text_commands.specs.private.Taken.{HoldsAsBefore, IsOfReading, Stays, rest_of, statement_in, waiting};
 ghost use Rattle.tb_text_commands.specs.Typed.{ends_with_cut_line, is_longest_line};
 
 use crate::faults::Fault;
@@ -14,10 +14,10 @@ use tb_records::{Sink, Source};
 use tb_text::position;
 
 /// The bytes that are asked for at a time.
-const CHUNK: usize = 4096;
+const CHUNK_BYTES: usize = 4096;
 
 /// The bytes of the longest line that a terminal gives, with its end. It drops those of a longer one, and keeps its end.
-const LINE_MAX: usize = 4096;
+const LINE_BYTES_MAX: usize = 4096;
 
 /// Says that none of these bytes ends a line.
 fn has_no_end(bytes: &[u8]) -> bool
@@ -30,7 +30,8 @@ fn has_no_end(bytes: &[u8]) -> bool
 fn is_longest_line(line: &[u8]) -> bool
     ensures { result ≡ is_longest_line line.now }
 {
-    behind(line, LINE_MAX - 1) == b"\n".as_slice() && has_no_end(first_of(line, LINE_MAX - 1))
+    behind(line, LINE_BYTES_MAX - 1) == b"\n".as_slice()
+        && has_no_end(first_of(line, LINE_BYTES_MAX - 1))
 }
 
 /// Bytes that were read and not taken yet.
@@ -112,7 +113,7 @@ impl Intake {
         ensures { result ≡ ends_with_cut_line (rest_of self.now) }
     {
         let rest = self.rest();
-        let Some(before) = rest.len().checked_sub(LINE_MAX) else {
+        let Some(before) = rest.len().checked_sub(LINE_BYTES_MAX) else {
             return false;
         };
         is_longest_line(behind(rest, before))
@@ -190,6 +191,7 @@ impl Intake {
             Stays (waiting self.old (R.input reader.old)) (waiting self.new (R.input reader.new))) }
         ensures end { IfOk result (λ more. more ≡ false → self.new.ended ≡ true) }
         ensures fault { IfErr result (λ fault. is_passing fault ≡ false) }
+        ensures cause { IfErr result IsOfReading }
         ensures silent { Sent [] (W.output writer.old) (W.output writer.new) }
     {
         if self.ended {
@@ -198,7 +200,7 @@ impl Intake {
         if reader.at_hand().is_empty() {
             writer.pass_on();
         }
-        let mut buffer = [0; CHUNK];
+        let mut buffer = [0; CHUNK_BYTES];
         let Ok(read) = reader.pull(&mut buffer) else {
             return Err(Fault::Device);
         };

@@ -3,7 +3,7 @@ ghost use Rattle.std.specs.Prelude.{[], ◌∷◌, Option, ℕ, ◌≡◌};
 ghost use Rattle.tb_machine.specs.declared.entries.Entry.{Entry};
 ghost use Rattle.tb_machine.specs.Histories.{State};
 ghost use Rattle.tb_records.specs.declared.records.EventResult.{EventResult};
-ghost use Rattle.tb_text_commands.specs.AuditRuns.{Telling};
+ghost use Rattle.tb_text_commands.specs.AuditRuns.{Prints};
 ghost use Rattle.tb_text_commands.specs.Ends.{Written};
 ghost use Rattle.tb_text_commands.specs.Wanted.{Told, opening_of, recorded, settling_of};
 
@@ -40,9 +40,8 @@ pub trait Judged: Record {
         outcome: Option<EventResult>,
     ) -> Result<(), Fault>
         ensures written { Written result (W.output writer.old) (W.output writer.new) }
-        ensures told { Telling T.IsLine (T.wants teller.now) result
-            (told machine.now entry.now place outcome self.now ∷ []) (W.output writer.old)
-            (W.output writer.new) };
+        ensures told { Prints T.IsLine (T.wants teller.now) result
+            (told machine.now entry.now place outcome self.now ∷ []) W.output writer.old writer.new };
 }
 
 impl Judged for Account {

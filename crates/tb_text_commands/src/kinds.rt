@@ -45,7 +45,7 @@ pub const LEDGER: &[u8] = b"TBJRNL01";
 const REGISTER: &[u8] = b"\0\0\0\0\0\0\0\0\0\0\0\0\x02\0\0\0\0\0\0\0\0\0\0\0\0\0\0\0\0\0\0\0";
 
 /// The first bytes of an input that are looked at: a moment and the header of a request.
-const FIRST: usize = 56;
+const FIRST_BYTES: usize = 56;
 
 /// Says that bytes begin with a name.
 pub fn begins_with(bytes: &[u8], name: &[u8]) -> bool
@@ -140,7 +140,7 @@ fn look_at<R: Source>(reader: &mut R) -> Result<Kind, Fault>
     let Ok(_) = reader.pull(&mut []) else {
         return Err(Fault::Device);
     };
-    Ok(kind_of(first_of(reader.at_hand(), FIRST)))
+    Ok(kind_of(first_of(reader.at_hand(), FIRST_BYTES)))
 }
 
 /// What a form awaits and what its input is, where the input is of another kind.

@@ -2,8 +2,8 @@
 ghost use Rattle.std.specs.Prelude.{◌≡◌, IfOk, codes, false};
 ghost use Rattle.tb_records.specs.Messages.{is_operation};
 ghost use Rattle.tb_records.specs.Operations.{operation_code, operation_name};
-ghost use Rattle.tb_text_commands.specs.Names.{status_word};
-ghost use Rattle.tb_text_commands.specs.Putting.{IsLine};
+ghost use Rattle.tb_text_commands.specs.private.Names.{status_word};
+ghost use Rattle.tb_text_commands.specs.private.Putting.{IsLine};
 
 use crate::lists::{EventResults, Ids, List, Records};
 use crate::objects::{Object, Shown};

@@ -1,8 +1,7 @@
 //! What became of the events of a machine's last entry.
-ghost use Rattle.std.specs.Prelude.{◌≡◌, ◌≤◌, [], ◌∷◌, ℕ, IfOk, None, OnOk, length, slice_index_or};
+ghost use Rattle.std.specs.Prelude.{◌≡◌, ◌≤◌, ℕ, IfOk, None, OnOk, length, slice_index_or};
 ghost use Rattle.std.proofs.Props.{props};
-ghost use Rattle.std.specs.Option.{option_or};
-ghost use Rattle.tb_text_commands.specs.Results.{result_at, stored_results};
+ghost use Rattle.tb_text_commands.specs.Results.{NotesResult, result_at, stored_results};
 
 use std::alloc::{AllocError, Global};
 use tb_machine::Machine;
@@ -44,8 +43,7 @@ fn reach(by_place: &mut Vec<Option<EventResult>>, place: usize) -> Result<(), Al
 
 /// Notes a result at its place, unless there is one.
 fn note(by_place: &mut Vec<Option<EventResult>>, judged: EventResult) -> Result<(), AllocError>
-    ensures { OnOk result ((place : ℕ) → slice_index_or by_place.new.items place None
-        ≡ option_or (slice_index_or by_place.old.items place None) (result_at (judged ∷ []) place)) }
+    ensures { OnOk result (NotesResult judged by_place.old.items by_place.new.items) }
 {
     let place = judged.index as usize;
     reach(by_place, place)?;

@@ -2,10 +2,10 @@
 ghost use Rattle.std.specs.Prelude.{◌≡◌, IfErr, IfOk, OnOk, Some};
 ghost use Rattle.tb_records.specs.Transport.{Input};
 ghost use Rattle.tb_sessions.specs.Judged.{class_of};
-ghost use Rattle.tb_text_commands.specs.Answered.{Answers, Enters, IsPlaced};
+ghost use Rattle.tb_text_commands.specs.private.Answered.{Answers, Enters, IsOfLine, IsOfReply, IsOfServing, IsPlaced};
 ghost use Rattle.tb_text_commands.specs.Completed.{standing_in};
-ghost use Rattle.tb_text_commands.specs.Ends.{Ended, IsOfInput, Written, is_passing};
-ghost use Rattle.tb_text_commands.specs.Taken.{TakesNextTyped, TakesTurn, waiting};
+ghost use Rattle.tb_text_commands.specs.Ends.{Ended, Written, is_passing};
+ghost use Rattle.tb_text_commands.specs.private.Taken.{IsOfStatement, TakesTurn, TakesUnlessEnded, waiting};
 ghost use Rattle.tb_text_commands.specs.Typed.{IsTyped};
 ghost use Rattle.tb_text_commands.specs.Whole.{IsStatement, WasWhole};
 
@@ -66,7 +66,7 @@ impl<C: Clock> Server<'_, C> {
     /// Enters a new request that comes at a moment, where there is a time for it.
     fn enter(&mut self, moment: u64, request: Request) -> Result<(), Fault>
         requires { class_of self.old.machine.rows request ≡ Class.New }
-        ensures fault { IfErr result IsOfInput }
+        ensures fault { IfErr result IsOfServing }
         ensures entered { Enters result self.old.machine self.new.machine (moment, request) }
         ensures last { self.new.last ≡ self.old.last }
     {
@@ -79,7 +79,7 @@ impl<C: Clock> Server<'_, C> {
     /// Answers a request that comes at a moment: the refusal, or None where it gets the reply that its client's row keeps. A
     /// new one is entered first.
     fn answer(&mut self, moment: u64, request: Request) -> Result<Option<Reply>, Fault>
-        ensures fault { IfErr result IsOfInput }
+        ensures fault { IfErr result IsOfServing }
         ensures answers { Answers (class_of self.old.machine.rows request) result self.old.machine
             self.new.machine (moment, request) }
         ensures last { self.new.last ≡ self.old.last }
@@ -111,7 +111,7 @@ impl<C: Clock> Server<'_, C> {
 
     /// Serves a request that comes at a moment, and answers the line of its reply.
     fn reply_to(&mut self, moment: u64, request: Request) -> Result<Vec<u8>, Fault>
-        ensures fault { IfErr result IsOfInput }
+        ensures fault { IfErr result IsOfServing }
         ensures last { self.new.last ≡ self.old.last }
     {
         let client = request.client();
@@ -125,6 +125,7 @@ impl<C: Clock> Server<'_, C> {
     /// Serves a request that comes at a moment, and writes the line of its reply. Its client is the one named last.
     fn serve<W: Sink>(&mut self, moment: u64, request: Request, writer: &mut W) -> Result<(), Fault>
         ensures written { Written result (W.output writer.old) (W.output writer.new) }
+        ensures fault { IfErr result IsOfReply }
         ensures last { self.new.last ≡ request.client }
     {
         self.last = request.client();
@@ -183,6 +184,10 @@ impl<C: Clock> Converter for Conversation<'_, C> {
 
     ghost remaining = { λ conversation input. waiting conversation.intake input };
 
+    ghost Reads = { λ conversation result before after. IfErr result IsOfStatement };
+
+    ghost Puts = { λ conversation pairs result before after. IfErr result IsOfLine };
+
     fn next<R: Source, W: Sink>(&mut self, reader: &mut R, writer: &mut W) -> Next<Self::Piece> {
         next_statement(&mut self.intake, &self.server, reader, writer)
     }
@@ -234,9 +239,8 @@ fn serve_turn<C: Clock, R: Source, W: Sink, E: Sink>(
 ) -> Result<bool, Fault>
     ensures ended { Ended result (R.input reader.old) (R.input reader.new) (W.output writer.old)
         (W.output writer.new) }
-    ensures taken { IfOk result (λ more.
-        TakesNextTyped more (waiting conversation.old.intake (R.input reader.old))
-        (waiting conversation.new.intake (R.input reader.new))) }
+    ensures taken { TakesUnlessEnded result (waiting conversation.old.intake (R.input reader.old))
+        (waiting conversation.new.intake (R.input reader.new)) }
 {
     match turn(conversation, reader, writer, faults) {
         Err(fault) if is_passing(&fault) => {

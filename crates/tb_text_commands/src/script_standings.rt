@@ -4,7 +4,7 @@ ghost use Rattle.std.specs.Ordering.{nat_cmp};
 ghost use Rattle.std.specs.Prelude.{◌≡◌, IfErr, OnOk, unwrap_or};
 ghost use Rattle.tb_text_commands.specs.declared.completing.Standing.TheVariants.{Unknown};
 ghost use Rattle.tb_text_commands.specs.declared.faults.Fault.TheVariants.{NoMemory};
-ghost use Rattle.tb_text_commands.specs.Noted.{Notes, NotesAll};
+ghost use Rattle.tb_text_commands.specs.private.Noted.{Notes, NotesAll};
 
 use crate::completing::{Standing, Standings};
 use crate::faults::Fault;

@@ -5,8 +5,8 @@ ghost use Rattle.tb_records.specs.Transport.{IsSent};
 ghost use Rattle.tb_text.specs.Printed.{statement_text};
 ghost use Rattle.tb_text_commands.specs.AuditRuns.{PutsAll, PutsNothing};
 ghost use Rattle.tb_text_commands.specs.Ends.{Written};
-ghost use Rattle.tb_text_commands.specs.Putting.{IsLine, PutsSome, ReadsPair};
-ghost use Rattle.tb_text_commands.specs.Taken.{waiting};
+ghost use Rattle.tb_text_commands.specs.private.Putting.{IsLine, PutsSome, ReadsPair};
+ghost use Rattle.tb_text_commands.specs.private.Taken.{IsOfFrame, IsOfStatement, waiting};
 ghost use Rattle.tb_text_commands.specs.Whole.{IsPair, IsReplyFrame, IsStatement};
 
 use crate::converting::{Converter, Next};
@@ -85,6 +85,8 @@ impl Converter for Script {
 
     ghost remaining = { λ script input. waiting script.intake input };
 
+    ghost Reads = { λ script result before after. IfErr result IsOfStatement };
+
     ghost Puts = { λ script pairs. PutsSome (λ bytes. bytes ≡ flat_map timed_bytes pairs) };
 
     fn next<R: Source, W: Sink>(&mut self, reader: &mut R, writer: &mut W) -> Next<Self::Piece> {
@@ -150,6 +152,8 @@ impl Converter for Replies {
     ghost Part = { IsReplyFrame };
 
     ghost remaining = { λ replies input. waiting replies.intake input };
+
+    ghost Reads = { λ replies result before after. IfErr result IsOfFrame };
 
     ghost Puts = { λ replies reply. PutsSome IsLine };
 

@@ -1,7 +1,7 @@
 //! Statements that are read one by one.
 ghost use Rattle.std.specs.Prelude.{IfErr, IfOk, OnOk};
-ghost use Rattle.tb_text_commands.specs.Ends.{Ended, IsOfInput};
-ghost use Rattle.tb_text_commands.specs.Taken.{TakesIfWrong, TakesNext, TakesPart, waiting};
+ghost use Rattle.tb_text_commands.specs.Ends.{Ended};
+ghost use Rattle.tb_text_commands.specs.private.Taken.{IsOfStatement, IsOfText, TakesIfWrong, TakesNext, TakesPart, waiting};
 ghost use Rattle.tb_text_commands.specs.Whole.{IsStatement};
 
 use crate::completing::{Standings, completed, untold_at, words_to_fill};
@@ -56,7 +56,7 @@ pub fn take_text<S: Standings>(
     length: usize,
     typed: bool,
 ) -> Result<Items<(u64, Request)>, Fault>
-    ensures fault { IfErr result IsOfInput }
+    ensures fault { IfErr result IsOfText }
     ensures taken { OnOk result (TakesPart IsStatement intake.old intake.new) }
     ensures wrong { IfErr result (λ fault. TakesIfWrong fault intake.old intake.new) }
 {
@@ -99,6 +99,7 @@ pub fn next_statement<R: Source, W: Sink, S: Standings>(
     ensures taken { IfOk result (λ next.
         TakesNext IsStatement next (waiting intake.old (R.input reader.old))
         (waiting intake.new (R.input reader.new))) }
+    ensures fault { IfErr result IsOfStatement }
 {
     for _ in 0..u64::MAX {
         if let Some(length) = intake.statement() {

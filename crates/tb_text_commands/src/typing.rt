@@ -1,7 +1,7 @@
 //! What is typed on a terminal, read line by line behind a prompt.
 ghost use Rattle.std.specs.Prelude.{◌≡◌, IfErr, IfOk, false, true};
 ghost use Rattle.tb_text_commands.specs.Ends.{Ended, IsOfInput, Passed, is_passing};
-ghost use Rattle.tb_text_commands.specs.Taken.{CutRefused, HoldsAsBefore, Stays, TakesTyped, TypedOfRest, waiting};
+ghost use Rattle.tb_text_commands.specs.private.Taken.{CutRefused, HoldsAsBefore, IsOfText, Stays, TakesTyped, TypedOfRest, waiting};
 
 use crate::asking::{Ask, ask_in};
 use crate::completing::Standings;
@@ -38,7 +38,7 @@ fn take_typed<S: Standings>(
     standings: &S,
     length: usize,
 ) -> Result<Typed, Fault>
-    ensures fault { IfErr result IsOfInput }
+    ensures fault { IfErr result IsOfText }
     ensures taken { TypedOfRest result intake.old intake.new }
 {
     match ask_in(intake.first(length)) {

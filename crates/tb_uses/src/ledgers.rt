@@ -1,8 +1,9 @@
 //! A caller of the ledger.
-ghost use Rattle.std.specs.Prelude.{◌≡◌, ◌+◌, ◌<◌, ◌∷◌, [], IfOk, OnOk, OnErr};
+ghost use Rattle.std.specs.Prelude.{◌≡◌, ◌<◌, ◌∷◌, [], IfOk, OnOk, OnErr};
 ghost use Rattle.std.specs.Option.{option_to_list};
-ghost use Rattle.tb_ledger.specs.Batches.{batch_after, results, transfer_events};
+ghost use Rattle.tb_ledger.specs.Batches.{results};
 ghost use Rattle.tb_ledger.specs.Verdicts.{max_time};
+ghost use Rattle.tb_ledger.specs.WorkedRows.{request};
 
 use std::alloc::{AllocError, Allocator, Global};
 use tb_ledger::Ledger;
@@ -17,14 +18,8 @@ pub fn enter_transfer<A: Allocator + Clone>(
 ) -> Result<Option<EventResult>, AllocError>
     requires { ledger.old.time < max_time }
     ensures answer { IfOk result
-        (λ refused.
-        option_to_list refused
-        ≡ results
-        (batch_after transfer_events ledger.old (transfer ∷ [])
-        (ledger.old.time + 1)).codes) }
-    ensures books { OnOk result
-        (ledger.new
-        ≡ (batch_after transfer_events ledger.old (transfer ∷ []) (ledger.old.time + 1)).books) }
+        (λ refused. option_to_list refused ≡ results (request ledger.old (transfer ∷ [])).codes) }
+    ensures books { OnOk result (ledger.new ≡ (request ledger.old (transfer ∷ [])).books) }
     ensures unchanged { OnErr result (ledger.new ≡ ledger.old) }
 {
     let time = ledger.time() + 1;

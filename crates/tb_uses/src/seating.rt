@@ -38,11 +38,9 @@ pub fn ask_two<J: Naming>(
         × IsPrefix two.new publisher.now.history)) }
     ensures legal { LegalIn J.opening publisher.now.history }
     ensures answers { IfOk result
-        (λ answers.
-        IfSome answers
-        (λ both.
-        IsAnswerIn J.opening one.new request.now both.0
-        × IsAnswerIn J.opening two.new request.now both.1)) }
+        (λ answers. IfSome answers (λ both. IsAnswerIn J.opening one.new request.now both.0)) }
+    ensures answers_of_two { IfOk result
+        (λ answers. IfSome answers (λ both. IsAnswerIn J.opening two.new request.now both.1)) }
 {
     let first = one.answer(request);
     let second = two.answer(request);

@@ -1,7 +1,8 @@
 //! A caller of the sessions.
-ghost use Rattle.std.specs.Prelude.{◌≡◌, ◌<◌, IfOk, IfErr};
+ghost use Rattle.std.specs.Prelude.{◌≡◌, ◌<◌, IfOk, IfErr, OnOk};
 ghost use Rattle.tb_records.specs.Ordered.{Each};
 ghost use Rattle.tb_sessions.specs.Admission.{admitted, leaving};
+ghost use Rattle.tb_uses.specs.Rows.{row_with};
 
 use tb_records::{Reply, Request};
 use tb_sessions::{Class, Row, Sessions};
@@ -15,15 +16,11 @@ pub fn keep(
     commit: u64,
 ) -> Result<Option<Row>, Request>
     requires later { Each (λ (row : Row). row.commit < commit) sessions.old.rows }
-    ensures kept { let row : Row = record {
-      client = request.client;
-      session = reply.session;
-      request = request;
-      reply = reply;
-      commit = commit;
-    } in IfOk result
-        (λ left. (left ≡ leaving sessions.old.clients_max sessions.old.rows row)
-        × (sessions.new ≡ record sessions.old { rows = admitted sessions.old.clients_max sessions.old.rows row })) }
+    ensures left { IfOk result
+        (λ left. left ≡ leaving sessions.old.clients_max sessions.old.rows (row_with request reply commit)) }
+    ensures kept { OnOk result
+        (sessions.new
+        ≡ record sessions.old { rows = admitted sessions.old.clients_max sessions.old.rows (row_with request reply commit) }) }
     ensures back { IfErr result (λ back. (back ≡ request) × (sessions.new ≡ sessions.old)) }
 {
     if !matches!(sessions.classify(&request), Class::New) {

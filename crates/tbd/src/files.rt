@@ -16,11 +16,11 @@ pub struct SystemFiles<'a> {
 }
 
 /// The bytes of standard error that are held, so that a line goes out at once.
-const LINE: usize = 1024;
+const LINE_BYTES: usize = 1024;
 
 /// Standard error behind a buffer; where there is no memory for one, without.
 pub fn lines(rt: &HostRuntime) -> BufWriter<Stderr> {
-    match BufWriter::with_capacity(rt.alloc(), LINE, rt.stderr()) {
+    match BufWriter::with_capacity(rt.alloc(), LINE_BYTES, rt.stderr()) {
         Ok(lines) => lines,
         Err(_) => BufWriter::with_capacity(rt.alloc(), 0, rt.stderr()).unwrap(),
     }
@@ -68,10 +68,10 @@ impl<'a> Opener for SystemFiles<'a> {
     }
 
     fn pause(&self) -> bool {
-        thread::sleep(self.rt, Duration::from_millis(PAUSE));
+        thread::sleep(self.rt, Duration::from_millis(PAUSE_MS));
         true
     }
 }
 
 /// How long more commits are waited for at a time, in milliseconds.
-const PAUSE: u64 = 50;
+const PAUSE_MS: u64 = 50;

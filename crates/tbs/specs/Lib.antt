@@ -1,1 +1,1 @@
-pub mod Storms
+pub mod private

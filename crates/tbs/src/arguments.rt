@@ -1,6 +1,6 @@
 //! The words that ask for a storm.
 ghost use Rattle.std.specs.Prelude.{◌≡◌, ◌≤◌, map, string_bytes, IfSome};
-ghost use Rattle.tbs.specs.Storms.{storm_of};
+ghost use Rattle.tbs.specs.private.Storms.{storm_of};
 
 use tb_commands::number;
 

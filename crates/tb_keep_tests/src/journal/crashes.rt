@@ -25,8 +25,8 @@ pub(crate) fn left_after(rt: &impl Abort, file: &Memory, moment: usize, torn: &[
 /// Says whether the bytes are those of all three records. Any byte but 0 is an open latch, and stays as it was.
 fn is_whole(bytes: &[u8]) -> bool {
     let mut whole = THREE_RECORDS;
-    if let Some(gate) = bytes.get(18) {
-        whole[18] = *gate;
+    if let Some(latch) = bytes.get(18) {
+        whole[18] = *latch;
     }
     bytes == whole.as_slice()
 }
@@ -90,13 +90,13 @@ fn a_crash_leaves_the_whole_batch_or_none_of_it(rt: HostRuntime) {
 }
 
 #[test]
-fn an_open_gate_counts_with_all_its_batch(rt: HostRuntime) {
+fn an_open_latch_counts_with_all_its_batch(rt: HostRuntime) {
     let alloc = rt.alloc();
     let mut journal = opened(&rt, alloc, &ONE_RECORD);
     sure(&rt, commit_two(&mut journal));
-    let gate = journal.device().moments().saturating_sub(1);
+    let latch = journal.device().moments().saturating_sub(1);
     for byte in 0..=255u8 {
-        let count = records_after(&rt, alloc, journal.device(), gate, &[byte]);
+        let count = records_after(&rt, alloc, journal.device(), latch, &[byte]);
         expect_at(&rt, byte as u64, (count == 1) == (byte == 0));
     }
     drop(journal);

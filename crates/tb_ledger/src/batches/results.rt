@@ -1,8 +1,10 @@
 //! The results of a chain that breaks.
-ghost use Rattle.std.specs.Prelude.{◌≡◌, ◌≢◌, ◌+◌, ◌^◌, ◌<◌, ◌≤◌, ◌&&◌, ◌++◌, [], ◌∷◌, length, drop, replicate, if◌then◌else◌};
+ghost use Rattle.std.specs.Prelude.{◌≡◌, ◌≢◌, ◌+◌, ◌^◌, ◌<◌, ◌≤◌, ◌&&◌, ◌++◌, [], ◌∷◌, length, replicate, if◌then◌else◌};
 ghost use Rattle.tb_ledger.specs.Batches.{timed_from, undone, results_from};
+ghost use Rattle.tb_ledger.specs.private.Steps.{broken_codes};
+ghost use Rattle.tb_ledger.specs.private.Gathered.{AddsResults};
 
-use crate::batches::events::Event;
+use crate::batches::Event;
 use crate::tables::work::Results;
 use tb_records::EventResult;
 
@@ -23,27 +25,23 @@ fn push_result<E: Event>(results: &mut Results, index: u32, refusal: E::Refusal)
 /// Adds the results of a broken chain, whose event at `place` has failed by the refusal.
 pub(crate) fn break_off<E: Event>(
     results: &mut Results,
-    block: &[E],
+    chain: &[E],
     index: u32,
     place: usize,
     refusal: E::Refusal,
 )
-    requires capacity { length results.old.items + length block.now ≤ results.old.capacity }
-    requires fits { index + length block.now < 2 ^ 32 }
-    requires within { place < length block.now }
+    requires capacity { length results.old.items + length chain.now ≤ results.old.capacity }
+    requires fits { index + length chain.now < 2 ^ 32 }
+    requires within { place < length chain.now }
     requires refused { E.code_of refusal ≢ 0 }
-    ensures items { results.new.items
-        ≡ results.old.items
-        ++ results_from index
-        (replicate place 1
-        ++ E.code_of refusal
-        ∷ undone E.kind (timed_from 0 (drop (place + 1) block.now))) }
-    ensures len { length results.new.items ≡ length results.old.items + length block.now }
+    ensures items { AddsResults index (broken_codes E.kind place (E.code_of refusal) chain.now)
+        results.old results.new }
+    ensures len { length results.new.items ≡ length results.old.items + length chain.now }
     ensures capacity { results.new.capacity ≡ results.old.capacity }
 {
     push_failed::<E>(results, index, place);
     push_result::<E>(results, index + place as u32, refusal);
-    push_undone(results, &block[place + 1..], index + place as u32 + 1);
+    push_undone(results, &chain[place + 1..], index + place as u32 + 1);
 }
 
 /// Adds the results of `n` events that another one's failure undoes.

@@ -39,7 +39,7 @@ pub struct AccountRow {
 const _: () = prove!(size_of::<AccountRow>() == 128);
 
 impl Model for AccountRow {
-    ghost use Rattle.tb_ledger.specs.KeptRows.{KeptAccount};
+    ghost use Rattle.tb_ledger.specs.private.KeptRows.{KeptAccount};
 
     ghost Value = { KeptAccount };
 

@@ -1,14 +1,53 @@
-//! The index of expiries follows the rows of transfers.
-ghost use Rattle.std.specs.Prelude.{◌≡◌, ◌+◌, ◌*◌, ◌≤◌, true};
+//! The row of a transfer that is recorded, and the index of expiries, which follows the rows of transfers.
+ghost use Rattle.std.specs.Prelude.{◌≡◌, ◌-◌, ◌^◌, ◌<◌, ◌≤◌, ◌==◌, true, find, None, length, ◌+◌, ◌*◌};
 ghost use Rattle.tb_ledger.specs.Books.{expires_at};
-ghost use Rattle.tb_ledger.specs.Kept.{times_out, timeout_of, listed, unlisted, CanList};
-ghost use Rattle.tb_ledger.specs.Timeouts.{AreTimeouts};
-ghost use Rattle.tb_ledger.specs.Verdicts.{max_time};
+ghost use Rattle.tb_ledger.specs.Kept.{transfer_row_key, times_out, listed, CanList, new_transfer_row, timeout_of, unlisted};
+ghost use Rattle.tb_ledger.specs.private.Timeouts.{AreTimeouts};
+ghost use Rattle.tb_ledger.specs.private.UndoLog.{IsMarked};
+ghost use Rattle.tb_ledger.specs.Verdicts.{int_max, max_time};
+ghost use Rattle.tb_records.specs.Ordered.{put, Rising};
 
+use crate::tables::map::Table;
 use crate::tables::timeouts::{Timeout, Timeouts};
 use crate::tables::transfers::{State, TransferRow};
+use crate::tables::work::UndoLog;
 use std::alloc::Allocator;
-use tb_records::NANOSECONDS_PER_SECOND;
+use tb_records::{NANOSECONDS_PER_SECOND, Transfer};
+
+/// The row of a transfer that is new: a pending one is open.
+pub(crate) fn new_transfer_row(recorded: Transfer) -> TransferRow
+    requires plain { recorded.flags < 2 ^ 8 }
+    ensures row { result ≡ new_transfer_row recorded }
+    ensures fits { recorded.id ≤ int_max }
+{
+    TransferRow::new(&recorded)
+}
+
+/// Adds the row of a transfer, and its timeout where it has one.
+pub(crate) fn add_row<A: Allocator + Clone>(
+    transfers: &mut Table<TransferRow, A>,
+    timeouts: &mut Timeouts<A>,
+    undo_log: &mut UndoLog<A>,
+    row: &TransferRow,
+)
+    requires capacity { 0 < transfers.old.spare }
+    requires log { length undo_log.old.changes < undo_log.old.capacity }
+    requires fresh { find (λ t. t.recorded.id == row.now.recorded.id) transfers.old.items ≡ None }
+    requires can_list { times_out row.now ≡ true → CanList row.now timeouts.old }
+    ensures transfers { transfers.new
+        ≡ record {
+          items = put transfer_row_key row.now transfers.old.items;
+          spare = transfers.old.spare - 1;
+        } }
+    ensures timeouts { timeouts.new ≡ listed row.now timeouts.old }
+    ensures rising { Rising transfer_row_key transfers.old.items }
+    ensures marked { IsMarked 1 transfers.old.items transfers.new.items timeouts.old timeouts.new undo_log.old
+        undo_log.new }
+{
+    undo_log.note_added(row);
+    transfers.insert_reserved(*row);
+    list(timeouts, row);
+}
 
 /// It holds until its timeout ends it, or it is resolved.
 fn times_out(row: &TransferRow) -> bool

@@ -1,10 +1,8 @@
 //! A finite map: rows by rising key, in a balanced tree.
-ghost use Rattle.std.specs.Prelude.{◌≡◌, ◌≢◌, ◌⊎◌, ◌↔◌, ℕ, ◌+◌, ◌-◌, ◌<◌, ◌≤◌, ◌==◌, max, List, [], length, map, None, find, IsTrue, OnOk, IfSome, IfNone};
+ghost use Rattle.std.specs.Prelude.{◌≡◌, ◌≢◌, ◌↔◌, ℕ, ◌+◌, ◌-◌, ◌<◌, ◌≤◌, ◌==◌, max, [], length, map, None, find, IsTrue, OnOk, IfSome, IfNone};
 ghost use Rattle.std.specs.Option.{option_copied};
-ghost use Rattle.std.specs.Map.{values_of};
 ghost use Rattle.tb_records.specs.Ordered.{put, replaced, taken_out, Rising};
-ghost use Rattle.avl_tree.specs.Map.{entries};
-ghost use Rattle.tb_ledger.specs.Tables.{freed, IsShortSearch, KeepsKey, ChangedRow, KeepsKeys, ChangedRows};
+ghost use Rattle.tb_ledger.specs.Tables.{freed, IsShortSearch, KeepsKey, ChangedRow, KeepsKeys, ChangedRows, LacksOneOf};
 
 use crate::tables::absent_ids::{AbsentIds, unfound};
 use avl_tree::AvlMap;
@@ -60,7 +58,7 @@ impl<V: Keyed, A: Allocator + Clone> Model for Table<V, A> {
 const MANY_ROWS: usize = 4096;
 
 /// So many rows no longer fit the caches, where a search for a row waits for memory at most of its levels.
-const LARGE: usize = 65_536;
+const LARGE_ROWS: usize = 65_536;
 
 /// Reads all cache lines of the rows that are there.
 fn read_whole<V: Keyed>(rows: &[Option<&V>; 8]) -> u128 {
@@ -137,7 +135,7 @@ impl<V: Keyed, A: Allocator + Clone> Table<V, A> {
         ensures { IsTrue result ↔ 65536 ≤ length self.now.items }
     {
         match &self.rows {
-            Some(rows) => LARGE <= rows.len(),
+            Some(rows) => LARGE_ROWS <= rows.len(),
             None => false,
         }
     }
@@ -242,10 +240,7 @@ impl<V: Keyed, A: Allocator + Clone> Table<V, A> {
         ensures changed { IfSome result
             (λ r. ChangedRows V.key F.FnMut a b self.old.items f.old r f.new self.new.items) }
         ensures absent { IfNone result
-            (((find (λ y. V.key y == a) self.old.items ≡ None)
-            ⊎ (find (λ y. V.key y == b) self.old.items ≡ None))
-            × (f.new ≡ f.old)
-            × (self.new.items ≡ self.old.items)) }
+            (LacksOneOf V.key a b self.old.items × (f.new ≡ f.old) × (self.new.items ≡ self.old.items)) }
         ensures capacity { self.new.spare ≡ self.old.spare }
     {
         let Some(rows) = &mut self.rows else {

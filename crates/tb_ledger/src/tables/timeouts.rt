@@ -3,7 +3,7 @@ ghost use Rattle.std.specs.Prelude.{◌≡◌, ◌+◌, ◌-◌, ◌<◌, ◌≤
 ghost use Rattle.tb_records.specs.Ordered.{put, taken_out, Each};
 ghost use Rattle.avl_tree.specs.Map.{entries};
 ghost use Rattle.tb_ledger.specs.Tables.{freed};
-ghost use Rattle.tb_ledger.specs.Timeouts.{timeout_key, timeouts_of, AreTimeouts, with_timeout, without_timeout, TakesDue, IsFirstDue};
+ghost use Rattle.tb_ledger.specs.private.Timeouts.{timeout_key, timeouts_of, AreTimeouts, with_timeout, without_timeout, TakesDue, IsFirstDue, stored_timeouts};
 
 use avl_tree::AvlMap;
 use std::alloc::{AllocError, Allocator};
@@ -25,7 +25,7 @@ pub struct Timeouts<A: Allocator + Clone> {
 impl<A: Allocator + Clone> Model for Timeouts<A> {
     ghost use Rattle.tb_ledger.specs.declared.tables.timeouts.Timeout.{Timeout};
     ghost use Rattle.tb_ledger.specs.Tables.{spare_in, Stored};
-    ghost use Rattle.tb_ledger.specs.Timeouts.{timeouts_in, AreTimeouts};
+    ghost use Rattle.tb_ledger.specs.private.Timeouts.{timeouts_in, AreTimeouts};
 
     ghost Value = { Stored Timeout };
 
@@ -81,8 +81,7 @@ fn pop_first_due<A: Allocator + Clone>(
 ) -> Option<Timeout>
     requires { AreTimeouts (timeouts_of (entries keys.old)) }
     ensures ordered { AreTimeouts (timeouts_of (entries keys.new)) }
-    ensures taken { TakesDue time (record { items = timeouts_of (entries keys.old); spare = keys.old.spare })
-        result (record { items = timeouts_of (entries keys.new); spare = keys.new.spare }) }
+    ensures taken { TakesDue time (stored_timeouts keys.old) result (stored_timeouts keys.new) }
 {
     let due = first_due(keys, time)?;
     let _ = keys.pop_first();

@@ -43,7 +43,7 @@ pub struct TransferRow {
 const _: () = prove!(size_of::<TransferRow>() == 128);
 
 impl Model for TransferRow {
-    ghost use Rattle.tb_ledger.specs.KeptRows.{KeptTransfer};
+    ghost use Rattle.tb_ledger.specs.private.KeptRows.{KeptTransfer};
 
     ghost Value = { KeptTransfer };
 

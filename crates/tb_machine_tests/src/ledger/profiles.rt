@@ -14,8 +14,8 @@ fn go_to_two(rt: &impl Abort, run: &mut Run) {
 /// An id that failed before the step does not count, one that fails after it does; the books stay.
 #[test]
 fn failed_ids_begin_at_profile_two(rt: HostRuntime) {
-    let no_account = [(0, CreateTransferResult::DebitAccountNotFound as u32)];
-    let failed = [(0, CreateTransferResult::IdAlreadyFailed as u32)];
+    let no_account = [(0, CreateTransferResult::DebitAccountNotFound.code())];
+    let failed = [(0, CreateTransferResult::IdAlreadyFailed.code())];
     let mut run = start(&rt, rt.alloc(), Profile::One);
     ask(&rt, &mut run, &[transfer(70, 99, 2, 1)], &no_account);
     ask(&rt, &mut run, &[transfer(71, 1, 2, 5)], &[]);

@@ -70,8 +70,8 @@ fn put_step(rt: &impl Abort, script: &mut Script, step: Step) {
             script.transfer(rt, number, &transfer_of(row), status, commit)
         }
         Step::Again(number, status) => script.look_again(rt, number, status),
-        Step::Account(row, result) => script.put_account(rt, &account_of(row), result as u32),
-        Step::Transfer(row, result) => script.put_transfer(rt, &transfer_of(row), result as u32),
+        Step::Account(row, result) => script.put_account(rt, &account_of(row), result.code()),
+        Step::Transfer(row, result) => script.put_transfer(rt, &transfer_of(row), result.code()),
         Step::Id(id) => script.put_id(rt, id),
         Step::FoundAccount(sums, time, row) => {
             script.put_found_account(rt, &found(sums, time, account_of(row)))
@@ -84,7 +84,7 @@ fn put_step(rt: &impl Abort, script: &mut Script, step: Step) {
             script.put_found_transfer(rt, &at(time, resolved(transfer_of(row))))
         }
         Step::Send(operation) => script.send(rt, operation),
-        Step::Single(row, result) => send_single(rt, script, &transfer_of(row), result as u32),
+        Step::Single(row, result) => send_single(rt, script, &transfer_of(row), result.code()),
         Step::First(sums) => look_up_first(rt, script, sums),
     }
 }

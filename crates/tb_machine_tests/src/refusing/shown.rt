@@ -83,8 +83,8 @@ pub(crate) fn expect_last<A: Allocator + Clone>(
     machine: &Machine<A>,
     rows: Rows,
 ) {
-    let failed = [(0, CreateTransferResult::IdAlreadyFailed as u32)];
-    let expired = [(1, CreateTransferResult::PendingTransferExpired as u32)];
+    let failed = [(0, CreateTransferResult::IdAlreadyFailed.code())];
+    let expired = [(1, CreateTransferResult::PendingTransferExpired.code())];
     let (want, pending, posted): (&[(u32, u32)], u128, u128) = match (rows, machine.profile()) {
         (Rows::First, _) => (&[], 0, 100),
         (Rows::Chain, Profile::One) => (&[], 0, 6),

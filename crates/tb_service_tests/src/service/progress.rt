@@ -18,7 +18,7 @@ use tb_service::Port;
 const LOOKS: u32 = 200_000;
 
 /// The seat is asked again after so many microseconds: an answer has ten seconds, or more.
-const NAP: u64 = 50;
+const NAP_US: u64 = 50;
 
 /// How many requests are offered one by one.
 const SINGLE: u32 = 130;
@@ -29,7 +29,7 @@ fn is_answered<J: Naming, R: Wait>(rt: &R, seat: &mut Seat<J>, request: &Request
         if matches!(seat.status(request), Ok(Status::Reply | Status::Older)) {
             return true;
         }
-        Parker::new().park_timeout(rt, Duration::from_micros(NAP));
+        Parker::new().park_timeout(rt, Duration::from_micros(NAP_US));
     }
     false
 }

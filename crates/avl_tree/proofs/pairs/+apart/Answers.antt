@@ -1,7 +1,7 @@
 use Rattle.std.proofs.Common.{◌+◌, ◌*◌, ◌<◌, ◌∙◌, sym, arith}
 use Rattle.std.specs.Cmp.{Equal-is}
 use Rattle.avl_tree.specs.Nodes.{stored_height}
-use Rattle.avl_tree.specs.Sides.{side_of}
+use Rattle.avl_tree.specs.private.Sides.{side_of}
 use Rattle.avl_tree.proofs.Steps.{goes, stands_here}
 use Rattle.avl_tree.proofs.TwoInPlace.{apart_here, apart_side}
 use Rattle.avl_tree.proofs.pairs.+apart.Goals as goal

@@ -1,5 +1,5 @@
 use Rattle.std.proofs.Common.{◌≡◌, Bool, true, subst, rules}
-use Rattle.tb_journal.specs.Hops.{StartsAs}
+use Rattle.tb_journal.specs.private.Hops.{StartsAs}
 use Rattle.tb_journal.proofs.Finding.{starts_leads, all_since}
 use Rattle.tb_journal.proofs.snapshots.find.Goals as goal
 

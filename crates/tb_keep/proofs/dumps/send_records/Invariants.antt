@@ -1,7 +1,7 @@
 use Rattle.std.proofs.Common.{ℕ, List, ◌-◌, ◌^◌}
 use Rattle.tb_journal.specs.Device.{FailsNone}
 use Rattle.tb_journal.specs.Scans.{HasRead}
-use Rattle.tb_keep.specs.Entering.{StaysKept}
+use Rattle.tb_keep.specs.private.Entering.{StaysKept}
 use Rattle.tb_keep.proofs.Dumping.{Sending}
 use Rattle.tb_keep.proofs.dumps.send_records.Given as goal
 

@@ -12,7 +12,7 @@ returns-in-Ok-enter_all-clause-found g c file holds has =
     let T = c.enter_all.new.machine in
     let all = c.in-Ok-enter_all.ensures.enters file (head ∷ []) holds has in (
       behind_begins head file scan S T all,
-      restored_behind rules.profile rules.clients_max c.get-clients.ensures.positive c.get-clients.ensures.at_most file scan c.extent.result S T c.in-Ok.ensures c.extent.ensures.end c.extent.ensures.count all,
+      restored_behind rules.profile rules.clients_max (c.get-clients.ensures.positive, c.get-clients.ensures.at_most) file scan c.extent.result S T c.in-Ok.ensures c.extent.ensures.end c.extent.ensures.count all,
     )
 
 pub returns-in-Err-clause-found : goal.returns-in-Err-clause-found

@@ -1,6 +1,6 @@
 use Rattle.std.proofs.Common.{[], ℕ, List, sym, subst}
 use Rattle.tb_journal.specs.Scans.{HasRead}
-use Rattle.tb_keep.specs.Taking.{HoldsRead}
+use Rattle.tb_keep.specs.private.Taking.{HoldsRead}
 use Rattle.tb_keep.proofs.Causes.{has_start_then}
 use Rattle.tb_keep.proofs.Salvages.{ok_of, moments_of, start_unsalvaged, none_made}
 use Rattle.tb_keep.proofs.salvaging.salvage.Goals as goal

@@ -1,7 +1,7 @@
 use Rattle.std.proofs.Common.{[], ◌∷◌, ℕ, List, sym, subst}
 use Rattle.tb_journal.specs.Scans.{HasRead}
 use Rattle.tb_keep.specs.Keeping.{head_record}
-use Rattle.tb_keep.specs.Taking.{HoldsRead}
+use Rattle.tb_keep.specs.private.Taking.{HoldsRead}
 use Rattle.tb_keep.proofs.Causes.{has_start_then}
 use Rattle.tb_keep.proofs.Entered.{stays_then}
 use Rattle.tb_keep.proofs.Salvages.{ok_of, moments_of, none_made}

@@ -1,5 +1,5 @@
 use Rattle.std.proofs.Common.{sym, subst}
-use Rattle.tb_keep.specs.Taking.{StopsBy}
+use Rattle.tb_keep.specs.private.Taking.{StopsBy}
 use Rattle.tb_keep.proofs.Behind.{stops_torn}
 use Rattle.tb_keep.proofs.salvaging.stopped_by.Goals as goal
 

@@ -2,8 +2,8 @@ use Rattle.std.proofs.Common.{ℕ, List, ◌≡◌, ◌-◌, ◌^◌, true}
 use Rattle.tb_journal.specs.Device.{FailsNone}
 use Rattle.tb_journal.specs.Ready.{IsReady}
 use Rattle.tb_journal.specs.Scans.{HasRead}
-use Rattle.tb_keep.specs.Entering.{StaysKept}
-use Rattle.tb_keep.specs.Taking.{StaysUsed, Taken}
+use Rattle.tb_keep.specs.private.Entering.{StaysKept}
+use Rattle.tb_keep.specs.private.Taking.{StaysUsed, Taken}
 use Rattle.tb_keep.proofs.salvaging.take_all.Given as goal
 
 -- the records so far were taken over, and no call on the old file's device has failed

@@ -1,8 +1,8 @@
 use Rattle.std.proofs.Common.{ℕ, List, ◌-◌, ◌^◌}
 use Rattle.tb_journal.specs.Device.{FailsNone}
 use Rattle.tb_journal.specs.Scans.{HasRead}
-use Rattle.tb_keep.specs.Entering.{StaysKept}
-use Rattle.tb_keep_log.specs.DumpSteps.{Dumped}
+use Rattle.tb_keep.specs.private.Entering.{StaysKept}
+use Rattle.tb_keep_log.specs.private.DumpSteps.{Dumped}
 use Rattle.tb_keep_log.proofs.dumps.dump_all.Given as goal
 
 -- the records so far were dumped, and no call has failed

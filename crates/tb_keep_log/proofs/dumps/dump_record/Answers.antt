@@ -4,7 +4,7 @@ use Rattle.tb_records.specs.declared.limits.Profile.{Profile}
 use Rattle.tb_records.specs.Transport.{Output}
 use Rattle.tb_machine.specs.Histories.{State}
 use Rattle.tb_keep_log.specs.declared.faults.DumpLogFault.{DumpLogFault}
-use Rattle.tb_keep_log.specs.DumpSteps.{DumpsContent, DumpsRecord}
+use Rattle.tb_keep_log.specs.private.DumpSteps.{DumpsContent, DumpsRecord}
 use Rattle.tb_keep_log.proofs.Dumped.{record_halts, record_refused}
 use Rattle.tb_keep_log.proofs.dumps.dump_record.Goals as goal
 

@@ -1,8 +1,8 @@
 use Rattle.std.proofs.Common.{ℕ, List, ◌-◌, ◌^◌}
 use Rattle.tb_journal.specs.Device.{FailsNone}
 use Rattle.tb_journal.specs.Scans.{HasRead}
-use Rattle.tb_keep.specs.Entering.{StaysKept}
-use Rattle.tb_keep_log.specs.Steps.{Entered}
+use Rattle.tb_keep.specs.private.Entering.{StaysKept}
+use Rattle.tb_keep_log.specs.private.Steps.{Entered}
 use Rattle.tb_keep_log.proofs.restoring.enter_all.Given as goal
 
 -- the records so far were entered, and no call has failed

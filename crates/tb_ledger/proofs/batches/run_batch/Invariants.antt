@@ -1,10 +1,10 @@
-use Rattle.tb_ledger.proofs.Common.{◌≡◌, ◌+◌, ◌≤◌, ◌++◌, length, blocks, blocks_after, timed_from, results_from, capacity_of, books_in, IsKept}
+use Rattle.tb_ledger.proofs.Common.{◌≡◌, ◌+◌, ◌≤◌, ◌++◌, length, chains, chains_after, timed_from, results_from, capacity_of, books_in, IsKept}
 use Rattle.tb_ledger.proofs.batches.run_batch.Given as goal
 
 abbrev pub invariant-loop-rest : goal.invariant-loop-rest
 invariant-loop-rest g l = let kind = g.E.Event.kind in let start = l.initial.work.rows in record {
-  books : (blocks_after kind (books_in l.work.rows) (blocks kind (timed_from l.stamp l.rest))).books ≡ (blocks_after kind (books_in start) (blocks kind (timed_from l.time l.events))).books;
-  results : l.work.results.items ++ results_from l.index (blocks_after kind (books_in l.work.rows) (blocks kind (timed_from l.stamp l.rest))).codes ≡ l.initial.work.results.items ++ results_from 0 (blocks_after kind (books_in start) (blocks kind (timed_from l.time l.events))).codes;
+  books : (chains_after kind (books_in l.work.rows) (chains kind (timed_from l.stamp l.rest))).books ≡ (chains_after kind (books_in start) (chains kind (timed_from l.time l.events))).books;
+  results : l.work.results.items ++ results_from l.index (chains_after kind (books_in l.work.rows) (chains kind (timed_from l.stamp l.rest))).codes ≡ l.initial.work.results.items ++ results_from 0 (chains_after kind (books_in start) (chains kind (timed_from l.time l.events))).codes;
   left : l.index + length l.rest ≡ length l.events;
   stamp : l.stamp ≡ l.time + l.index;
   kept : IsKept l.work.rows;

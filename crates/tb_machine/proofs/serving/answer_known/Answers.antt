@@ -3,7 +3,7 @@ use Rattle.tb_records.specs.declared.replies.Status.{Status}
 use Rattle.tb_records.specs.Messages.{Answer}
 use Rattle.tb_records.specs.ReplyFrames.{reply_bytes, IsReply}
 use Rattle.tb_machine.specs.Histories.{refusal}
-use Rattle.tb_machine.specs.Serving.{Delivers}
+use Rattle.tb_machine.specs.private.Serving.{Delivers}
 use Rattle.tb_machine.proofs.PairAnswers.{refused}
 use Rattle.tb_machine.proofs.serving.answer_known.Goals as goal
 

@@ -2,7 +2,7 @@ use Rattle.std.proofs.Common.{◌++◌, ◌∷◌, [], subst, sym, ap, ◌∙◌
 use mathlib.Core.List.{IsPrefix}
 use Rattle.tb_machine.specs.declared.entries.Entry.{Entry}
 use Rattle.tb_published.specs.Openings.{Opening, LegalIn}
-use Rattle.tb_published.specs.Prefixes.{Prefix, with_entry}
+use Rattle.tb_published.specs.private.Prefixes.{Prefix, with_entry}
 use Rattle.tb_published.proofs.Prefixes.{next_by}
 use Rattle.tb_published.proofs.Lengthened.{legal_prefix, next_fits}
 use Rattle.tb_published.proofs.offering.next_posted.Goals as goal

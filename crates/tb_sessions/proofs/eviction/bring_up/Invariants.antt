@@ -1,7 +1,7 @@
 use Rattle.std.proofs.Common.{◌-◌}
 use Rattle.std.specs.Map.{values_of}
 use Rattle.avl_tree.specs.Map.{entries}
-use Rattle.tb_sessions.specs.Indexed.{IsIndexed}
+use Rattle.tb_sessions.specs.private.Indexed.{IsIndexed}
 use Rattle.tb_sessions.proofs.Rising.{latest, first_commit}
 use Rattle.tb_sessions.proofs.eviction.bring_up.Given as goal
 

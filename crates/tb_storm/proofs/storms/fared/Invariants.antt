@@ -1,5 +1,5 @@
 use Rattle.std.proofs.Common.{◌≡◌, map, fold, take}
-use Rattle.tb_storm.specs.Outcomes.{first_of}
+use Rattle.tb_storm.specs.private.Outcomes.{first_of}
 use Rattle.tb_storm.proofs.storms.fared.Given as goal
 
 -- the fault among the clients so far

@@ -1,5 +1,5 @@
 use Rattle.tb_text_commands.specs.Ends.{IsWhole}
-use Rattle.tb_text_commands.specs.Taken.{TakesParts}
+use Rattle.tb_text_commands.specs.private.Taken.{TakesParts}
 use Rattle.tb_text_commands.proofs.converting.convert.Given as goal
 
 abbrev pub invariant-loop : goal.invariant-loop

@@ -1,5 +1,5 @@
 use Rattle.std.proofs.Common.{rules, string_bytes}
-use Rattle.tb_text_commands.specs.Taken.{waiting}
+use Rattle.tb_text_commands.specs.private.Taken.{waiting}
 use Rattle.tb_text_commands.proofs.Taking.{explained_by}
 use Rattle.tb_text_commands.proofs.explaining.explain.Goals as goal
 

@@ -1,5 +1,5 @@
 use Rattle.tb_text_commands.specs.Ends.{IsWhole}
-use Rattle.tb_text_commands.specs.Taken.{TakesParts, waiting}
+use Rattle.tb_text_commands.specs.private.Taken.{TakesParts, waiting}
 use Rattle.tb_text_commands.specs.Typed.{IsTypedPart}
 use Rattle.tb_text_commands.proofs.running.serve_turns.Given as goal
 

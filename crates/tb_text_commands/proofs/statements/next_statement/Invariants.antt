@@ -1,5 +1,5 @@
 use Rattle.tb_text_commands.specs.Ends.{IsWhole}
-use Rattle.tb_text_commands.specs.Taken.{Stays, waiting}
+use Rattle.tb_text_commands.specs.private.Taken.{Stays, waiting}
 use Rattle.tb_text_commands.proofs.statements.next_statement.Given as goal
 
 abbrev pub invariant-loop : goal.invariant-loop

@@ -1,5 +1,5 @@
 use Rattle.std.proofs.Common.{rules, take}
-use Rattle.tb_text_commands.specs.Taken.{rest_of}
+use Rattle.tb_text_commands.specs.private.Taken.{rest_of}
 use Rattle.tb_text_commands.specs.Typed.{IsWrong}
 use Rattle.tb_text_commands.proofs.TypedParts.{goes_wrong, part_taken}
 use Rattle.tb_text_commands.proofs.statements.take_text.Goals as goal

@@ -1,5 +1,5 @@
 use Rattle.std.proofs.Common.{rules}
-use Rattle.tb_text_commands.specs.Taken.{waiting}
+use Rattle.tb_text_commands.specs.private.Taken.{waiting}
 use Rattle.tb_text_commands.proofs.TypedParts.{typed_rest}
 use Rattle.tb_text_commands.proofs.typing.next_typed.Goals as goal
 

@@ -1,5 +1,5 @@
 use Rattle.tb_text_commands.specs.Ends.{IsWhole}
-use Rattle.tb_text_commands.specs.Taken.{Stays, waiting}
+use Rattle.tb_text_commands.specs.private.Taken.{Stays, waiting}
 use Rattle.tb_text_commands.proofs.typing.next_typed.Given as goal
 
 abbrev pub invariant-loop : goal.invariant-loop

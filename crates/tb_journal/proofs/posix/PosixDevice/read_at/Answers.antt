@@ -1,6 +1,6 @@
 use Rattle.std.proofs.Common.{◌-◌, ◌<◌, ◌^◌, arith, length, subst, ℕ, Ok, Err}
 use borrow.Rule.Slice.PartMut.{post_of}
-use Rattle.tb_journal.specs.Posix.{ReadsSome}
+use Rattle.tb_journal.specs.private.Posix.{ReadsSome}
 use Rattle.tb_journal.proofs.WholeCalls.{room_for, next_fits, read_more, read_fails}
 use Rattle.tb_journal.proofs.posix.PosixDevice.read_at.Goals as goal
 

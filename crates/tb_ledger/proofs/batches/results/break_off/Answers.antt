@@ -5,7 +5,7 @@ use Rattle.tb_ledger.proofs.batches.results.break_off.Goals as goal
 pub returns-clause-items : goal.returns-clause-items
 returns-clause-items g c =
     let after = c.args.place + 1 in
-    let block = c.args.block.now in
+    let chain = c.args.chain.now in
     let pushed = broken-results c.args.results.now.items c.push_failed.new.results.items c.push_result.new.results.items c.push_undone.new.results.items c.args.index c.args.place (g.E.Event.code_of c.args.refusal)
-    (undone g.E.Event.kind (timed_from 0 (take (length block - after) (drop after block)))) c.requires.refused c.push_failed.ensures.items c.push_result.ensures.items c.push_undone.ensures.items in
-    pushed ∙ ap (λ rest. c.args.results.now.items ++ results_from c.args.index (replicate c.args.place 1 ++ g.E.Event.code_of c.args.refusal ∷ undone g.E.Event.kind (timed_from 0 rest))) (rest-whole block after)
+    (undone g.E.Event.kind (timed_from 0 (take (length chain - after) (drop after chain)))) c.requires.refused c.push_failed.ensures.items c.push_result.ensures.items c.push_undone.ensures.items in
+    pushed ∙ ap (λ rest. c.args.results.now.items ++ results_from c.args.index (replicate c.args.place 1 ++ g.E.Event.code_of c.args.refusal ∷ undone g.E.Event.kind (timed_from 0 rest))) (rest-whole chain after)

@@ -1,6 +1,6 @@
 use Rattle.tb_ledger.proofs.Common.{◌++◌, sym, ap, ◌∙◌, arith}
 use Rattle.tb_ledger.proofs.CodeLaws.{pushed}
-use Rattle.tb_ledger.proofs.BlockLaws.{undone-step}
+use Rattle.tb_ledger.proofs.ChainLaws.{undone-step}
 use Rattle.tb_ledger.proofs.batches.results.push_undone.Goals as goal
 
 pub loop-i-preserved : goal.loop-i-preserved

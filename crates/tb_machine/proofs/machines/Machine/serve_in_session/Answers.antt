@@ -1,8 +1,8 @@
 use Rattle.std.proofs.Common.{rules, ◌≡◌, ◌+◌, OnOk, OnErr, sym, ap, subst, arith}
 use Rattle.tb_records.specs.Messages.{Message, count}
 use Rattle.tb_machine.specs.Histories.{State, is_new, executed, time_of}
-use Rattle.tb_machine.specs.Serving.{made, row_in, MayBeExecuted, Tells}
-use Rattle.tb_machine.specs.Sound.{IsSound}
+use Rattle.tb_machine.specs.private.Serving.{made, row_in, MayBeExecuted, Tells}
+use Rattle.tb_machine.specs.private.Sound.{IsSound}
 use Rattle.tb_machine.proofs.InSession.{of_ok, of_err, class_new, may_be, timely, same_state, renewed, rows_same, sound_after, serves}
 use Rattle.tb_machine.proofs.machines.Machine.serve_in_session.Goals as goal
 

@@ -1,7 +1,7 @@
 use Rattle.std.proofs.Common.{drop, subst, sym}
 use Rattle.left_right.specs.Sides.{view}
-use Rattle.tb_published.specs.PostedEntries.{TwoCopies, Follows}
-use Rattle.tb_published.specs.Sharing.{Swapped}
+use Rattle.tb_published.specs.private.PostedEntries.{TwoCopies, Follows}
+use Rattle.tb_published.specs.private.Sharing.{Swapped}
 use Rattle.tb_published.proofs.Shown.{turns, swapped}
 use Rattle.tb_published.proofs.copies.Copies.swapped.Goals as goal
 

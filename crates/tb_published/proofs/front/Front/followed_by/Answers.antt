@@ -1,7 +1,7 @@
 use Rattle.std.proofs.Common.{◌≡◌, ◌+◌, ◌++◌, ◌∷◌, [], length, sym, ◌∙◌, ap, subst, IsTrue}
 use Rattle.logbook.specs.Pages.{step}
 use Rattle.tb_machine.specs.Histories.{fits}
-use Rattle.tb_published.specs.Prefixes.{Prefix, state_of}
+use Rattle.tb_published.specs.private.Prefixes.{Prefix, state_of}
 use Rattle.tb_published.proofs.Adding.{adds_moves, added, front_on}
 use Rattle.tb_published.proofs.front.Front.followed_by.Goals as goal
 

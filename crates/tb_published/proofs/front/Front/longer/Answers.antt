@@ -1,7 +1,7 @@
 use Rattle.std.proofs.Common.{◌≤◌, length, sym, ap, subst, arith, List}
 use mathlib.Core.List.{IsPrefix}
 use Rattle.tb_machine.specs.declared.entries.Entry.{Entry}
-use Rattle.tb_published.specs.Prefixes.{Prefix}
+use Rattle.tb_published.specs.private.Prefixes.{Prefix}
 use Rattle.tb_published.proofs.Prefixes.{prefix_shorter}
 use Rattle.tb_published.proofs.front.Front.longer.Goals as goal
 

@@ -1,6 +1,6 @@
 use Rattle.std.proofs.Common.{◌∙◌, ap, subst}
 use Rattle.tb_published.specs.Openings.{LegalIn, after_in, Ends}
-use Rattle.tb_published.specs.Entering.{EntersBy}
+use Rattle.tb_published.specs.private.Entering.{EntersBy}
 use Rattle.tb_published.proofs.EntryTable.{enters_by, tied_by}
 use Rattle.tb_published.proofs.publisher.Publisher.enter.Goals as goal
 

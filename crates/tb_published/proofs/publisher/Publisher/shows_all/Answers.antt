@@ -1,5 +1,5 @@
 use Rattle.std.proofs.Common.{◌≡◌, ◌≢◌, ℕ, ◌<◌, eqb, false, length, ap, ◌∙◌, subst, arith, eqb-true, eq-eqb}
-use Rattle.tb_published.specs.Prefixes.{Prefix}
+use Rattle.tb_published.specs.private.Prefixes.{Prefix}
 use Rattle.tb_published.specs.Openings.{Ends}
 use Rattle.tb_published.proofs.Prefixes.{prefix_whole, prefix_length}
 use Rattle.tb_published.proofs.Tied.{shown_front}

@@ -1,7 +1,7 @@
 use Rattle.std.proofs.Common.{◌≡◌, ◌+◌, length, IsTrue, sym, ◌∙◌, subst, arith, eqb-true}
 use Rattle.tb_machine.specs.Histories.{fits, step}
-use Rattle.tb_published.specs.Prefixes.{Prefix, state_of}
-use Rattle.tb_published.specs.PostedEntries.{PostedEntry}
+use Rattle.tb_published.specs.private.Prefixes.{Prefix, state_of}
+use Rattle.tb_published.specs.private.PostedEntries.{PostedEntry}
 use Rattle.tb_published.proofs.Lengthened.{comes}
 use Rattle.tb_published.proofs.replica.Replica.comes_next.Goals as goal
 

@@ -1,4 +1,4 @@
-use Rattle.tb_service.specs.Desks.{ServesOrders}
+use Rattle.tb_service.specs.private.Desks.{ServesOrders}
 use Rattle.tb_service.proofs.server.Desk.serve.Given as goal
 
 abbrev pub invariant-loop : goal.invariant-loop

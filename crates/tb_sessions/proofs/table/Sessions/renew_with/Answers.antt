@@ -1,5 +1,4 @@
-use Rattle.std.proofs.Common.{rules, ◌≡◌, IfOk, OnOk, OnErr, IfErr, Some, None, refl, sym, ap, ◌∙◌, subst}
-use Rattle.std.specs.Map.{values_of}
+use Rattle.std.proofs.Common.{rules, ◌≡◌, IfOk, OnOk, OnErr, IfErr, Some, None, sym, ap, ◌∙◌, subst}
 use Rattle.avl_tree.specs.Map.{entries}
 use Rattle.tb_records.proofs.Entries.{found-row}
 use Rattle.tb_sessions.specs.declared.rows.Row.{Row}

@@ -1,5 +1,5 @@
 use Rattle.std.proofs.Common.{◌≤◌}
-use Rattle.tb_storm.specs.Clients.{offers}
+use Rattle.tb_storm.specs.private.Clients.{offers}
 use Rattle.tb_storm.proofs.clients.Client.call_on.Given as goal
 
 -- the port sends no fewer requests

@@ -1,5 +1,5 @@
 use Rattle.std.proofs.Common.{◌≤◌, ◌+◌}
-use Rattle.tb_storm.specs.Clients.{offers}
+use Rattle.tb_storm.specs.private.Clients.{offers}
 use Rattle.tb_storm.proofs.clients.Client.create.Given as goal
 
 -- each transfer so far was offered again

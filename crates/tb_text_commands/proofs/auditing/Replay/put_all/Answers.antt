@@ -1,6 +1,6 @@
 use Rattle.std.proofs.Common.{◌∙◌, add-one, ap, arith, inr, refl, rules, suc, sym}
 use Rattle.std.proofs.lemmas.Result.{err_from_is_err_and}
-use Rattle.tb_text_commands.specs.Audited.{audited}
+use Rattle.tb_text_commands.specs.private.Audited.{audited}
 use Rattle.tb_text_commands.specs.Whole.{IsItem}
 use Rattle.tb_text_commands.proofs.AuditSteps.{audits_on, items_end, items_fail}
 use Rattle.tb_text_commands.proofs.Taking.{takes_on}

@@ -1,8 +1,8 @@
 use Rattle.std.proofs.Common.{ℕ, ◌≡◌}
-use Rattle.tb_text_commands.specs.Audited.{audited}
+use Rattle.tb_text_commands.specs.private.Audited.{audited}
 use Rattle.tb_text_commands.specs.AuditRuns.{AuditsAll}
 use Rattle.tb_text_commands.specs.Ends.{IsWhole}
-use Rattle.tb_text_commands.specs.Taken.{TakesParts}
+use Rattle.tb_text_commands.specs.private.Taken.{TakesParts}
 use Rattle.tb_text_commands.specs.Whole.{IsItem}
 use Rattle.tb_text_commands.proofs.auditing.Replay.put_all.Given as goal
 

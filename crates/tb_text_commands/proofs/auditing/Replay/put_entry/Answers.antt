@@ -2,7 +2,7 @@ use Rattle.std.proofs.Common.{◌∙◌, ap}
 use Rattle.std.proofs.lemmas.Result.{err_from_is_err_and}
 use Rattle.avl_tree.specs.Map.{entries}
 use Rattle.tb_text_commands.specs.declared.waits.Waits.{Waits}
-use Rattle.tb_text_commands.specs.Audited.{audited}
+use Rattle.tb_text_commands.specs.private.Audited.{audited}
 use Rattle.tb_text_commands.proofs.AuditSteps.{due_stops, entry_goes_on, entry_stops, not_entered}
 use Rattle.tb_text_commands.proofs.Watching.{entry_judged}
 use Rattle.tb_text_commands.proofs.auditing.Replay.put_entry.Goals as goal

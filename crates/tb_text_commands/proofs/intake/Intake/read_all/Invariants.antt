@@ -1,7 +1,7 @@
 use Rattle.std.specs.Prelude.{[]}
 use Rattle.tb_records.specs.Transport.{Sent}
 use Rattle.tb_text_commands.specs.Ends.{IsWhole}
-use Rattle.tb_text_commands.specs.Taken.{Stays, waiting}
+use Rattle.tb_text_commands.specs.private.Taken.{Stays, waiting}
 use Rattle.tb_text_commands.proofs.intake.Intake.read_all.Given as goal
 
 abbrev pub invariant-loop : goal.invariant-loop

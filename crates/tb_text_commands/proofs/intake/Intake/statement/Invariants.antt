@@ -1,5 +1,5 @@
 use Rattle.std.proofs.Common.{◌≡◌, ◌+◌, drop}
-use Rattle.tb_text_commands.specs.Taken.{before_semicolon}
+use Rattle.tb_text_commands.specs.private.Taken.{before_semicolon}
 use Rattle.tb_text_commands.proofs.intake.Intake.statement.Given as goal
 
 abbrev pub invariant-loop-place : goal.invariant-loop-place

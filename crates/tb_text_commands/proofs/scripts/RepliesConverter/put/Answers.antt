@@ -1,5 +1,5 @@
 use Rattle.std.proofs.Common.{vec_items}
-use Rattle.tb_text_commands.specs.Putting.{IsLine}
+use Rattle.tb_text_commands.specs.private.Putting.{IsLine}
 use Rattle.tb_text_commands.proofs.Putting.{puts_line}
 use Rattle.tb_text_commands.proofs.scripts.RepliesConverter.put.Goals as goal
 

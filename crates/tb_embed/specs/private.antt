@@ -1,0 +1,2 @@
+-- what private contracts alone cite
+pub mod Filling

@@ -1,0 +1,3 @@
+-- what private contracts alone cite
+pub mod Forms
+pub mod Statuses

@@ -1,0 +1,4 @@
+-- what private contracts alone cite
+pub mod Batches
+pub mod Hops
+pub mod Posix

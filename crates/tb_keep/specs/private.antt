@@ -1,0 +1,7 @@
+-- what private contracts alone cite
+pub mod Sources
+pub mod Entering
+pub mod Sending
+pub mod Taking
+pub mod Headed
+pub mod Steps

@@ -1,0 +1,70 @@
+-- The records of a file as they are read and entered: for private functions alone.
+-- Cited by private contracts alone, of: dumps, opening, restoring, salvaging.
+use Rattle.std.specs.Prelude.{ℕ, Bool, true, false, ◌≡◌, List, [], ◌∷◌, ◌++◌, Result, Ok, Err}
+use Rattle.tb_records.specs.declared.limits.Profile.{Profile}
+use Rattle.tb_journal.specs.declared.reading.Extent.{Extent}
+use Rattle.tb_journal.specs.Device.{Disk, IsOnDisk}
+use Rattle.tb_journal.specs.Contents.{Records, contents}
+use Rattle.tb_journal.specs.Opening.{RefusesFile}
+use Rattle.tb_journal.specs.Scans.{BeginsWith, HasRead, Place}
+use Rattle.tb_machine.specs.Histories.{State}
+use Rattle.tb_keep.specs.declared.faults.StartFault.{StartFault}
+use Rattle.tb_keep.specs.declared.faults.StartFault.TheVariants as start
+use Rattle.tb_keep.specs.declared.restoring.Rules.{Rules}
+use Rattle.tb_keep.specs.Keeping.{head_record}
+use Rattle.tb_keep.specs.Restoration.{RecordsLead, StopsAt, RestoresRecord, RestoresAll, StopsReading, HasStartCause, Restores}
+use Rattle.tb_keep.specs.Opening.{IsUntouched}
+use Rattle.tb_keep.specs.Reading.{HasRules, RulesAnswer}
+use Rattle.tb_journal.specs.Reading.{extent_of}
+
+-- the file is as it was at each moment, and durable if it was, and no sync has failed that had not
+pub record StaysKept (before after : Disk) : Type 0 where
+  pub untouched : IsUntouched before after
+  pub kept : IsOnDisk before → IsOnDisk after
+  pub sound : after.sound ≡ before.sound
+
+-- the cause of a fault, where some records were read before
+abbrev pub ReadCause : {T : Type 0} → Result T StartFault → Place → Disk → Disk → Type 0
+ReadCause result scan before after = (read : List (List ℕ)) → HasRead read before.seen scan → HasStartCause result before after
+
+-- the same, where the head was read, which names these rules
+abbrev pub IsBehindHead : Rules → List ℕ → Place → Type 0
+IsBehindHead rules file scan = HasRead (head_record rules.profile rules.clients_max ∷ []) file scan
+
+abbrev pub CauseBehindHead : {T : Type 0} → Result T StartFault → Rules → Place → Disk → Disk → Type 0
+CauseBehindHead result rules scan before after = IsBehindHead rules before.seen scan → HasStartCause result before after
+
+-- the head was read, or there is none
+abbrev pub ReadsHead : Result Bool StartFault → Profile → ℕ → List ℕ → Place → Type 0
+ReadsHead (Ok true) profile clients_max file after = HasRead (head_record profile clients_max ∷ []) file after
+ReadsHead (Ok false) profile clients_max file after = (contents file ≡ Records []) × HasRead [] file after
+ReadsHead (Err fault) profile clients_max file after = StopsReading fault profile clients_max file
+
+-- behind the records that were read one more was read and entered, or there is none
+abbrev pub EntersNext : Result Bool StartFault → List (List ℕ) → List ℕ → Place → State → State → Type 0
+EntersNext (Ok true) read file after S T = (bytes : List ℕ) × HasRead (read ++ bytes ∷ []) file after × RestoresRecord (Ok tt) S bytes T
+EntersNext (Ok false) read file after S T = (contents file ≡ Records read) × HasRead read file after × (T ≡ S)
+EntersNext (Err (start.Journal fault)) read file after S T = RefusesFile fault file × BeginsWith read file
+EntersNext (Err fault) read file after S T = (bytes : List ℕ) × BeginsWith (read ++ bytes ∷ []) file × StopsAt fault S bytes
+
+-- all records behind those that were read, or those before the first one that is not entered
+abbrev pub EntersAll : Result (Unit {0}) StartFault → List (List ℕ) → List ℕ → Place → State → State → Type 0
+EntersAll (Ok done) read file after S T =
+    (records : List (List ℕ)) × (contents file ≡ Records (read ++ records)) × HasRead (read ++ records) file after × RecordsLead S records T
+EntersAll (Err (start.Journal fault)) read file after S T = RefusesFile fault file × BeginsWith read file
+EntersAll (Err fault) read file after S T =
+    (records : List (List ℕ)) × (U : State) × BeginsWith (read ++ records) file × RestoresAll (Err fault) S records U
+
+-- the machine after the records behind the head of a file of these rules
+abbrev pub FindsBehind : Result (State × Extent) StartFault → Rules → List ℕ → Type 0
+FindsBehind result rules file = HasRules rules file × Restores result rules.profile rules.clients_max file
+
+-- the head was read, and names rules
+abbrev pub FindsRules : Result Rules StartFault → List ℕ → Place → Type 0
+FindsRules (Ok rules) file after = HasRead (head_record rules.profile rules.clients_max ∷ []) file after
+FindsRules (Err fault) file after = RulesAnswer (Err fault) file
+
+-- a file without records has a new machine
+abbrev pub RestoresEmpty : Result (State × Extent) StartFault → Rules → Extent → List ℕ → Type 0
+RestoresEmpty result rules extent file =
+    contents file ≡ Records [] → BeginsWith [] file → extent_of (contents file) ≡ Ok extent → Restores result rules.profile rules.clients_max file

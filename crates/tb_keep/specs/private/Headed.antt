@@ -1,0 +1,72 @@
+-- Journals that have a head: for private functions alone.
+-- Cited by private contracts alone, of: opening.
+use Rattle.std.specs.Prelude.{ℕ, ◌≡◌, ◌⊎◌, List, [], ◌∷◌, Result, Ok, Err, OnOk, IfErr, true}
+use Rattle.tb_records.specs.declared.limits.Profile.{Profile}
+use Rattle.tb_journal.specs.declared.faults.Fault.TheVariants.{NotEmpty}
+use Rattle.tb_journal.specs.declared.opening.OpenFault.TheVariants as open_faults
+use Rattle.tb_journal.specs.Device.{Disk, IsCause, FailsNone, LeavesOnly}
+use Rattle.tb_journal.specs.Contents.{Records, contents, recorded}
+use Rattle.tb_journal.specs.Ready.{Kept, IsReady}
+use Rattle.tb_keep.specs.declared.faults.StartFault.{StartFault}
+use Rattle.tb_keep.specs.declared.faults.StartFault.TheVariants as start
+use Rattle.tb_keep.specs.declared.opening.NotKept.{NotKept}
+use Rattle.tb_keep.specs.Keeping.{head_record, Keeping}
+use Rattle.tb_keep.specs.Opening.{HasNoEntry, OpensFile}
+use Rattle.tb_keep.specs.Restoration.{IsRestoredFrom}
+use Rattle.tb_keep.specs.declared.restoring.Rules.{Rules}
+use Rattle.tb_machine.specs.Histories.{State}
+use Rattle.tb_journal.specs.declared.reading.Extent.{Extent}
+
+-- the journal's device, or the one that is given back
+abbrev pub journal_left : {D : Type 0} → Result (Kept D) (NotKept D) → D
+journal_left (Ok journal) = journal.device
+journal_left (Err failed) = failed.device
+
+-- a call on the device failed, or there is no memory
+abbrev pub IsOfDevice : StartFault → Type 0
+IsOfDevice (start.Journal (open_faults.Device NotEmpty)) = ⊥
+IsOfDevice (start.Journal (open_faults.Device fault)) = Unit {0}
+IsOfDevice fault = ⊥
+
+-- the same, and its cause
+abbrev pub IsDeviceCause : Disk → Disk → StartFault → Type 0
+IsDeviceCause before after (start.Journal (open_faults.Device NotEmpty)) = ⊥
+IsDeviceCause before after (start.Journal (open_faults.Device fault)) = IsCause before after fault
+IsDeviceCause before after fault = ⊥
+
+pub record HasDeviceCause {T : Type 0} (result : Result T StartFault) (before after : Disk) : Type 0 where
+  pub ok : OnOk result (FailsNone before after)
+  pub cause : IfErr result (IsDeviceCause before after)
+
+-- where there is no record there comes a head
+abbrev pub with_head : Profile → ℕ → List (List ℕ) → List (List ℕ)
+with_head profile clients_max [] = head_record profile clients_max ∷ []
+with_head profile clients_max (head ∷ records) = head ∷ records
+
+module _ {D : Type 0} (disk : D → Disk) (profile : Profile) (clients_max : ℕ) where
+  -- a journal with these records, or with a head where they are none
+  pub record HasRecords (records : List (List ℕ)) (journal : Kept D) : Type 0 where
+    pub ready : IsReady disk journal
+    pub none_waits : journal.waiting ≡ []
+    pub reads : recorded (disk journal.device).seen ≡ with_head profile clients_max records
+
+  -- a journal with a head and nothing behind it
+  abbrev pub HasHead : Kept D → Type 0
+  HasHead = HasRecords []
+
+-- what a crash may leave while such a journal is opened
+abbrev pub OpensOnly : Profile → ℕ → List (List ℕ) → List ℕ → Type 0
+OpensOnly profile clients_max records file = (contents file ≡ Records records) ⊎ ((records ≡ []) × HasNoEntry profile clients_max file)
+
+-- where no sync has failed before, a crash at any moment leaves these records alone
+abbrev pub OpensAtMost : Profile → ℕ → Disk → Disk → Type 0
+OpensAtMost profile clients_max before after = before.sound ≡ true → LeavesOnly before after (OpensOnly profile clients_max (recorded before.seen))
+
+-- a file of which this machine was restored is opened by it, or it is reported why not
+abbrev pub OpensRestored : {D : Type 0} → Result (Keeping D) (NotKept D) → Rules → State → Extent → List ℕ → Type 0
+OpensRestored result rules S extent file =
+    IsRestoredFrom rules.profile rules.clients_max file S extent → OpensFile result rules.profile rules.clients_max file
+
+-- while a head is written, a crash at any moment leaves no record, or this head and nothing behind it
+abbrev pub HeadLeaves : Rules → Disk → Disk → Type 0
+HeadLeaves rules before after = LeavesOnly before after (HasNoEntry rules.profile rules.clients_max)

@@ -1,0 +1,166 @@
+-- What the steps of serving do: for private functions alone.
+-- Cited by private contracts alone, of: serving.
+use Rattle.std.specs.Prelude.{ℕ, Bool, true, false, ◌≡◌, ◌⊎◌, ◌+◌, ◌<◌, ◌≤◌, ◌^◌, List, [], ◌∷◌, ◌++◌, length, Result, Ok, Err, Option, None, IsTrue}
+use Rattle.tb_records.specs.declared.faults.FrameFault.{FrameFault}
+use Rattle.tb_records.specs.declared.faults.FrameFault.TheVariants.{Device}
+use Rattle.tb_records.specs.Messages.{Message}
+use Rattle.tb_records.specs.ReplyFrames.{IsReply}
+use Rattle.tb_records.specs.AtHand.{holds_pair}
+use Rattle.tb_records.specs.Transport.{Input, Output, Sent, CutOff}
+use Rattle.tb_journal.specs.declared.faults.Fault.{Fault}
+use Rattle.tb_journal.specs.Device.{Disk, LeavesOnly, HasFailed}
+use Rattle.tb_journal.specs.Contents.{at_rest, recorded}
+use Rattle.tb_journal.specs.Steps.{IsBeforeOrAfter}
+use Rattle.tb_journal.specs.Ready.{Kept, IsReady}
+use Rattle.tb_machine.specs.declared.serving.RunFault.TheVariants as run
+use Rattle.tb_machine.specs.Histories.{State, fits, answer_to}
+use Rattle.tb_machine.specs.Scripts.{Pair, entry_of, has_time, after_pair}
+use Rattle.tb_machine.specs.Runs.{Reads, is_new_in, IsTimely, answer_bytes}
+use Rattle.tb_machine.specs.Dumps.{dumped}
+use Rattle.tb_machine.specs.Recording.{IsRecord}
+use Rattle.tb_keep.specs.declared.faults.KeepFault.{KeepFault}
+use Rattle.tb_keep.specs.declared.faults.KeepFault.TheVariants as keep
+use Rattle.tb_keep.specs.Keeping.{Keeping}
+use Rattle.tb_keep.specs.Rounds.{IsServed, IsUntimely, Commits, IsRead, IsStop, RefusesRecord, records_from, told_from, block_bytes_max, IsDue}
+use Rattle.tb_keep.specs.declared.replies.Replies.{Replies}
+
+-- a fault of a record that is made to wait: there is no memory for it, or the journal refuses it
+abbrev pub IsRefusal : {D : Type 0} → KeepFault → Kept D → List ℕ → Type 0
+IsRefusal (keep.Journal fault) journal bytes = RefusesRecord fault journal bytes
+IsRefusal (keep.Serving run.NoMemory) journal bytes = Unit {0}
+IsRefusal fault journal bytes = ⊥
+
+-- a fault of a pair, before which nothing is sent
+abbrev pub IsSudden : KeepFault → Type 0
+IsSudden (keep.Journal fault) = Unit {0}
+IsSudden (keep.Serving run.NoMemory) = Unit {0}
+IsSudden fault = ⊥
+
+-- the journal with one more record that waits
+abbrev pub with_record : {D : Type 0} → Kept D → List ℕ → Kept D
+with_record journal bytes = record journal { waiting = journal.waiting ++ bytes ∷ [] }
+
+-- the record of the entry of a new pair waits
+pub record Waits {D : Type 0} (p : Pair) (before after : Keeping D) : Type 0 where
+  pub time : has_time before.state p ≡ true
+  pub legal : IsTrue (fits before.state (entry_of before.state p))
+  pub recorded_is : IsRecord (dumped (entry_of before.state p)) (entry_of before.state p)
+  pub state : after.state ≡ before.state
+  pub journal : after.journal ≡ with_record before.journal (dumped (entry_of before.state p))
+  pub usable : after.usable ≡ before.usable
+
+-- the request comes back, or a fault came, and all is as it was
+abbrev pub Appends : {D : Type 0} → Result Message KeepFault → Pair → Keeping D → Keeping D → Type 0
+Appends (Ok request) p before after = (request ≡ p.1) × Waits p before after
+Appends (Err (keep.Serving run.TimeExhausted)) p before after = (has_time before.state p ≡ false) × (after ≡ before)
+Appends (Err fault) p before after =
+    (has_time before.state p ≡ true) × IsRefusal fault before.journal (dumped (entry_of before.state p)) × (after.journal ≡ before.journal)
+
+-- the reply to a pair is held behind the others, or there is no memory
+abbrev pub HoldsReply : Result (Unit {0}) KeepFault → Pair → State → State → List ℕ → List ℕ → Type 0
+HoldsReply (Ok done) p S T held grown = IsTimely S p × (T ≡ after_pair S p) × (grown ≡ held ++ answer_bytes S p) × IsReply (answer_to (after_pair S p) p.1)
+HoldsReply (Err (keep.Serving run.NoMemory)) p S T held grown = Unit {0}
+HoldsReply (Err (keep.Serving run.TimeExhausted)) p S T held grown = IsUntimely S p
+HoldsReply (Err fault) p S T held grown = ⊥
+
+-- a pair was served: its record waits, and its reply is held
+pub record HoldsPair {D : Type 0} (p : Pair) (before after : Keeping D) (held grown : List ℕ) : Type 0 where
+  pub served : IsServed before.state p
+  pub state : after.state ≡ after_pair before.state p
+  pub waits : after.journal ≡ record before.journal { waiting = before.journal.waiting ++ records_from before.state (p ∷ []) }
+  pub holds : grown ≡ held ++ told_from before.state (p ∷ [])
+  pub usable : after.usable ≡ before.usable
+
+-- a pair had no time
+abbrev pub is_end_of_time : KeepFault → Bool
+is_end_of_time (keep.Serving run.TimeExhausted) = true
+is_end_of_time fault = false
+
+-- or a fault came, and the file stays; where a pair had no time all stays
+abbrev pub KeepsPair : {D : Type 0} → Result (Unit {0}) KeepFault → Pair → Keeping D → Keeping D → List ℕ → List ℕ → Type 0
+KeepsPair (Ok done) p before after held grown = HoldsPair p before after held grown
+KeepsPair (Err (keep.Journal fault)) p before after held grown =
+    (is_new_in before.state p ≡ true) × (has_time before.state p ≡ true)
+    × RefusesRecord fault before.journal (dumped (entry_of before.state p)) × (after.journal ≡ before.journal)
+KeepsPair (Err (keep.Serving run.TimeExhausted)) p before after held grown = IsUntimely before.state p × (after ≡ before) × (grown ≡ held)
+KeepsPair (Err (keep.Serving run.NoMemory)) p before after held grown = after.journal.device ≡ before.journal.device
+KeepsPair (Err fault) p before after held grown = ⊥
+
+-- the next pair is read and served
+pub record Next {D : Type 0} (result : Result (Unit {0}) KeepFault) (before after : Keeping D) (first last : Input) (held grown : List ℕ) : Type 0 where
+  pub pair : Pair
+  pub read : Reads (pair ∷ []) first last
+  pub turn : KeepsPair result pair before after held grown
+
+-- a reader gave no pair, and all else is as it was
+pub record Ceases {D : Type 0} (answer : Result (Option (ℕ × Message)) FrameFault) (before after : Keeping D) (first last : Input) (held grown : List ℕ) : Type 0 where
+  pub read : IsRead answer first last
+  pub same : after ≡ before
+  pub holds : grown ≡ held
+
+-- whether there was one
+abbrev pub GoesOn : {D : Type 0} → Bool → Keeping D → Keeping D → Input → Input → List ℕ → List ℕ → Type 0
+GoesOn true before after first last held grown = Next (Ok tt) before after first last held grown
+GoesOn false before after first last held grown = Ceases (Ok None) before after first last held grown
+
+-- the bytes were sent and nothing is held any more, or the device failed and left a prefix of them
+abbrev pub HandsOut : Result (Unit {0}) KeepFault → List ℕ → List ℕ → Output → Output → Type 0
+HandsOut (Ok done) held left start written = Sent held start written × (written.held ≡ false) × (left ≡ [])
+HandsOut (Err (keep.Serving (run.Frame fault))) held left start written = (fault ≡ Device) × CutOff held start written
+HandsOut (Err fault) held left start written = ⊥
+
+module _ (tells : Type 0) {D : Type 0} (disk : D → Disk) where
+  -- what waits was committed
+  pub record IsCommitted (before after : Keeping D) : Type 0 where
+    pub state : after.state ≡ before.state
+    pub none_waits : after.journal.waiting ≡ []
+    pub usable : after.usable ≡ before.usable
+    pub journal : after.journal.usable ≡ true
+    pub ready : tells → IsReady disk after.journal
+    pub commits : tells → Commits before.journal.waiting (disk before.journal.device) (disk after.journal.device)
+
+  -- the commit of what waits, which is some, failed for a cause
+  pub record IsUncommitted (fault : Fault) (before after : Keeping D) : Type 0 where
+    pub some : before.journal.waiting ≡ [] → ⊥
+    pub cause : tells → HasFailed (disk before.journal.device) (disk after.journal.device) fault
+    pub any_moment : tells → LeavesOnly (disk before.journal.device) (disk after.journal.device) (IsBeforeOrAfter (recorded (disk before.journal.device).seen) before.journal.waiting)
+
+  -- what waits was committed, and then what is held was sent; a fault came before the one or within the other
+  abbrev pub Tells : Result (Unit {0}) KeepFault → Keeping D → Keeping D → List ℕ → List ℕ → Output → Output → Type 0
+  Tells (Err (keep.Journal fault)) before after held left start written = IsUncommitted fault before after × (written ≡ start)
+  Tells result before after held left start written = IsCommitted before after × HandsOut result held left start written
+
+  -- or nothing was done, where that is not due
+  abbrev pub MayTell : List ℕ → Result (Unit {0}) KeepFault → Keeping D → Keeping D → List ℕ → List ℕ → Output → Output → Type 0
+  MayTell at_hand result before after held left start written =
+      ((holds_pair at_hand ≡ true) × (length held < 2 ^ 20) × (length (at_rest before.journal.waiting) + block_bytes_max ≤ 2 ^ 22) × (result ≡ Ok tt) × (after ≡ before) × (left ≡ held) × (written ≡ start))
+      ⊎ (IsDue at_hand held before.journal.waiting × Tells result before after held left start written)
+
+  -- what is held is sent before a fault ends serving; which may fail, and then that fault ends it
+  abbrev pub EndsTold : KeepFault → KeepFault → Keeping D → Keeping D → List ℕ → List ℕ → Output → Output → Type 0
+  EndsTold stop f before after held left start written =
+      ((f ≡ stop) × Tells (Ok tt) before after held left start written) ⊎ Tells (Err f) before after held left start written
+
+  -- a fault in serving a pair, after which nothing is sent; or a stop, before which what is held is sent
+  abbrev pub EndsNext : KeepFault → Keeping D → Keeping D → Input → Input → List ℕ → List ℕ → Output → Output → Type 0
+  EndsNext f before after first last held left start written =
+      (IsSudden f × Next (Err f) before after first last held left × (written ≡ start))
+      ⊎ ((stop : KeepFault) × IsStop stop before.state first last × EndsTold stop f before after held left start written)
+
+  abbrev pub KeepsNext : Result Bool KeepFault → Keeping D → Keeping D → Input → Input → List ℕ → List ℕ → Output → Output → Type 0
+  KeepsNext (Ok more) before after first last held left start written = GoesOn more before after first last held left × (written ≡ start)
+  KeepsNext (Err f) before after first last held left start written = EndsNext f before after first last held left start written
+
+-- the same of replies that are held, and of a reader and a writer
+module _ (tells : Type 0) {D : Type 0} (disk : D → Disk) {W : Type 0} (output : W → Output) where
+  abbrev pub MayTellOver : List ℕ → Result (Unit {0}) KeepFault → Keeping D → Keeping D → Replies → Replies → W → W → Type 0
+  MayTellOver at_hand result before after held left writer later =
+      MayTell tells disk at_hand result before after held.bytes.items left.bytes.items (output writer) (output later)
+
+  abbrev pub EndsToldOver : KeepFault → KeepFault → Keeping D → Keeping D → Replies → Replies → W → W → Type 0
+  EndsToldOver stop f before after held left writer later =
+      EndsTold tells disk stop f before after held.bytes.items left.bytes.items (output writer) (output later)
+
+  abbrev pub KeepsNextOver : {R : Type 0} → (R → Input) → Result Bool KeepFault → Keeping D → Keeping D → R → R → Replies → Replies → W → W → Type 0
+  KeepsNextOver input result before after reader rest held left writer later =
+      KeepsNext tells disk result before after (input reader) (input rest) held.bytes.items left.bytes.items (output writer) (output later)

@@ -1,0 +1,238 @@
+-- The steps of reading and of serving: for private functions alone.
+-- Cited by private contracts alone, of: entries, opening, restoring, serving.
+use Rattle.std.specs.Prelude.{ℕ, Bool, true, false, ◌≡◌, ◌⊎◌, List, [], ◌∷◌, ◌++◌, Result, Ok, Err, OnOk, IfErr}
+use Rattle.tb_records.specs.declared.limits.Profile.{Profile}
+use Rattle.tb_records.specs.Transport.{Input, Output, Sent, CutOff}
+use Rattle.tb_journal.specs.declared.faults.Fault.{Fault}
+use Rattle.tb_journal.specs.declared.faults.Fault.TheVariants.{NotEmpty}
+use Rattle.tb_journal.specs.declared.opening.OpenFault.TheVariants as open_faults
+use Rattle.tb_journal.specs.Creating.{is_blank}
+use Rattle.tb_journal.specs.Device.{Disk, FailsNone, LeavesOnly, HasFailed}
+use Rattle.tb_journal.specs.Contents.{Records, contents, recorded}
+use Rattle.tb_journal.specs.Opening.{RefusesFile}
+use Rattle.tb_journal.specs.Ready.{Kept, IsReady}
+use Rattle.tb_journal.specs.Scans.{BeginsWith, HasRead, Place}
+use Rattle.tb_journal.specs.Steps.{IsBeforeOrAfter}
+use Rattle.tb_machine.specs.Scripts.{Pair}
+use Rattle.tb_log.specs.declared.faults.LogFault.{LogFault}
+use Rattle.tb_log.specs.declared.faults.LogFault.TheVariants as log
+use Rattle.tb_log.specs.Format.{content_of}
+use Rattle.tb_log.specs.Following.{Following, begun, Item, Entry, with_item, given_to, IsAnswered}
+use Rattle.tb_log.specs.Entries.{IsPairs, ReadsEntry, RefusesEntry}
+use Rattle.tb_log.specs.Follows.{ItemFits}
+use Rattle.tb_log.specs.Steps.{TellsStanding}
+use Rattle.tb_keep.specs.declared.heads.Rules.{Rules}
+use Rattle.tb_keep.specs.Opening.{IsUntouched}
+use Rattle.tb_keep.specs.Rounds.{Commits, RefusesRecord}
+use Rattle.tb_keep_log.specs.declared.faults.KeepLogFault.{KeepLogFault}
+use Rattle.tb_keep_log.specs.declared.faults.KeepLogFault.TheVariants as keep
+use Rattle.tb_keep_log.specs.declared.faults.LogStartFault.{LogStartFault}
+use Rattle.tb_keep_log.specs.declared.faults.LogStartFault.TheVariants as start
+use Rattle.tb_keep_log.specs.declared.opening.NotStarted.{NotStarted}
+use Rattle.tb_keep_log.specs.Keeping.{Keeping, Keeps, Leads, record_bytes, record_of}
+use Rattle.tb_keep_log.specs.Restoring.{EntersRecord, HasLogCause, IsHaltedContent, StopsAt}
+use Rattle.tb_keep_log.specs.Opening.{IsCreatedCause, IsNotOfFile}
+use Rattle.tb_keep_log.specs.Serving.{Point, Turn, Halts, point, Served}
+
+-- a writer into memory fails only when out of memory
+abbrev pub in_memory : LogFault → LogFault
+in_memory log.Device = log.NoMemory
+in_memory fault = fault
+
+-- the fault of an entry that cannot be entered, or out of memory
+abbrev pub of_log : LogFault → LogStartFault
+of_log log.NoMemory = start.NoMemory
+of_log fault = start.Entry fault
+
+-- the pairs of a content were served, and their answers are held
+pub record HoldsEntry (content held : List ℕ) (F G : Following) : Type 0 where
+  pub pairs : List Pair
+  pub spelled : content ≡ content_of pairs
+  pub fit : ItemFits (Entry pairs)
+  pub answered : IsAnswered F (Entry pairs)
+  pub now : G ≡ with_item F (Entry pairs)
+  pub holds : held ≡ given_to F (Entry pairs)
+
+-- or they are not: there is no memory, or one that is new has no time
+abbrev pub DropsEntry : LogFault → List ℕ → Following → Type 0
+DropsEntry fault content F = (fault ≡ log.NoMemory) ⊎ IsHaltedContent fault F content
+
+-- records
+
+abbrev pub Enters : Result (Unit {0}) LogStartFault → Profile → ℕ → List ℕ → Following → Following → Type 0
+Enters (Ok done) profile clients_max bytes F G = EntersRecord profile clients_max bytes F G
+Enters (Err fault) profile clients_max bytes F G = StopsAt fault profile clients_max F bytes
+
+-- behind the records that were read one more was read and entered, or there is none
+abbrev pub EntersNext : Result Bool LogStartFault → Profile → ℕ → List (List ℕ) → List ℕ → Place → Following → Following → Type 0
+EntersNext (Ok true) profile clients_max read file after F G =
+    (bytes : List ℕ) × HasRead (read ++ bytes ∷ []) file after × EntersRecord profile clients_max bytes F G
+EntersNext (Ok false) profile clients_max read file after F G = (contents file ≡ Records read) × HasRead read file after × (G ≡ F)
+EntersNext (Err (start.Journal fault)) profile clients_max read file after F G = RefusesFile fault file
+EntersNext (Err fault) profile clients_max read file after F G =
+    (bytes : List ℕ) × BeginsWith (read ++ bytes ∷ []) file × StopsAt fault profile clients_max F bytes
+
+-- these records were read and entered
+pub record Entered (profile : Profile) (clients_max : ℕ) (read : List (List ℕ)) (file : List ℕ) (scan : Place) (F G : Following) : Type 0 where
+  pub records : List (List ℕ)
+  pub has : HasRead (read ++ records) file scan
+  pub leads : Leads profile clients_max F records G
+
+-- behind some of them one is refused
+pub record EntersSome (fault : LogStartFault) (profile : Profile) (clients_max : ℕ) (read : List (List ℕ)) (file : List ℕ) (F : Following) : Type 0 where
+  pub records : List (List ℕ)
+  pub bytes : List ℕ
+  pub here : Following
+  pub begins : BeginsWith ((read ++ records) ++ bytes ∷ []) file
+  pub leads : Leads profile clients_max F records here
+  pub stops : StopsAt fault profile clients_max here bytes
+
+-- all records behind those that were read, or those before the first one that is refused
+abbrev pub EntersAll : Result (Unit {0}) LogStartFault → Profile → ℕ → List (List ℕ) → List ℕ → Place → Following → Following → Type 0
+EntersAll (Ok done) profile clients_max read file after F G =
+    (entered : Entered profile clients_max read file after F G) × (contents file ≡ Records (read ++ entered.records))
+EntersAll (Err (start.Journal fault)) profile clients_max read file after F G = RefusesFile fault file
+EntersAll (Err fault) profile clients_max read file after F G = EntersSome fault profile clients_max read file F
+
+-- serving
+
+-- an entry was read behind its kind, and its pairs were served in memory
+pub record TakesEntry (content held : List ℕ) (F G : Following) (before after : Input) : Type 0 where
+  pub read : ReadsEntry content F.position before after
+  pub holds : HoldsEntry content held F G
+
+-- or not
+abbrev pub MissesEntry : LogFault → Following → Input → Input → Type 0
+MissesEntry fault F before after =
+    RefusesEntry fault F.position before after
+    ⊎ ((content : List ℕ) × ReadsEntry content F.position before after × IsPairs content × DropsEntry fault content F)
+
+-- bytes were sent, and passed on, or the writer failed and left a prefix of them
+abbrev pub TellsBytes : Result (Unit {0}) KeepLogFault → List ℕ → Output → Output → Type 0
+TellsBytes (Ok done) bytes before after = Sent bytes before after × (after.held ≡ false)
+TellsBytes (Err (keep.Log fault)) bytes before after = (fault ≡ log.Device) × CutOff bytes before after
+TellsBytes (Err fault) bytes before after = ⊥
+
+-- a question was answered, and the answer passed on
+abbrev pub Answers : Result (Unit {0}) LogFault → Following → Output → Output → Type 0
+Answers (Ok done) F before after = TellsStanding (Ok tt) F before after × (after.held ≡ false)
+Answers (Err fault) F before after = TellsStanding (Err fault) F before after
+
+module _ (tells : Type 0) {D : Type 0} (disk : D → Disk) where
+  -- records were committed
+  pub record IsPut (records : List (List ℕ)) (before after : Kept D) : Type 0 where
+    pub usable : after.usable ≡ true
+    pub none_waits : after.waiting ≡ []
+    pub ready : tells → IsReady disk after
+    pub commits : tells → Commits records (disk before.device) (disk after.device)
+
+  -- or a record was refused, or its commit failed
+  abbrev pub IsUnput : Fault → List ℕ → Kept D → Kept D → Type 0
+  IsUnput fault bytes before after =
+      ((after ≡ before) × RefusesRecord fault before bytes)
+      ⊎ (tells → HasFailed (disk before.device) (disk after.device) fault
+      × LeavesOnly (disk before.device) (disk after.device) (IsBeforeOrAfter (recorded (disk before.device).seen) (bytes ∷ [])))
+
+  abbrev pub Puts : Result (Unit {0}) Fault → List ℕ → Kept D → Kept D → Type 0
+  Puts (Ok done) bytes before after = IsPut (bytes ∷ []) before after
+  Puts (Err fault) bytes before after = IsUnput fault bytes before after
+
+  -- a record was committed, and then its answers were sent
+  abbrev pub PutsAndTells : Result (Unit {0}) KeepLogFault → List ℕ → List ℕ → Kept D → Kept D → Output → Output → Type 0
+  PutsAndTells (Ok done) bytes held before after start written = IsPut (bytes ∷ []) before after × TellsBytes (Ok tt) held start written
+  PutsAndTells (Err (keep.Journal fault)) bytes held before after start written = IsUnput fault bytes before after × (written ≡ start)
+  PutsAndTells (Err (keep.Log fault)) bytes held before after start written =
+      IsPut (bytes ∷ []) before after × TellsBytes (Err (keep.Log fault)) held start written
+
+  module _ (profile : Profile) (clients_max : ℕ) where
+    -- an entry was read behind its kind, with its pairs
+    pub record ReadsWhole (pairs : List Pair) (F : Following) (before after : Input) : Type 0 where
+      pub read : ReadsEntry (content_of pairs) F.position before after
+      pub fit : ItemFits (Entry pairs)
+      pub answered : IsAnswered F (Entry pairs)
+
+    -- its record was committed, and then it was answered
+    pub record KeepsEntry (F G : Following) (old new : Kept D) (before after : Input) (start written : Output) : Type 0 where
+      pub pairs : List Pair
+      pub whole : ReadsWhole pairs F before after
+      pub now : G ≡ with_item F (Entry pairs)
+      pub put : IsPut (record_of profile clients_max F (Entry pairs)) old new
+      pub told : TellsBytes (Ok tt) (given_to F (Entry pairs)) start written
+
+    -- or it was refused; or its record was not committed, and nothing was sent; or it was, and the writer failed
+    abbrev pub FailsEntry : KeepLogFault → Following → Kept D → Kept D → Input → Input → Output → Output → Type 0
+    FailsEntry (keep.Journal fault) F old new before after start written =
+        (pairs : List Pair) × ReadsWhole pairs F before after
+        × IsUnput fault (record_bytes profile clients_max (with_item F (Entry pairs)) (content_of pairs)) old new × (written ≡ start)
+    FailsEntry (keep.Log fault) F old new before after start written =
+        (MissesEntry fault F before after × (new ≡ old) × (written ≡ start))
+        ⊎ ((pairs : List Pair) × ReadsWhole pairs F before after × IsPut (record_of profile clients_max F (Entry pairs)) old new
+        × TellsBytes (Err (keep.Log fault)) (given_to F (Entry pairs)) start written)
+
+    abbrev pub EntersEntry : Result (Unit {0}) KeepLogFault → Following → Following → Kept D → Kept D → Input → Input → Output → Output → Type 0
+    EntersEntry (Ok done) F G old new before after start written = KeepsEntry F G old new before after start written
+    EntersEntry (Err fault) F G old new before after start written = FailsEntry fault F old new before after start written
+
+    -- one item, or why there is none
+    abbrev pub Next : Result Bool KeepLogFault → Point D → Point D → Type 0
+    Next (Ok true) first last = (item : Item) × Turn tells disk profile clients_max item first last
+    Next (Ok false) first last = Halts tells disk profile clients_max (Ok first.now.position) first last
+    Next (Err fault) first last = Halts tells disk profile clients_max (Err fault) first last
+
+-- opening
+
+-- the cause of a fault, where some records were read before
+abbrev pub ReadCause : {T : Type 0} → Result T LogStartFault → Place → Disk → Disk → Type 0
+ReadCause result scan before after = (read : List (List ℕ)) → HasRead read before.seen scan → HasLogCause result before after
+
+-- a fault that names nothing of the file
+abbrev pub IsOfDevice : LogStartFault → Type 0
+IsOfDevice (start.Journal (open_faults.Device fault)) = Unit {0}
+IsOfDevice fault = ⊥
+
+-- a keeper of this follower, or a fault of the device
+abbrev pub OpensAs : {D : Type 0} → Result (Keeping D) (NotStarted D) → Rules → Following → ℕ → Type 0
+OpensAs (Ok keeper) rules F cut = (keeper.rules ≡ rules) × (keeper.now ≡ F) × (keeper.cut ≡ cut)
+OpensAs (Err failed) rules F cut = IsOfDevice failed.fault
+
+-- the keeper of a file that was blank
+abbrev pub IsCreated : {D : Type 0} → (D → Disk) → List ℕ → Keeping D → Type 0
+IsCreated disk file keeper = (is_blank file ≡ true) × Keeps disk [] keeper × (keeper.cut ≡ 0)
+
+-- where something is in the file none is created, the file is as it was, and no sync has failed that had not
+abbrev pub IsNotCreated : LogStartFault → Disk → Disk → Type 0
+IsNotCreated (start.Journal (open_faults.Device NotEmpty)) before after = IsUntouched before after × (after.sound ≡ before.sound)
+IsNotCreated (start.Journal (open_faults.Device fault)) before after = Unit {0}
+IsNotCreated start.NoMemory before after = IsUntouched before after
+IsNotCreated fault before after = ⊥
+
+pub record HasCreatedCause {T : Type 0} (result : Result T LogStartFault) (before after : Disk) : Type 0 where
+  pub ok : OnOk result (FailsNone before after)
+  pub cause : IfErr result (IsCreatedCause before after)
+
+-- by the file that the reads are of
+abbrev pub CreatesIn : {D : Type 0} → (D → List ℕ → Type 0) → Result (Keeping D) (NotStarted D) → Profile → ℕ → List ℕ → Type 0
+CreatesIn holds (Ok keeper) profile clients_max file = (is_blank file ≡ true) × (keeper.now ≡ begun profile clients_max) × (keeper.cut ≡ 0)
+CreatesIn holds (Err failed) profile clients_max file =
+    (failed.fault ≡ start.Journal (open_faults.Device NotEmpty) → (is_blank file ≡ false) × holds failed.device file) × IsNotOfFile failed.fault
+
+-- the same by the rules of a file, of the records that were read of it
+abbrev pub EntersNextBy : Rules → Result Bool LogStartFault → Place → Following → Following → List (List ℕ) → List ℕ → Type 0
+EntersNextBy rules result scan F G read file = EntersNext result rules.profile rules.clients_max read file scan F G
+
+abbrev pub EntersAllBy : Rules → Result (Unit {0}) LogStartFault → Place → Following → Following → List (List ℕ) → List ℕ → Type 0
+EntersAllBy rules result scan F G read file = EntersAll result rules.profile rules.clients_max read file scan F G
+
+-- the same by the rules of a file, over a follower, a journal, a reader and a writer
+module _ (tells : Type 0) {D : Type 0} (disk : D → Disk) {R : Type 0} (input : R → Input) {W : Type 0} (output : W → Output) (rules : Rules) where
+  abbrev pub EntersEntryOver : Result (Unit {0}) KeepLogFault → Following → Kept D → R → W → Following → Kept D → R → W → Type 0
+  EntersEntryOver result F old reader writer G new rest later =
+      EntersEntry tells disk rules.profile rules.clients_max result F G old new (input reader) (input rest) (output writer) (output later)
+
+  abbrev pub NextOver : Result Bool KeepLogFault → Following → Kept D → R → W → Following → Kept D → R → W → Type 0
+  NextOver result F old reader writer G new rest later =
+      Next tells disk rules.profile rules.clients_max result (point F old (input reader) (output writer)) (point G new (input rest) (output later))
+
+  abbrev pub ServedOver : Result ℕ KeepLogFault → Following → Kept D → R → W → Following → Kept D → R → W → Type 0
+  ServedOver result F old reader writer G new rest later =
+      Served tells disk rules.profile rules.clients_max result (point F old (input reader) (output writer)) (point G new (input rest) (output later))

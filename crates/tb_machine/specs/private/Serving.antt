@@ -1,0 +1,95 @@
+-- What the steps of the server do with one pair: for private functions alone.
+-- Cited by private contracts alone, of: dumping, executing, replaying, serving.
+use Rattle.std.specs.Prelude.{true, false, ◌≡◌, ◌+◌, ◌≤◌, max, ℕ, List, Result, Ok, Err, IfOk, OnOk, MatchResult}
+use Rattle.std.specs.declared.alloc.AllocError.{AllocError}
+use Rattle.tb_records.specs.declared.faults.FrameFault.{FrameFault}
+use Rattle.tb_records.specs.declared.faults.FrameFault.TheVariants.{Device}
+use Rattle.tb_records.specs.AtHand.{holds_pair, holds_item}
+use Rattle.tb_records.specs.Transport.{Input, Output, Sent, CutOff, IsSent}
+use Rattle.tb_machine.specs.declared.serving.RunFault.{RunFault}
+use Rattle.tb_machine.specs.declared.serving.RunFault.TheVariants as fault
+use Rattle.tb_records.specs.Messages.{Message, Answer, count, item_count, items_max, IsRight}
+use Rattle.tb_records.specs.ReplyFrames.{reply_bytes, IsReply}
+use Rattle.tb_ledger.specs.Books.{Books}
+use Rattle.tb_ledger.specs.Verdicts.{max_time}
+use Rattle.tb_sessions.specs.declared.rows.Row.{Row}
+use Rattle.tb_sessions.specs.Judged.{class_of}
+use Rattle.tb_machine.specs.declared.executing.Served.{Served}
+use Rattle.tb_machine.specs.declared.executing.Served.TheVariants as served
+use Rattle.tb_machine.specs.Runs.{AnswersPair}
+use Rattle.tb_machine.specs.declared.entries.Entry.{Entry}
+use Rattle.tb_machine.specs.Histories.{State, found, row_with, step, executed, reply_at}
+use Rattle.tb_machine.specs.Scripts.{Pair, entry_of, has_time}
+use Rattle.tb_records.specs.declared.bodies.Body.{Body}
+use Rattle.tb_records.specs.declared.bodies.ReplyBody.{ReplyBody}
+
+-- nothing is held back where the next pair, or the next item of a dump, may have to be waited for
+abbrev pub IsPromptForPair : Input → Output → Type 0
+IsPromptForPair input output = holds_pair input.at_hand ≡ false → output.held ≡ false
+
+abbrev pub IsPromptForItem : Input → Output → Type 0
+IsPromptForItem input output = holds_item input.at_hand ≡ false → output.held ≡ false
+
+-- the bytes were written, or the writer's fault left a prefix of them
+abbrev pub Delivers : Result (Unit {0}) RunFault → List ℕ → Output → Output → Type 0
+Delivers result bytes before after = MatchResult result (λ _. Sent bytes before after) (λ f. (f ≡ fault.Frame Device) × CutOff bytes before after)
+
+-- an entry of a commit number and a time
+abbrev pub made : ℕ → ℕ → Message → Entry
+made commit time r = record { commit = commit; time = time; request = r }
+
+-- the row that an entry leaves its client, where the ledger is so before it
+abbrev pub row_in : Books → Entry → Row
+row_in B e = row_with e (found B e.request.body e.time)
+
+-- what an entry asks of the ledger before it, and of its reply
+abbrev pub MayBeExecuted : Books → Entry → Type 0
+MayBeExecuted B e =
+    (item_count e.request.body ≤ items_max)
+    × (B.time + max (count e.request.body) 1 ≤ e.time)
+    × (e.time ≤ max_time)
+    × IsRight (row_in B e).reply
+
+-- a body was executed at a time, and what its reply says was answered; where there was no memory nothing happened
+abbrev pub ExecutesBody : Result ReplyBody AllocError → Books → Body → ℕ → Books → Type 0
+ExecutesBody result B body time later = MatchResult result (λ answer. (later ≡ executed B body time) × (answer ≡ found B body time)) (λ _. later ≡ B)
+
+-- an entry's request was executed, and its client's row made; where there was no memory the entry came back
+abbrev pub MakesRow : Result Row Entry → Books → Entry → Books → Type 0
+MakesRow result B e later = MatchResult result (λ row. (later ≡ executed B e.request.body e.time) × (row ≡ row_in B e)) (λ back. (back ≡ e) × (later ≡ B))
+
+-- an entry was entered, and its reply written, or a prefix of it; where there was no memory the entry came back, and nothing changed
+abbrev pub EntersAndTells : {W : Type 0} → (W → Output) → Result (Result (Unit {0}) FrameFault) Entry → State → State → Entry → W → W → Type 0
+EntersAndTells output result S T e writer later =
+    MatchResult result
+    (λ told. (T ≡ step S e) × IsSent told (reply_bytes (reply_at S e)) (output writer) (output later) × OnOk told (IsReply (reply_at S e)))
+    (λ back. (back ≡ e) × (T ≡ S) × (later ≡ writer))
+
+-- where an entry was executed, its reply was written, or a prefix of it
+pub record Tells (served : Result (Result (Unit {0}) FrameFault) AllocError) (reply : Answer) (before after : Output) : Type 0 where
+  pub told : IfOk served (λ told. IsSent told (reply_bytes reply) before after × OnOk told (IsReply reply))
+
+-- what became of a request, by what the call at its client's row answers
+abbrev pub served_as : Result (Result (Unit {0}) FrameFault) AllocError → Served
+served_as (Ok (Ok done)) = served.Told
+served_as (Ok (Err f)) = served.Untold f
+served_as (Err refused) = served.NoMemory
+
+-- the server's answer to a pair that was served by its client's row; of any other its class is reported, and nothing changed
+abbrev pub ServesPair : Served → State → State → Pair → Output → Output → Type 0
+ServesPair served.Told S T p before after = AnswersPair (Ok tt) S T p before after
+ServesPair (served.Untold f) S T p before after = AnswersPair (Err (fault.Frame f)) S T p before after
+ServesPair served.NoMemory S T p before after = AnswersPair (Err fault.NoMemory) S T p before after
+ServesPair (served.NotNew class) S T p before after = (class ≡ class_of S.rows p.1) × (T ≡ S) × (after ≡ before)
+
+abbrev pub IfNotNew : Served → Type 0 → Type 0
+IfNotNew (served.NotNew class) P = P
+IfNotNew other P = Unit {0}
+
+-- a new pair is entered: the machine moves on by its entry, or stays
+abbrev pub EntersPair : Result (Unit {0}) RunFault → State → State → Pair → Type 0
+EntersPair (Ok done) S T p = (has_time S p ≡ true) × (T ≡ step S (entry_of S p))
+EntersPair (Err fault.NoMemory) S T p = (has_time S p ≡ true) × (T ≡ S)
+EntersPair (Err fault.TimeExhausted) S T p = (has_time S p ≡ false) × (T ≡ S)
+EntersPair (Err fault.TooLong) S T p = ⊥
+EntersPair (Err (fault.Frame f)) S T p = ⊥

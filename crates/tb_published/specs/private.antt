@@ -1,0 +1,7 @@
+-- what private contracts alone cite
+pub mod Prefixes
+pub mod PostedEntries
+pub mod Ties
+pub mod Counting
+pub mod Sharing
+pub mod Entering

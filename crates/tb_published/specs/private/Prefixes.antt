@@ -1,0 +1,32 @@
+-- Prefixes of the history of an opening.
+-- Cited by private contracts alone, of: front, opening, replica, seat.
+use Rattle.std.specs.Prelude.{◌≡◌, List, [], ◌∷◌, ◌++◌, length, nat_lt, if◌then◌else◌}
+use mathlib.Core.List.{IsPrefix}
+use Rattle.tb_machine.specs.declared.entries.Entry.{Entry}
+use Rattle.tb_machine.specs.Histories.{State}
+use Rattle.tb_published.specs.Openings.{Opening, after_in}
+
+-- a prefix of an opening's history
+pub record Prefix : Type 0 where
+  pub opening : Opening
+  pub list : List Entry
+
+abbrev pub prefix : Opening → List Entry → Prefix
+prefix o h = record { opening = o; list = h }
+
+abbrev pub state_of : Prefix → State
+state_of l = after_in l.opening l.list
+
+abbrev pub with_entry : Prefix → Entry → Prefix
+with_entry l e = prefix l.opening (l.list ++ e ∷ [])
+
+-- m begins with l
+abbrev pub IsPrefixOf : Prefix → Prefix → Type 0
+IsPrefixOf l m = (l.opening ≡ m.opening) × IsPrefix l.list m.list
+
+abbrev pub longer : Prefix → Prefix → Prefix
+longer l m = if nat_lt (length l.list) (length m.list) then m else l
+
+-- the entry is the last
+abbrev pub EndsWith : List Entry → Entry → Type 0
+EndsWith h e = (before : List Entry) × (h ≡ before ++ e ∷ [])

@@ -1,0 +1,6 @@
+-- what private contracts alone cite
+pub mod HeaderFields
+pub mod ReplyHeaders
+pub mod Reading
+pub mod PairAtHand
+pub mod DumpNumbers

@@ -1,0 +1,4 @@
+-- what private contracts alone cite
+pub mod Clients
+pub mod Outcomes
+pub mod Found

@@ -1,0 +1,186 @@
+-- What is taken of an input part by part, of what an intake holds, and of what its reader has left: for private functions alone.
+-- Cited by private contracts alone, of: auditing, converting, dumps, intake, running, scripts, statements, typing.
+use Rattle.std.specs.Prelude.{ℕ, Bool, true, false, not, ◌≡◌, ◌+◌, ◌-◌, ◌⊎◌, ◌&&◌, ◌==◌, nat_lt, List, [], ◌∷◌, ◌++◌, drop, flat_map, length, Option, Some, None, Result, Ok, Err, if◌then◌else◌}
+use Rattle.std.specs.Io.KnownBytes.{prepend_known}
+use Rattle.tb_records.specs.Ordered.{Each}
+use Rattle.tb_records.specs.Transport.{Input}
+use Rattle.tb_text_commands.specs.declared.faults.Fault.{Fault}
+use Rattle.tb_text_commands.specs.declared.faults.Fault.TheVariants as fault
+use Rattle.tb_text_commands.specs.declared.intake.Intake.{Intake}
+use Rattle.tb_text_commands.specs.declared.typing.Typed.{Typed}
+use Rattle.tb_text_commands.specs.declared.typing.Typed.TheVariants as typed
+use Rattle.tb_text_commands.specs.Ends.{is_passing}
+use Rattle.tb_text_commands.specs.Typed.{IsTypedPart, IsWrong, Leaves, ends_with_cut_line}
+use Rattle.tb_text_commands.specs.Whole.{WasWhole}
+
+-- what was read and not taken yet
+abbrev pub rest_of : Intake → List ℕ
+rest_of intake = drop intake.at intake.bytes.items
+
+-- what is left to take, where the reader reports its bytes: nothing behind the rest once the reader reported its end
+abbrev pub waiting : Intake → Input → Option (List ℕ)
+waiting intake input = if intake.ended then Some (rest_of intake) else prepend_known (rest_of intake) input.left
+
+-- bytes are parts of a kind, and others behind them
+pub record LeadsByParts (Part : List ℕ → Type 0) (before after : List ℕ) : Type 0 where
+  pub parts : List (List ℕ)
+  pub bytes : before ≡ flat_map (λ part. part) parts ++ after
+  pub each : Each Part parts
+
+-- a part of a kind, and others behind it
+pub record LeadsOne (Part : List ℕ → Type 0) (before after : List ℕ) : Type 0 where
+  pub part : List ℕ
+  pub bytes : before ≡ part ++ after
+  pub is : Part part
+
+-- the same of what may not be known
+abbrev pub Of : (List ℕ → List ℕ → Type 0) → Option (List ℕ) → Option (List ℕ) → Type 0
+Of Is None after = Unit {0}
+Of Is (Some before) None = ⊥
+Of Is (Some before) (Some after) = Is before after
+
+-- parts of a kind were taken
+pub record TakesParts (Part : List ℕ → Type 0) (before after : Option (List ℕ)) : Type 0 where
+  pub how : Of (LeadsByParts Part) before after
+
+-- one was
+pub record TakesOne (Part : List ℕ → Type 0) (before after : Option (List ℕ)) : Type 0 where
+  pub how : Of (LeadsOne Part) before after
+
+-- nothing is left to take
+pub record TakesNone (before after : Option (List ℕ)) : Type 0 where
+  pub how : Of (λ was is. (was ≡ []) × (is ≡ [])) before after
+
+-- nothing was taken
+pub record Stays (before after : Option (List ℕ)) : Type 0 where
+  pub how : Of (λ was is. was ≡ is) before after
+
+-- the next part, or none
+abbrev pub TakesNext : {X : Type 0} → (List ℕ → Type 0) → Option X → Option (List ℕ) → Option (List ℕ) → Type 0
+TakesNext Part None before after = TakesNone before after
+TakesNext Part (Some x) before after = TakesOne Part before after
+
+-- the next part, or none where there is none
+abbrev pub TakesIf : (List ℕ → Type 0) → Bool → Option (List ℕ) → Option (List ℕ) → Type 0
+TakesIf Part true before after = TakesOne Part before after
+TakesIf Part false before after = TakesNone before after
+
+-- one part of what an intake holds
+pub record TakesPart (Part : List ℕ → Type 0) (before after : Intake) : Type 0 where
+  pub part : List ℕ
+  pub bytes : rest_of before ≡ part ++ rest_of after
+  pub same : after.ended ≡ before.ended
+  pub is : Part part
+
+-- an intake holds the same as before
+pub record HoldsAsBefore (before after : Intake) : Type 0 where
+  pub rest : rest_of after ≡ rest_of before
+  pub same : after.ended ≡ before.ended
+
+-- the number of bytes before the first `;` outside a comment, or of all
+abbrev pub before_semicolon : Bool → List ℕ → ℕ
+before_semicolon in_comment [] = 0
+before_semicolon in_comment (b ∷ bs) =
+    if b == 10 then before_semicolon false bs + 1
+    else if b == 35 then before_semicolon true bs + 1
+    else if b == 59 && not in_comment then 0
+    else before_semicolon in_comment bs + 1
+
+-- the length of the next statement, by what was not searched yet
+abbrev pub statement_in : Intake → Option ℕ
+statement_in intake =
+    let further = drop intake.searched intake.bytes.items in
+    let length_before = before_semicolon intake.in_comment further in
+    if nat_lt length_before (length further) then Some (intake.searched + length_before + 1 - intake.at) else None
+
+-- faults
+
+-- of reading: the device failed, or there is no memory
+abbrev pub IsOfReading : Fault → Type 0
+IsOfReading fault.Device = Unit {0}
+IsOfReading fault.NoMemory = Unit {0}
+IsOfReading f = ⊥
+
+-- of a text that was read: it goes wrong, or there is no memory
+abbrev pub IsOfText : Fault → Type 0
+IsOfText (fault.Text lines) = Unit {0}
+IsOfText fault.NoMemory = Unit {0}
+IsOfText f = ⊥
+
+-- of the next statement, or of too many reads
+abbrev pub IsOfStatement : Fault → Type 0
+IsOfStatement (fault.Text lines) = Unit {0}
+IsOfStatement fault.TooLong = Unit {0}
+IsOfStatement f = IsOfReading f
+
+-- of the next frame, or of too many reads
+abbrev pub IsOfFrame : Fault → Type 0
+IsOfFrame (fault.Frame f) = Unit {0}
+IsOfFrame fault.TooLong = Unit {0}
+IsOfFrame f = IsOfReading f
+
+-- on a terminal, of what an intake holds
+
+-- the first bytes were taken as a part, or end the conversation and stay
+pub record HoldsEnd (before after : Intake) : Type 0 where
+  pub leaves : Leaves (rest_of before)
+  pub same : HoldsAsBefore before after
+
+abbrev pub TakenOf : Typed → Intake → Intake → Type 0
+TakenOf (typed.Statement pairs) before after = TakesPart IsTypedPart before after
+TakenOf typed.Help before after = TakesPart IsTypedPart before after
+TakenOf typed.End before after = HoldsEnd before after
+
+abbrev pub TakenIfPassing : Bool → Intake → Intake → Type 0
+TakenIfPassing true before after = TakesPart IsTypedPart before after
+TakenIfPassing false before after = Unit {0}
+
+-- a text that goes wrong was taken, where the fault is that of a text
+abbrev pub TakesIfWrong : Fault → Intake → Intake → Type 0
+TakesIfWrong (fault.Text lines) before after = TakesPart IsWrong before after
+TakesIfWrong f before after = is_passing f ≡ false
+
+abbrev pub TypedOfRest : Result Typed Fault → Intake → Intake → Type 0
+TypedOfRest (Ok typed) before after = TakenOf typed before after
+TypedOfRest (Err fault) before after = TakenIfPassing (is_passing fault) before after
+
+abbrev pub CutRefused : Result (Unit {0}) Fault → Intake → Intake → Type 0
+CutRefused (Ok done) before after = (after ≡ before) × (ends_with_cut_line (rest_of before) ≡ false)
+CutRefused (Err fault) before after = TakenIfPassing (is_passing fault) before after
+
+-- on a terminal, of an intake and its reader
+
+-- the conversation ends: nothing is left, or the word that ends it is next
+abbrev pub EndsHere : List ℕ → Type 0
+EndsHere bytes = (bytes ≡ []) ⊎ Leaves bytes
+
+pub record TakesEnd (before : Option (List ℕ)) : Type 0 where
+  pub how : WasWhole EndsHere before
+
+-- a part was taken behind which the conversation goes on, or the conversation ends
+abbrev pub TakesNextTyped : Bool → Option (List ℕ) → Option (List ℕ) → Type 0
+TakesNextTyped true before after = TakesOne IsTypedPart before after
+TakesNextTyped false before after = TakesEnd before
+
+-- the same by what is typed next; behind a mistake the conversation goes on too
+abbrev pub goes_on : Typed → Bool
+goes_on (typed.Statement pairs) = true
+goes_on typed.Help = true
+goes_on typed.End = false
+
+abbrev pub TakesIfPassing : Bool → Option (List ℕ) → Option (List ℕ) → Type 0
+TakesIfPassing true before after = TakesOne IsTypedPart before after
+TakesIfPassing false before after = Unit {0}
+
+abbrev pub TakesTyped : Result Typed Fault → Option (List ℕ) → Option (List ℕ) → Type 0
+TakesTyped (Ok typed) before after = TakesNextTyped (goes_on typed) before after
+TakesTyped (Err fault) before after = TakesIfPassing (is_passing fault) before after
+
+-- the same, unless a fault ends the conversation
+abbrev pub TakesUnlessEnded : Result Bool Fault → Option (List ℕ) → Option (List ℕ) → Type 0
+TakesUnlessEnded (Ok more) before after = TakesNextTyped more before after
+TakesUnlessEnded (Err fault) before after = Unit {0}
+
+abbrev pub TakesTurn : Result Bool Fault → Option (List ℕ) → Option (List ℕ) → Type 0
+TakesTurn (Ok more) before after = TakesNextTyped more before after
+TakesTurn (Err fault) before after = TakesIfPassing (is_passing fault) before after
