@@ -11,7 +11,7 @@ use Rattle.tb_journal.specs.Ready.{Kept, IsReady}
 use Rattle.tb_log.specs.Format.{content_of, standing_item}
 use Rattle.tb_log.specs.Following.{Following, begun, Item, Entry, Question, with_item, after_items, AllAnswered}
 use Rattle.tb_log.specs.Follows.{ItemFits}
-use Rattle.tb_keep.specs.declared.heads.Rules.{Rules}
+use Rattle.tb_keep.specs.declared.restoring.Rules.{Rules}
 use Rattle.tb_journal.specs.Scans.{HasRead, Place}
 
 -- the first bytes of each record: the text TBF1, the profile's number, and the number of clients that can have a session at one time

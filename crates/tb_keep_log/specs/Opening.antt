@@ -16,7 +16,7 @@ use Rattle.tb_keep_log.specs.declared.faults.LogStartFault.TheVariants as start
 use Rattle.tb_keep_log.specs.declared.opening.NotStarted.{NotStarted}
 use Rattle.tb_keep_log.specs.Keeping.{Keeping, Keeps, IsKept}
 use Rattle.tb_keep_log.specs.Restoring.{IsLogCause, StopsOpening, IsRestored}
-use Rattle.tb_keep.specs.declared.heads.Rules.{Rules}
+use Rattle.tb_keep.specs.declared.restoring.Rules.{Rules}
 use Rattle.tb_journal.specs.declared.reading.Extent.{Extent}
 
 -- the device of a keeper, or the one that is given back

@@ -21,7 +21,7 @@ use Rattle.tb_keep.specs.Restoration.{torn_bytes}
 use Rattle.tb_keep_log.specs.declared.faults.LogStartFault.{LogStartFault}
 use Rattle.tb_keep_log.specs.declared.faults.LogStartFault.TheVariants as start
 use Rattle.tb_keep_log.specs.Keeping.{mark, record_bytes, IsKept}
-use Rattle.tb_keep.specs.declared.heads.Rules.{Rules}
+use Rattle.tb_keep.specs.declared.restoring.Rules.{Rules}
 
 -- the record of an entry that comes next behind a follower, which it leads on
 pub record EntersRecord (profile : Profile) (clients_max : ℕ) (bytes : List ℕ) (F G : Following) : Type 0 where

@@ -21,7 +21,7 @@ use Rattle.tb_log.specs.Following.{Following, begun, Item, Entry, with_item, giv
 use Rattle.tb_log.specs.Entries.{IsPairs, ReadsEntry, RefusesEntry}
 use Rattle.tb_log.specs.Follows.{ItemFits}
 use Rattle.tb_log.specs.Steps.{TellsStanding}
-use Rattle.tb_keep.specs.declared.heads.Rules.{Rules}
+use Rattle.tb_keep.specs.declared.restoring.Rules.{Rules}
 use Rattle.tb_keep.specs.Opening.{IsUntouched}
 use Rattle.tb_keep.specs.Rounds.{Commits, RefusesRecord}
 use Rattle.tb_keep_log.specs.declared.faults.KeepLogFault.{KeepLogFault}
