@@ -5,8 +5,9 @@ use Rattle.tb_machine.specs.declared.entries.Entry.{Entry}
 use Rattle.tb_machine.specs.Histories.{fits, step}
 use Rattle.tb_machine.proofs.Legal.{after_snoc, legal_front, legal_at}
 use Rattle.tb_published.specs.Openings.{Opening, LegalIn, after_in}
-use Rattle.tb_published.specs.private.Prefixes.{Prefix, state_of, IsPrefixOf, EndsWith}
+use Rattle.tb_published.specs.private.Prefixes.{Prefix, Agree, state_of, EndsWith}
 use Rattle.tb_published.proofs.Prefixes.{prefix_shorter, prefix_whole}
+use Rattle.tb_published.proofs.Shown.{shorter_begins}
 
 pub one_more : (xs ys : List Entry) (e : Entry) → IsPrefix xs ys → EndsWith ys e → length ys ≡ length xs + 1 → ys ≡ xs ++ e ∷ []
 one_more xs ys e pre ends len =
@@ -21,10 +22,10 @@ next_fits o h m e is legal = legal_at o.profile o.clients_max h e [] (subst (Leg
 pub next_state : (o : Opening) (h m : List Entry) (e : Entry) → m ≡ h ++ e ∷ [] → after_in o m ≡ step (after_in o h) e
 next_state o h m e is = ap (after_in o) is ∙ after_snoc o.profile o.clients_max h e
 
-pub comes : (l m both : Prefix) (e : Entry) → m.opening ≡ l.opening → LegalIn m.opening m.list → IsPrefixOf l both → IsPrefixOf m both → EndsWith m.list e
+pub comes : (l m : Prefix) (e : Entry) → m.opening ≡ l.opening → LegalIn m.opening m.list → Agree l m → EndsWith m.list e
     → length m.list ≡ length l.list + 1 → IsTrue (fits (state_of l) e) × (state_of m ≡ step (state_of l) e)
-comes l m both e same legal mine its ends len =
-    let pre = prefix_shorter l.list m.list both.list mine.1 its.1 (omega arith) in
+comes l m e same legal agree ends len =
+    let pre = (shorter_begins l m agree (omega arith)).1 in
     let is = one_more l.list m.list e pre ends len in (
       next_fits l.opening l.list m.list e is (subst (λ (o : Opening). LegalIn o m.list) same legal),
       ap (λ (o : Opening). after_in o m.list) same ∙ next_state l.opening l.list m.list e is,

@@ -1,10 +1,10 @@
 -- The steps of readers and of the writer keep the rule of the copies.
-use Rattle.std.proofs.Common.{◌≡◌, ◌≢◌, ℕ, ◌+◌, ◌≤◌, ⊎_elim, cond, eq-eqb, List, [], ◌∷◌, length, set, fold, Option, Some, None, IfSome, Result, Ok, Err, MatchResult, zero, suc, refl, sym, ap, ◌∙◌, subst, length-append}
+use Rattle.std.proofs.Common.{◌≡◌, ◌≢◌, ℕ, ◌+◌, ◌≤◌, inl, inr, ⊎_elim, cond, eq-eqb, List, [], ◌∷◌, length, set, fold, Option, Some, None, IfSome, Result, Ok, Err, MatchResult, zero, suc, refl, sym, ap, ◌∙◌, subst, length-append}
 use mathlib.Core.Option.{some, some-injective}
 use lib.ListN.{get_elem?}
 use Rattle.crossbeam_utils.specs.Register.{Admits, Turns, TurnsAt, Forks, Merges}
 use Rattle.atomic_table.proofs.Lists.{at_set, at_snoc}
-use Rattle.tb_published.specs.private.Prefixes.{Prefix, IsPrefixOf, with_entry}
+use Rattle.tb_published.specs.private.Prefixes.{Prefix, Agree, IsPrefixOf, with_entry}
 use Rattle.tb_published.specs.private.PostedEntries.{PostedEntry, absorbed, Follows, prefix_after}
 use Rattle.tb_published.specs.private.Sharing.{Shows, Sees, Swapped}
 use Rattle.tb_published.proofs.Prefixes.{prefix_self, prefix_trans, prefix_shorter}
@@ -17,9 +17,13 @@ begins_self l = (refl, prefix_self l.list)
 pub begins_trans : (l m n : Prefix) → IsPrefixOf l m → IsPrefixOf m n → IsPrefixOf l n
 begins_trans l m n first then_it = (first.0 ∙ then_it.0, prefix_trans l.list m.list n.list first.1 then_it.1)
 
--- of two prefixes of one prefix the shorter begins the longer
-pub shorter_begins : (l m both : Prefix) → IsPrefixOf l both → IsPrefixOf m both → length l.list ≤ length m.list → IsPrefixOf l m
-shorter_begins l m both mine its less = (mine.0 ∙ sym its.0, prefix_shorter l.list m.list both.list mine.1 its.1 less)
+-- of two that agree the shorter begins the longer
+pub shorter_begins : (l m : Prefix) → Agree l m → length l.list ≤ length m.list → IsPrefixOf l m
+shorter_begins l m agree less =
+    ⊎_elim (λ (mine : IsPrefixOf l m). mine) (λ (its : IsPrefixOf m l). (sym its.0, prefix_shorter l.list m.list l.list (prefix_self l.list) its.1 less)) agree
+
+pub agree_back : {l m : Prefix} → Agree l m → Agree m l
+agree_back agree = ⊎_elim (λ p. inr p) (λ p. inl p) agree
 
 some_one : {X : Type 0} {x y : X} → Some x ≡ Some y → x ≡ y
 some_one e = cc

@@ -1,7 +1,7 @@
 //! Prefixes of a history as tokens: each gives the number of its entries, and the entries themselves to proofs alone.
 ghost use Rattle.std.specs.Prelude.{◌≡◌, ◌+◌, ◌<◌, ◌^◌, [], length, IsTrue, IfSome, MatchBool};
 ghost use Rattle.tb_published.specs.Openings.{LegalIn};
-ghost use Rattle.tb_published.specs.private.Prefixes.{state_of, with_entry, IsPrefixOf, longer};
+ghost use Rattle.tb_published.specs.private.Prefixes.{Agree, state_of, with_entry, IsPrefixOf, longer};
 ghost use Rattle.tb_published.specs.private.Counting.{head_of};
 ghost use Rattle.tb_machine.specs.Histories.{fits};
 
@@ -112,6 +112,15 @@ impl Front {
         }
     }
 
+    /// Compares what it has with what another front of its opening has: one begins with the other.
+    pub fn agrees_with(&self, other: &Front)
+        requires { other.now.opening ≡ self.now.opening }
+        ensures { Agree self.now other.now }
+    {
+        let mut both = self.seen.again();
+        both.learn(&other.seen);
+    }
+
     /// The longer of two fronts of one opening, which the other begins.
     pub fn longer(&self, other: &Front) -> Front
         requires { other.now.opening ≡ self.now.opening }
@@ -119,8 +128,7 @@ impl Front {
         ensures this { IsPrefixOf self.now result }
         ensures that { IsPrefixOf other.now result }
     {
-        let mut both = self.seen.again();
-        both.learn(&other.seen);
+        self.agrees_with(other);
         if self.count < other.count {
             other.again()
         } else {

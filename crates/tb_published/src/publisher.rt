@@ -219,30 +219,20 @@ impl<J: Naming> Publisher<J> {
         ensures { self.new ≡ self.old }
     {
         for n in 0..=self.history.len() {
-            if !self.offer_next(n % 4 == 0) {
+            if self.waiting.is_none() {
+                let next = next_posted(self.global, &mut self.offered, self.history.as_slice());
+                drop(replace(&mut self.waiting, next));
+            }
+            if n % 4 == 0 {
+                self.look_ahead();
+            }
+            let Some(posted) = self.waiting.take() else {
+                break;
+            };
+            if let Err(posted) = self.copies.append(posted) {
+                drop(self.waiting.replace(posted));
                 break;
             }
-        }
-    }
-
-    /// Offers the next entry, the first of four or another; false where there is none, or no memory.
-    fn offer_next(&mut self, is_first: bool) -> bool
-        ensures { self.new ≡ self.old }
-    {
-        self.pick_one();
-        if is_first {
-            self.look_ahead();
-        }
-        self.hand_over()
-    }
-
-    /// Makes the next entry ready to be posted, where none waits.
-    fn pick_one(&mut self)
-        ensures { self.new ≡ self.old }
-    {
-        if self.waiting.is_none() {
-            let next = next_posted(self.global, &mut self.offered, self.history.as_slice());
-            drop(replace(&mut self.waiting, next));
         }
     }
 
@@ -256,22 +246,6 @@ impl<J: Naming> Publisher<J> {
         let count = self.offered.front().len();
         let history = self.history.as_slice();
         look_ahead(self.global, history, count, &mut self.waiting);
-    }
-
-    /// Passes on the posted entry that waits; false where none does, or there is no capacity for it.
-    fn hand_over(&mut self) -> bool
-        ensures { self.new ≡ self.old }
-    {
-        let Some(posted) = self.waiting.take() else {
-            return false;
-        };
-        match self.copies.append(posted) {
-            Ok(()) => true,
-            Err(posted) => {
-                drop(self.waiting.replace(posted));
-                false
-            }
-        }
     }
 
     /// Has the copies show what was offered, as far as there is memory.

@@ -129,8 +129,7 @@ impl<J: Naming> Replica<J> {
     {
         let its = posted.front.len();
         let mine = self.front.len();
-        let both = self.front.longer(&posted.front);
-        drop(both);
+        self.front.agrees_with(&posted.front);
         if its <= mine {
             return false;
         }

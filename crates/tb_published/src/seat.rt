@@ -174,7 +174,7 @@ impl<J: Naming> Seat<J> {
         ensures one { OneBegins front.now.list self.now }
         ensures all { IsTrue result ↔ length self.now ≤ length front.now.list }
     {
-        drop(front.longer(&self.front));
+        front.agrees_with(&self.front);
         front.len() >= self.front.len()
     }
 
@@ -210,8 +210,7 @@ pub(crate) fn enter<J: Naming>(
 {
     let reading = place.enter_as::<Look>()?;
     let shown = reading.get().front();
-    let both = front.longer(shown);
-    drop(both);
+    front.agrees_with(shown);
     if shown.len() < front.len() {
         return Err(reading.leave());
     }

@@ -1,6 +1,6 @@
 -- Prefixes of the history of an opening.
 -- Cited by private contracts alone, of: front, opening, replica, seat.
-use Rattle.std.specs.Prelude.{◌≡◌, List, [], ◌∷◌, ◌++◌, length, nat_lt, if◌then◌else◌}
+use Rattle.std.specs.Prelude.{◌≡◌, ◌⊎◌, List, [], ◌∷◌, ◌++◌, length, nat_lt, if◌then◌else◌}
 use mathlib.Core.List.{IsPrefix}
 use Rattle.tb_machine.specs.declared.entries.Entry.{Entry}
 use Rattle.tb_machine.specs.Histories.{State}
@@ -23,6 +23,10 @@ with_entry l e = prefix l.opening (l.list ++ e ∷ [])
 -- m begins with l
 abbrev pub IsPrefixOf : Prefix → Prefix → Type 0
 IsPrefixOf l m = (l.opening ≡ m.opening) × IsPrefix l.list m.list
+
+-- of two prefixes one begins with the other
+abbrev pub Agree : Prefix → Prefix → Type 0
+Agree l m = IsPrefixOf l m ⊎ IsPrefixOf m l
 
 abbrev pub longer : Prefix → Prefix → Prefix
 longer l m = if nat_lt (length l.list) (length m.list) then m else l

@@ -8,4 +8,4 @@ enter_as-requires g c = looks c.args.place.place.id (view c.args.place.place)
 
 pub returns-clause-begins : goal.returns-clause-begins
 returns-clause-begins g c =
-    rw c.again-shown.ensures (shorter_begins c.args.front.now c.front-shown.result.now c.longer-both.result c.longer-both.ensures.this c.longer-both.ensures.that (omega (arith, c.if-len.false, c.len.ensures.count, c.len-2.ensures.count)))
+    rw c.again-shown.ensures (shorter_begins c.args.front.now c.front-shown.result.now c.agrees_with.ensures (omega (arith, c.if-len.false, c.len.ensures.count, c.len-2.ensures.count)))
