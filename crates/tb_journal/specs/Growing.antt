@@ -27,6 +27,10 @@ pub record Grown (grows : List ℕ → Type 0) (file : List ℕ) (P : List ℕ �
   pub now : grows later
   pub has : P later
 
+-- of a file that grows during a call: it has grown to bytes that have P
+abbrev pub HasGrown : (List ℕ → Type 0) → (List ℕ → Type 0) → (List ℕ → Type 0) → Type 0
+HasGrown before after P = (file : List ℕ) → before file → Grown after file P
+
 -- examples
 
 -- a batch is written behind the closed latch, and then its latch is opened
