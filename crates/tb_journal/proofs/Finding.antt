@@ -1,11 +1,11 @@
 -- How a snapshot finds its end, and what it holds then.
-use Rattle.std.proofs.Common.{◌≡◌, ◌⊎◌, inl, ℕ, ◌+◌, ◌≤◌, Bool, true, false, List, [], ◌∷◌, ◌++◌, length, take, drop, refl, sym, ◌∙◌, ap, subst, arith, Result, Ok, Err, IfOk}
+use Rattle.std.proofs.Common.{◌≡◌, inl, ℕ, ◌+◌, ◌≤◌, Bool, true, false, List, [], ◌∷◌, ◌++◌, length, take, refl, sym, ◌∙◌, ap, subst, Result, Ok, Err, IfOk}
 use Rattle.tb_journal.specs.declared.faults.Fault.{Fault}
 use Rattle.tb_journal.specs.declared.hops.Hop.{Hop}
 use Rattle.tb_journal.specs.declared.hops.Hop.TheVariants as hops
 use Rattle.tb_journal.specs.declared.snapshots.Found.{Found}
 use Rattle.tb_journal.specs.Device.{ReadsAt}
-use Rattle.tb_journal.specs.Contents.{Front, Ends, front, Contents, NotAJournal, contents}
+use Rattle.tb_journal.specs.Contents.{NotAJournal, contents}
 use Rattle.tb_journal.specs.Scans.{BeginsWith}
 use Rattle.tb_journal.specs.Growing.{Later, Grown}
 use Rattle.tb_journal.specs.Snapshots.{Snapped, LeadsTo, IsFinal, ShowsBlocks, ShowsAll, ShowsOf, IsHeld, Takes, Refreshes}

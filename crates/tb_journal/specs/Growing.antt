@@ -1,5 +1,5 @@
 -- A journal's file that another process appends to by commits while it is read.
--- Cited by public contracts of: growing, scans, snapshots.
+-- Cited by public contracts of: growing, snapshots.
 use Rattle.std.specs.Prelude.{◌≡◌, ℕ, List, [], ◌∷◌, ◌++◌, take, codes, refl}
 use Rattle.tb_journal.specs.Checksum.{byte_on, bit_on}
 use Rattle.tb_journal.specs.Contents.{block, Contents, NotAJournal, Damaged, Records, contents, records_end}

@@ -6,7 +6,7 @@ use Rattle.tb_journal.specs.declared.hops.Hop.{Hop}
 use Rattle.tb_journal.specs.declared.hops.Hop.TheVariants as hops
 use Rattle.tb_journal.specs.declared.snapshots.Found.{Found}
 use Rattle.tb_journal.specs.Device.{ReadsAt}
-use Rattle.tb_journal.specs.Contents.{Front, Ends, Spoiled, front, NotAJournal, contents}
+use Rattle.tb_journal.specs.Contents.{Ends, Spoiled, front, NotAJournal, contents}
 use Rattle.tb_journal.specs.Scans.{BeginsWith}
 use Rattle.tb_journal.specs.Reading.{HasAhead, asked}
 use Rattle.tb_journal.specs.Growing.{Later, Grown}

@@ -1,5 +1,5 @@
 -- The steps by which records are taken over: for private functions alone.
--- Cited by private contracts alone, of: salvaging.
+-- Cited by private contracts alone, of: dumps, salvaging.
 use Rattle.std.specs.Prelude.{ℕ, Bool, true, false, ◌≡◌, ◌≤◌, ◌^◌, List, [], ◌∷◌, ◌++◌, Option, None, Some, Result, Ok, Err, IfErr}
 use Rattle.tb_journal.specs.declared.faults.Fault.{Fault}
 use Rattle.tb_journal.specs.declared.opening.OpenFault.TheVariants as open_faults
