@@ -1,6 +1,5 @@
 //! Records that wait for a commit, as the bytes that it writes.
-ghost use Rattle.std.specs.Prelude.{◌≡◌, ◌<◌, ◌≤◌, ◌+◌, ◌^◌, ◌++◌, [], ◌∷◌, List, ℕ, length, take, drop, vec_len};
-ghost use Rattle.std.specs.Prelude.{IfOk, IfErr, OnOk, OnErr};
+ghost use Rattle.std.specs.Prelude.{◌≡◌, ◌<◌, ◌≤◌, ◌+◌, ◌^◌, ◌++◌, [], ◌∷◌, List, ℕ, length, take, drop, vec_len, IfOk, IfErr, OnOk, OnErr};
 ghost use Rattle.std.specs.List.{AllByRecursion};
 ghost use Rattle.tb_journal.specs.Contents.{Fits, block, at_rest};
 ghost use Rattle.tb_journal.specs.private.Batches.{waiting_in, blank_numbers, IsBatch, IsUnwritten, AddsBlock, block_tail};

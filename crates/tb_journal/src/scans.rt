@@ -1,6 +1,6 @@
 //! Reads a journal record by record, ahead in pieces, with one buffer for the whole file.
 ghost use Rattle.std.specs.Prelude.{◌≡◌, ◌≤◌, ◌<◌, ◌+◌, ◌^◌, true, List, [], ℕ, length, IfOk, IfErr, OnOk, ◌-◌, take, drop, vec_len, slice_range, OnErr};
-ghost use Rattle.tb_journal.specs.Device.{IsLookedAt, HasOwnCause, HasCause, ReadsAt, KeepsRead, OfHeld};
+ghost use Rattle.tb_journal.specs.Device.{IsLookedAt, HasOwnCause, Looks, ReadsAt, KeepsRead, OfHeld};
 ghost use Rattle.tb_journal.specs.Contents.{front};
 ghost use Rattle.tb_journal.specs.Opening.{HasOpenCause, LeavesAsBefore};
 ghost use Rattle.tb_journal.specs.Scans.{Place, IsAhead, Starts, GoesFurther, IsAt, IsOfStart, ScanCause, ReadsOn, StaysRead};
@@ -324,8 +324,7 @@ fn read_behind<D: Device>(
     ensures read { (file : List ℕ) → D.holds device.old file
         → IfOk result (λ count. ReadsAt count (at + filled) file (drop filled bytes.new.items)) }
     ensures same { (file : List ℕ) → D.holds device.old file → D.holds device.new file }
-    ensures looks { D.tells → IsLookedAt (D.disk device.old) (D.disk device.new) }
-    ensures cause { D.tells → HasCause result (D.disk device.old) (D.disk device.new) }
+    ensures looks { D.tells → Looks result (D.disk device.old) (D.disk device.new) }
 {
     device.read_at(at + filled, &mut bytes[filled..])
 }
