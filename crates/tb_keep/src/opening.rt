@@ -1,16 +1,15 @@
 //! A kept file is created, or opened after a crash.
-ghost use Rattle.std.specs.Prelude.{◌≡◌, ◌≤◌, ◌-◌, true, ℕ, List, [], Ok, IfOk, IfErr, OnOk, MatchResult};
-ghost use Rattle.tb_journal.specs.Device.{IsOnDisk, HasCause, HasOwnCause, IsOfCall, OfHeld};
-ghost use Rattle.tb_journal.specs.Contents.{contents, recorded};
-ghost use Rattle.tb_journal.specs.Reading.{extent_of};
-ghost use Rattle.tb_journal.specs.Ready.{IsReady, IsOver};
+ghost use Rattle.std.specs.Prelude.{◌≡◌, ◌≤◌, ◌-◌, true, ℕ, List, [], IfOk, IfErr, OnOk, MatchResult};
+ghost use Rattle.tb_journal.specs.Device.{HasCause, HasOwnCause, IsOfCall, OfHeld};
+ghost use Rattle.tb_journal.specs.Contents.{recorded};
+ghost use Rattle.tb_journal.specs.Ready.{IsReady};
 ghost use Rattle.tb_journal.specs.Creating.{is_blank};
 ghost use Rattle.tb_machine.specs.Histories.{start};
 ghost use Rattle.tb_keep.specs.Keeping.{Keeps, IsFresh, IsUsable};
 ghost use Rattle.tb_keep.specs.Restoration.{IsNotOfFile, HasStartCause, torn_bytes};
 ghost use Rattle.tb_keep.specs.Opening.{OpensFile, CreatesIn, StartsFile, IsOpened, IsStarted, MayBeOpened, MayBeCreated, MayBeStarted, IsRefused, IsCreateRefused, IsStartRefused, HasCreateStartCause, HasEitherCause, history_of, device_left, Causes, GivesBackBy, GivesIfSound, LeavesBy, GivesBack};
 ghost use Rattle.tb_keep.specs.private.Entering.{StaysKept, OfExtent};
-ghost use Rattle.tb_keep.specs.private.Headed.{HasHead, HasRecords, IsOfDevice, HasDeviceCause, journal_left, OpensRestored, HeadLeaves, IsOf, IsRestoredBy, OpensOnly};
+ghost use Rattle.tb_keep.specs.private.Headed.{HasHead, HasRecords, IsOfDevice, HasDeviceCause, journal_left, OpensRestored, HeadLeaves, IsOf, OpensOnly, IsEmpty, MayServe, WasRead, WasRestored};
 
 use crate::faults::StartFault;
 use crate::keepers::Keeper;
@@ -41,8 +40,7 @@ fn not_kept<D: Device>(failed: NotOpened<D>) -> NotKept<D>
 /// Commits the head of a file without records.
 fn commit_head<D: Device>(journal: &mut Journal<D>, rules: Rules) -> Result<(), Fault>
     requires usable { journal.old.usable ≡ true }
-    requires over { D.tells → IsOver D.disk [] journal.old }
-    requires none_waits { D.tells → journal.old.waiting ≡ [] }
+    requires empty { D.tells → IsEmpty D.disk journal.old }
     ensures ok { D.tells → IsReady D.disk journal.old → OnOk result (HasHead D.disk rules journal.new) }
     ensures any_moment { D.tells → HeadLeaves D.disk rules journal.old journal.new.device }
     ensures fault { IfErr result (λ fault. IsOfDevice (StartFault.Journal (OpenFault.Device fault))) }
@@ -59,8 +57,7 @@ fn commit_head<D: Device>(journal: &mut Journal<D>, rules: Rules) -> Result<(), 
 /// Commits the head of a file without records. On a fault the device is given back.
 fn headed<D: Device>(journal: Journal<D>, rules: Rules) -> Result<Journal<D>, NotKept<D>>
     requires usable { journal.usable ≡ true }
-    requires over { D.tells → IsOver D.disk [] journal }
-    requires none_waits { D.tells → journal.waiting ≡ [] }
+    requires empty { D.tells → IsEmpty D.disk journal }
     ensures head { D.tells → IsReady D.disk journal → IfOk result (HasHead D.disk rules) }
     ensures any_moment { D.tells → HeadLeaves D.disk rules journal (journal_left result) }
     ensures fault { IfErr result (λ failed. IsOfDevice failed.fault) }
@@ -149,8 +146,7 @@ fn open_headed<D: Device>(
     extent: Extent,
 ) -> Result<Journal<D>, NotKept<D>>
     requires few { extent.count ≤ extent.end }
-    requires kept { D.tells → (D.disk device).sound ≡ true → IsOnDisk (D.disk device) }
-    requires read { D.tells → extent_of (contents (D.disk device).seen) ≡ Ok extent }
+    requires read { D.tells → WasRead D.disk device extent }
     ensures opened { D.tells → (D.disk device).sound ≡ true
         → IfOk result (HasRecords D.disk rules (recorded (D.disk device).seen)) }
     ensures any_moment { D.tells → LeavesBy D.disk rules device (journal_left result) OpensOnly }
@@ -181,15 +177,13 @@ fn open_restored<D: Device, A: Allocator + Clone>(
     cut: u64,
 ) -> Result<Keeper<D, A>, NotKept<D>>
     requires few { extent.count ≤ extent.end }
-    requires kept { D.tells → (D.disk device).sound ≡ true → IsOnDisk (D.disk device) }
-    requires restored { D.tells → IsRestoredBy rules (D.disk device).seen machine extent }
+    requires restored { D.tells → WasRestored D.disk rules device machine extent }
     requires torn { D.tells → cut ≡ torn_bytes (D.disk device).seen }
     ensures opened { D.tells → GivesIfSound D.disk rules device result IsOpened }
-    ensures fresh { D.tells → (D.disk device).sound ≡ true → IfOk result (IsFresh D.disk) }
+    ensures serves { MayServe D.tells D.disk device result }
     ensures any_moment { D.tells → LeavesBy D.disk rules device (device_left result) OpensOnly }
     ensures fault { D.tells → IfErr result (λ failed. IsOfDevice failed.fault) }
     ensures cause { D.tells → Causes D.disk device result (device_left result) HasStartCause }
-    ensures usable { IfOk result IsUsable }
     ensures any_device { MatchResult result (IsOf machine cut) (λ failed. IsNotOfFile failed.fault) }
 {
     match open_headed(global, device, rules, extent) {
@@ -226,14 +220,12 @@ fn open_short<D: Device, A: Allocator + Clone>(
     machine: Machine<A>,
 ) -> Result<Keeper<D, A>, NotKept<D>>
     requires few { extent.count ≤ extent.end }
-    requires kept { D.tells → (D.disk device).sound ≡ true → IsOnDisk (D.disk device) }
-    requires restored { D.tells → IsRestoredBy rules (D.disk device).seen machine extent }
+    requires restored { D.tells → WasRestored D.disk rules device machine extent }
     ensures opened { D.tells → GivesIfSound D.disk rules device result IsOpened }
-    ensures fresh { D.tells → (D.disk device).sound ≡ true → IfOk result (IsFresh D.disk) }
+    ensures serves { MayServe D.tells D.disk device result }
     ensures any_moment { D.tells → LeavesBy D.disk rules device (device_left result) MayBeOpened }
     ensures refused { D.tells → GivesBackBy D.disk rules device result IsRefused }
     ensures cause { D.tells → Causes D.disk device result (device_left result) HasStartCause }
-    ensures usable { IfOk result IsUsable }
     ensures handed { OfHeld (D.holds device) (OpensRestored result rules machine extent) }
 {
     let mut device = device;

@@ -1,16 +1,17 @@
 -- Journals that have a head: for private functions alone.
 -- Cited by private contracts alone, of: opening.
-use Rattle.std.specs.Prelude.{ℕ, ◌≡◌, ◌⊎◌, List, [], ◌∷◌, Result, Ok, Err, OnOk, IfErr, true}
+use Rattle.std.specs.Prelude.{ℕ, ◌≡◌, ◌⊎◌, List, [], ◌∷◌, Result, Ok, Err, OnOk, IfOk, IfErr, true}
 use Rattle.tb_records.specs.declared.limits.Profile.{Profile}
 use Rattle.tb_journal.specs.declared.faults.Fault.TheVariants.{NotEmpty}
 use Rattle.tb_journal.specs.declared.opening.OpenFault.TheVariants as open_faults
-use Rattle.tb_journal.specs.Device.{Disk, IsCause, FailsNone, LeavesOnly}
+use Rattle.tb_journal.specs.Device.{Disk, IsOnDisk, IsCause, FailsNone, LeavesOnly}
 use Rattle.tb_journal.specs.Contents.{Records, contents, recorded}
-use Rattle.tb_journal.specs.Ready.{Kept, IsReady}
+use Rattle.tb_journal.specs.Reading.{extent_of}
+use Rattle.tb_journal.specs.Ready.{Kept, IsReady, IsOver}
 use Rattle.tb_keep.specs.declared.faults.StartFault.{StartFault}
 use Rattle.tb_keep.specs.declared.faults.StartFault.TheVariants as start
 use Rattle.tb_keep.specs.declared.opening.NotKept.{NotKept}
-use Rattle.tb_keep.specs.Keeping.{head_record, Keeping}
+use Rattle.tb_keep.specs.Keeping.{head_record, Keeping, IsFresh, IsUsable}
 use Rattle.tb_keep.specs.Opening.{HasNoEntry, OpensFile}
 use Rattle.tb_keep.specs.Restoration.{IsRestoredFrom}
 use Rattle.tb_keep.specs.declared.restoring.Rules.{Rules}
@@ -59,9 +60,25 @@ abbrev pub OpensOnly : Profile → ℕ → Disk → List ℕ → Type 0
 OpensOnly profile clients_max before file =
     (contents file ≡ Records (recorded before.seen)) ⊎ ((recorded before.seen ≡ []) × HasNoEntry profile clients_max file)
 
+-- a journal that may be written to, without records, and none waits
+abbrev pub IsEmpty : {D : Type 0} → (D → Disk) → Kept D → Type 0
+IsEmpty disk journal = IsOver disk [] journal × (journal.waiting ≡ [])
+
+-- a file was read to this extent; where no sync has failed before, what was read is durable
+abbrev pub WasRead : {D : Type 0} → (D → Disk) → D → Extent → Type 0
+WasRead disk device extent = ((disk device).sound ≡ true → IsOnDisk (disk device)) × (extent_of (contents (disk device).seen) ≡ Ok extent)
+
 -- the machine was restored from a file of these rules, whose records end there
 abbrev pub IsRestoredBy : Rules → List ℕ → State → Extent → Type 0
 IsRestoredBy rules file S extent = IsRestoredFrom rules.profile rules.clients_max file S extent
+
+-- the same of a file that was read; where no sync has failed before, what was read is durable
+abbrev pub WasRestored : {D : Type 0} → (D → Disk) → Rules → D → State → Extent → Type 0
+WasRestored disk rules device S extent = ((disk device).sound ≡ true → IsOnDisk (disk device)) × IsRestoredBy rules (disk device).seen S extent
+
+-- the keeper may serve: no call of it has failed, and where no sync has, its journal is ready
+abbrev pub MayServe : {D : Type 0} → Type 0 → (D → Disk) → D → Result (Keeping D) (NotKept D) → Type 0
+MayServe tells disk device result = IfOk result IsUsable × (tells → (disk device).sound ≡ true → IfOk result (IsFresh disk))
 
 -- a keeper with this machine, by which so many torn bytes were cut off
 abbrev pub IsOf : {D : Type 0} → State → ℕ → Keeping D → Type 0
