@@ -1,11 +1,11 @@
 -- How a snapshot finds its end, and what it holds then.
-use Rattle.std.proofs.Common.{◌≡◌, ◌⊎◌, inl, ℕ, ◌+◌, ◌≤◌, Bool, true, false, List, [], ◌∷◌, ◌++◌, length, take, drop, refl, sym, ◌∙◌, ap, subst, arith, Result, Ok, Err, IfOk}
+use Rattle.std.proofs.Common.{◌≡◌, inl, ℕ, ◌+◌, ◌≤◌, Bool, true, false, List, [], ◌∷◌, ◌++◌, length, take, refl, sym, ◌∙◌, ap, subst, Result, Ok, Err, IfOk}
 use Rattle.tb_journal.specs.declared.faults.Fault.{Fault}
 use Rattle.tb_journal.specs.declared.hops.Hop.{Hop}
 use Rattle.tb_journal.specs.declared.hops.Hop.TheVariants as hops
 use Rattle.tb_journal.specs.declared.snapshots.Found.{Found}
 use Rattle.tb_journal.specs.Device.{ReadsAt}
-use Rattle.tb_journal.specs.Contents.{Front, Ends, front, Contents, NotAJournal, contents}
+use Rattle.tb_journal.specs.Contents.{NotAJournal, contents}
 use Rattle.tb_journal.specs.Scans.{BeginsWith}
 use Rattle.tb_journal.specs.Growing.{Later, Grown}
 use Rattle.tb_journal.specs.Snapshots.{Snapped, LeadsTo, IsFinal, ShowsBlocks, ShowsAll, ShowsOf, IsHeld, Takes, Refreshes}
@@ -99,13 +99,13 @@ found_foreign grows bytes first = record {
 -- from a latch on that was closed
 
 module _ (end : ℕ) (bytes met shown : List ℕ) (since : Later met bytes) (shows : ShowsBlocks end met shown) where
-  pub more_still : (grows : List ℕ → Type 0) (closed : Bool) → closed ≡ true → Grown grows bytes (λ later. TellsLatch closed (front (drop end later))) → GoesOn grows bytes shown (record { end = end; closed = true })
+  pub more_still : (grows : List ℕ → Type 0) (closed : Bool) → closed ≡ true → Grown grows bytes (λ later. TellsLatch end later closed) → GoesOn grows bytes shown (record { end = end; closed = true })
   more_still grows closed is first = record {
     is = record {
       met = first.later;
       after = first.after;
       shown = shown;
-      shows = shows_still end met shown first.later shows (later_then met bytes first.later since first.after) (subst (λ (b : Bool). TellsLatch b (front (drop end first.later))) is first.has);
+      shows = shows_still end met shown first.later shows (later_then met bytes first.later since first.after) (subst (TellsLatch end first.later) is first.has);
       later = first.later;
       since = later_same first.later;
       now = first.now;
@@ -116,12 +116,12 @@ module _ (end : ℕ) (bytes met shown : List ℕ) (since : Later met bytes) (sho
   pub more_leads : (mid : List ℕ → Type 0) {P : List ℕ → Type 0} → (first : Grown mid bytes P) → LeadsTo end first.later
   more_leads mid first = leads_later end met first.later shows.leads (later_then met bytes first.later since first.after)
 
-  pub more_found : (mid grows : List ℕ → Type 0) (closed : Bool) → closed ≡ false → (first : Grown mid bytes (λ later. TellsLatch closed (front (drop end later)))) → (found : Found) → IsFound grows first.later found → GoesOn grows bytes shown found
+  pub more_found : (mid grows : List ℕ → Type 0) (closed : Bool) → closed ≡ false → (first : Grown mid bytes (λ later. TellsLatch end later closed)) → (found : Found) → IsFound grows first.later found → GoesOn grows bytes shown found
   unfolding found_since
   more_found mid grows closed is first found more = record {
     is = found_since grows bytes first.later first.after found more;
     goes_on = shows_more end met shown first.later shows (later_then met bytes first.later since first.after)
-        (subst (λ (b : Bool). TellsLatch b (front (drop end first.later))) is first.has)
+        (subst (TellsLatch end first.later) is first.has)
         found.closed found.end more.met more.shown more.after more.shows;
   }
 
@@ -240,7 +240,7 @@ all_since grows a b before (Ok found) is = found_since grows a b before found is
 all_since grows a b before (Err fault) is = tt
 
 pub all_more : (end : ℕ) (bytes met shown : List ℕ) (since : Later met bytes) (shows : ShowsBlocks end met shown) (mid grows : List ℕ → Type 0) (closed : Bool) → closed ≡ false
-    → (first : Grown mid bytes (λ later. TellsLatch closed (front (drop end later)))) → (result : Result Found Fault) → IfOk result (IsFound grows first.later) → IfOk result (GoesOn grows bytes shown)
+    → (first : Grown mid bytes (λ later. TellsLatch end later closed)) → (result : Result Found Fault) → IfOk result (IsFound grows first.later) → IfOk result (GoesOn grows bytes shown)
 all_more end bytes met shown since shows mid grows closed is first (Ok found) more = more_found end bytes met shown since shows mid grows closed is first found more
 all_more end bytes met shown since shows mid grows closed is first (Err fault) more = tt
 

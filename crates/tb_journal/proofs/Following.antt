@@ -1,11 +1,9 @@
 -- How blocks are followed by their lengths.
-use Rattle.std.proofs.Common.{◌≡◌, ◌≢◌, ◌⊎◌, inl, inr, ⊎_elim, ℕ, suc, ◌+◌, ◌-◌, ◌≤◌, ◌<◌, ◌==◌, Bool, true, false, List, [], ◌∷◌, ◌++◌, length, take, drop, refl, sym, ◌∙◌, ap, subst, arith, if◌then◌else◌, length-drop}
+use Rattle.std.proofs.Common.{◌≡◌, ◌≢◌, ◌⊎◌, inl, inr, ⊎_elim, ℕ, ◌+◌, ◌-◌, ◌≤◌, ◌<◌, ◌==◌, Bool, List, [], ◌∷◌, ◌++◌, length, drop, refl, sym, ◌∙◌, subst, arith, if◌then◌else◌, length-drop}
 use Rattle.std.proofs.lemmas.Grind.{common_steps}
 use Rattle.std.specs.Int.{w32, from_le_bytes}
-use Rattle.tb_journal.specs.Contents.{Front, Ends, Spoiled, Whole, behind_latch, front, Damaged, contents, records_end}
-use Rattle.tb_journal.specs.Scans.{BeginsWith}
-use Rattle.tb_journal.specs.Reading.{asked}
-use Rattle.tb_journal.specs.Reading.{HasAhead}
+use Rattle.tb_journal.specs.Contents.{Front, Ends, Spoiled, Whole, behind_latch, front, contents, records_end}
+use Rattle.tb_journal.specs.Reading.{HasAhead, asked}
 use Rattle.tb_journal.specs.private.Hops.{HopsTo, LeadsFrom, HasPiece}
 use Rattle.tb_journal.specs.declared.hops.Hop.{Hop}
 use Rattle.tb_journal.specs.declared.hops.Hop.TheVariants as hops

@@ -1,12 +1,11 @@
 -- What stays of a file that grows while it is read.
-use Rattle.std.proofs.Common.{◌≡◌, ◌≢◌, ◌⊎◌, inl, inr, ⊎_elim, ℕ, ◌+◌, ◌≤◌, List, [], ◌∷◌, ◌++◌, length, take, drop, refl, sym, ◌∙◌, ap, subst, arith, length-take}
-use Rattle.std.proofs.lemmas.Grind.{common_steps}
-use Rattle.std.proofs.lemmas.List.{append-nil, append_assoc, take-take, take_at, length-take-le}
-use Rattle.tb_journal.specs.Contents.{Ends, Contents, NotAJournal, Damaged, Records, with_record, with_records, walk, front, contents, records_end}
+use Rattle.std.proofs.Common.{◌≡◌, inl, inr, ⊎_elim, ℕ, ◌≤◌, List, [], ◌∷◌, ◌++◌, length, take, drop, refl, sym, ◌∙◌, ap, subst, arith}
+use Rattle.std.proofs.lemmas.List.{append-nil, append_assoc, take-take}
+use Rattle.tb_journal.specs.Contents.{Contents, NotAJournal, Damaged, Records, with_records, walk, contents, records_end}
 use Rattle.tb_journal.specs.Scans.{Place, BeginsWith, IsAhead, HasRead}
 use Rattle.tb_journal.specs.Growing.{Extends, LaterThan, Later, Grown}
-use Rattle.tb_journal.specs.Snapshots.{EndsAt, HasDamageBefore, LeadsTo, IsFinal}
-use Rattle.tb_journal.proofs.Walks.{unjoined, whole_begins, begins_shorter}
+use Rattle.tb_journal.specs.Snapshots.{HasDamageBefore, LeadsTo, IsFinal}
+use Rattle.tb_journal.proofs.Walks.{unjoined}
 use Rattle.tb_journal.proofs.Committing.{blocks_length-append}
 use Rattle.tb_journal.proofs.Nexts.{all, end_within, next_damaged}
 

@@ -1,21 +1,19 @@
 -- What a snapshot shows, and what it shows later.
-use Rattle.std.proofs.Common.{◌≡◌, ◌≢◌, ◌⊎◌, inl, inr, ⊎_elim, ℕ, ◌+◌, ◌-◌, ◌≤◌, ◌<◌, ◌==◌, min, Bool, true, false, List, [], ◌∷◌, ◌++◌, length, take, drop, refl, sym, ◌∙◌, ap, subst, arith, length-take, length-drop, length-append, Result, Ok, Err, IfOk}
-use Rattle.std.proofs.lemmas.Grind.{common_steps}
-use Rattle.std.proofs.lemmas.List.{append-nil, take-take, take_at, take_all, drop_all, drop-take, length-take-le}
+use Rattle.std.proofs.Common.{◌≡◌, ◌≢◌, inl, inr, ⊎_elim, ℕ, ◌+◌, ◌-◌, ◌≤◌, ◌==◌, Bool, true, false, List, [], ◌∷◌, ◌++◌, length, take, drop, refl, sym, ◌∙◌, ap, subst, arith, length-drop, length-append}
+use Rattle.std.proofs.lemmas.List.{take-take, take_at, take_all, drop-take, length-take-le}
 use Rattle.std.proofs.lemmas.Bool.{cases_lt}
 use Rattle.std.specs.Int.{w32, from_le_bytes}
-use Rattle.tb_journal.specs.declared.faults.Fault.{Fault}
 use Rattle.tb_journal.specs.Device.{ReadsAt}
-use Rattle.tb_journal.specs.Contents.{Ends, Spoiled, front, Contents, NotAJournal, Damaged, Records, contents, records_end}
-use Rattle.tb_journal.specs.Scans.{BeginsWith, IsAhead}
+use Rattle.tb_journal.specs.Contents.{Ends, Spoiled, front, Damaged, Records, contents, records_end}
+use Rattle.tb_journal.specs.Scans.{BeginsWith}
 use Rattle.tb_journal.specs.Reading.{HasAhead, asked}
 use Rattle.tb_journal.specs.Growing.{Extends, Later, Grown}
-use Rattle.tb_journal.specs.Snapshots.{Snapped, EndsAt, HasDamageBefore, LeadsTo, IsFinal, ShowsBlocks, ShowsAll, ShowsOf, Shows, IsHeld, Takes, Refreshes}
-use Rattle.tb_journal.proofs.Walks.{drop_parts, ended}
+use Rattle.tb_journal.specs.Snapshots.{Snapped, EndsAt, HasDamageBefore, IsFinal, ShowsBlocks, ShowsOf, IsHeld}
+use Rattle.tb_journal.proofs.Walks.{ended}
 use Rattle.tb_journal.proofs.Committing.{blocks_length-append}
 use Rattle.tb_journal.proofs.Nexts.{goes_on, next_none, next_damaged}
 use Rattle.tb_journal.proofs.Fronts.{at_least, asked_told, front_told}
-use Rattle.tb_journal.proofs.Growths.{extends_later, later_extends, final_later, damage_final, later_same, later_then, begins_part, leads_within, leads_kept, leads_later}
+use Rattle.tb_journal.proofs.Growths.{extends_later, later_extends, final_later, damage_final, later_then, leads_within, leads_kept, leads_later}
 
 -- what is at the head of bytes is known from as many as are asked for
 

@@ -94,6 +94,10 @@ records_of other = []
 abbrev pub recorded : List ℕ → List (List ℕ)
 recorded file = records_of (contents file)
 
+-- it is read to its end: whole blocks of records, and a closed latch
+abbrev pub IsJournal : List ℕ → Type 0
+IsJournal file = contents file ≡ Records (recorded file)
+
 -- the bytes that their blocks take
 abbrev pub blocks_length : List (List ℕ) → ℕ
 blocks_length [] = 0

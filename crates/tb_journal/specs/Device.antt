@@ -1,6 +1,6 @@
 -- What the calls of a device do to its file, and what a crash may leave between two syncs.
 -- Cited by public contracts of: devices, growing, journals, memory, opening, posix, scans, snapshots, systems.
-use Rattle.std.specs.Prelude.{◌<◌, ◌≡◌, ◌⊎◌, ℕ, ◌+◌, ◌-◌, ◌^◌, ◌≤◌, min, max, Bool, true, false, List, ◌++◌, length, take, drop, Result, IfErr, OnOk, OnErr}
+use Rattle.std.specs.Prelude.{◌<◌, ◌≡◌, ◌⊎◌, ℕ, ◌+◌, ◌-◌, ◌^◌, ◌≤◌, min, max, Bool, true, false, List, ◌++◌, length, take, drop, Result, IfOk, IfErr, OnOk, OnErr}
 use Rattle.std.proofs.Common.{arith, ⊎_elim}
 use Rattle.tb_journal.specs.declared.faults.Fault.{Fault}
 use Rattle.tb_journal.specs.declared.faults.Fault.TheVariants.{Memory, Failed, Full, SyncFailed}
@@ -104,6 +104,26 @@ pub record HasOwnCause {T : Type 0} (result : Result T Fault) (before after : Di
 pub record ReadsAt (count at : ℕ) (file into : List ℕ) : Type 0 where
   pub counts : count ≡ min (length into) (length (drop at file))
   pub bytes : take count into ≡ take count (drop at file)
+
+-- of each file that the reads of a device are of
+abbrev pub OfHeld : (List ℕ → Type 0) → (List ℕ → Type 0) → Type 0
+OfHeld holds Says = (file : List ℕ) → holds file → Says file
+
+-- a read answers how many bytes of a file it gave, from an offset on
+abbrev pub GivesBytes : Result ℕ Fault → ℕ → List ℕ → List ℕ → Type 0
+GivesBytes result at into file = IfOk result (λ count. ReadsAt count at file into)
+
+-- the number of bytes of a file is answered
+abbrev pub AnswersLength : Result ℕ Fault → List ℕ → Type 0
+AnswersLength result file = IfOk result (λ len. len ≡ length file)
+
+-- where no sync has failed before, all that a read returns is durable
+abbrev pub KeepsRead : {T F : Type 0} → Result T F → Disk → Disk → Type 0
+KeepsRead result before after = before.sound ≡ true → OnOk result (IsOnDisk after)
+
+-- where no sync has failed before, a crash at any moment of a call leaves such a file
+abbrev pub LeavesIfSound : {D : Type 0} → (D → Disk) → D → D → (Disk → List ℕ → Type 0) → Type 0
+LeavesIfSound disk before after May = (disk before).sound ≡ true → LeavesOnly (disk before) (disk after) (May (disk before))
 
 -- calls that only look
 pub record IsLookedAt (before after : Disk) : Type 0 where

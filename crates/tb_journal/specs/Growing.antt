@@ -1,5 +1,5 @@
 -- A journal's file that another process appends to by commits while it is read.
--- Cited by public contracts of: growing, scans, snapshots.
+-- Cited by public contracts of: growing, snapshots.
 use Rattle.std.specs.Prelude.{◌≡◌, ℕ, List, [], ◌∷◌, ◌++◌, take, codes, refl}
 use Rattle.tb_journal.specs.Checksum.{byte_on, bit_on}
 use Rattle.tb_journal.specs.Contents.{block, Contents, NotAJournal, Damaged, Records, contents, records_end}
@@ -26,6 +26,10 @@ pub record Grown (grows : List ℕ → Type 0) (file : List ℕ) (P : List ℕ �
   pub after : Later file later
   pub now : grows later
   pub has : P later
+
+-- of a file that grows during a call: it has grown to bytes that have P
+abbrev pub HasGrown : (List ℕ → Type 0) → (List ℕ → Type 0) → (List ℕ → Type 0) → Type 0
+HasGrown before after P = (file : List ℕ) → before file → Grown after file P
 
 -- examples
 

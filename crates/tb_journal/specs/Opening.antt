@@ -1,6 +1,6 @@
 -- How a journal is opened, and what stays of its file.
 -- Cited by public contracts of: opening, scans.
-use Rattle.std.specs.Prelude.{◌≡◌, ◌⊎◌, ℕ, ◌≤◌, ◌^◌, List, [], length, Result, Ok, Err, IfErr, OnOk, true}
+use Rattle.std.specs.Prelude.{◌≡◌, ◌⊎◌, ℕ, ◌≤◌, ◌^◌, List, [], length, Result, Ok, Err, IfOk, IfErr, OnOk, true}
 use Rattle.tb_journal.specs.declared.faults.Fault.{Fault}
 use Rattle.tb_journal.specs.declared.faults.Fault.TheVariants as faults
 use Rattle.tb_journal.specs.declared.reading.Extent.{Extent}
@@ -22,6 +22,10 @@ refused_as (refusals.Damaged at) = Damaged at
 -- a file that a crash might have left before, or the one that a read returned
 abbrev pub IsAsBefore : Disk → List ℕ → Type 0
 IsAsBefore before file = before.may_leave file ⊎ (file ≡ before.seen)
+
+-- a crash at any moment leaves such a file
+abbrev pub LeavesAsBefore : Disk → Disk → Type 0
+LeavesAsBefore before after = LeavesOnly before after (IsAsBefore before)
 
 -- a file that a crash might have left before, or one that represents what was read
 abbrev pub StandsForTheSame : Disk → List ℕ → Type 0
@@ -58,6 +62,14 @@ abbrev pub fault_left : {D : Type 0} → Result (Kept D) (NotOpened D) → Resul
 fault_left (Ok journal) = Ok tt
 fault_left (Err failed) = Err failed.fault
 
+-- the cause of the fault for which a device is given back, by the disk before the call and the one behind it
+abbrev pub CausedBy : {D : Type 0} → (D → Disk) → D → Result (Kept D) (NotOpened D) → (Result (Unit {0}) OpenFault → Disk → Disk → Type 0) → Type 0
+CausedBy disk device result Has = Has (fault_left result) (disk device) (disk (device_left result))
+
+-- where a device is given back, what is left of its file
+abbrev pub GivesBack : {D : Type 0} → (D → Disk) → D → Result (Kept D) (NotOpened D) → (Disk → Disk → OpenFault → Type 0) → Type 0
+GivesBack disk device result Leaves = IfErr result (λ failed. Leaves (disk device) (disk failed.device) failed.fault)
+
 -- an error has a cause
 pub record HasOpenCause {T : Type 0} (result : Result T OpenFault) (before after : Disk) : Type 0 where
   pub ok : OnOk result (FailsNone before after)
@@ -69,6 +81,10 @@ pub record IsOpened {D : Type 0} (disk : D → Disk) (file : List ℕ) (journal 
   pub ready : IsReady disk journal
   pub same : recorded (disk journal.device).seen ≡ recorded file
   pub none_waits : journal.waiting ≡ []
+
+-- where no sync has failed before, the journal of what a read returned
+abbrev pub OpensIfSound : {D : Type 0} → (D → Disk) → D → Result (Kept D) (NotOpened D) → Type 0
+OpensIfSound disk device result = (disk device).sound ≡ true → IfOk result (IsOpened disk (disk device).seen)
 
 -- a journal whose records end there and are so many, and none that wait
 abbrev pub IsOfExtent : {D : Type 0} → Extent → Kept D → Type 0

@@ -1,6 +1,6 @@
 -- A journal that may be written to.
 -- Cited by public contracts of: journals, opening.
-use Rattle.std.specs.Prelude.{◌≡◌, ℕ, ◌+◌, Bool, List, length}
+use Rattle.std.specs.Prelude.{◌≡◌, ℕ, ◌+◌, Bool, List, [], ◌∷◌, ◌++◌, length}
 use Rattle.tb_journal.specs.Device.{Disk, LeavesOnly}
 use Rattle.tb_journal.specs.Contents.{at_rest, recorded, records_end}
 use Rattle.tb_journal.specs.Steps.{IsWhole, IsAtRest, IsBeforeOrAfter}
@@ -35,7 +35,15 @@ pub record IsReady {D : Type 0} (disk : D → Disk) (journal : Kept D) : Type 0 
   pub ends : journal.end ≡ records_end (recorded (disk journal.device).seen)
   pub counts : journal.count ≡ length (recorded (disk journal.device).seen)
 
+-- a journal with one more record that waits
+abbrev pub with_waiting : {D : Type 0} → Kept D → List ℕ → Kept D
+with_waiting journal bytes = record journal { waiting = journal.waiting ++ bytes ∷ [] }
+
+-- the records that waited are in the file, behind those from before
+abbrev pub Acknowledges : {D : Type 0} → (D → Disk) → Kept D → Kept D → Type 0
+Acknowledges disk before after = recorded (disk after.device).seen ≡ recorded (disk before.device).seen ++ before.waiting
+
 -- a crash at any moment leaves the records from before, or these and all that waited
-abbrev pub LeavesBeforeOrAfter : {D : Type 0} → (D → Disk) → Kept D → Kept D → Type 0
-LeavesBeforeOrAfter disk before after =
+abbrev pub LeavesAllOrNone : {D : Type 0} → (D → Disk) → Kept D → Kept D → Type 0
+LeavesAllOrNone disk before after =
     LeavesOnly (disk before.device) (disk after.device) (IsBeforeOrAfter (recorded (disk before.device).seen) before.waiting)

@@ -8,6 +8,7 @@ use Rattle.tb_journal.specs.Checksum.{byte_on, bit_on}
 use Rattle.tb_journal.specs.Contents.{NotAJournal, Damaged, Records, magic, block, contents, records_end}
 use Rattle.tb_journal.specs.Opening.{refused_as, HasOpenCause}
 use Rattle.tb_journal.specs.Device.{Disk}
+use Rattle.tb_journal.specs.Growing.{Later}
 
 -- how far a file was read: where the records end, how many they are, the last of them, and the bytes read ahead
 pub record Place : Type 0 where
@@ -43,6 +44,14 @@ ReadsNext (Ok true) records file scan = HasRead (records ++ scan.last ∷ []) fi
 ReadsNext (Ok false) records file scan = (contents file ≡ Records records) × HasRead records file scan
 ReadsNext (Err (open_faults.Refused why)) records file scan = contents file ≡ refused_as why
 ReadsNext (Err (open_faults.Device fault)) records file scan = Unit {0}
+
+-- the same behind whatever records were read of a file
+abbrev pub ReadsOn : Result Bool OpenFault → Place → Place → List ℕ → Type 0
+ReadsOn result before after file = (records : List (List ℕ)) → HasRead records file before → ReadsNext result records file after
+
+-- what was read of a file was read of the same file at a later moment
+abbrev pub StaysRead : Place → Place → Type 0
+StaysRead before after = (records : List (List ℕ)) (file later : List ℕ) → Later file later → HasRead records file before → HasRead records later after
 
 -- the cause of a fault, where some records were read before
 abbrev pub ScanCause : Result Bool OpenFault → Place → Disk → Disk → Type 0

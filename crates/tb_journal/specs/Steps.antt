@@ -44,6 +44,6 @@ pub record Publishes (batch : List (List ℕ)) (result : Result (Unit {0}) Fault
   pub cause : HasCause result before after
 
 -- the same of the bytes of some records behind the closed latch
-abbrev pub PublishesBytes : List ℕ → Result (Unit {0}) Fault → Disk → Disk → Type 0
-PublishesBytes bytes result before after =
+abbrev pub WritesBatch : List ℕ → Result (Unit {0}) Fault → Disk → Disk → Type 0
+WritesBatch bytes result before after =
     (records : List (List ℕ)) → AllByRecursion Fits records → bytes ≡ at_rest records → 1 ≤ length records → Publishes records result before after

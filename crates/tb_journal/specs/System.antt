@@ -1,6 +1,6 @@
 -- What the system's calls on an open file do, as POSIX has them.
 -- Cited by public contracts of: systems.
-use Rattle.std.specs.Prelude.{◌≡◌, ◌≢◌, ◌⊎◌, ℕ, ◌≤◌, true, false, List, [], ◌∷◌, length, take, drop, Result, Ok, IfOk, IfErr, OnOk, IsErrOf, refl}
+use Rattle.std.specs.Prelude.{◌≡◌, ◌≢◌, ◌⊎◌, ℕ, ◌<◌, ◌≤◌, true, false, List, [], ◌∷◌, length, take, drop, Result, Ok, IfOk, IfErr, OnOk, IsErrOf, refl}
 use Rattle.std.proofs.Common.{arith, inl}
 use Rattle.std.specs.declared.io.ErrorKind.{ErrorKind}
 use Rattle.std.specs.declared.io.ErrorKind.TheVariants as kinds
@@ -25,6 +25,10 @@ pub record Counts {T : Type 0} (fault : ErrorKind → Fault) (result : Result T 
   pub ok : OnOk result (FailsNone before after)
   pub interrupted : IsErrOf result kinds.Interrupted → FailsNone before after
   pub failed : IfErr result (λ kind. kind ≢ kinds.Interrupted → HasFailed before after (fault kind))
+
+-- of the interruptions that are left one fewer comes behind an interrupted call
+abbrev pub CountsDown : {T : Type 0} → Result T ErrorKind → ℕ → ℕ → Type 0
+CountsDown result before after = IsErrOf result kinds.Interrupted → after < before
 
 -- a read of some bytes from an offset on, maybe fewer than fit; none only at the end, or into no space
 pub record Preads (offset : ℕ) (into : List ℕ) (result : Result ℕ ErrorKind) (before after : Disk) : Type 0 where

@@ -1,9 +1,8 @@
 //! Records that wait for a commit, as the bytes that it writes.
-ghost use Rattle.std.specs.Prelude.{◌≡◌, ◌<◌, ◌≤◌, ◌+◌, ◌^◌, ◌++◌, [], ◌∷◌, List, ℕ, length, take, drop, vec_len};
-ghost use Rattle.std.specs.Prelude.{IfOk, IfErr, OnOk, OnErr};
+ghost use Rattle.std.specs.Prelude.{◌≡◌, ◌<◌, ◌≤◌, ◌+◌, ◌^◌, ◌++◌, [], ◌∷◌, List, ℕ, length, take, drop, vec_len, IfOk, IfErr, OnOk, OnErr};
 ghost use Rattle.std.specs.List.{AllByRecursion};
 ghost use Rattle.tb_journal.specs.Contents.{Fits, block, at_rest};
-ghost use Rattle.tb_journal.specs.private.Batches.{waiting_in, blank_numbers, IsBatch, IsUnwritten};
+ghost use Rattle.tb_journal.specs.private.Batches.{waiting_in, blank_numbers, IsBatch, IsUnwritten, AddsBlock, block_tail};
 
 use crate::faults::Fault;
 use crate::journals::RECORD_BYTES_MAX;
@@ -103,8 +102,7 @@ impl Batch {
 // Opens the last latch for one more block, and closes the one behind it. At an Err the bytes are as they were.
 fn add_block(bytes: &mut Vec<u8>, content: &[u8]) -> Result<(), AllocError>
     requires { length content.now < 2 ^ 24 }
-    ensures ok { OnOk result ((front : List ℕ) → bytes.old.items ≡ front ++ 0 ∷ []
-        → bytes.new.items ≡ front ++ (block content.now ++ 0 ∷ [])) }
+    ensures ok { OnOk result (AddsBlock content.now bytes.old.items bytes.new.items) }
     ensures err { OnErr result (bytes.new.items ≡ bytes.old.items) }
 {
     let len = bytes.len();
@@ -125,7 +123,7 @@ fn add_block(bytes: &mut Vec<u8>, content: &[u8]) -> Result<(), AllocError>
 // Adds all of a block but its latch, and the latch behind it.
 fn add_parts(bytes: &mut Vec<u8>, content: &[u8]) -> Result<(), AllocError>
     requires { length content.now < 2 ^ 24 }
-    ensures ok { OnOk result (bytes.new.items ≡ bytes.old.items ++ (drop 1 (block content.now) ++ 0 ∷ [])) }
+    ensures ok { OnOk result (bytes.new.items ≡ bytes.old.items ++ block_tail content.now) }
     ensures err { OnErr result (take (vec_len bytes.old) bytes.new.items ≡ bytes.old.items) }
 {
     bytes.extend_from_slice(&numbers_of(content))?;
@@ -147,8 +145,7 @@ fn numbers_of(content: &[u8]) -> [u8; 7]
 // Opens the last latch for one more block, whose record is written there, and closes the one behind it. At an Err the bytes are
 // as they were.
 fn write_block<W: Written>(bytes: &mut Vec<u8>, content: &W, room: usize) -> Result<(), Fault>
-    ensures ok { OnOk result ((front : List ℕ) → bytes.old.items ≡ front ++ 0 ∷ []
-        → bytes.new.items ≡ front ++ (block (W.bytes content.now) ++ 0 ∷ [])) }
+    ensures ok { OnOk result (AddsBlock (W.bytes content.now) bytes.old.items bytes.new.items) }
     ensures fits { OnOk result (Fits (W.bytes content.now)) }
     ensures known { OnOk result (W.known content.now) }
     ensures room { OnOk result (8 + length (W.bytes content.now) ≤ room) }
@@ -172,7 +169,7 @@ fn write_block<W: Written>(bytes: &mut Vec<u8>, content: &W, room: usize) -> Res
 
 // Adds all of a block but its latch, and the latch behind it.
 fn write_parts<W: Written>(bytes: &mut Vec<u8>, content: &W, room: usize) -> Result<(), Fault>
-    ensures ok { OnOk result (bytes.new.items ≡ bytes.old.items ++ (drop 1 (block (W.bytes content.now)) ++ 0 ∷ [])) }
+    ensures ok { OnOk result (bytes.new.items ≡ bytes.old.items ++ block_tail (W.bytes content.now)) }
     ensures fits { OnOk result (Fits (W.bytes content.now)) }
     ensures known { OnOk result (W.known content.now) }
     ensures room { OnOk result (8 + length (W.bytes content.now) ≤ room) }

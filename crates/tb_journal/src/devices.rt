@@ -1,6 +1,6 @@
 //! A file as the journal sees it: what a read returns, and what a crash may leave.
-ghost use Rattle.std.specs.Prelude.{◌≡◌, ◌≤◌, ℕ, List, length, IfOk, IfErr};
-ghost use Rattle.tb_journal.specs.Device.{Disk, Looks, ReadsAt, Writes, Cuts, Syncs, IsOfCall, IsOfSync};
+ghost use Rattle.std.specs.Prelude.{◌≤◌, ℕ, List, length, IfOk, IfErr};
+ghost use Rattle.tb_journal.specs.Device.{Disk, Looks, GivesBytes, AnswersLength, Writes, Cuts, Syncs, IsOfCall, IsOfSync};
 
 use crate::faults::Fault;
 
@@ -21,14 +21,14 @@ pub trait Device {
         // Of any device, so that no reader trusts a count that is too large.
         ensures within { IfOk result (λ count. count ≤ length into.new) }
         // Of any device: so a reader can say of which bytes it speaks.
-        ensures bytes { (file : List ℕ) → holds self.old file → IfOk result (λ count. ReadsAt count at file into.new) }
+        ensures bytes { (file : List ℕ) → holds self.old file → GivesBytes result at into.new file }
         ensures same { (file : List ℕ) → holds self.old file → holds self.new file }
         ensures names { IfErr result IsOfCall }
         ensures looks { tells → Looks result (disk self.old) (disk self.new) };
 
     /// The number of bytes.
     fn len(&mut self) -> Result<usize, Fault>
-        ensures bytes { (file : List ℕ) → holds self.old file → IfOk result (λ len. len ≡ length file) }
+        ensures bytes { (file : List ℕ) → holds self.old file → AnswersLength result file }
         ensures same { (file : List ℕ) → holds self.old file → holds self.new file }
         ensures names { IfErr result IsOfCall }
         ensures looks { tells → Looks result (disk self.old) (disk self.new) };

@@ -1,7 +1,7 @@
 //! A file that grows while it is read.
-ghost use Rattle.std.specs.Prelude.{◌≡◌, ◌≤◌, ℕ, List, length, IfOk, IfErr};
-ghost use Rattle.tb_journal.specs.Device.{ReadsAt, IsOfCall};
-ghost use Rattle.tb_journal.specs.Growing.{Grown};
+ghost use Rattle.std.specs.Prelude.{◌≤◌, ℕ, List, length, IfOk, IfErr};
+ghost use Rattle.tb_journal.specs.Device.{IsOfCall, AnswersLength, GivesBytes};
+ghost use Rattle.tb_journal.specs.Growing.{HasGrown};
 
 use crate::faults::Fault;
 
@@ -15,13 +15,11 @@ pub trait Growing {
     fn read_at(&mut self, at: usize, into: &mut [u8]) -> Result<usize, Fault>
         // Of any file, so that no reader trusts a count that is too large.
         ensures within { IfOk result (λ count. count ≤ length into.new) }
-        ensures bytes { (file : List ℕ) → grows self.old file
-            → Grown (grows self.new) file (λ later. IfOk result (λ count. ReadsAt count at later into.new)) }
+        ensures bytes { HasGrown (grows self.old) (grows self.new) (GivesBytes result at into.new) }
         ensures names { IfErr result IsOfCall };
 
     /// The number of bytes, those behind the closed latch too.
     fn len(&mut self) -> Result<usize, Fault>
-        ensures bytes { (file : List ℕ) → grows self.old file
-            → Grown (grows self.new) file (λ later. IfOk result (λ len. len ≡ length later)) }
+        ensures bytes { HasGrown (grows self.old) (grows self.new) (AnswersLength result) }
         ensures names { IfErr result IsOfCall };
 }

@@ -1,7 +1,6 @@
 //! The blocks in a piece of a file, followed by their lengths.
-ghost use Rattle.std.specs.Prelude.{◌≡◌, ◌<◌, ◌^◌, List, ℕ, drop};
+ghost use Rattle.std.specs.Prelude.{◌≡◌, ◌<◌, ◌^◌, List, ℕ};
 ghost use Rattle.tb_journal.specs.declared.hops.Hop.TheVariants as variants;
-ghost use Rattle.tb_journal.specs.Contents.{front};
 ghost use Rattle.tb_journal.specs.Reading.{HasAhead};
 ghost use Rattle.tb_journal.specs.private.Hops.{HopsTo, FollowsPiece, TellsLatch, IsNear};
 
@@ -63,7 +62,7 @@ fn step(rest: &[u8], at: usize, len: usize) -> Hop
 
 // Says whether these bytes begin with a closed latch, or are the last of a file that ends there.
 pub fn is_end(rest: &[u8]) -> bool
-    ensures { (at : ℕ) (file : List ℕ) → HasAhead 8 at file rest.now → TellsLatch result (front (drop at file)) }
+    ensures { (at : ℕ) (file : List ℕ) → HasAhead 8 at file rest.now → TellsLatch at file result }
 {
     matches!(rest, [] | [_] | [0, ..])
 }

@@ -1,9 +1,9 @@
 //! A journal: records in a file, each durable before it counts.
-ghost use Rattle.std.specs.Prelude.{◌≡◌, ◌↔◌, ◌≤◌, ◌<◌, ◌+◌, ◌^◌, ◌++◌, true, false, [], ◌∷◌, length, Ok, IfErr, OnOk, OnErr, IsErrOf};
+ghost use Rattle.std.specs.Prelude.{◌≡◌, ◌↔◌, ◌≤◌, ◌<◌, ◌+◌, ◌^◌, true, false, [], length, Ok, IfErr, OnOk, OnErr, IsErrOf};
 ghost use Rattle.tb_journal.specs.Device.{HasCause};
 ghost use Rattle.tb_journal.specs.Contents.{at_rest, recorded, records_end};
-ghost use Rattle.tb_journal.specs.Ready.{Kept, IsWritable, IsReady, grown, LeavesBeforeOrAfter};
-ghost use Rattle.tb_journal.specs.Steps.{IsWhole, Overwrites, PublishesBytes};
+ghost use Rattle.tb_journal.specs.Ready.{Kept, IsWritable, IsReady, grown, with_waiting, Acknowledges, LeavesAllOrNone};
+ghost use Rattle.tb_journal.specs.Steps.{IsWhole, Overwrites, WritesBatch};
 
 use crate::batches::{Batch, OPEN};
 use crate::devices::Device;
@@ -40,8 +40,7 @@ impl<D: Device> Journal<D> {
     /// Lets a record wait for the next commit. The file stays as it is. At an `Err` nothing has changed.
     pub fn append(&mut self, content: &[u8]) -> Result<(), Fault>
         requires usable { self.old.usable ≡ true }
-        ensures ok { OnOk result
-            (self.new ≡ record self.old { waiting = self.old.waiting ++ content.now ∷ [] }) }
+        ensures ok { OnOk result (self.new ≡ with_waiting self.old content.now) }
         ensures err { OnErr result (self.new ≡ self.old) }
         ensures long { IsErrOf result Fault.TooLong ↔ (2 ^ 24 ≤ length content.now) }
         ensures full { IsErrOf result Fault.Full
@@ -65,8 +64,7 @@ impl<D: Device> Journal<D> {
     /// The same of a record that is written where it waits. At an `Err` nothing has changed.
     pub fn append_written<W: Written>(&mut self, content: &W) -> Result<(), Fault>
         requires usable { self.old.usable ≡ true }
-        ensures ok { OnOk result
-            (self.new ≡ record self.old { waiting = self.old.waiting ++ W.bytes content.now ∷ [] }) }
+        ensures ok { OnOk result (self.new ≡ with_waiting self.old (W.bytes content.now)) }
         ensures known { OnOk result (W.known content.now) }
         ensures err { OnErr result (self.new ≡ self.old) }
         ensures long { IsErrOf result Fault.TooLong → 2 ^ 24 ≤ length (W.bytes content.now) }
@@ -93,10 +91,7 @@ impl<D: Device> Journal<D> {
         ensures writable { D.tells → OnOk result (IsWritable D.disk self.new) }
         // From a journal that is ready: all that is read is durable, and no sync has failed.
         ensures ready { D.tells → IsReady D.disk self.old → OnOk result (IsReady D.disk self.new) }
-        ensures acknowledged { D.tells
-            → OnOk result
-            (recorded (D.disk self.new.device).seen
-            ≡ recorded (D.disk self.old.device).seen ++ self.old.waiting) }
+        ensures acknowledged { D.tells → OnOk result (Acknowledges D.disk self.old self.new) }
         ensures emptied { OnOk result (self.new.waiting ≡ []) }
         ensures idle { self.old.waiting ≡ [] → (result ≡ Ok tt) × (self.new ≡ self.old) }
         // Of any device.
@@ -104,7 +99,7 @@ impl<D: Device> Journal<D> {
         ensures err { OnErr result (self.new ≡ record self.old { device = self.new.device; usable = false }) }
 
         // A crash at any moment of the call leaves the records from before it, with the whole batch or with none of it.
-        ensures any_moment { D.tells → IsReady D.disk self.old → LeavesBeforeOrAfter D.disk self.old self.new }
+        ensures any_moment { D.tells → IsReady D.disk self.old → LeavesAllOrNone D.disk self.old self.new }
 
         ensures not_empty { IfErr result (λ fault. fault ≡ Fault.NotEmpty → ⊥) }
 
@@ -183,7 +178,7 @@ pub fn publish<D: Device>(device: &mut D, end: usize, batch: &[u8]) -> Result<()
     requires whole { D.tells → IsWhole (D.disk device.old) }
     requires ends { D.tells → end ≡ records_end (recorded (D.disk device.old).seen) }
     ensures other { IfErr result (λ fault. fault ≡ Fault.NotEmpty → ⊥) }
-    ensures publishes { D.tells → PublishesBytes batch.now result (D.disk device.old) (D.disk device.new) }
+    ensures publishes { D.tells → WritesBatch batch.now result (D.disk device.old) (D.disk device.new) }
 {
     let (_, tail) = batch.split_at(1);
     match write_kept(device, end + 1, tail) {

@@ -2,7 +2,7 @@
 ghost use Rattle.std.specs.Prelude.{◌≡◌, ◌≢◌, ◌≤◌, ◌⊎◌, ◌++◌, ◌∷◌, true, [], Vec, List, ℕ, ◌-◌, ◌==◌, length, reverse, IfOk, IfErr, OnOk, OnErr};
 ghost use Rattle.tb_journal.specs.declared.memory.Call.TheVariants as variants;
 ghost use Rattle.tb_journal.specs.declared.faults.Fault.TheVariants as faults;
-ghost use Rattle.tb_journal.specs.Device.{Torn, Looks, ReadsAt, Writes, Cuts, Syncs, Rises, IsOfCall, IsOfSync, overwritten};
+ghost use Rattle.tb_journal.specs.Device.{Torn, Looks, ReadsAt, Writes, Cuts, Syncs, Rises, IsOfCall, IsOfSync, overwritten, AnswersLength, GivesBytes, OfHeld};
 ghost use Rattle.tb_journal.specs.Faults.{call_fault};
 ghost use Rattle.tb_journal.specs.Torn.{Adds, torn_at, torn_by, shown_after};
 
@@ -221,7 +221,7 @@ impl Device for Memory {
 
     fn read_at(&mut self, at: usize, into: &mut [u8]) -> Result<usize, Fault>
         ensures within { IfOk result (λ count. count ≤ length into.new) }
-        ensures bytes { (file : List ℕ) → memory_holds self.old file → IfOk result (λ count. ReadsAt count at file into.new) }
+        ensures bytes { OfHeld (memory_holds self.old) (GivesBytes result at into.new) }
         ensures same { (file : List ℕ) → memory_holds self.old file → memory_holds self.new file }
         ensures names { IfErr result IsOfCall }
         ensures looks { Unit {0} → Looks result (memory_disk self.old) (memory_disk self.new) }
@@ -236,7 +236,7 @@ impl Device for Memory {
     }
 
     fn len(&mut self) -> Result<usize, Fault>
-        ensures bytes { (file : List ℕ) → memory_holds self.old file → IfOk result (λ len. len ≡ length file) }
+        ensures bytes { OfHeld (memory_holds self.old) (AnswersLength result) }
         ensures same { (file : List ℕ) → memory_holds self.old file → memory_holds self.new file }
         ensures names { IfErr result IsOfCall }
         ensures looks { Unit {0} → Looks result (memory_disk self.old) (memory_disk self.new) }

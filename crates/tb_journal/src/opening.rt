@@ -1,11 +1,11 @@
 //! A journal is created, or opened from a file that a crash may have left.
 ghost use Rattle.std.specs.Prelude.{◌≡◌, ◌≤◌, true, List, ℕ, length, Ok, IfOk, IfErr, [], OnOk};
-ghost use Rattle.tb_journal.specs.Device.{IsOnDisk, LeavesOnly, IsSettled, HasCause, ReadsAt};
-ghost use Rattle.tb_journal.specs.Contents.{Records, contents, recorded, records_end};
+ghost use Rattle.tb_journal.specs.Device.{IsOnDisk, LeavesOnly, IsSettled, HasCause, GivesBytes, LeavesIfSound, OfHeld};
+ghost use Rattle.tb_journal.specs.Contents.{contents, recorded, records_end, IsJournal};
 ghost use Rattle.tb_journal.specs.Steps.{Shortens};
 ghost use Rattle.tb_journal.specs.Reading.{extent_of, LooksKept};
 ghost use Rattle.tb_journal.specs.Ready.{IsOver};
-ghost use Rattle.tb_journal.specs.Opening.{IsOfExtent, Recovers, StandsForTheSame, IsOfDevice, HasOpenCause, IsUntouched, IsOpened, Repairs, device_left, fault_left, LeavesSameRecords};
+ghost use Rattle.tb_journal.specs.Opening.{IsOfExtent, Recovers, StandsForTheSame, IsOfDevice, HasOpenCause, IsUntouched, Repairs, device_left, LeavesSameRecords, CausedBy, GivesBack, OpensIfSound};
 ghost use Rattle.tb_journal.specs.Creating.{is_torn_from, is_blank, MayBeCreated, IsLeft, HasCreateCause, CreatesIn, IsNew, IsUnborn, FindsBlank, WritesFirst};
 
 use crate::batches::{Batch, CLOSED};
@@ -58,7 +58,7 @@ fn cut_kept<D: Device>(device: &mut D, len: usize) -> Result<(), Fault>
 // Cuts off what follows the records, and writes a closed latch there. The cut is durable
 // first: behind a latch that is torn open, what was there would count.
 fn repair<D: Device>(device: &mut D, end: usize) -> Result<(), Fault>
-    requires reads { D.tells → contents (D.disk device.old).seen ≡ Records (recorded (D.disk device.old).seen) }
+    requires reads { D.tells → IsJournal (D.disk device.old).seen }
     requires ends { D.tells → end ≡ records_end (recorded (D.disk device.old).seen) }
     ensures { D.tells → Repairs result (D.disk device.old) (D.disk device.new) }
 {
@@ -77,15 +77,14 @@ impl<D: Device> Journal<D> {
         requires read { D.tells → extent_of (contents (D.disk device).seen) ≡ Ok extent }
 
         // Where no sync has failed before.
-        ensures opened { D.tells → (D.disk device).sound ≡ true
-            → IfOk result (IsOpened D.disk (D.disk device).seen) }
+        ensures opened { D.tells → OpensIfSound D.disk device result }
         ensures same { D.tells → IfOk result (IsOver D.disk (recorded (D.disk device).seen)) }
         ensures any_moment { D.tells → LeavesSameRecords (D.disk device) (D.disk (device_left result)) }
         // Of any device.
         ensures usable { IfOk result (λ journal. journal.usable ≡ true) }
         ensures numbers { IfOk result (IsOfExtent extent) }
         ensures of_device { IfErr result (λ failed. IsOfDevice failed.fault) }
-        ensures cause { D.tells → HasOpenCause (fault_left result) (D.disk device) (D.disk (device_left result)) }
+        ensures cause { D.tells → CausedBy D.disk device result HasOpenCause }
     {
         let Extent { end, count } = extent;
         if end >= FILE_BYTES_MAX {
@@ -113,20 +112,16 @@ impl<D: Device> Journal<D> {
 /// records, so that the call may be made again.
 pub fn recover<D: Device>(alloc: Global, device: D) -> Result<Journal<D>, NotOpened<D>>
     // Where no sync has failed before.
-    ensures opened { D.tells → (D.disk device).sound ≡ true
-        → IfOk result (IsOpened D.disk (D.disk device).seen) }
+    ensures opened { D.tells → OpensIfSound D.disk device result }
     ensures same { D.tells → IfOk result (IsOver D.disk (recorded (D.disk device).seen)) }
-    ensures any_moment { D.tells → (D.disk device).sound ≡ true
-        → LeavesOnly (D.disk device) (D.disk (device_left result))
-        (StandsForTheSame (D.disk device)) }
+    ensures any_moment { D.tells → LeavesIfSound D.disk device (device_left result) StandsForTheSame }
     // Of any device.
     ensures usable { IfOk result (λ journal. journal.usable ≡ true) }
     // The records are those of the file that its reads are of.
     ensures handed { (file : List ℕ) → D.holds device file → Recovers result file }
     // A file that is no journal, or is damaged, stays as it was.
-    ensures untouched { D.tells
-        → IfErr result (λ failed. IsUntouched (D.disk device) (D.disk failed.device) failed.fault) }
-    ensures cause { D.tells → HasOpenCause (fault_left result) (D.disk device) (D.disk (device_left result)) }
+    ensures untouched { D.tells → GivesBack D.disk device result IsUntouched }
+    ensures cause { D.tells → CausedBy D.disk device result HasOpenCause }
 {
     let mut device = device;
     match read_journal(alloc, &mut device) {
@@ -147,17 +142,15 @@ pub fn create<D: Device>(alloc: Global, device: D) -> Result<Journal<D>, NotOpen
     ensures blank { D.tells
         → IfOk result (λ journal. (is_blank (D.disk device).seen ≡ true) × IsOver D.disk [] journal) }
     // A crash at any moment of the call leaves the file as it was, or no record in it.
-    ensures any_moment { D.tells → (D.disk device).sound ≡ true
-        → LeavesOnly (D.disk device) (D.disk (device_left result)) (MayBeCreated (D.disk device)) }
+    ensures any_moment { D.tells → LeavesIfSound D.disk device (device_left result) MayBeCreated }
     // A file that is not blank stays as it was.
-    ensures untouched { D.tells
-        → IfErr result (λ failed. IsLeft (D.disk device) (D.disk failed.device) failed.fault) }
+    ensures untouched { D.tells → GivesBack D.disk device result IsLeft }
     // Of any device.
     ensures usable { IfOk result (λ journal. (journal.usable ≡ true) × (journal.waiting ≡ [])) }
     ensures of_device { IfErr result (λ failed. IsOfDevice failed.fault) }
     // By the file that its reads are of.
     ensures handed { (file : List ℕ) → D.holds device file → CreatesIn D.holds result file }
-    ensures cause { D.tells → HasCreateCause (fault_left result) (D.disk device) (D.disk (device_left result)) }
+    ensures cause { D.tells → CausedBy D.disk device result HasCreateCause }
 {
     let mut device = device;
     match finds_blank(&mut device) {
@@ -169,7 +162,7 @@ pub fn create<D: Device>(alloc: Global, device: D) -> Result<Journal<D>, NotOpen
 
 // Says whether a file is blank. One that is longer than the first bytes is not, and is not read.
 fn finds_blank<D: Device>(device: &mut D) -> Result<bool, Fault>
-    ensures found { (file : List ℕ) → D.holds device.old file → IfOk result (λ found. found ≡ is_blank file) }
+    ensures found { OfHeld (D.holds device.old) (λ file. IfOk result (λ found. found ≡ is_blank file)) }
     ensures same { (file : List ℕ) → D.holds device.old file → D.holds device.new file }
     ensures other { IfErr result (λ fault. fault ≡ Fault.NotEmpty → ⊥) }
     ensures finds { D.tells → FindsBlank result (D.disk device.old) (D.disk device.new) }
@@ -192,8 +185,7 @@ fn finds_blank<D: Device>(device: &mut D) -> Result<bool, Fault>
 // The first bytes of a file. What is read is durable before it is read.
 fn read_kept<D: Device>(device: &mut D, into: &mut [u8]) -> Result<usize, Fault>
     ensures within { IfOk result (λ count. count ≤ length into.new) }
-    ensures bytes { (file : List ℕ) → D.holds device.old file
-        → IfOk result (λ count. ReadsAt count 0 file into.new) }
+    ensures bytes { OfHeld (D.holds device.old) (GivesBytes result 0 into.new) }
     ensures same { (file : List ℕ) → D.holds device.old file → D.holds device.new file }
     ensures other { IfErr result (λ fault. fault ≡ Fault.NotEmpty → ⊥) }
     ensures reads { D.tells → LooksKept result (D.disk device.old) (D.disk device.new) }
@@ -214,7 +206,7 @@ fn begin<D: Device>(alloc: Global, device: D) -> Result<Journal<D>, NotOpened<D>
     ensures usable { IfOk result (λ journal. (journal.usable ≡ true) × (journal.waiting ≡ [])) }
     ensures of_device { IfErr result (λ failed. IsOfDevice failed.fault) }
     ensures other { IfErr result (λ failed. failed.fault ≡ OpenFault.Device Fault.NotEmpty → ⊥) }
-    ensures cause { D.tells → HasCreateCause (fault_left result) (D.disk device) (D.disk (device_left result)) }
+    ensures cause { D.tells → CausedBy D.disk device result HasCreateCause }
 {
     let Ok(batch) = Batch::new(alloc) else {
         return Err(NotOpened::of_device(device, Fault::Memory));

@@ -1,10 +1,9 @@
 //! Reads a journal record by record, ahead in pieces, with one buffer for the whole file.
 ghost use Rattle.std.specs.Prelude.{◌≡◌, ◌≤◌, ◌<◌, ◌+◌, ◌^◌, true, List, [], ℕ, length, IfOk, IfErr, OnOk, ◌-◌, take, drop, vec_len, slice_range, OnErr};
-ghost use Rattle.tb_journal.specs.Device.{IsOnDisk, LeavesOnly, IsLookedAt, HasOwnCause, HasCause, ReadsAt};
+ghost use Rattle.tb_journal.specs.Device.{IsLookedAt, HasOwnCause, Looks, ReadsAt, KeepsRead, OfHeld};
 ghost use Rattle.tb_journal.specs.Contents.{front};
-ghost use Rattle.tb_journal.specs.Growing.{Later};
-ghost use Rattle.tb_journal.specs.Opening.{IsAsBefore, HasOpenCause};
-ghost use Rattle.tb_journal.specs.Scans.{Place, IsAhead, HasRead, Starts, ReadsNext, GoesFurther, IsAt, IsOfStart, ScanCause};
+ghost use Rattle.tb_journal.specs.Opening.{HasOpenCause, LeavesAsBefore};
+ghost use Rattle.tb_journal.specs.Scans.{Place, IsAhead, Starts, GoesFurther, IsAt, IsOfStart, ScanCause, ReadsOn, StaysRead};
 ghost use Rattle.tb_journal.specs.Reading.{HasAhead, FindsHead, LooksKept, StartsScan, TellsExtent, head_is, ReadAhead};
 
 use crate::devices::Device;
@@ -43,11 +42,10 @@ impl Scan {
         ensures refused { IfErr result IsOfStart }
         ensures same { (file : List ℕ) → D.holds device.old file → D.holds device.new file }
         // Where no sync has failed before.
-        ensures kept { D.tells → (D.disk device.old).sound ≡ true → OnOk result (IsOnDisk (D.disk device.new)) }
+        ensures kept { D.tells → KeepsRead result (D.disk device.old) (D.disk device.new) }
         ensures sound { D.tells → OnOk result ((D.disk device.new).sound ≡ (D.disk device.old).sound) }
         ensures seen { D.tells → (D.disk device.new).seen ≡ (D.disk device.old).seen }
-        ensures untouched { D.tells
-            → LeavesOnly (D.disk device.old) (D.disk device.new) (IsAsBefore (D.disk device.old)) }
+        ensures untouched { D.tells → LeavesAsBefore (D.disk device.old) (D.disk device.new) }
         ensures cause { D.tells → HasOpenCause result (D.disk device.old) (D.disk device.new) }
     {
         match read_first(alloc, device) {
@@ -63,8 +61,7 @@ impl Scan {
     /// whole or its checksum does not match.
     pub fn next<D: Device>(&mut self, device: &mut D) -> Result<bool, OpenFault>
         // Of any device, by the file that its reads are of.
-        ensures reads { (file : List ℕ) → D.holds device.old file
-            → (records : List (List ℕ)) → HasRead records file self.old → ReadsNext result records file self.new }
+        ensures reads { OfHeld (D.holds device.old) (ReadsOn result self.old self.new) }
         ensures same { (file : List ℕ) → D.holds device.old file → D.holds device.new file }
         ensures looks { D.tells → IsLookedAt (D.disk device.old) (D.disk device.new) }
         ensures cause { D.tells → ScanCause result self.old (D.disk device.old) (D.disk device.new) }
@@ -94,8 +91,7 @@ impl Scan {
     /// was refreshed.
     pub fn go_on(&mut self)
         ensures ahead { self.new ≡ record self.old { ahead = [] } }
-        ensures reads { (records : List (List ℕ)) (file later : List ℕ) → Later file later
-            → HasRead records file self.old → HasRead records later self.new }
+        ensures reads { StaysRead self.old self.new }
     {
         self.window.drop_ahead();
     }
@@ -179,12 +175,11 @@ pub fn read_journal<D: Device>(alloc: Global, device: &mut D) -> Result<Extent, 
     ensures found { (file : List ℕ) → D.holds device.old file → TellsExtent result file }
     ensures same { (file : List ℕ) → D.holds device.old file → D.holds device.new file }
     // Where no sync has failed before.
-    ensures kept { D.tells → (D.disk device.old).sound ≡ true → OnOk result (IsOnDisk (D.disk device.new)) }
+    ensures kept { D.tells → KeepsRead result (D.disk device.old) (D.disk device.new) }
     ensures sound { D.tells → OnOk result ((D.disk device.new).sound ≡ (D.disk device.old).sound) }
     ensures few { IfOk result (λ extent. extent.count ≤ extent.end) }
     ensures seen { D.tells → (D.disk device.new).seen ≡ (D.disk device.old).seen }
-    ensures untouched { D.tells
-        → LeavesOnly (D.disk device.old) (D.disk device.new) (IsAsBefore (D.disk device.old)) }
+    ensures untouched { D.tells → LeavesAsBefore (D.disk device.old) (D.disk device.new) }
     ensures cause { D.tells → HasOpenCause result (D.disk device.old) (D.disk device.new) }
 {
     let mut scan = match Scan::start(alloc, device) {
@@ -329,8 +324,7 @@ fn read_behind<D: Device>(
     ensures read { (file : List ℕ) → D.holds device.old file
         → IfOk result (λ count. ReadsAt count (at + filled) file (drop filled bytes.new.items)) }
     ensures same { (file : List ℕ) → D.holds device.old file → D.holds device.new file }
-    ensures looks { D.tells → IsLookedAt (D.disk device.old) (D.disk device.new) }
-    ensures cause { D.tells → HasCause result (D.disk device.old) (D.disk device.new) }
+    ensures looks { D.tells → Looks result (D.disk device.old) (D.disk device.new) }
 {
     device.read_at(at + filled, &mut bytes[filled..])
 }

@@ -1,13 +1,12 @@
 //! A growing file as it was at one moment.
-ghost use Rattle.std.specs.Prelude.{◌≡◌, ◌≤◌, ◌<◌, ◌^◌, List, ℕ, length, drop, Ok, IfOk, OnOk, OnErr, IfErr};
-ghost use Rattle.tb_journal.specs.Device.{IsOfCall};
+ghost use Rattle.std.specs.Prelude.{◌≡◌, ◌≤◌, ◌<◌, ◌^◌, List, ℕ, length, Ok, IfOk, OnOk, OnErr, IfErr};
+ghost use Rattle.tb_journal.specs.Device.{IsOfCall, AnswersLength};
 ghost use Rattle.tb_journal.specs.Real.{untold};
 ghost use Rattle.tb_journal.specs.declared.hops.Hop.TheVariants as variants;
-ghost use Rattle.tb_journal.specs.Contents.{front};
 ghost use Rattle.tb_journal.specs.Reading.{HasAhead};
-ghost use Rattle.tb_journal.specs.Growing.{Grown};
 ghost use Rattle.tb_journal.specs.Snapshots.{Snapped, IsHeld, Takes, Refreshes};
 ghost use Rattle.tb_journal.specs.private.Hops.{IsFound, StartsAs, Grows, HopsFrom, Finds, FindsMore, TellsLatch, TellsEnd, TellsStart, ReadsBlocks, Closes, IsNear};
+ghost use Rattle.tb_journal.specs.Growing.{HasGrown};
 
 use crate::batches::CLOSED;
 use crate::devices::Device;
@@ -86,8 +85,7 @@ impl<G: Growing + Drop> Snapshot<G> {
     /// The number of bytes of the file now, those behind the end of the snapshot too.
     pub fn file_len(&mut self) -> Result<usize, Fault>
         ensures same { (shown : List ℕ) → IsHeld G.grows self.old shown → IsHeld G.grows self.new shown }
-        ensures len { (bytes : List ℕ) → G.grows self.old.file bytes
-            → Grown (G.grows self.new.file) bytes (λ later. IfOk result (λ len. len ≡ length later)) }
+        ensures len { HasGrown (G.grows self.old.file) (G.grows self.new.file) (AnswersLength result) }
         ensures names { IfErr result IsOfCall }
     {
         self.file.len()
@@ -241,7 +239,7 @@ fn latch_of(rest: &[u8], len: usize, end: usize) -> Result<bool, Fault>
     ensures reaches { OnOk result (end ≤ len) }
     ensures shorter { OnErr result (len < end) }
     ensures tells { (file : List ℕ) → HasAhead 8 end file rest.now
-        → IfOk result (λ closed. TellsLatch closed (front (drop end file))) }
+        → IfOk result (TellsLatch end file) }
     ensures names { IfErr result IsOfCall }
 {
     if len < end {

@@ -1,7 +1,7 @@
 //! A file as the system's calls see it.
-ghost use Rattle.std.specs.Prelude.{◌≡◌, ◌≤◌, ◌<◌, ◌-◌, ◌^◌, ℕ, List, length, IfOk, IsErrOf};
+ghost use Rattle.std.specs.Prelude.{◌≡◌, ◌≤◌, ◌<◌, ◌-◌, ◌^◌, ℕ, List, length, IfOk};
 ghost use Rattle.tb_journal.specs.Device.{Disk};
-ghost use Rattle.tb_journal.specs.System.{Preads, Pwrites, Ftruncates, Fdatasyncs, Fstats};
+ghost use Rattle.tb_journal.specs.System.{Preads, Pwrites, Ftruncates, Fdatasyncs, Fstats, CountsDown};
 
 use std::io::ErrorKind;
 
@@ -22,29 +22,25 @@ pub trait System {
         // Of any system, so that no reader trusts a count that is too large.
         ensures within { IfOk result (λ count. count ≤ length into.new) }
         ensures reads { tells → Preads offset into.new result (disk self.old) (disk self.new) }
-        ensures again { tells → IsErrOf result ErrorKind.Interrupted
-            → interruptions self.new < interruptions self.old };
+        ensures again { tells → CountsDown result (interruptions self.old) (interruptions self.new) };
 
     /// Writes some of these bytes at an offset.
     fn pwrite(&mut self, bytes: &[u8], offset: u64) -> Result<usize, ErrorKind>
         requires { tells → offset ≤ length (disk self.old).seen }
         ensures within { IfOk result (λ count. count ≤ length bytes.now) }
         ensures writes { tells → Pwrites offset bytes.now result (disk self.old) (disk self.new) }
-        ensures again { tells → IsErrOf result ErrorKind.Interrupted
-            → interruptions self.new < interruptions self.old };
+        ensures again { tells → CountsDown result (interruptions self.old) (interruptions self.new) };
 
     /// Cuts the file to a length.
     fn ftruncate(&mut self, len: u64) -> Result<(), ErrorKind>
         requires { tells → len ≤ length (disk self.old).seen }
         ensures cuts { tells → Ftruncates len result (disk self.old) (disk self.new) }
-        ensures again { tells → IsErrOf result ErrorKind.Interrupted
-            → interruptions self.new < interruptions self.old };
+        ensures again { tells → CountsDown result (interruptions self.old) (interruptions self.new) };
 
     /// After it, a crash leaves what a read returns.
     fn fdatasync(&mut self) -> Result<(), ErrorKind>
         ensures syncs { tells → Fdatasyncs result (disk self.old) (disk self.new) }
-        ensures again { tells → IsErrOf result ErrorKind.Interrupted
-            → interruptions self.new < interruptions self.old };
+        ensures again { tells → CountsDown result (interruptions self.old) (interruptions self.new) };
 
     /// The file's length.
     fn fstat(&mut self) -> Result<u64, ErrorKind>

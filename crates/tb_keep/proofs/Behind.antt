@@ -30,12 +30,12 @@ torn_told file extent torn found is many =
     record { reads = told.reads; place = told.end; torn = is; many = many }
 
 pub stops_torn : (done : Unit {0}) (result : Result (Option StartFault) SalvageFault) (holds : List ℕ → Type 0) (extent : Extent)
-    → ((file : List ℕ) → holds file → extent_of (contents file) ≡ Ok extent → IfOk result (λ stop. IsTornStop stop file)) → IfErr result IsOldDevice
+    → ((file : List ℕ) → holds file → extent_of (contents file) ≡ Ok extent → IfOk result (IsTornStop file)) → IfErr result IsOldDevice
     → StopsBy result (Ok done) holds extent
 stops_torn done (Ok stop) holds extent torn device = torn
 stops_torn done (Err fault) holds extent torn device = device
 
-torn_behind : (stop : Option StartFault) (records : List (List ℕ)) (S : State) (file : List ℕ) → contents file ≡ Records records → IsTornStop stop file → StopsBehind stop records S file
+torn_behind : (stop : Option StartFault) (records : List (List ℕ)) (S : State) (file : List ℕ) → contents file ≡ Records records → IsTornStop file stop → StopsBehind stop records S file
 torn_behind None records S file reads torn = (reads, torn)
 torn_behind (Some (start.TornTooLong at bytes)) records S file reads torn = (reads, torn)
 torn_behind (Some (start.Journal f)) records S file reads torn = absurd torn

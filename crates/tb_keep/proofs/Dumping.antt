@@ -18,7 +18,7 @@ use Rattle.tb_keep.specs.private.Entering.{FindsRules}
 use Rattle.tb_keep.specs.Following.{entries_above, WritesEntries, EntriesOnce}
 use Rattle.tb_keep.specs.private.Sending.{SendsNext, SendsAll}
 
-pub finds_rules : (result : Result Rules StartFault) (file head : List ℕ) (scan : Place) → HasRead (head ∷ []) file scan → RulesIn result head → FindsRules result file scan
+pub finds_rules : (result : Result Rules StartFault) (file head : List ℕ) (scan : Place) → HasRead (head ∷ []) file scan → RulesIn result head → FindsRules result scan file
 finds_rules (Ok rules) file head scan at found = subst (λ (h : List ℕ). HasRead (h ∷ []) file scan) found at
 finds_rules (Err start.Head) file head scan at none = inr (head, [], at.begins, none)
 finds_rules (Err (start.Journal fault)) file head scan at none = absurd none
@@ -28,7 +28,7 @@ finds_rules (Err (start.Entry fault)) file head scan at none = absurd none
 finds_rules (Err start.NoMemory) file head scan at none = absurd none
 finds_rules (Err (start.TornTooLong place bytes)) file head scan at none = absurd none
 
-pub rules_found : (result : Result Rules StartFault) (file : List ℕ) (scan : Place) → FindsRules result file scan → RulesAnswer result file
+pub rules_found : (result : Result Rules StartFault) (file : List ℕ) (scan : Place) → FindsRules result scan file → RulesAnswer result file
 rules_found result file scan at = grind (arith, common_steps)
 
 -- records that are sent

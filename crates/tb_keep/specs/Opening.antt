@@ -1,18 +1,19 @@
 -- How a kept file is created and opened, and what a crash may leave of it meanwhile.
 -- Cited by public contracts of: dumps, opening, restoring, salvaging, worked_rows.
-use Rattle.std.specs.Prelude.{ℕ, true, false, ◌≡◌, ◌⊎◌, ◌≤◌, ◌^◌, List, [], ◌∷◌, Result, Ok, Err, OnOk, IfErr}
+use Rattle.std.specs.Prelude.{ℕ, true, false, ◌≡◌, ◌⊎◌, ◌≤◌, ◌^◌, List, [], ◌∷◌, Result, Ok, Err, OnOk, IfOk, IfErr}
 use Rattle.tb_records.specs.declared.limits.Profile.{Profile}
 use Rattle.tb_journal.specs.declared.faults.Fault.TheVariants.{NotEmpty}
 use Rattle.tb_journal.specs.declared.opening.OpenFault.TheVariants as open_faults
-use Rattle.tb_journal.specs.Device.{Disk, LeavesOnly, FailsNone}
+use Rattle.tb_journal.specs.Device.{Disk, FailsNone, LeavesIfSound}
 use Rattle.tb_journal.specs.Contents.{Records, contents, recorded}
-use Rattle.tb_journal.specs.Opening.{IsAsBefore}
+use Rattle.tb_journal.specs.Opening.{IsAsBefore, LeavesAsBefore}
 use Rattle.tb_journal.specs.Creating.{is_blank, IsUnborn, IsCreateCause}
 use Rattle.tb_machine.specs.declared.entries.Entry.{Entry}
 use Rattle.tb_machine.specs.Histories.{start as start_state}
 use Rattle.tb_keep.specs.declared.faults.StartFault.{StartFault}
 use Rattle.tb_keep.specs.declared.faults.StartFault.TheVariants as start
 use Rattle.tb_keep.specs.declared.opening.NotKept.{NotKept}
+use Rattle.tb_keep.specs.declared.restoring.Rules.{Rules}
 use Rattle.tb_keep.specs.Keeping.{History, records_of, head_record, Keeping, Keeps}
 use Rattle.tb_keep.specs.Restoration.{StopsOpening, IsRestored, IsStartCause, IsNotOfFile, torn_bytes}
 
@@ -73,7 +74,7 @@ StartsFile (Err failed) profile clients_max file =
 -- the file is as it was, and was at each moment
 pub record IsUntouched (before after : Disk) : Type 0 where
   pub seen : after.seen ≡ before.seen
-  pub any_moment : LeavesOnly before after (IsAsBefore before)
+  pub any_moment : LeavesAsBefore before after
 
 -- where something is in a file none is created, the file is as it was, and no sync has failed that had not
 abbrev pub IsCreateRefused : StartFault → Disk → Disk → Type 0
@@ -100,9 +101,27 @@ pub record HasEitherCause {T : Type 0} (result : Result T StartFault) (before af
   pub ok : OnOk result (FailsNone before after)
   pub cause : IfErr result (IsEitherCause before after)
 
--- where no sync has failed before, a crash at any moment leaves such a file
-abbrev pub LeavesWhereSound : Disk → Disk → (Disk → List ℕ → Type 0) → Type 0
-LeavesWhereSound before after May = before.sound ≡ true → LeavesOnly before after (May before)
+-- where a device is given back, why it is, and what is left of its file
+abbrev pub GivesBack : {T D : Type 0} → (D → Disk) → D → Result T (NotKept D) → (StartFault → Disk → Disk → Type 0) → Type 0
+GivesBack disk device result Is = IfErr result (λ failed. Is failed.fault (disk device) (disk failed.device))
+
+-- the cause of the fault for which it is, by the disk before the call and the one behind it
+abbrev pub Causes : {T D : Type 0} → (D → Disk) → D → Result T (NotKept D) → D → (Result (Unit {0}) StartFault → Disk → Disk → Type 0) → Type 0
+Causes disk device result after Has = Has (why_left result) (disk device) (disk after)
+
+-- of a call by rules
+module _ {D : Type 0} (disk : D → Disk) (rules : Rules) where
+  -- where no sync has failed before, it answers such a keeper of the file that was there
+  abbrev pub GivesIfSound : D → Result (Keeping D) (NotKept D) → ((D → Disk) → Profile → ℕ → List ℕ → Keeping D → Type 0) → Type 0
+  GivesIfSound device result Is = (disk device).sound ≡ true → IfOk result (Is disk rules.profile rules.clients_max (disk device).seen)
+
+  -- where no sync has failed before, a crash at any moment of it leaves such a file
+  abbrev pub LeavesBy : D → D → (Profile → ℕ → Disk → List ℕ → Type 0) → Type 0
+  LeavesBy before after May = LeavesIfSound disk before after (May rules.profile rules.clients_max)
+
+  -- where it gives the device back, why it does, and what is left of its file
+  abbrev pub GivesBackBy : {T : Type 0} → D → Result T (NotKept D) → (Profile → ℕ → StartFault → Disk → Disk → Type 0) → Type 0
+  GivesBackBy device result Is = GivesBack disk device result (Is rules.profile rules.clients_max)
 
 module _ (profile : Profile) (clients_max : ℕ) where
   -- no record, or a head and nothing behind it

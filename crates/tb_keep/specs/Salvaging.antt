@@ -5,7 +5,7 @@ use Rattle.tb_journal.specs.declared.faults.Fault.{Fault}
 use Rattle.tb_journal.specs.declared.faults.Fault.TheVariants.{Memory, Full, NotEmpty}
 use Rattle.tb_journal.specs.declared.opening.OpenFault.TheVariants as open_faults
 use Rattle.tb_journal.specs.declared.reading.Refusal.TheVariants as refusals
-use Rattle.tb_journal.specs.Device.{Disk, FailsNone, HasFailed}
+use Rattle.tb_journal.specs.Device.{Disk, LeavesOnly, FailsNone, HasFailed}
 use Rattle.tb_journal.specs.Contents.{NotAJournal, Damaged, Records, contents, records_end}
 use Rattle.tb_journal.specs.Creating.{is_blank, IsUnborn, IsCreateCause}
 use Rattle.tb_journal.specs.Opening.{IsAsBefore}
@@ -38,6 +38,10 @@ why_old (Err failed) = old_part failed.fault
 abbrev pub why_new : {T N : Type 0} → Result T (NotSalvaged N) → Result (Unit {0}) StartFault
 why_new (Ok value) = Ok tt
 why_new (Err failed) = new_part failed.fault
+
+-- of each file that the reads are of is said why it was not taken over
+abbrev pub SaysWhy : {T N : Type 0} → (List ℕ → Type 0) → Result T (NotSalvaged N) → (SalvageFault → List ℕ → Type 0) → Type 0
+SaysWhy holds result Is = (file : List ℕ) → holds file → IfErr result (λ failed. Is failed.fault file)
 
 -- the device of the new file
 abbrev pub salvaged_device : {N : Type 0} → Result (Salvaged N) (NotSalvaged N) → N
@@ -131,6 +135,10 @@ pub record HasNewCause {T : Type 0} (result : Result T StartFault) (before after
   pub cause : IfErr result (IsNewCause before after)
   pub alone : IfErr result (IsLeftAlone before after)
 
+-- the same, by the device of the new file before the call and the one behind it
+abbrev pub NewCause : {T N : Type 0} → (N → Disk) → N → Result T (NotSalvaged N) → N → Type 0
+NewCause disk into result after = HasNewCause (why_new result) (disk into) (disk after)
+
 -- what a crash may leave of the new file: what was there before, or, if that was blank, no record, or a history with whose records the
 -- file that is read begins
 abbrev pub MayBeSalvaged : (List ℕ → Type 0) → Disk → List ℕ → Type 0
@@ -138,6 +146,10 @@ MayBeSalvaged holds before c =
     IsAsBefore before c
     ⊎ ((is_blank before.seen ≡ true)
     × (IsUnborn c ⊎ ((contents c ≡ Records []) ⊎ ((h : History) × IsLedger h c × ((file : List ℕ) → holds file → BeginsWith (records_of h) file)))))
+
+-- a crash at any moment of a call leaves no entry in the new file, or some first ones of the file that is read
+abbrev pub LeavesSome : {N : Type 0} → (N → Disk) → (List ℕ → Type 0) → N → N → Type 0
+LeavesSome disk holds into after = LeavesOnly (disk into) (disk after) (MayBeSalvaged holds (disk into))
 
 -- no legal history with whose records the file begins has more of them than the one that is taken
 abbrev pub IsLongest : Type 0

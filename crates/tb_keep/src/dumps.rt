@@ -1,14 +1,14 @@
 //! The history of a kept file, read without a write.
-ghost use Rattle.std.specs.Prelude.{◌≡◌, ℕ, ◌+◌, ◌-◌, true, List, [], ◌∷◌, drop, IfOk, IfErr};
+ghost use Rattle.std.specs.Prelude.{◌≡◌, ℕ, true, List, [], IfOk};
 ghost use Rattle.tb_records.specs.Transport.{IsSent};
-ghost use Rattle.tb_journal.specs.Scans.{HasRead, GoesFurther};
-ghost use Rattle.tb_keep.specs.private.Entering.{StaysKept, FindsRules, IsBehindHead, CauseBehindHead};
+ghost use Rattle.tb_journal.specs.Scans.{GoesFurther};
+ghost use Rattle.tb_keep.specs.private.Entering.{StaysKept, FindsRules, HeadCause, OfBehind, UnreadCause, head_of};
 ghost use Rattle.tb_keep.specs.Opening.{IsUntouched};
 ghost use Rattle.tb_keep.specs.Restoration.{HasStartCause};
-ghost use Rattle.tb_keep.specs.Reading.{RulesAnswer, RulesIn, FindsHistory, Dumps, HasDumpCause, OfRead, joined};
+ghost use Rattle.tb_keep.specs.Reading.{RulesAnswer, RulesIn, FindsHistory, Dumps, HasDumpCause, OfRead};
 ghost use Rattle.tb_keep.specs.Following.{HasLaterCause, WritesEntries};
-ghost use Rattle.tb_keep.specs.Salvaging.{IsUnsalvaged};
-ghost use Rattle.tb_keep.specs.private.Sending.{SendsNext, SendsAll};
+ghost use Rattle.tb_keep.specs.private.Sending.{SendsNext, SendsAll, above};
+ghost use Rattle.tb_keep.specs.private.Taking.{IsNotTaken};
 
 use crate::faults::{DumpFault, SalvageFault, StartFault};
 use crate::restoring::{Rules, entered_behind, read_head, read_record};
@@ -33,14 +33,11 @@ fn rules_in(head: &[u8]) -> Result<Rules, StartFault>
 
 /// Reads the first record of a file of which nothing was read, and answers the rules that it names.
 pub(crate) fn first_rules<D: Device>(scan: &mut Scan, device: &mut D) -> Result<Rules, StartFault>
-    ensures rules { (file : List ℕ) → D.holds device.old file → HasRead [] file scan.old
-        → FindsRules result file scan.new }
+    ensures rules { OfBehind (D.holds device.old) [] scan.old (FindsRules result scan.new) }
     ensures same { (file : List ℕ) → D.holds device.old file → D.holds device.new file }
     ensures stays { D.tells → StaysKept (D.disk device.old) (D.disk device.new) }
-    ensures cause { D.tells → HasRead [] (D.disk device.old).seen scan.old
-        → HasStartCause result (D.disk device.old) (D.disk device.new) }
-    ensures unsalvaged { (file : List ℕ) → D.holds device.old file → HasRead [] file scan.old
-        → IfErr result (λ fault. IsUnsalvaged (SalvageFault.Old fault) file) }
+    ensures cause { D.tells → UnreadCause result scan.old (D.disk device.old) (D.disk device.new) }
+    ensures unsalvaged { OfBehind (D.holds device.old) [] scan.old (IsNotTaken result) }
 {
     match read_record(scan, device) {
         Ok(true) => rules_in(scan.record()),
@@ -86,11 +83,10 @@ fn history_by<D: Device>(
     scan: &mut Scan,
     device: &mut D,
 ) -> Result<(Rules, Machine<Global>, Extent), StartFault>
-    ensures found { (file : List ℕ) → D.holds device.old file → HasRead [] file scan.old → FindsHistory result file }
+    ensures found { OfBehind (D.holds device.old) [] scan.old (FindsHistory result) }
     ensures same { (file : List ℕ) → D.holds device.old file → D.holds device.new file }
     ensures stays { D.tells → StaysKept (D.disk device.old) (D.disk device.new) }
-    ensures cause { D.tells → HasRead [] (D.disk device.old).seen scan.old
-        → HasStartCause result (D.disk device.old) (D.disk device.new) }
+    ensures cause { D.tells → UnreadCause result scan.old (D.disk device.old) (D.disk device.new) }
 {
     match first_rules(scan, device) {
         Ok(rules) => history_behind(global, rules, scan, device),
@@ -105,10 +101,10 @@ fn history_behind<D: Device>(
     scan: &mut Scan,
     device: &mut D,
 ) -> Result<(Rules, Machine<Global>, Extent), StartFault>
-    ensures found { (file : List ℕ) → D.holds device.old file → IsBehindHead rules file scan.old → FindsHistory result file }
+    ensures found { OfBehind (D.holds device.old) (head_of rules) scan.old (FindsHistory result) }
     ensures same { (file : List ℕ) → D.holds device.old file → D.holds device.new file }
     ensures stays { D.tells → StaysKept (D.disk device.old) (D.disk device.new) }
-    ensures cause { D.tells → CauseBehindHead result rules scan.old (D.disk device.old) (D.disk device.new) }
+    ensures cause { D.tells → HeadCause result rules scan.old (D.disk device.old) (D.disk device.new) }
 {
     let same = rules;
     match entered_behind(global, global, same, scan, device) {
@@ -124,7 +120,7 @@ fn send_above<W: Sink>(
     bytes: &[u8],
     writer: &mut W,
 ) -> Result<(), FrameFault>
-    ensures { IsSent result (joined (drop (after + 1 - commit) (bytes.now ∷ []))) (W.output writer.old)
+    ensures { IsSent result (above commit after bytes.now) (W.output writer.old)
         (W.output writer.new) }
 {
     if commit <= after {
@@ -214,12 +210,11 @@ fn dump_by<D: Device, W: Sink>(
     rules: Rules,
     writer: &mut W,
 ) -> Result<(), DumpFault>
-    ensures dumps { (file : List ℕ) → D.holds device.old file → HasRead [] file scan.old
-        → Dumps result rules file (W.output writer.old) (W.output writer.new) }
+    ensures dumps { OfBehind (D.holds device.old) [] scan.old
+        (λ file. Dumps result rules file (W.output writer.old) (W.output writer.new)) }
     ensures same { (file : List ℕ) → D.holds device.old file → D.holds device.new file }
     ensures stays { D.tells → StaysKept (D.disk device.old) (D.disk device.new) }
-    ensures cause { D.tells → HasRead [] (D.disk device.old).seen scan.old
-        → HasDumpCause result (D.disk device.old) (D.disk device.new) }
+    ensures cause { D.tells → HasLaterCause result scan.old (D.disk device.old) (D.disk device.new) }
 {
     let head = DumpHead {
         profile: rules.profile,

@@ -1,16 +1,15 @@
 //! A kept file is created, or opened after a crash.
-ghost use Rattle.std.specs.Prelude.{◌≡◌, ◌≤◌, ◌-◌, true, ℕ, List, [], Ok, IfOk, IfErr, OnOk, MatchResult};
-ghost use Rattle.tb_journal.specs.Device.{IsOnDisk, HasCause, HasOwnCause, IsOfCall};
-ghost use Rattle.tb_journal.specs.Contents.{contents, recorded};
-ghost use Rattle.tb_journal.specs.Reading.{extent_of};
-ghost use Rattle.tb_journal.specs.Ready.{IsReady, IsOver};
+ghost use Rattle.std.specs.Prelude.{◌≡◌, ◌≤◌, ◌-◌, true, ℕ, List, [], IfOk, IfErr, OnOk, MatchResult};
+ghost use Rattle.tb_journal.specs.Device.{HasCause, HasOwnCause, IsOfCall, OfHeld};
+ghost use Rattle.tb_journal.specs.Contents.{recorded};
+ghost use Rattle.tb_journal.specs.Ready.{IsReady};
 ghost use Rattle.tb_journal.specs.Creating.{is_blank};
 ghost use Rattle.tb_machine.specs.Histories.{start};
 ghost use Rattle.tb_keep.specs.Keeping.{Keeps, IsFresh, IsUsable};
-ghost use Rattle.tb_keep.specs.Restoration.{IsRestoredFrom, IsNotOfFile, HasStartCause, torn_bytes};
-ghost use Rattle.tb_keep.specs.Opening.{OpensFile, CreatesIn, StartsFile, IsOpened, IsStarted, MayBeOpened, MayBeCreated, MayBeStarted, IsRefused, IsCreateRefused, IsStartRefused, HasCreateStartCause, HasEitherCause, LeavesWhereSound, history_of, device_left, why_left};
-ghost use Rattle.tb_keep.specs.private.Entering.{StaysKept};
-ghost use Rattle.tb_keep.specs.private.Headed.{HasHead, HasRecords, IsOfDevice, HasDeviceCause, journal_left, OpensAtMost, OpensRestored, HeadLeaves};
+ghost use Rattle.tb_keep.specs.Restoration.{IsNotOfFile, HasStartCause, torn_bytes};
+ghost use Rattle.tb_keep.specs.Opening.{OpensFile, CreatesIn, StartsFile, IsOpened, IsStarted, MayBeOpened, MayBeCreated, MayBeStarted, IsRefused, IsCreateRefused, IsStartRefused, HasCreateStartCause, HasEitherCause, history_of, device_left, Causes, GivesBackBy, GivesIfSound, LeavesBy, GivesBack};
+ghost use Rattle.tb_keep.specs.private.Entering.{StaysKept, OfExtent};
+ghost use Rattle.tb_keep.specs.private.Headed.{HasHead, HasRecords, IsOfDevice, HasDeviceCause, journal_left, OpensRestored, HeadLeaves, IsOf, OpensOnly, IsEmpty, MayServe, WasRead, WasRestored};
 
 use crate::faults::StartFault;
 use crate::keepers::Keeper;
@@ -41,11 +40,9 @@ fn not_kept<D: Device>(failed: NotOpened<D>) -> NotKept<D>
 /// Commits the head of a file without records.
 fn commit_head<D: Device>(journal: &mut Journal<D>, rules: Rules) -> Result<(), Fault>
     requires usable { journal.old.usable ≡ true }
-    requires over { D.tells → IsOver D.disk [] journal.old }
-    requires none_waits { D.tells → journal.old.waiting ≡ [] }
-    ensures head { D.tells → IsReady D.disk journal.old
-        → OnOk result (HasHead D.disk rules.profile rules.clients_max journal.new) }
-    ensures any_moment { D.tells → IsReady D.disk journal.old → HeadLeaves rules (D.disk journal.old.device) (D.disk journal.new.device) }
+    requires empty { D.tells → IsEmpty D.disk journal.old }
+    ensures ok { D.tells → IsReady D.disk journal.old → OnOk result (HasHead D.disk rules journal.new) }
+    ensures any_moment { D.tells → HeadLeaves D.disk rules journal.old journal.new.device }
     ensures fault { IfErr result (λ fault. IsOfDevice (StartFault.Journal (OpenFault.Device fault))) }
     ensures cause { D.tells → HasOwnCause result (D.disk journal.old.device) (D.disk journal.new.device) }
     ensures usable { OnOk result (journal.new.usable ≡ true) }
@@ -60,14 +57,11 @@ fn commit_head<D: Device>(journal: &mut Journal<D>, rules: Rules) -> Result<(), 
 /// Commits the head of a file without records. On a fault the device is given back.
 fn headed<D: Device>(journal: Journal<D>, rules: Rules) -> Result<Journal<D>, NotKept<D>>
     requires usable { journal.usable ≡ true }
-    requires over { D.tells → IsOver D.disk [] journal }
-    requires none_waits { D.tells → journal.waiting ≡ [] }
-    ensures head { D.tells → IsReady D.disk journal
-        → IfOk result (HasHead D.disk rules.profile rules.clients_max) }
-    ensures any_moment { D.tells → IsReady D.disk journal → HeadLeaves rules (D.disk journal.device) (D.disk (journal_left result)) }
+    requires empty { D.tells → IsEmpty D.disk journal }
+    ensures head { D.tells → IsReady D.disk journal → IfOk result (HasHead D.disk rules) }
+    ensures any_moment { D.tells → HeadLeaves D.disk rules journal (journal_left result) }
     ensures fault { IfErr result (λ failed. IsOfDevice failed.fault) }
-    ensures cause { D.tells
-        → HasDeviceCause (why_left result) (D.disk journal.device) (D.disk (journal_left result)) }
+    ensures cause { D.tells → Causes D.disk journal.device result (journal_left result) HasDeviceCause }
     ensures usable { IfOk result (λ headed. headed.usable ≡ true) }
     ensures outside { IfErr result (λ failed. IsNotOfFile failed.fault) }
 {
@@ -87,14 +81,11 @@ fn create_headed<D: Device>(
     device: D,
     rules: Rules,
 ) -> Result<Journal<D>, NotKept<D>>
-    ensures head { D.tells → (D.disk device).sound ≡ true
-        → IfOk result (HasHead D.disk rules.profile rules.clients_max) }
+    ensures head { D.tells → (D.disk device).sound ≡ true → IfOk result (HasHead D.disk rules) }
     ensures blank { D.tells → IfOk result (λ _. is_blank (D.disk device).seen ≡ true) }
-    ensures any_moment { D.tells
-        → LeavesWhereSound (D.disk device) (D.disk (journal_left result)) (MayBeCreated rules.profile rules.clients_max) }
-    ensures refused { D.tells
-        → IfErr result (λ failed. IsCreateRefused failed.fault (D.disk device) (D.disk failed.device)) }
-    ensures cause { D.tells → HasCreateStartCause (why_left result) (D.disk device) (D.disk (journal_left result)) }
+    ensures any_moment { D.tells → LeavesBy D.disk rules device (journal_left result) MayBeCreated }
+    ensures refused { D.tells → GivesBack D.disk device result IsCreateRefused }
+    ensures cause { D.tells → Causes D.disk device result (journal_left result) HasCreateStartCause }
     ensures usable { IfOk result (λ headed. headed.usable ≡ true) }
     ensures outside { IfErr result (λ failed. IsNotOfFile failed.fault) }
     // By the file that its reads are of.
@@ -120,11 +111,9 @@ pub fn create<D: Device, A: Allocator + Clone>(
     ensures fresh { D.tells → (D.disk device).sound ≡ true → IfOk result (IsFresh D.disk) }
     ensures blank { D.tells → IfOk result (λ _. is_blank (D.disk device).seen ≡ true) }
     // A crash at any moment of the call leaves the file as it was, or no entry in it.
-    ensures any_moment { D.tells
-        → LeavesWhereSound (D.disk device) (D.disk (device_left result)) (MayBeCreated rules.profile rules.clients_max) }
-    ensures refused { D.tells
-        → IfErr result (λ failed. IsCreateRefused failed.fault (D.disk device) (D.disk failed.device)) }
-    ensures cause { D.tells → HasCreateStartCause (why_left result) (D.disk device) (D.disk (device_left result)) }
+    ensures any_moment { D.tells → LeavesBy D.disk rules device (device_left result) MayBeCreated }
+    ensures refused { D.tells → GivesBack D.disk device result IsCreateRefused }
+    ensures cause { D.tells → Causes D.disk device result (device_left result) HasCreateStartCause }
     // Of any device.
     ensures empty { IfOk result (λ keeper. keeper.state ≡ start rules.profile rules.clients_max) }
     ensures uncut { IfOk result (λ keeper. keeper.cut ≡ 0) }
@@ -157,13 +146,12 @@ fn open_headed<D: Device>(
     extent: Extent,
 ) -> Result<Journal<D>, NotKept<D>>
     requires few { extent.count ≤ extent.end }
-    requires kept { D.tells → (D.disk device).sound ≡ true → IsOnDisk (D.disk device) }
-    requires read { D.tells → extent_of (contents (D.disk device).seen) ≡ Ok extent }
+    requires read { D.tells → WasRead D.disk device extent }
     ensures opened { D.tells → (D.disk device).sound ≡ true
-        → IfOk result (HasRecords D.disk rules.profile rules.clients_max (recorded (D.disk device).seen)) }
-    ensures any_moment { D.tells → OpensAtMost rules.profile rules.clients_max (D.disk device) (D.disk (journal_left result)) }
+        → IfOk result (HasRecords D.disk rules (recorded (D.disk device).seen)) }
+    ensures any_moment { D.tells → LeavesBy D.disk rules device (journal_left result) OpensOnly }
     ensures fault { D.tells → IfErr result (λ failed. IsOfDevice failed.fault) }
-    ensures cause { D.tells → HasStartCause (why_left result) (D.disk device) (D.disk (journal_left result)) }
+    ensures cause { D.tells → Causes D.disk device result (journal_left result) HasStartCause }
     ensures usable { IfOk result (λ journal. journal.usable ≡ true) }
     ensures outside { IfErr result (λ failed. IsNotOfFile failed.fault) }
 {
@@ -189,19 +177,14 @@ fn open_restored<D: Device, A: Allocator + Clone>(
     cut: u64,
 ) -> Result<Keeper<D, A>, NotKept<D>>
     requires few { extent.count ≤ extent.end }
-    requires kept { D.tells → (D.disk device).sound ≡ true → IsOnDisk (D.disk device) }
-    requires restored { D.tells
-        → IsRestoredFrom rules.profile rules.clients_max (D.disk device).seen machine extent }
+    requires restored { D.tells → WasRestored D.disk rules device machine extent }
     requires torn { D.tells → cut ≡ torn_bytes (D.disk device).seen }
-    ensures opened { D.tells → (D.disk device).sound ≡ true
-        → IfOk result (IsOpened D.disk rules.profile rules.clients_max (D.disk device).seen) }
-    ensures fresh { D.tells → (D.disk device).sound ≡ true → IfOk result (IsFresh D.disk) }
-    ensures any_moment { D.tells → OpensAtMost rules.profile rules.clients_max (D.disk device) (D.disk (device_left result)) }
+    ensures opened { D.tells → GivesIfSound D.disk rules device result IsOpened }
+    ensures serves { MayServe D.tells D.disk device result }
+    ensures any_moment { D.tells → LeavesBy D.disk rules device (device_left result) OpensOnly }
     ensures fault { D.tells → IfErr result (λ failed. IsOfDevice failed.fault) }
-    ensures cause { D.tells → HasStartCause (why_left result) (D.disk device) (D.disk (device_left result)) }
-    ensures usable { IfOk result IsUsable }
-    ensures any_device { MatchResult result (λ keeper. (keeper.state ≡ machine) × (keeper.cut ≡ cut))
-        (λ failed. IsNotOfFile failed.fault) }
+    ensures cause { D.tells → Causes D.disk device result (device_left result) HasStartCause }
+    ensures any_device { MatchResult result (IsOf machine cut) (λ failed. IsNotOfFile failed.fault) }
 {
     match open_headed(global, device, rules, extent) {
         Ok(journal) => Ok(Keeper::new(global, journal, machine, cut)),
@@ -214,8 +197,8 @@ fn open_restored<D: Device, A: Allocator + Clone>(
 
 /// The number of torn bytes of a file that was read to this extent: those behind its records and the latch there.
 pub(crate) fn torn_behind<D: Device>(device: &mut D, extent: Extent) -> Result<u64, Fault>
-    ensures torn { (file : List ℕ) → D.holds device.old file → extent_of (contents file) ≡ Ok extent
-        → IfOk result (λ torn. torn ≡ torn_bytes file) }
+    ensures torn { OfExtent (D.holds device.old) extent
+        (λ file. IfOk result (λ torn. torn ≡ torn_bytes file)) }
     ensures same { (file : List ℕ) → D.holds device.old file → D.holds device.new file }
     ensures stays { D.tells → StaysKept (D.disk device.old) (D.disk device.new) }
     ensures named { IfErr result IsOfCall }
@@ -237,21 +220,13 @@ fn open_short<D: Device, A: Allocator + Clone>(
     machine: Machine<A>,
 ) -> Result<Keeper<D, A>, NotKept<D>>
     requires few { extent.count ≤ extent.end }
-    requires kept { D.tells → (D.disk device).sound ≡ true → IsOnDisk (D.disk device) }
-    requires restored { D.tells
-        → IsRestoredFrom rules.profile rules.clients_max (D.disk device).seen machine extent }
-    ensures opened { D.tells → (D.disk device).sound ≡ true
-        → IfOk result (IsOpened D.disk rules.profile rules.clients_max (D.disk device).seen) }
-    ensures fresh { D.tells → (D.disk device).sound ≡ true → IfOk result (IsFresh D.disk) }
-    ensures any_moment { D.tells
-        → LeavesWhereSound (D.disk device) (D.disk (device_left result)) (MayBeOpened rules.profile rules.clients_max) }
-    ensures refused { D.tells
-        → IfErr result
-        (λ failed.
-        IsRefused rules.profile rules.clients_max failed.fault (D.disk device) (D.disk failed.device)) }
-    ensures cause { D.tells → HasStartCause (why_left result) (D.disk device) (D.disk (device_left result)) }
-    ensures usable { IfOk result IsUsable }
-    ensures handed { (file : List ℕ) → D.holds device file → OpensRestored result rules machine extent file }
+    requires restored { D.tells → WasRestored D.disk rules device machine extent }
+    ensures opened { D.tells → GivesIfSound D.disk rules device result IsOpened }
+    ensures serves { MayServe D.tells D.disk device result }
+    ensures any_moment { D.tells → LeavesBy D.disk rules device (device_left result) MayBeOpened }
+    ensures refused { D.tells → GivesBackBy D.disk rules device result IsRefused }
+    ensures cause { D.tells → Causes D.disk device result (device_left result) HasStartCause }
+    ensures handed { OfHeld (D.holds device) (OpensRestored result rules machine extent) }
 {
     let mut device = device;
     match torn_behind(&mut device, extent) {
@@ -287,23 +262,17 @@ impl<D: Device, A: Allocator + Copy> Keeper<D, A> {
         rules: Rules,
     ) -> Result<Keeper<D, A>, NotKept<D>>
         // Where no sync has failed before.
-        ensures opened { D.tells → (D.disk device).sound ≡ true
-            → IfOk result (IsOpened D.disk rules.profile rules.clients_max (D.disk device).seen) }
+        ensures opened { D.tells → GivesIfSound D.disk rules device result IsOpened }
         // So `keep` may serve.
         ensures fresh { D.tells → (D.disk device).sound ≡ true → IfOk result (IsFresh D.disk) }
         ensures usable { IfOk result IsUsable }
         // A crash at any moment of the call leaves the history that was there, so that the call may be made again.
-        ensures any_moment { D.tells
-            → LeavesWhereSound (D.disk device) (D.disk (device_left result)) (MayBeOpened rules.profile rules.clients_max) }
+        ensures any_moment { D.tells → LeavesBy D.disk rules device (device_left result) MayBeOpened }
         // A file that is refused stays as it was.
-        ensures refused { D.tells
-            → IfErr result
-            (λ failed.
-            IsRefused rules.profile rules.clients_max failed.fault (D.disk device) (D.disk failed.device)) }
-        ensures cause { D.tells → HasStartCause (why_left result) (D.disk device) (D.disk (device_left result)) }
+        ensures refused { D.tells → GivesBackBy D.disk rules device result IsRefused }
+        ensures cause { D.tells → Causes D.disk device result (device_left result) HasStartCause }
         // Of any device, by the file that its reads are of.
-        ensures handed { (file : List ℕ) → D.holds device file
-            → OpensFile result rules.profile rules.clients_max file }
+        ensures handed { OfHeld (D.holds device) (OpensFile result rules.profile rules.clients_max) }
     {
         let mut device = device;
         let same = rules;
@@ -321,20 +290,14 @@ impl<D: Device, A: Allocator + Copy> Keeper<D, A> {
         rules: Rules,
     ) -> Result<Keeper<D, A>, NotKept<D>>
         // Where no sync has failed before.
-        ensures started { D.tells → (D.disk device).sound ≡ true
-            → IfOk result (IsStarted D.disk rules.profile rules.clients_max (D.disk device).seen) }
+        ensures started { D.tells → GivesIfSound D.disk rules device result IsStarted }
         ensures fresh { D.tells → (D.disk device).sound ≡ true → IfOk result (IsFresh D.disk) }
         ensures usable { IfOk result IsUsable }
-        ensures any_moment { D.tells
-            → LeavesWhereSound (D.disk device) (D.disk (device_left result)) (MayBeStarted rules.profile rules.clients_max) }
-        ensures refused { D.tells
-            → IfErr result
-            (λ failed.
-            IsStartRefused rules.profile rules.clients_max failed.fault (D.disk device) (D.disk failed.device)) }
-        ensures cause { D.tells → HasEitherCause (why_left result) (D.disk device) (D.disk (device_left result)) }
+        ensures any_moment { D.tells → LeavesBy D.disk rules device (device_left result) MayBeStarted }
+        ensures refused { D.tells → GivesBackBy D.disk rules device result IsStartRefused }
+        ensures cause { D.tells → Causes D.disk device result (device_left result) HasEitherCause }
         // Of any device, by the file that its reads are of.
-        ensures handed { (file : List ℕ) → D.holds device file
-            → StartsFile result rules.profile rules.clients_max file }
+        ensures handed { OfHeld (D.holds device) (StartsFile result rules.profile rules.clients_max) }
     {
         let same = rules;
         match create(global, alloc, device, same) {

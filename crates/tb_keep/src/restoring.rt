@@ -1,14 +1,14 @@
 //! The head of a kept file, record 0 of its journal, and the restoring of a machine from the records behind it.
 ghost use Rattle.std.specs.Prelude.{◌≡◌, ◌≤◌, ◌+◌, ℕ, true, List, [], Ok, IfOk, IfErr, OnOk};
-ghost use Rattle.tb_journal.specs.Device.{IsOnDisk};
-ghost use Rattle.tb_journal.specs.Scans.{HasRead, GoesFurther, IsAt, ScanCause};
+ghost use Rattle.tb_journal.specs.Scans.{GoesFurther, IsAt, ScanCause};
 ghost use Rattle.tb_machine.specs.Recording.{IsRecord};
 ghost use Rattle.tb_keep.specs.Restoration.{ReadsRecord, RestoresRecord, Restores, HasStartCause, HeadAnswers};
 ghost use Rattle.tb_keep.specs.Opening.{IsUntouched};
 ghost use Rattle.tb_keep.specs.Reading.{OfRead, NamesRules};
 ghost use Rattle.tb_keep.specs.private.Sources.{IsNext};
-ghost use Rattle.tb_keep.specs.private.Entering.{StaysKept, ReadCause, ReadsHead, EntersNext, EntersAll, FindsBehind, IsBehindHead, CauseBehindHead, RestoresEmpty};
+ghost use Rattle.tb_keep.specs.private.Entering.{StaysKept, ReadCause, ReadsHead, EntersNext, EntersAll, FindsBehind, HeadCause, RestoresEmpty, OfBehind, RestoresBy, UnreadCause, head_of};
 ghost use Rattle.tb_keep.specs.Keeping.{head_record};
+ghost use Rattle.tb_journal.specs.Device.{KeepsRead, OfHeld};
 
 use crate::faults::StartFault;
 use std::alloc::{Allocator, Global};
@@ -67,7 +67,7 @@ pub(crate) fn restore_record<A: Allocator + Clone>(
 /// Reads the next record, and answers whether there is one.
 pub(crate) fn read_record<D: Device>(scan: &mut Scan, device: &mut D) -> Result<bool, OpenFault>
     ensures reads { OfRead (D.holds device.old) scan.old
-        (λ read file. IsNext result read file scan.new) }
+        (λ all file. IsNext result all file scan.new) }
     ensures same { (file : List ℕ) → D.holds device.old file → D.holds device.new file }
     ensures stays { D.tells → StaysKept (D.disk device.old) (D.disk device.new) }
     ensures cause { D.tells → ScanCause result scan.old (D.disk device.old) (D.disk device.new) }
@@ -79,12 +79,10 @@ pub(crate) fn read_record<D: Device>(scan: &mut Scan, device: &mut D) -> Result<
 
 /// Reads the head of a file of which nothing was read, and answers whether there is one.
 fn read_first<D: Device>(scan: &mut Scan, device: &mut D, rules: Rules) -> Result<bool, StartFault>
-    ensures head { (file : List ℕ) → D.holds device.old file → HasRead [] file scan.old
-        → ReadsHead result rules.profile rules.clients_max file scan.new }
+    ensures head { OfBehind (D.holds device.old) [] scan.old (ReadsHead result rules scan.new) }
     ensures same { (file : List ℕ) → D.holds device.old file → D.holds device.new file }
     ensures stays { D.tells → StaysKept (D.disk device.old) (D.disk device.new) }
-    ensures cause { D.tells → HasRead [] (D.disk device.old).seen scan.old
-        → HasStartCause result (D.disk device.old) (D.disk device.new) }
+    ensures cause { D.tells → UnreadCause result scan.old (D.disk device.old) (D.disk device.new) }
 {
     match read_record(scan, device) {
         Ok(true) => match check_head(scan.record(), rules) {
@@ -151,11 +149,11 @@ pub(crate) fn entered_behind<D: Device, A: Allocator + Clone>(
     scan: &mut Scan,
     device: &mut D,
 ) -> Result<(Machine<A>, Extent), StartFault>
-    ensures found { (file : List ℕ) → D.holds device.old file → IsBehindHead rules file scan.old → FindsBehind result rules file }
+    ensures found { OfBehind (D.holds device.old) (head_of rules) scan.old (FindsBehind result rules) }
     ensures few { IfOk result (λ found. found.1.count ≤ found.1.end) }
     ensures same { (file : List ℕ) → D.holds device.old file → D.holds device.new file }
     ensures stays { D.tells → StaysKept (D.disk device.old) (D.disk device.new) }
-    ensures cause { D.tells → CauseBehindHead result rules scan.old (D.disk device.old) (D.disk device.new) }
+    ensures cause { D.tells → HeadCause result rules scan.old (D.disk device.old) (D.disk device.new) }
 {
     let _clients = rules.clients_max.get();
     let Ok(mut machine) = Machine::new_in(global, alloc, rules.profile, rules.clients_max) else {
@@ -194,13 +192,11 @@ fn restored_by<D: Device, A: Allocator + Clone>(
     scan: &mut Scan,
     device: &mut D,
 ) -> Result<(Machine<A>, Extent), StartFault>
-    ensures found { (file : List ℕ) → D.holds device.old file → HasRead [] file scan.old
-        → Restores result rules.profile rules.clients_max file }
+    ensures found { OfBehind (D.holds device.old) [] scan.old (RestoresBy result rules) }
     ensures few { IfOk result (λ found. found.1.count ≤ found.1.end) }
     ensures same { (file : List ℕ) → D.holds device.old file → D.holds device.new file }
     ensures stays { D.tells → StaysKept (D.disk device.old) (D.disk device.new) }
-    ensures cause { D.tells → HasRead [] (D.disk device.old).seen scan.old
-        → HasStartCause result (D.disk device.old) (D.disk device.new) }
+    ensures cause { D.tells → UnreadCause result scan.old (D.disk device.old) (D.disk device.new) }
 {
     let same = rules;
     match read_first(scan, device, same) {
@@ -221,10 +217,10 @@ pub fn restored<D: Device, A: Allocator + Clone>(
     device: &mut D,
 ) -> Result<(Machine<A>, Extent), StartFault>
     // Of any device, by the file that its reads are of.
-    ensures found { (file : List ℕ) → D.holds device.old file → Restores result rules.profile rules.clients_max file }
+    ensures found { OfHeld (D.holds device.old) (Restores result rules.profile rules.clients_max) }
     ensures few { IfOk result (λ found. found.1.count ≤ found.1.end) }
     // Where no sync has failed before.
-    ensures kept { D.tells → (D.disk device.old).sound ≡ true → OnOk result (IsOnDisk (D.disk device.new)) }
+    ensures kept { D.tells → KeepsRead result (D.disk device.old) (D.disk device.new) }
     ensures sound { D.tells → OnOk result ((D.disk device.new).sound ≡ (D.disk device.old).sound) }
     ensures same { (file : List ℕ) → D.holds device.old file → D.holds device.new file }
     ensures untouched { D.tells → IsUntouched (D.disk device.old) (D.disk device.new) }

@@ -1,16 +1,14 @@
 //! The entries of a file taken over into a new one: of a file that is damaged, and of one that is whole.
-ghost use Rattle.std.specs.Prelude.{◌≡◌, ◌+◌, ◌<◌, ◌≤◌, ◌^◌, ℕ, true, List, [], ◌∷◌, length, Ok, IfOk, IfErr, OnOk, OnErr};
-ghost use Rattle.tb_journal.specs.Contents.{at_rest, contents};
-ghost use Rattle.tb_journal.specs.Device.{LeavesOnly};
+ghost use Rattle.std.specs.Prelude.{◌≡◌, ◌+◌, ◌<◌, ◌≤◌, ◌^◌, ℕ, true, List, [], ◌∷◌, length, IfOk, IfErr, OnOk, OnErr};
+ghost use Rattle.tb_journal.specs.Contents.{at_rest};
 ghost use Rattle.tb_journal.specs.Ready.{IsReady};
-ghost use Rattle.tb_journal.specs.Reading.{extent_of};
-ghost use Rattle.tb_journal.specs.Scans.{HasRead, GoesFurther};
-ghost use Rattle.tb_keep.specs.private.Entering.{StaysKept, ReadCause, CauseBehindHead};
+ghost use Rattle.tb_journal.specs.Scans.{GoesFurther};
+ghost use Rattle.tb_keep.specs.private.Entering.{StaysKept, ReadCause, HeadCause, OfExtent, UnreadCause};
 ghost use Rattle.tb_keep.specs.Opening.{IsUntouched};
 ghost use Rattle.tb_keep.specs.Restoration.{HasStartCause};
 ghost use Rattle.tb_keep.specs.Rounds.{block_bytes_max};
-ghost use Rattle.tb_keep.specs.Salvaging.{IsSalvaged, IsUnsalvaged, IsBackedUp, IsNotBackedUp, MayBeSalvaged, HasNewCause, salvaged_device, backup_device, why_old, why_new};
-ghost use Rattle.tb_keep.specs.private.Taking.{HoldsRead, HeadRead, IsOldDevice, IsTornStop, StaysUsed, StopsBy, Puts, TakesRecord, TakesNext, TakesAll, CommitsTaken, TakesRest, of_old, stop_of, LeavesSalvaged};
+ghost use Rattle.tb_keep.specs.Salvaging.{IsSalvaged, IsUnsalvaged, IsBackedUp, IsNotBackedUp, salvaged_device, backup_device, why_old, LeavesSome, NewCause, SaysWhy};
+ghost use Rattle.tb_keep.specs.private.Taking.{HeadRead, IsOldDevice, IsTornStop, StaysUsed, StopsBy, Puts, TakesRecord, TakesNext, TakesAll, CommitsTaken, TakesRest, of_old, stop_of, Unread};
 
 use crate::dumps::first_rules;
 use crate::faults::{SalvageFault, StartFault};
@@ -177,8 +175,7 @@ fn stop_of(fault: SalvageFault) -> Option<StartFault>
 
 /// The fault for which a start refuses a file that was read to its end: too many torn bytes. None where they are few.
 fn torn_stop<D: Device>(from: &mut D, extent: Extent) -> Result<Option<StartFault>, SalvageFault>
-    ensures torn { (file : List ℕ) → D.holds from.old file → extent_of (contents file) ≡ Ok extent
-        → IfOk result (λ stop. IsTornStop stop file) }
+    ensures torn { OfExtent (D.holds from.old) extent (λ file. IfOk result (IsTornStop file)) }
     ensures same { (file : List ℕ) → D.holds from.old file → D.holds from.new file }
     ensures stays { D.tells → StaysKept (D.disk from.old) (D.disk from.new) }
     ensures fault { IfErr result IsOldDevice }
@@ -281,14 +278,12 @@ fn salvage_behind<D: Device, N: Device>(
     ensures salvaged { IfOk result
         (IsSalvaged N.tells N.disk
         (HeadRead (D.holds from.old) rules scan.old)) }
-    ensures unsalvaged { (file : List ℕ)
-        → HeadRead (D.holds from.old) rules scan.old file
-        → IfErr result (λ failed. IsUnsalvaged failed.fault file) }
-    ensures any_moment { N.tells → LeavesSalvaged (HeadRead (D.holds from.old) rules scan.old) (N.disk into) (N.disk (salvaged_device result)) }
-    ensures cause_new { N.tells → HasNewCause (why_new result) (N.disk into) (N.disk (salvaged_device result)) }
+    ensures unsalvaged { SaysWhy (HeadRead (D.holds from.old) rules scan.old) result IsUnsalvaged }
+    ensures any_moment { N.tells → LeavesSome N.disk (HeadRead (D.holds from.old) rules scan.old) into (salvaged_device result) }
+    ensures cause_new { N.tells → NewCause N.disk into result (salvaged_device result) }
     ensures same { (file : List ℕ) → D.holds from.old file → D.holds from.new file }
     ensures stays { D.tells → StaysKept (D.disk from.old) (D.disk from.new) }
-    ensures cause_old { D.tells → CauseBehindHead (why_old result) rules scan.old (D.disk from.old) (D.disk from.new) }
+    ensures cause_old { D.tells → HeadCause (why_old result) rules scan.old (D.disk from.old) (D.disk from.new) }
 {
     let _clients = rules.clients_max.get();
     let mut keeper = match create(global, global, into, rules) {
@@ -321,15 +316,13 @@ fn salvage_by<D: Device, N: Device>(
     into: N,
 ) -> Result<Salvaged<N>, NotSalvaged<N>>
     requires sound { N.tells → (N.disk into).sound ≡ true }
-    ensures salvaged { IfOk result (IsSalvaged N.tells N.disk (HoldsRead (D.holds from.old) [] scan.old)) }
-    ensures unsalvaged { (file : List ℕ) → HoldsRead (D.holds from.old) [] scan.old file
-        → IfErr result (λ failed. IsUnsalvaged failed.fault file) }
-    ensures any_moment { N.tells → LeavesSalvaged (HoldsRead (D.holds from.old) [] scan.old) (N.disk into) (N.disk (salvaged_device result)) }
-    ensures cause_new { N.tells → HasNewCause (why_new result) (N.disk into) (N.disk (salvaged_device result)) }
+    ensures salvaged { IfOk result (IsSalvaged N.tells N.disk (Unread (D.holds from.old) scan.old)) }
+    ensures unsalvaged { SaysWhy (Unread (D.holds from.old) scan.old) result IsUnsalvaged }
+    ensures any_moment { N.tells → LeavesSome N.disk (Unread (D.holds from.old) scan.old) into (salvaged_device result) }
+    ensures cause_new { N.tells → NewCause N.disk into result (salvaged_device result) }
     ensures same { (file : List ℕ) → D.holds from.old file → D.holds from.new file }
     ensures stays { D.tells → StaysKept (D.disk from.old) (D.disk from.new) }
-    ensures cause_old { D.tells → HasRead [] (D.disk from.old).seen scan.old
-        → HasStartCause (why_old result) (D.disk from.old) (D.disk from.new) }
+    ensures cause_old { D.tells → UnreadCause (why_old result) scan.old (D.disk from.old) (D.disk from.new) }
 {
     match first_rules(scan, from) {
         Ok(rules) => salvage_behind(global, rules, scan, from, into),
@@ -355,13 +348,10 @@ pub fn salvage<D: Device, N: Device>(
     requires sound { N.tells → (N.disk into).sound ≡ true }
     // Of any device, by the file that the reads of the old one are of.
     ensures salvaged { IfOk result (IsSalvaged N.tells N.disk (D.holds from.old)) }
-    ensures unsalvaged { (file : List ℕ) → D.holds from.old file
-        → IfErr result (λ failed. IsUnsalvaged failed.fault file) }
+    ensures unsalvaged { SaysWhy (D.holds from.old) result IsUnsalvaged }
     // A crash at any moment of the call leaves no entry, or some first ones, in the new file.
-    ensures any_moment { N.tells
-        → LeavesOnly (N.disk into) (N.disk (salvaged_device result))
-        (MayBeSalvaged (D.holds from.old) (N.disk into)) }
-    ensures cause_new { N.tells → HasNewCause (why_new result) (N.disk into) (N.disk (salvaged_device result)) }
+    ensures any_moment { N.tells → LeavesSome N.disk (D.holds from.old) into (salvaged_device result) }
+    ensures cause_new { N.tells → NewCause N.disk into result (salvaged_device result) }
     ensures same { (file : List ℕ) → D.holds from.old file → D.holds from.new file }
     ensures untouched { D.tells → IsUntouched (D.disk from.old) (D.disk from.new) }
     ensures cause_old { D.tells → HasStartCause (why_old result) (D.disk from.old) (D.disk from.new) }
@@ -385,13 +375,10 @@ pub fn backup<D: Device, N: Device>(
     requires sound { N.tells → (N.disk into).sound ≡ true }
     // Of any device, by the file that the reads of the old one are of.
     ensures backed_up { IfOk result (IsBackedUp N.tells N.disk (D.holds from.old)) }
-    ensures not_backed_up { (file : List ℕ) → D.holds from.old file
-        → IfErr result (λ failed. IsNotBackedUp failed.fault file) }
+    ensures not_backed_up { SaysWhy (D.holds from.old) result IsNotBackedUp }
     // A crash at any moment of the call leaves no entry, or some first ones, in the new file.
-    ensures any_moment { N.tells
-        → LeavesOnly (N.disk into) (N.disk (backup_device result))
-        (MayBeSalvaged (D.holds from.old) (N.disk into)) }
-    ensures cause_new { N.tells → HasNewCause (why_new result) (N.disk into) (N.disk (backup_device result)) }
+    ensures any_moment { N.tells → LeavesSome N.disk (D.holds from.old) into (backup_device result) }
+    ensures cause_new { N.tells → NewCause N.disk into result (backup_device result) }
     ensures same { (file : List ℕ) → D.holds from.old file → D.holds from.new file }
     ensures untouched { D.tells → IsUntouched (D.disk from.old) (D.disk from.new) }
     ensures cause_old { D.tells → HasStartCause (why_old result) (D.disk from.old) (D.disk from.new) }

@@ -1,13 +1,13 @@
 //! The serving of a kept ledger: the entries of pairs are committed, and then the replies that rest on them are sent.
 ghost use Rattle.std.specs.Prelude.{◌≡◌, true, false, IfErr, OnOk, OnErr};
-ghost use Rattle.tb_journal.specs.Ready.{IsReady};
+ghost use Rattle.tb_journal.specs.Ready.{IsReady, with_waiting};
 ghost use Rattle.tb_machine.specs.Dumps.{dumped};
 ghost use Rattle.tb_machine.specs.Histories.{fits};
 ghost use Rattle.tb_machine.specs.Recording.{IsRecord};
 ghost use Rattle.tb_machine.specs.Runs.{is_new_in};
 ghost use Rattle.tb_keep.specs.Keeping.{IsFresh, IsUsable};
 ghost use Rattle.tb_keep.specs.Rounds.{Served};
-ghost use Rattle.tb_keep.specs.private.Steps.{IsRefusal, Appends, HoldsReply, KeepsPair, HandsOut, Tells, is_end_of_time, with_record, MayTellOver, EndsToldOver, KeepsNextOver};
+ghost use Rattle.tb_keep.specs.private.Steps.{IsRefusal, Appends, KeepsPair, Tells, is_end_of_time, MayTellOver, EndsToldOver, KeepsNextOver, HandsOutOver, HoldsReplyOver};
 
 use crate::faults::KeepFault;
 use crate::keepers::Keeper;
@@ -47,9 +47,10 @@ impl<'a> Written for Recorded<'a> {
 /// Lets the record of an entry wait for the next commit.
 fn append_entry<D: Device>(journal: &mut Journal<D>, entry: &Entry) -> Result<(), KeepFault>
     requires { journal.old.usable ≡ true }
-    ensures waits { OnOk result (journal.new ≡ with_record journal.old (dumped entry.now)) }
+    ensures waits { OnOk result (journal.new ≡ with_waiting journal.old (dumped entry.now)) }
     ensures fits { OnOk result (IsRecord (dumped entry.now) entry.now) }
-    ensures stays { IfErr result (λ f. IsRefusal f journal.old (dumped entry.now) × (journal.new ≡ journal.old)) }
+    ensures refused { IfErr result (λ f. IsRefusal f journal.old (dumped entry.now)) }
+    ensures stays { OnErr result (journal.new ≡ journal.old) }
 {
     journal.append_written(&Recorded { entry })?;
     Ok(())
@@ -82,8 +83,7 @@ fn hold_reply<A: Allocator + Clone>(
     request: Request,
     replies: &mut Replies,
 ) -> Result<(), KeepFault>
-    ensures { HoldsReply result (moment, request) machine.old machine.new replies.old.bytes.items
-        replies.new.bytes.items }
+    ensures { HoldsReplyOver result (moment, request) machine.old machine.new replies.old replies.new }
 {
     match serve_pair(machine, replies, moment, request) {
         Ok(()) => Ok(()),
@@ -115,8 +115,7 @@ fn keep_pair<D: Device, A: Allocator + Clone>(
 
 /// Gives out what is held.
 fn hand_out<W: Sink>(replies: &mut Replies, writer: &mut W) -> Result<(), KeepFault>
-    ensures { HandsOut result replies.old.bytes.items replies.new.bytes.items (W.output writer.old)
-        (W.output writer.new) }
+    ensures { HandsOutOver W.output result replies.old replies.new writer.old writer.new }
 {
     if let Err(fault) = put_all(writer, replies.bytes()) {
         return Err(KeepFault::Serving(RunFault::Frame(fault)));
@@ -233,7 +232,8 @@ fn keep_all<D: Device, A: Allocator + Clone, R: Source, W: Sink>(
     ensures served { Served D.tells D.disk result keeper.old keeper.new (R.input reader.old)
         (R.input reader.new) (W.output writer.old) (W.output writer.new) }
     ensures fresh { D.tells → OnOk result (IsFresh D.disk keeper.new) }
-    ensures usable { OnOk result ((keeper.new.usable ≡ keeper.old.usable) × (keeper.new.journal.usable ≡ true)) }
+    ensures usable { OnOk result (keeper.new.journal.usable ≡ true) }
+    ensures serves { OnOk result (keeper.new.usable ≡ keeper.old.usable) }
     ensures cut { keeper.new.cut ≡ keeper.old.cut }
 {
     let mut replies = Replies::new(alloc);

@@ -6,7 +6,7 @@ use Rattle.tb_journal.specs.declared.hops.Hop.{Hop}
 use Rattle.tb_journal.specs.declared.hops.Hop.TheVariants as hops
 use Rattle.tb_journal.specs.declared.snapshots.Found.{Found}
 use Rattle.tb_journal.specs.Device.{ReadsAt}
-use Rattle.tb_journal.specs.Contents.{Front, Ends, Spoiled, front, NotAJournal, contents}
+use Rattle.tb_journal.specs.Contents.{Ends, Spoiled, front, NotAJournal, contents}
 use Rattle.tb_journal.specs.Scans.{BeginsWith}
 use Rattle.tb_journal.specs.Reading.{HasAhead, asked}
 use Rattle.tb_journal.specs.Growing.{Later, Grown}
@@ -80,13 +80,13 @@ abbrev pub FindsMore : (List ℕ → Type 0) → (List ℕ → Type 0) → ℕ �
 FindsMore before after end result = (bytes shown met : List ℕ) → before bytes → Later met bytes → ShowsBlocks end met shown → IfOk result (GoesOn after bytes shown)
 
 -- whether nothing follows a latch, or one does
-abbrev pub TellsLatch : Bool → Front → Type 0
-TellsLatch true here = here ≡ Ends
-TellsLatch false here = here ≢ Ends
+abbrev pub TellsLatch : ℕ → List ℕ → Bool → Type 0
+TellsLatch end file true = front (drop end file) ≡ Ends
+TellsLatch end file false = front (drop end file) ≢ Ends
 
 -- whether nothing is at an offset
 abbrev pub TellsEnd : (List ℕ → Type 0) → (List ℕ → Type 0) → ℕ → Result Bool Fault → Type 0
-TellsEnd before after end result = (bytes : List ℕ) → before bytes → Grown after bytes (λ later. IfOk result (λ closed. TellsLatch closed (front (drop end later))))
+TellsEnd before after end result = (bytes : List ℕ) → before bytes → Grown after bytes (λ later. IfOk result (TellsLatch end later))
 
 -- whether it begins as a journal
 abbrev pub TellsStart : (List ℕ → Type 0) → (List ℕ → Type 0) → Result Bool Fault → Type 0

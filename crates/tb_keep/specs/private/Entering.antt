@@ -1,7 +1,6 @@
 -- The records of a file as they are read and entered: for private functions alone.
 -- Cited by private contracts alone, of: dumps, opening, restoring, salvaging.
 use Rattle.std.specs.Prelude.{ℕ, Bool, true, false, ◌≡◌, List, [], ◌∷◌, ◌++◌, Result, Ok, Err}
-use Rattle.tb_records.specs.declared.limits.Profile.{Profile}
 use Rattle.tb_journal.specs.declared.reading.Extent.{Extent}
 use Rattle.tb_journal.specs.Device.{Disk, IsOnDisk}
 use Rattle.tb_journal.specs.Contents.{Records, contents}
@@ -27,18 +26,35 @@ pub record StaysKept (before after : Disk) : Type 0 where
 abbrev pub ReadCause : {T : Type 0} → Result T StartFault → Place → Disk → Disk → Type 0
 ReadCause result scan before after = (read : List (List ℕ)) → HasRead read before.seen scan → HasStartCause result before after
 
--- the same, where the head was read, which names these rules
-abbrev pub IsBehindHead : Rules → List ℕ → Place → Type 0
-IsBehindHead rules file scan = HasRead (head_record rules.profile rules.clients_max ∷ []) file scan
+-- the same, where nothing was read
+abbrev pub UnreadCause : {T : Type 0} → Result T StartFault → Place → Disk → Disk → Type 0
+UnreadCause result scan before after = HasRead [] before.seen scan → HasStartCause result before after
 
-abbrev pub CauseBehindHead : {T : Type 0} → Result T StartFault → Rules → Place → Disk → Disk → Type 0
-CauseBehindHead result rules scan before after = IsBehindHead rules before.seen scan → HasStartCause result before after
+-- the records of a file that has a head of these rules and nothing behind it
+abbrev pub head_of : Rules → List (List ℕ)
+head_of rules = head_record rules.profile rules.clients_max ∷ []
+
+-- the same, where the head was read, which names these rules
+abbrev pub HeadCause : {T : Type 0} → Result T StartFault → Rules → Place → Disk → Disk → Type 0
+HeadCause result rules scan before after = HasRead (head_of rules) before.seen scan → HasStartCause result before after
+
+-- of each file that the reads are of, and of which these records were read
+abbrev pub OfBehind : (List ℕ → Type 0) → List (List ℕ) → Place → (List ℕ → Type 0) → Type 0
+OfBehind holds records scan Says = (file : List ℕ) → holds file → HasRead records file scan → Says file
+
+-- of each file that the reads are of, and of which the records end there
+abbrev pub OfExtent : (List ℕ → Type 0) → Extent → (List ℕ → Type 0) → Type 0
+OfExtent holds extent Says = (file : List ℕ) → holds file → extent_of (contents file) ≡ Ok extent → Says file
+
+-- the machine after the entries of a file of these rules, or why not
+abbrev pub RestoresBy : Result (State × Extent) StartFault → Rules → List ℕ → Type 0
+RestoresBy result rules file = Restores result rules.profile rules.clients_max file
 
 -- the head was read, or there is none
-abbrev pub ReadsHead : Result Bool StartFault → Profile → ℕ → List ℕ → Place → Type 0
-ReadsHead (Ok true) profile clients_max file after = HasRead (head_record profile clients_max ∷ []) file after
-ReadsHead (Ok false) profile clients_max file after = (contents file ≡ Records []) × HasRead [] file after
-ReadsHead (Err fault) profile clients_max file after = StopsReading fault profile clients_max file
+abbrev pub ReadsHead : Result Bool StartFault → Rules → Place → List ℕ → Type 0
+ReadsHead (Ok true) rules after file = HasRead (head_of rules) file after
+ReadsHead (Ok false) rules after file = (contents file ≡ Records []) × HasRead [] file after
+ReadsHead (Err fault) rules after file = StopsReading fault rules.profile rules.clients_max file
 
 -- behind the records that were read one more was read and entered, or there is none
 abbrev pub EntersNext : Result Bool StartFault → List (List ℕ) → List ℕ → Place → State → State → Type 0
@@ -57,14 +73,14 @@ EntersAll (Err fault) read file after S T =
 
 -- the machine after the records behind the head of a file of these rules
 abbrev pub FindsBehind : Result (State × Extent) StartFault → Rules → List ℕ → Type 0
-FindsBehind result rules file = HasRules rules file × Restores result rules.profile rules.clients_max file
+FindsBehind result rules file = HasRules rules file × RestoresBy result rules file
 
 -- the head was read, and names rules
-abbrev pub FindsRules : Result Rules StartFault → List ℕ → Place → Type 0
-FindsRules (Ok rules) file after = HasRead (head_record rules.profile rules.clients_max ∷ []) file after
-FindsRules (Err fault) file after = RulesAnswer (Err fault) file
+abbrev pub FindsRules : Result Rules StartFault → Place → List ℕ → Type 0
+FindsRules (Ok rules) after file = HasRead (head_of rules) file after
+FindsRules (Err fault) after file = RulesAnswer (Err fault) file
 
 -- a file without records has a new machine
 abbrev pub RestoresEmpty : Result (State × Extent) StartFault → Rules → Extent → List ℕ → Type 0
 RestoresEmpty result rules extent file =
-    contents file ≡ Records [] → BeginsWith [] file → extent_of (contents file) ≡ Ok extent → Restores result rules.profile rules.clients_max file
+    contents file ≡ Records [] → BeginsWith [] file → extent_of (contents file) ≡ Ok extent → RestoresBy result rules file

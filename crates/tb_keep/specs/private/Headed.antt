@@ -1,16 +1,17 @@
 -- Journals that have a head: for private functions alone.
 -- Cited by private contracts alone, of: opening.
-use Rattle.std.specs.Prelude.{ℕ, ◌≡◌, ◌⊎◌, List, [], ◌∷◌, Result, Ok, Err, OnOk, IfErr, true}
+use Rattle.std.specs.Prelude.{ℕ, ◌≡◌, ◌⊎◌, List, [], ◌∷◌, Result, Ok, Err, OnOk, IfOk, IfErr, true}
 use Rattle.tb_records.specs.declared.limits.Profile.{Profile}
 use Rattle.tb_journal.specs.declared.faults.Fault.TheVariants.{NotEmpty}
 use Rattle.tb_journal.specs.declared.opening.OpenFault.TheVariants as open_faults
-use Rattle.tb_journal.specs.Device.{Disk, IsCause, FailsNone, LeavesOnly}
+use Rattle.tb_journal.specs.Device.{Disk, IsOnDisk, IsCause, FailsNone, LeavesOnly}
 use Rattle.tb_journal.specs.Contents.{Records, contents, recorded}
-use Rattle.tb_journal.specs.Ready.{Kept, IsReady}
+use Rattle.tb_journal.specs.Reading.{extent_of}
+use Rattle.tb_journal.specs.Ready.{Kept, IsReady, IsOver}
 use Rattle.tb_keep.specs.declared.faults.StartFault.{StartFault}
 use Rattle.tb_keep.specs.declared.faults.StartFault.TheVariants as start
 use Rattle.tb_keep.specs.declared.opening.NotKept.{NotKept}
-use Rattle.tb_keep.specs.Keeping.{head_record, Keeping}
+use Rattle.tb_keep.specs.Keeping.{head_record, Keeping, IsFresh, IsUsable}
 use Rattle.tb_keep.specs.Opening.{HasNoEntry, OpensFile}
 use Rattle.tb_keep.specs.Restoration.{IsRestoredFrom}
 use Rattle.tb_keep.specs.declared.restoring.Rules.{Rules}
@@ -43,30 +44,52 @@ abbrev pub with_head : Profile → ℕ → List (List ℕ) → List (List ℕ)
 with_head profile clients_max [] = head_record profile clients_max ∷ []
 with_head profile clients_max (head ∷ records) = head ∷ records
 
-module _ {D : Type 0} (disk : D → Disk) (profile : Profile) (clients_max : ℕ) where
+module _ {D : Type 0} (disk : D → Disk) (rules : Rules) where
   -- a journal with these records, or with a head where they are none
   pub record HasRecords (records : List (List ℕ)) (journal : Kept D) : Type 0 where
     pub ready : IsReady disk journal
     pub none_waits : journal.waiting ≡ []
-    pub reads : recorded (disk journal.device).seen ≡ with_head profile clients_max records
+    pub reads : recorded (disk journal.device).seen ≡ with_head rules.profile rules.clients_max records
 
   -- a journal with a head and nothing behind it
   abbrev pub HasHead : Kept D → Type 0
   HasHead = HasRecords []
 
 -- what a crash may leave while such a journal is opened
-abbrev pub OpensOnly : Profile → ℕ → List (List ℕ) → List ℕ → Type 0
-OpensOnly profile clients_max records file = (contents file ≡ Records records) ⊎ ((records ≡ []) × HasNoEntry profile clients_max file)
+abbrev pub OpensOnly : Profile → ℕ → Disk → List ℕ → Type 0
+OpensOnly profile clients_max before file =
+    (contents file ≡ Records (recorded before.seen)) ⊎ ((recorded before.seen ≡ []) × HasNoEntry profile clients_max file)
 
--- where no sync has failed before, a crash at any moment leaves these records alone
-abbrev pub OpensAtMost : Profile → ℕ → Disk → Disk → Type 0
-OpensAtMost profile clients_max before after = before.sound ≡ true → LeavesOnly before after (OpensOnly profile clients_max (recorded before.seen))
+-- a journal that may be written to, without records, and none waits
+abbrev pub IsEmpty : {D : Type 0} → (D → Disk) → Kept D → Type 0
+IsEmpty disk journal = IsOver disk [] journal × (journal.waiting ≡ [])
+
+-- a file was read to this extent; where no sync has failed before, what was read is durable
+abbrev pub WasRead : {D : Type 0} → (D → Disk) → D → Extent → Type 0
+WasRead disk device extent = ((disk device).sound ≡ true → IsOnDisk (disk device)) × (extent_of (contents (disk device).seen) ≡ Ok extent)
+
+-- the machine was restored from a file of these rules, whose records end there
+abbrev pub IsRestoredBy : Rules → List ℕ → State → Extent → Type 0
+IsRestoredBy rules file S extent = IsRestoredFrom rules.profile rules.clients_max file S extent
+
+-- the same of a file that was read; where no sync has failed before, what was read is durable
+abbrev pub WasRestored : {D : Type 0} → (D → Disk) → Rules → D → State → Extent → Type 0
+WasRestored disk rules device S extent = ((disk device).sound ≡ true → IsOnDisk (disk device)) × IsRestoredBy rules (disk device).seen S extent
+
+-- the keeper may serve: no call of it has failed, and where no sync has, its journal is ready
+abbrev pub MayServe : {D : Type 0} → Type 0 → (D → Disk) → D → Result (Keeping D) (NotKept D) → Type 0
+MayServe tells disk device result = IfOk result IsUsable × (tells → (disk device).sound ≡ true → IfOk result (IsFresh disk))
+
+-- a keeper with this machine, by which so many torn bytes were cut off
+abbrev pub IsOf : {D : Type 0} → State → ℕ → Keeping D → Type 0
+IsOf S cut keeper = (keeper.state ≡ S) × (keeper.cut ≡ cut)
 
 -- a file of which this machine was restored is opened by it, or it is reported why not
 abbrev pub OpensRestored : {D : Type 0} → Result (Keeping D) (NotKept D) → Rules → State → Extent → List ℕ → Type 0
 OpensRestored result rules S extent file =
-    IsRestoredFrom rules.profile rules.clients_max file S extent → OpensFile result rules.profile rules.clients_max file
+    IsRestoredBy rules file S extent → OpensFile result rules.profile rules.clients_max file
 
--- while a head is written, a crash at any moment leaves no record, or this head and nothing behind it
-abbrev pub HeadLeaves : Rules → Disk → Disk → Type 0
-HeadLeaves rules before after = LeavesOnly before after (HasNoEntry rules.profile rules.clients_max)
+-- while a head is written to a journal that is ready, a crash at any moment leaves no record, or this head and nothing behind it
+abbrev pub HeadLeaves : {D : Type 0} → (D → Disk) → Rules → Kept D → D → Type 0
+HeadLeaves disk rules journal after =
+    IsReady disk journal → LeavesOnly (disk journal.device) (disk after) (HasNoEntry rules.profile rules.clients_max)

@@ -1,6 +1,6 @@
 -- The records of a file as they are read and sent: for private functions alone.
 -- Cited by private contracts alone, of: dumps.
-use Rattle.std.specs.Prelude.{ℕ, Bool, true, false, ◌≡◌, List, [], ◌∷◌, ◌++◌, Result, Ok, Err}
+use Rattle.std.specs.Prelude.{ℕ, Bool, true, false, ◌≡◌, ◌+◌, ◌-◌, List, [], ◌∷◌, ◌++◌, drop, Result, Ok, Err}
 use Rattle.tb_records.specs.declared.faults.FrameFault.TheVariants.{Device}
 use Rattle.tb_records.specs.Transport.{Output, Sent, CutOff}
 use Rattle.tb_journal.specs.Contents.{Records, contents}
@@ -9,6 +9,11 @@ use Rattle.tb_journal.specs.Scans.{BeginsWith, HasRead, Place}
 use Rattle.tb_keep.specs.declared.faults.DumpFault.{DumpFault}
 use Rattle.tb_keep.specs.declared.faults.DumpFault.TheVariants as dump
 use Rattle.tb_keep.specs.Following.{entries_above}
+use Rattle.tb_keep.specs.Reading.{joined}
+
+-- the record of an entry of this commit number, if that is above `after`
+abbrev pub above : ℕ → ℕ → List ℕ → List ℕ
+above commit after bytes = joined (drop (after + 1 - commit) (bytes ∷ []))
 
 -- behind the records that were read one more was read, and sent if its number is above `after`; or there is none
 abbrev pub SendsNext : Result Bool DumpFault → ℕ → List (List ℕ) → List ℕ → Place → Output → Output → Type 0

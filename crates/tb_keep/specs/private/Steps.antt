@@ -11,7 +11,7 @@ use Rattle.tb_journal.specs.declared.faults.Fault.{Fault}
 use Rattle.tb_journal.specs.Device.{Disk, LeavesOnly, HasFailed}
 use Rattle.tb_journal.specs.Contents.{at_rest, recorded}
 use Rattle.tb_journal.specs.Steps.{IsBeforeOrAfter}
-use Rattle.tb_journal.specs.Ready.{Kept, IsReady}
+use Rattle.tb_journal.specs.Ready.{Kept, IsReady, with_waiting}
 use Rattle.tb_machine.specs.declared.serving.RunFault.TheVariants as run
 use Rattle.tb_machine.specs.Histories.{State, fits, answer_to}
 use Rattle.tb_machine.specs.Scripts.{Pair, entry_of, has_time, after_pair}
@@ -36,17 +36,13 @@ IsSudden (keep.Journal fault) = Unit {0}
 IsSudden (keep.Serving run.NoMemory) = Unit {0}
 IsSudden fault = ⊥
 
--- the journal with one more record that waits
-abbrev pub with_record : {D : Type 0} → Kept D → List ℕ → Kept D
-with_record journal bytes = record journal { waiting = journal.waiting ++ bytes ∷ [] }
-
 -- the record of the entry of a new pair waits
 pub record Waits {D : Type 0} (p : Pair) (before after : Keeping D) : Type 0 where
   pub time : has_time before.state p ≡ true
   pub legal : IsTrue (fits before.state (entry_of before.state p))
   pub recorded_is : IsRecord (dumped (entry_of before.state p)) (entry_of before.state p)
   pub state : after.state ≡ before.state
-  pub journal : after.journal ≡ with_record before.journal (dumped (entry_of before.state p))
+  pub journal : after.journal ≡ with_waiting before.journal (dumped (entry_of before.state p))
   pub usable : after.usable ≡ before.usable
 
 -- the request comes back, or a fault came, and all is as it was
@@ -152,6 +148,12 @@ module _ (tells : Type 0) {D : Type 0} (disk : D → Disk) where
   KeepsNext (Err f) before after first last held left start written = EndsNext f before after first last held left start written
 
 -- the same of replies that are held, and of a reader and a writer
+abbrev pub HoldsReplyOver : Result (Unit {0}) KeepFault → Pair → State → State → Replies → Replies → Type 0
+HoldsReplyOver result p S T held grown = HoldsReply result p S T held.bytes.items grown.bytes.items
+
+abbrev pub HandsOutOver : {W : Type 0} → (W → Output) → Result (Unit {0}) KeepFault → Replies → Replies → W → W → Type 0
+HandsOutOver output result held left writer later = HandsOut result held.bytes.items left.bytes.items (output writer) (output later)
+
 module _ (tells : Type 0) {D : Type 0} (disk : D → Disk) {W : Type 0} (output : W → Output) where
   abbrev pub MayTellOver : List ℕ → Result (Unit {0}) KeepFault → Keeping D → Keeping D → Replies → Replies → W → W → Type 0
   MayTellOver at_hand result before after held left writer later =

@@ -1,6 +1,6 @@
 -- The steps by which records are taken over: for private functions alone.
--- Cited by private contracts alone, of: salvaging.
-use Rattle.std.specs.Prelude.{ℕ, Bool, true, false, ◌≡◌, ◌≤◌, ◌^◌, List, [], ◌∷◌, ◌++◌, Option, None, Some, Result, Ok, Err}
+-- Cited by private contracts alone, of: dumps, salvaging.
+use Rattle.std.specs.Prelude.{ℕ, Bool, true, false, ◌≡◌, ◌≤◌, ◌^◌, List, [], ◌∷◌, ◌++◌, Option, None, Some, Result, Ok, Err, IfErr}
 use Rattle.tb_journal.specs.declared.faults.Fault.{Fault}
 use Rattle.tb_journal.specs.declared.opening.OpenFault.TheVariants as open_faults
 use Rattle.tb_journal.specs.declared.reading.Extent.{Extent}
@@ -15,9 +15,10 @@ use Rattle.tb_keep.specs.declared.faults.SalvageFault.TheVariants.{Old, New}
 use Rattle.tb_keep.specs.declared.faults.StartFault.{StartFault}
 use Rattle.tb_keep.specs.declared.faults.StartFault.TheVariants as start
 use Rattle.tb_keep.specs.declared.restoring.Rules.{Rules}
-use Rattle.tb_keep.specs.Keeping.{Keeping, head_record}
+use Rattle.tb_keep.specs.Keeping.{Keeping}
 use Rattle.tb_keep.specs.Restoration.{RecordsLead, RestoresRecord, IsTornTooLong, torn_bytes}
-use Rattle.tb_keep.specs.Salvaging.{StopsBehind, IsUnsalvaged, IsWriteCause, old_part, new_part, MayBeSalvaged}
+use Rattle.tb_keep.specs.Salvaging.{StopsBehind, IsUnsalvaged, IsWriteCause, old_part, new_part}
+use Rattle.tb_keep.specs.private.Entering.{head_of, OfExtent}
 
 -- the fault of a step, as one of the file that is read
 abbrev pub of_old : {T : Type 0} → Result T SalvageFault → Result (Unit {0}) StartFault
@@ -37,7 +38,10 @@ abbrev pub HoldsRead : (List ℕ → Type 0) → List (List ℕ) → Place → L
 HoldsRead holds read scan file = holds file × HasRead read file scan
 
 abbrev pub HeadRead : (List ℕ → Type 0) → Rules → Place → List ℕ → Type 0
-HeadRead holds rules scan file = HoldsRead holds (head_record rules.profile rules.clients_max ∷ []) scan file
+HeadRead holds rules scan file = HoldsRead holds (head_of rules) scan file
+
+abbrev pub Unread : (List ℕ → Type 0) → Place → List ℕ → Type 0
+Unread holds scan file = HoldsRead holds [] scan file
 
 -- the fault for which a start refuses a file each time
 abbrev pub stop_of : SalvageFault → Option StartFault
@@ -53,20 +57,24 @@ StopsAfter start.NoMemory records S file = Unit {0}
 StopsAfter (start.TornTooLong at bytes) records S file = ⊥
 StopsAfter fault records S file = StopsBehind (Some fault) records S file
 
+-- where a file has no rules nothing is taken of it
+abbrev pub IsNotTaken : {T : Type 0} → Result T StartFault → List ℕ → Type 0
+IsNotTaken result file = IfErr result (λ fault. IsUnsalvaged (Old fault) file)
+
 -- a fault of the old file's device
 abbrev pub IsOldDevice : SalvageFault → Type 0
 IsOldDevice (Old (start.Journal (open_faults.Device fault))) = Unit {0}
 IsOldDevice fault = ⊥
 
 -- a start refuses a file that is read to its end for its torn bytes alone
-abbrev pub IsTornStop : Option StartFault → List ℕ → Type 0
-IsTornStop None file = torn_bytes file ≤ 2 ^ 22
-IsTornStop (Some (start.TornTooLong at bytes)) file = IsTornTooLong at bytes file
-IsTornStop stop file = ⊥
+abbrev pub IsTornStop : List ℕ → Option StartFault → Type 0
+IsTornStop file None = torn_bytes file ≤ 2 ^ 22
+IsTornStop file (Some (start.TornTooLong at bytes)) = IsTornTooLong at bytes file
+IsTornStop file stop = ⊥
 
 -- why no more is taken: where the file ends, its torn bytes, and else the fault, if it is the file's own
 abbrev pub StopsBy : Result (Option StartFault) SalvageFault → Result (Unit {0}) SalvageFault → (List ℕ → Type 0) → Extent → Type 0
-StopsBy (Ok stop) (Ok done) holds extent = (file : List ℕ) → holds file → extent_of (contents file) ≡ Ok extent → IsTornStop stop file
+StopsBy (Ok stop) (Ok done) holds extent = OfExtent holds extent (λ file. IsTornStop file stop)
 StopsBy (Err fault) (Ok done) holds extent = IsOldDevice fault
 StopsBy (Ok None) (Err fault) holds extent = ⊥
 StopsBy (Ok (Some stop)) (Err fault) holds extent = stop_of fault ≡ Some stop
@@ -166,7 +174,3 @@ module _ {N : Type 0} (disk : N → Disk) where
           (records : List (List ℕ)) × (here : Place) × (middle : Keeping N) × Taken records first here before middle
           × IsUntaken fault middle after
           × ((file : List ℕ) (read : List (List ℕ)) → holds file → HasRead read file first → IsUnsalvaged fault file)
-
--- a crash at any moment leaves of the new file no more than was taken of the one that is read
-abbrev pub LeavesSalvaged : (List ℕ → Type 0) → Disk → Disk → Type 0
-LeavesSalvaged read before after = LeavesOnly before after (MayBeSalvaged read before)

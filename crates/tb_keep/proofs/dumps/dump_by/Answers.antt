@@ -8,4 +8,4 @@ returns-in-Ok-clause-dumps g c file holds has =
     c.send_records.result c.send_records.new.scan c.in-Ok.ensures.sent (c.send_records.ensures.sends file [] holds has)
 
 pub returns-in-Ok-clause-cause : goal.returns-in-Ok-clause-cause
-returns-in-Ok-clause-cause g c t has = c.send_records.ensures.cause t [] has
+returns-in-Ok-clause-cause g c t = c.send_records.ensures.cause t

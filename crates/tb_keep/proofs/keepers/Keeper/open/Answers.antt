@@ -5,12 +5,11 @@ use Rattle.tb_keep.proofs.keepers.Keeper.open.Goals as goal
 
 pub open_short-requires-clause-restored : goal.open_short-requires-clause-restored
 open_short-requires-clause-restored g c t =
-    let old = g.D.Device.disk c.args.device in
-    subst (λ (f : List ℕ). IsRestoredFrom c.args.rules.profile c.args.rules.clients_max f c.in-Ok.machine c.in-Ok.extent) (sym (c.restored.ensures.untouched t).seen)
-    (c.in-Ok.ensures.found old.seen (g.met.D.Device.holds_seen c.args.device t))
-
-pub open_short-requires-clause-kept : goal.open_short-requires-clause-kept
-open_short-requires-clause-kept g c t sound = c.in-Ok.ensures.kept t (sym (c.in-Ok.ensures.sound t) ∙ sound)
+    let old = g.D.Device.disk c.args.device in (
+      λ sound. c.in-Ok.ensures.kept t (sym (c.in-Ok.ensures.sound t) ∙ sound),
+      subst (λ (f : List ℕ). IsRestoredFrom c.args.rules.profile c.args.rules.clients_max f c.in-Ok.machine c.in-Ok.extent) (sym (c.restored.ensures.untouched t).seen)
+          (c.in-Ok.ensures.found old.seen (g.met.D.Device.holds_seen c.args.device t)),
+    )
 
 pub returns-in-Ok-clause-refused : goal.returns-in-Ok-clause-refused
 returns-in-Ok-clause-refused g c t =
