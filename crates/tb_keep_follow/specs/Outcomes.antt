@@ -7,7 +7,7 @@ use Rattle.tb_journal.specs.declared.faults.Fault as journal
 use Rattle.tb_journal.specs.declared.reading.Extent.{Extent}
 use Rattle.tb_journal.specs.Device.{LeavesOnly}
 use Rattle.tb_log.specs.Following.{Following}
-use Rattle.tb_keep.specs.declared.heads.Rules.{Rules}
+use Rattle.tb_keep.specs.declared.restoring.Rules.{Rules}
 use Rattle.tb_keep.specs.Opening.{IsUntouched}
 use Rattle.tb_keep_log.specs.declared.faults.DumpLogFault.{DumpLogFault}
 use Rattle.tb_keep_log.specs.declared.faults.KeepLogFault.{KeepLogFault}
@@ -146,6 +146,14 @@ module _ {D : Type 0} (its : devices.Ghosts D) {O : Type 0} (may : Result D Open
       Opens may left outcome (written ≡ start) (λ device. (after : D) × DumpsFile its outcome rules device after start written)
 
 -- what private functions alone cite
+
+-- a file was dumped behind its reading, or with it, over a writer
+module _ {D : Type 0} (its : devices.Ghosts D) {W : Type 0} (output : W → Output) where
+  abbrev pub DumpsReadOn : Outcome → Rules → D → D → W → W → Type 0
+  DumpsReadOn outcome rules device after writer later = DumpsRead its outcome rules device after (output writer) (output later)
+
+  abbrev pub DumpsFileOn : Outcome → Rules → D → D → W → W → Type 0
+  DumpsFileOn outcome rules device after writer later = DumpsFile its outcome rules device after (output writer) (output later)
 
 -- a log of these rules was followed over the file of a name, between the ends of a command
 abbrev pub FollowsOn : {O D E R W L : Type 0} → KnownEnds O D E R W L → Rules → List ℕ → O → O → Outcome → R → R → W → W → L → L → Type 0

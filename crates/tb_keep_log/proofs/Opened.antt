@@ -14,7 +14,7 @@ use Rattle.tb_journal.specs.Ready.{Kept, IsReady}
 use Rattle.tb_journal.proofs.Moments.{then, weaker}
 use Rattle.tb_journal.proofs.Opened.{is_told}
 use Rattle.tb_log.specs.Following.{Following}
-use Rattle.tb_keep.specs.declared.heads.Rules.{Rules}
+use Rattle.tb_keep.specs.declared.restoring.Rules.{Rules}
 use Rattle.tb_keep.specs.Opening.{IsUntouched}
 use Rattle.tb_keep.specs.Restoration.{torn_bytes}
 use Rattle.tb_keep.proofs.Opened.{Counts, untouched_then}
@@ -40,6 +40,11 @@ opened_as {D} disk file journal keeper rules F extent cut by_rules is now cut_is
   };
   cut = cut_is ∙ torn;
 }
+
+pub opened_ready : {D : Type 0} (disk : D → Disk) (file : List ℕ) (result : Result (Keeping D) (NotStarted D)) → IfOk result (IsOpened disk file)
+    → IfOk result (λ keeper. IsReady disk keeper.journal)
+opened_ready disk file (Ok keeper) opened = opened.keeps.ready
+opened_ready disk file (Err failed) opened = tt
 
 -- what a crash may leave
 
