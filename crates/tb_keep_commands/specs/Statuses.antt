@@ -31,7 +31,7 @@ use Rattle.tb_keep.specs.declared.faults.KeepFault.{KeepFault}
 use Rattle.tb_keep.specs.declared.faults.KeepFault.TheVariants as keep
 use Rattle.tb_keep.specs.declared.faults.StartFault.{StartFault}
 use Rattle.tb_keep.specs.declared.faults.StartFault.TheVariants as start
-use Rattle.tb_keep.specs.declared.heads.Rules.{Rules}
+use Rattle.tb_keep.specs.declared.restoring.Rules.{Rules}
 use Rattle.tb_keep_commands.specs.declared.faults.Damage.{Damage}
 use Rattle.tb_keep_commands.specs.declared.faults.Damage.TheVariants.{Block, Record, Entry, Torn}
 use Rattle.tb_keep_commands.specs.declared.faults.Fault.{Fault}

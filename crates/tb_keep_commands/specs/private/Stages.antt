@@ -3,7 +3,7 @@
 use Rattle.std.specs.Prelude.{ℕ, Bool}
 use Rattle.tb_records.specs.Transport.{Input, Output}
 use Rattle.tb_journal.specs.declared.devices.Device as devices
-use Rattle.tb_keep.specs.declared.heads.Rules.{Rules}
+use Rattle.tb_keep.specs.declared.restoring.Rules.{Rules}
 use Rattle.tb_keep.specs.Keeping.{Keeping}
 use Rattle.tb_keep_commands.specs.declared.commands.Asked.{Asked}
 use Rattle.tb_keep_commands.specs.declared.serving.Told.{Told}
