@@ -147,6 +147,14 @@ module _ {D : Type 0} (its : devices.Ghosts D) {O : Type 0} (may : Result D Open
 
 -- what private functions alone cite
 
+-- a file was dumped behind its reading, or with it, over a writer
+module _ {D : Type 0} (its : devices.Ghosts D) {W : Type 0} (output : W → Output) where
+  abbrev pub DumpsReadOn : Outcome → Rules → D → D → W → W → Type 0
+  DumpsReadOn outcome rules device after writer later = DumpsRead its outcome rules device after (output writer) (output later)
+
+  abbrev pub DumpsFileOn : Outcome → Rules → D → D → W → W → Type 0
+  DumpsFileOn outcome rules device after writer later = DumpsFile its outcome rules device after (output writer) (output later)
+
 -- a log of these rules was followed over the file of a name, between the ends of a command
 abbrev pub FollowsOn : {O D E R W L : Type 0} → KnownEnds O D E R W L → Rules → List ℕ → O → O → Outcome → R → R → W → W → L → L → Type 0
 FollowsOn its rules name before left outcome first last start written quiet told =

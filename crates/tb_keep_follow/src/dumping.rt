@@ -2,7 +2,7 @@
 ghost use Rattle.std.specs.Prelude.{◌≡◌, ℕ, List};
 ghost use Rattle.tb_keep.specs.Opening.{IsUntouched};
 ghost use Rattle.tb_keep_log.specs.Restoring.{HasLogCause};
-ghost use Rattle.tb_keep_follow.specs.Outcomes.{ReadsLog, DumpsRead, DumpsFile, dumped_outcome};
+ghost use Rattle.tb_keep_follow.specs.Outcomes.{ReadsLog, DumpsReadOn, DumpsFileOn, dumped_outcome};
 
 use crate::faults::{FollowFault, dumped_fault, started_fault};
 use std::alloc::Global;
@@ -44,7 +44,7 @@ fn dump_read<D: Device, W: Sink>(
     device: &mut D,
     writer: &mut W,
 ) -> Result<(), FollowFault>
-    ensures { DumpsRead D.Device result rules device.old device.new (W.output writer.old) (W.output writer.new) }
+    ensures { DumpsReadOn D.Device W.output result rules device.old device.new writer.old writer.new }
 {
     dumped_outcome(write_log_dump(alloc, device, rules, writer))
 }
@@ -56,7 +56,7 @@ pub(crate) fn dump<D: Device, W: Sink>(
     device: &mut D,
     writer: &mut W,
 ) -> Result<(), FollowFault>
-    ensures { DumpsFile D.Device result rules device.old device.new (W.output writer.old) (W.output writer.new) }
+    ensures { DumpsFileOn D.Device W.output result rules device.old device.new writer.old writer.new }
 {
     let same = rules;
     match read_whole(alloc, same, device) {

@@ -1,5 +1,5 @@
 -- An entry that is served in memory.
-use Rattle.std.proofs.Common.{◌≡◌, ◌≢◌, ◌⊎◌, inl, inr, ⊎_elim, ℕ, ◌+◌, ◌≤◌, List, [], length, drop, fold, Option, Some, Result, Ok, Err, OnOk, IfErr, refl, sym, ap, subst, ◌∙◌, append-nil}
+use Rattle.std.proofs.Common.{arith, ◌≡◌, ◌≢◌, ◌⊎◌, inl, inr, ⊎_elim, ℕ, ◌+◌, ◌-◌, ◌≤◌, List, [], length, length-drop, take, take_all, drop, fold, Option, Some, Result, Ok, Err, OnOk, IfErr, refl, sym, ap, subst, ◌∙◌, append-nil}
 use Rattle.std.specs.Io.KnownBytes.{Appends}
 use Rattle.tb_records.specs.declared.limits.Profile.{Profile}
 use Rattle.tb_records.specs.Transport.{Output}
@@ -65,6 +65,10 @@ drops_entry TooMany content F start written stops =
     absurd (never TooMany (with_content F content) content start written (λ is. let no : TooMany ≡ NoMemory = is in absurd (cc)) (λ i G H p a b none. none) stops)
 
 -- the entry of a record
+
+-- its content, as the code cuts it out
+pub whole_content : (bytes : List ℕ) → take (length bytes - 79) (drop 79 bytes) ≡ drop fixed_bytes bytes
+whole_content bytes = take_all (length bytes - 79) (drop 79 bytes) (omega (arith, length-drop 79 bytes))
 
 stops_of : (profile : Profile) (clients_max : ℕ) (F : Following) (bytes : List ℕ) (fault : LogFault) → HasMark profile clients_max bytes → (fault ≡ NoMemory) ⊎ RefusesContent fault F (drop fixed_bytes bytes) → StopsAt (of_log fault) profile clients_max F bytes
 stops_of profile clients_max F bytes NoMemory marked why = tt

@@ -41,6 +41,11 @@ opened_as {D} disk file journal keeper rules F extent cut by_rules is now cut_is
   cut = cut_is ∙ torn;
 }
 
+pub opened_ready : {D : Type 0} (disk : D → Disk) (file : List ℕ) (result : Result (Keeping D) (NotStarted D)) → IfOk result (IsOpened disk file)
+    → IfOk result (λ keeper. IsReady disk keeper.journal)
+opened_ready disk file (Ok keeper) opened = opened.keeps.ready
+opened_ready disk file (Err failed) opened = tt
+
 -- what a crash may leave
 
 still_before : (before mid : Disk) → Counts mid → IsUntouched before mid → (c : List ℕ) → IsAsBefore mid c → IsAsBefore before c

@@ -18,6 +18,7 @@ use Rattle.tb_machine.specs.Runs.{IsTimely}
 use Rattle.tb_machine.specs.Scripts.{Pair, after_pair}
 use Rattle.tb_log.specs.Following.{Following, script_of}
 use Rattle.tb_log.specs.Format.{content_of}
+use Rattle.tb_keep.specs.declared.restoring.Rules.{Rules}
 use Rattle.tb_keep.specs.Rounds.{entries_from, state_from, IsUntimely}
 use Rattle.tb_keep_log.specs.declared.faults.DumpLogFault.{DumpLogFault}
 use Rattle.tb_keep_log.specs.declared.faults.DumpLogFault.TheVariants as dump
@@ -100,6 +101,10 @@ DumpsLog (Ok done) profile clients_max file before after =
     (records : List (List ℕ)) × (ps : List Pair) × (contents file ≡ Records records) × HasPairs records ps × AreTimely (start profile clients_max) ps
     × Sent (dump_of_pairs profile clients_max ps) before after × Each (HasMark profile clients_max) records
 DumpsLog (Err fault) profile clients_max file before after = StopsDump fault profile clients_max file × DumpsFirst fault profile clients_max file before after
+
+-- the same by the rules of a file, over a writer
+abbrev pub DumpsBy : {W : Type 0} → Rules → (W → Output) → Result (Unit {0}) DumpLogFault → W → W → List ℕ → Type 0
+DumpsBy rules output result writer later file = DumpsLog result rules.profile rules.clients_max file (output writer) (output later)
 
 -- the cause of a dump's fault, by what the device has counted since: of one of the file, that which it has when it is read; behind any
 -- other no call on the device has failed

@@ -1,10 +1,11 @@
 -- What the file of a kept log represents, and what a keeper is that keeps it.
--- Cited by public contracts of: keepers, opening, serving.
+-- Cited by public contracts of: dumps, keepers, opening, restoring, serving.
 use Rattle.std.specs.Prelude.{ℕ, ◌≡◌, Bool, true, List, [], ◌∷◌, ◌++◌, codes, refl}
 use Rattle.tb_records.specs.declared.limits.Profile.{Profile}
 use Rattle.tb_records.specs.declared.limits.Profile.TheVariants.{Two}
 use Rattle.tb_records.specs.DumpBytes.{profile_number}
 use Rattle.tb_records.specs.Ordered.{Each}
+use Rattle.tb_journal.specs.declared.devices.Device as devices
 use Rattle.tb_journal.specs.Device.{Disk}
 use Rattle.tb_journal.specs.Contents.{recorded}
 use Rattle.tb_journal.specs.Ready.{Kept, IsReady}
@@ -63,6 +64,26 @@ pub record Keeps {D : Type 0} (disk : D → Disk) (records : List (List ℕ)) (k
   pub file : recorded (disk keeper.journal.device).seen ≡ records
   pub kept : IsKept keeper.rules.profile keeper.rules.clients_max records keeper.now
 
+-- what holds by the rules of a file: by its profile and its number of clients
+abbrev pub By {ℓ} : {T : Type ℓ} → Rules → (Profile → ℕ → T) → T
+By rules P = P rules.profile rules.clients_max
+
+-- of the file that the reads of a device are of
+abbrev pub OfHeld : (List ℕ → Type 0) → (List ℕ → Type 0) → Type 0
+OfHeld holds P = (file : List ℕ) → holds file → P file
+
+-- of this file, where a scan has read no record of it
+abbrev pub OfUnread : (List ℕ → Type 0) → Place → (List ℕ → Type 0) → Type 0
+OfUnread holds scan P = (file : List ℕ) → holds file → HasRead [] file scan → P file
+
+-- of this file, and of the records that a scan has read of it
+abbrev pub OfEachRead : (List ℕ → Type 0) → Place → (List (List ℕ) → List ℕ → Type 0) → Type 0
+OfEachRead holds scan P = (file : List ℕ) (read : List (List ℕ)) → holds file → HasRead read file scan → P read file
+
+-- of a device that reports what its calls do, where no sync has failed before
+abbrev pub IfSound : {D : Type 0} → devices.Ghosts D → D → Type 0 → Type 0
+IfSound its device P = its.tells → (its.disk device).sound ≡ true → P
+
 -- rows
 
 pub mark_of_profile_two : mark Two 8 ≡ 84 ∷ 66 ∷ 70 ∷ 49 ∷ 2 ∷ 8 ∷ []
@@ -71,7 +92,3 @@ mark_of_profile_two = refl
 -- a question leaves nothing
 pub no_record_of_a_question : records_from Two 8 (begun Two 8) (Question ∷ []) ≡ []
 no_record_of_a_question = refl
-
--- of each file that the reads are of, and of the records that a scan has read of it
-abbrev pub OfEachRead : (List ℕ → Type 0) → Place → (List (List ℕ) → List ℕ → Type 0) → Type 0
-OfEachRead holds scan P = (file : List ℕ) (read : List (List ℕ)) → holds file → HasRead read file scan → P read file

@@ -4,20 +4,18 @@ use Rattle.std.specs.Prelude.{ℕ, true, false, ◌≡◌, ◌⊎◌, ◌+◌, �
 use Rattle.tb_records.specs.declared.limits.Profile.{Profile}
 use Rattle.tb_journal.specs.declared.faults.Fault.TheVariants.{NotEmpty}
 use Rattle.tb_journal.specs.declared.opening.OpenFault.TheVariants as open_faults
-use Rattle.tb_journal.specs.Device.{Disk, FailsNone}
+use Rattle.tb_journal.specs.Device.{Disk, FailsNone, LeavesOnly}
 use Rattle.tb_journal.specs.Contents.{Records, contents, recorded}
 use Rattle.tb_journal.specs.Opening.{IsAsBefore}
 use Rattle.tb_journal.specs.Creating.{is_blank, IsCreateCause, MayBeCreated}
-use Rattle.tb_log.specs.Following.{begun, Following}
+use Rattle.tb_log.specs.Following.{begun}
 use Rattle.tb_keep.specs.Opening.{IsUntouched}
 use Rattle.tb_keep.specs.Restoration.{torn_bytes}
 use Rattle.tb_keep_log.specs.declared.faults.LogStartFault.{LogStartFault}
 use Rattle.tb_keep_log.specs.declared.faults.LogStartFault.TheVariants as start
 use Rattle.tb_keep_log.specs.declared.opening.NotStarted.{NotStarted}
 use Rattle.tb_keep_log.specs.Keeping.{Keeping, Keeps, IsKept}
-use Rattle.tb_keep_log.specs.Restoring.{IsLogCause, StopsOpening, IsRestored}
-use Rattle.tb_keep.specs.declared.restoring.Rules.{Rules}
-use Rattle.tb_journal.specs.declared.reading.Extent.{Extent}
+use Rattle.tb_keep_log.specs.Restoring.{IsLogCause, StopsOpening}
 
 -- the device of a keeper, or the one that is given back
 abbrev pub device_left : {D : Type 0} → Result (Keeping D) (NotStarted D) → D
@@ -91,6 +89,16 @@ pub record HasStartCause {T : Type 0} (result : Result T LogStartFault) (before 
   pub ok : OnOk result (FailsNone before after)
   pub cause : IfErr result (IsStartCause before after)
 
--- a file of which this follower was restored is opened by it, or it is reported why not
-abbrev pub OpensRestored : {D : Type 0} → Result (Keeping D) (NotStarted D) → Rules → Following → Extent → List ℕ → Type 0
-OpensRestored result rules F extent file = IsRestored rules.profile rules.clients_max file F extent → OpensFile result rules.profile rules.clients_max file
+-- where no sync has failed before, a crash at any moment of a call leaves such a file
+abbrev pub LeavesIfSound : {D : Type 0} → (D → Disk) → D → D → (Disk → List ℕ → Type 0) → Type 0
+LeavesIfSound disk before after May = (disk before).sound ≡ true → LeavesOnly (disk before) (disk after) (May (disk before))
+
+-- what a call says of a device that it was given, by the disk before it and behind it
+module _ {D : Type 0} (disk : D → Disk) (device : D) (result : Result (Keeping D) (NotStarted D)) where
+  -- where the device is given back, its file was refused for this fault
+  abbrev pub Refuses : (LogStartFault → Disk → Disk → Type 0) → Type 0
+  Refuses Why = IfErr result (λ failed. Why failed.fault (disk device) (disk failed.device))
+
+  -- the fault has its cause, by what the device has counted meanwhile
+  abbrev pub CausedBy : (Result (Unit {0}) LogStartFault → Disk → Disk → Type 0) → Type 0
+  CausedBy Has = Has (why_left result) (disk device) (disk (device_left result))

@@ -20,7 +20,7 @@ use Rattle.tb_log.specs.Follows.{ItemFits, Stops}
 use Rattle.tb_keep.specs.Restoration.{torn_bytes}
 use Rattle.tb_keep_log.specs.declared.faults.LogStartFault.{LogStartFault}
 use Rattle.tb_keep_log.specs.declared.faults.LogStartFault.TheVariants as start
-use Rattle.tb_keep_log.specs.Keeping.{mark, record_bytes, IsKept}
+use Rattle.tb_keep_log.specs.Keeping.{By, mark, record_bytes, IsKept}
 use Rattle.tb_keep.specs.declared.restoring.Rules.{Rules}
 
 -- the record of an entry that comes next behind a follower, which it leads on
@@ -129,4 +129,4 @@ pub record HasLogCause {T : Type 0} (result : Result T LogStartFault) (before af
 abbrev pub IsOtherRecord : Rules → Following → ℕ → List ℕ → List ℕ → LogStartFault → Type 0
 IsOtherRecord rules F position bytes content fault =
     (fault ≡ start.NoMemory)
-    ⊎ ((fault ≡ start.OtherHashes position) × (bytes ≢ record_bytes rules.profile rules.clients_max F content))
+    ⊎ ((fault ≡ start.OtherHashes position) × (bytes ≢ By rules record_bytes F content))

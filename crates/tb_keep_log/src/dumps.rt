@@ -1,13 +1,13 @@
 //! The history of a kept log as a dump, which has no positions.
-ghost use Rattle.std.specs.Prelude.{◌≡◌, ◌≤◌, true, ℕ, List, [], length, IfOk};
-ghost use Rattle.tb_journal.specs.Scans.{HasRead, GoesFurther};
+ghost use Rattle.std.specs.Prelude.{◌≡◌, ◌≤◌, true, length, IfOk};
+ghost use Rattle.tb_journal.specs.Scans.{GoesFurther};
 ghost use Rattle.tb_log.specs.Format.{content_max};
 ghost use Rattle.tb_machine.specs.Runs.{is_new_in};
 ghost use Rattle.tb_keep.specs.private.Entering.{StaysKept};
 ghost use Rattle.tb_keep.specs.Opening.{IsUntouched};
-ghost use Rattle.tb_keep_log.specs.Dumping.{DumpsLog, HasDumpCause, no_pair};
-ghost use Rattle.tb_keep_log.specs.private.DumpSteps.{DumpsPair, DumpsContent, DumpsRecord, ReadCause, DumpsNextOver, DumpsAllOver, DumpsLogOver};
-ghost use Rattle.tb_keep_log.specs.Keeping.{OfEachRead};
+ghost use Rattle.tb_keep_log.specs.Dumping.{DumpsBy, HasDumpCause, no_pair};
+ghost use Rattle.tb_keep_log.specs.private.DumpSteps.{DumpsOne, DumpsPairsOf, DumpsRecord, ReadCause, DumpsNextOver, DumpsAllOver};
+ghost use Rattle.tb_keep_log.specs.Keeping.{By, OfEachRead, OfHeld, OfUnread};
 
 use crate::faults::{DumpLogFault, LogStartFault};
 use crate::marks::{FIXED_BYTES, check_mark};
@@ -30,7 +30,7 @@ fn dump_new<W: Sink>(
     request: Request,
 ) -> Result<(), DumpLogFault>
     requires { is_new_in machine.old (moment, request) ≡ true }
-    ensures { DumpsPair result machine.old machine.new (moment, request) (W.output writer.old) (W.output writer.new) }
+    ensures { DumpsOne W.output result machine.old machine.new (moment, request) writer.old writer.new }
 {
     let Some(entry) = machine.next_entry(request, moment) else {
         return Err(DumpLogFault::TimeExhausted);
@@ -56,7 +56,7 @@ fn dump_pair<W: Sink>(
     moment: u64,
     request: Request,
 ) -> Result<(), DumpLogFault>
-    ensures { DumpsPair result machine.old machine.new (moment, request) (W.output writer.old) (W.output writer.new) }
+    ensures { DumpsOne W.output result machine.old machine.new (moment, request) writer.old writer.new }
 {
     match machine.class(&request) {
         Class::New => dump_new(global, machine, writer, moment, request),
@@ -82,7 +82,7 @@ fn dump_content<W: Sink>(
     writer: &mut W,
 ) -> Result<(), DumpLogFault>
     requires { length content.now ≤ content_max }
-    ensures { DumpsContent result machine.old machine.new content.now (W.output writer.old) (W.output writer.new) }
+    ensures { DumpsPairsOf W.output result machine.old machine.new content.now writer.old writer.new }
 {
     let mut source = Counting::new(content);
     for index in 0..0x100_0000u32 {
@@ -109,8 +109,7 @@ fn dump_record<W: Sink>(
     bytes: &[u8],
     writer: &mut W,
 ) -> Result<(), DumpLogFault>
-    ensures { DumpsRecord result rules.profile rules.clients_max last machine.old machine.new bytes.now (W.output writer.old)
-        (W.output writer.new) }
+    ensures { By rules (DumpsRecord result) last machine.old machine.new bytes.now (W.output writer.old) (W.output writer.new) }
 {
     match check_mark(bytes, rules, last) {
         Ok(_) => dump_content(global, machine, &bytes[FIXED_BYTES..], writer),
@@ -128,7 +127,7 @@ fn dump_next<D: Device, W: Sink>(
     writer: &mut W,
 ) -> Result<bool, DumpLogFault>
     ensures dumps { OfEachRead (D.holds device.old) scan.old (DumpsNextOver rules W.output result scan.new machine.old machine.new writer.old writer.new) }
-    ensures same { (file : List ℕ) → D.holds device.old file → D.holds device.new file }
+    ensures same { OfHeld (D.holds device.old) (D.holds device.new) }
     ensures stays { D.tells → StaysKept (D.disk device.old) (D.disk device.new) }
     ensures cause { D.tells → ReadCause result scan.old (D.disk device.old) (D.disk device.new) }
     ensures further { IfOk result (λ more. more ≡ true → GoesFurther scan.old scan.new) }
@@ -154,7 +153,7 @@ fn dump_all<D: Device, W: Sink>(
     writer: &mut W,
 ) -> Result<(), DumpLogFault>
     ensures dumps { OfEachRead (D.holds device.old) scan.old (DumpsAllOver rules W.output result machine.old writer.old writer.new) }
-    ensures same { (file : List ℕ) → D.holds device.old file → D.holds device.new file }
+    ensures same { OfHeld (D.holds device.old) (D.holds device.new) }
     ensures stays { D.tells → StaysKept (D.disk device.old) (D.disk device.new) }
     ensures cause { D.tells → ReadCause result scan.old (D.disk device.old) (D.disk device.new) }
 {
@@ -176,11 +175,10 @@ fn dump_by<D: Device, W: Sink>(
     device: &mut D,
     writer: &mut W,
 ) -> Result<(), DumpLogFault>
-    ensures dumps { (file : List ℕ) → D.holds device.old file → HasRead [] file scan.old → DumpsLogOver rules W.output result file writer.old writer.new }
-    ensures same { (file : List ℕ) → D.holds device.old file → D.holds device.new file }
+    ensures dumps { OfUnread (D.holds device.old) scan.old (DumpsBy rules W.output result writer.old writer.new) }
+    ensures same { OfHeld (D.holds device.old) (D.holds device.new) }
     ensures stays { D.tells → StaysKept (D.disk device.old) (D.disk device.new) }
-    ensures cause { D.tells → HasRead [] (D.disk device.old).seen scan.old
-        → HasDumpCause result (D.disk device.old) (D.disk device.new) }
+    ensures cause { D.tells → ReadCause result scan.old (D.disk device.old) (D.disk device.new) }
 {
     let _clients = rules.clients_max.get();
     let Ok(mut machine) = Machine::new_in(global, global, rules.profile, rules.clients_max) else {
@@ -206,9 +204,8 @@ pub fn write_log_dump<D: Device, W: Sink>(
     writer: &mut W,
 ) -> Result<(), DumpLogFault>
     // Of any device, by the file that its reads are of.
-    ensures dumps { (file : List ℕ) → D.holds device.old file
-        → DumpsLog result rules.profile rules.clients_max file (W.output writer.old) (W.output writer.new) }
-    ensures same { (file : List ℕ) → D.holds device.old file → D.holds device.new file }
+    ensures dumps { OfHeld (D.holds device.old) (DumpsBy rules W.output result writer.old writer.new) }
+    ensures same { OfHeld (D.holds device.old) (D.holds device.new) }
     ensures untouched { D.tells → IsUntouched (D.disk device.old) (D.disk device.new) }
     ensures cause { D.tells → HasDumpCause result (D.disk device.old) (D.disk device.new) }
 {

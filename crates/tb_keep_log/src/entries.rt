@@ -1,8 +1,8 @@
 //! An entry served in memory; the entry of a record entered again, and compared with it.
-ghost use Rattle.std.specs.Prelude.{◌≡◌, ◌≤◌, ◌+◌, true, nat_eq, length, drop, IfOk, IfErr, OnOk};
+ghost use Rattle.std.specs.Prelude.{◌≡◌, ◌≤◌, ◌+◌, true, nat_eq, length, IfOk, IfErr, OnOk};
 ghost use Rattle.std.specs.List.{starts_with};
 ghost use Rattle.tb_log.specs.Format.{content_max};
-ghost use Rattle.tb_keep_log.specs.Keeping.{mark, record_bytes};
+ghost use Rattle.tb_keep_log.specs.Keeping.{By, mark, record_bytes};
 ghost use Rattle.tb_keep_log.specs.Restoring.{fixed_bytes, IsOtherRecord};
 ghost use Rattle.tb_keep_log.specs.private.Steps.{in_memory, of_log, HoldsEntry, DropsEntry, Enters};
 
@@ -63,8 +63,7 @@ fn compare<A: Allocator + Clone>(
     bytes: &[u8],
     content: &[u8],
 ) -> Result<(), LogStartFault>
-    ensures same { OnOk result
-        (bytes.now ≡ record_bytes rules.profile rules.clients_max follower.now content.now) }
+    ensures same { OnOk result (bytes.now ≡ By rules record_bytes follower.now content.now) }
     ensures other { IfErr result (IsOtherRecord rules follower.now position bytes.now content.now) }
 {
     match record_of(global, rules, follower, content) {
@@ -87,10 +86,10 @@ fn enter_at<A: Allocator + Clone>(
     bytes: &[u8],
 ) -> Result<(), LogStartFault>
     requires next { position ≡ follower.old.position + 1 }
-    requires marked { starts_with nat_eq bytes.now (mark rules.profile rules.clients_max) ≡ true }
+    requires marked { starts_with nat_eq bytes.now (By rules mark) ≡ true }
     requires long { fixed_bytes ≤ length bytes.now }
     requires few { length bytes.now ≤ fixed_bytes + content_max }
-    ensures { Enters result rules.profile rules.clients_max bytes.now follower.old follower.new }
+    ensures { By rules (Enters result) bytes.now follower.old follower.new }
 {
     let content = &bytes[FIXED_BYTES..];
     match check_pairs(global, position, content) {
@@ -114,7 +113,7 @@ pub(crate) fn enter_record<A: Allocator + Clone>(
     follower: &mut Follower<A>,
     bytes: &[u8],
 ) -> Result<(), LogStartFault>
-    ensures { Enters result rules.profile rules.clients_max bytes.now follower.old follower.new }
+    ensures { By rules (Enters result) bytes.now follower.old follower.new }
 {
     let same = rules;
     match check_mark(bytes, same, follower.position()) {

@@ -2,7 +2,7 @@
 ghost use Rattle.std.specs.Prelude.{◌≡◌, ◌≤◌, ◌+◌, true, false, nat_eq, length, IfOk, IfErr, OnOk};
 ghost use Rattle.std.specs.List.{starts_with};
 ghost use Rattle.tb_log.specs.Format.{content_max};
-ghost use Rattle.tb_keep_log.specs.Keeping.{mark, record_bytes};
+ghost use Rattle.tb_keep_log.specs.Keeping.{By, mark, record_bytes};
 ghost use Rattle.tb_keep_log.specs.Restoring.{RefusesMark, fixed_bytes};
 
 use crate::faults::LogStartFault;
@@ -19,7 +19,7 @@ const CONTENT_BYTES_MAX: usize = 0xFF_FFFF;
 
 /// The first bytes of each record of these rules.
 fn write_mark(rules: Rules) -> [u8; 6]
-    ensures { result ≡ mark rules.profile rules.clients_max }
+    ensures { result ≡ By rules mark }
 {
     let number = match rules.profile {
         Profile::One => 1,
@@ -35,8 +35,7 @@ pub(crate) fn record_of<A: Allocator + Clone>(
     follower: &Follower<A>,
     content: &[u8],
 ) -> Result<Vec<u8>, AllocError>
-    ensures { IfOk result
-        (λ made. made.items ≡ record_bytes rules.profile rules.clients_max follower.now content.now) }
+    ensures { IfOk result (λ made. made.items ≡ By rules record_bytes follower.now content.now) }
 {
     let standing = follower.standing(global)?;
     let mut record = Vec::new(global);
@@ -48,8 +47,8 @@ pub(crate) fn record_of<A: Allocator + Clone>(
 
 /// Why a record that begins otherwise is refused, behind the entry of this position.
 fn other_mark(bytes: &[u8], rules: Rules, last: u64) -> LogStartFault
-    requires { starts_with nat_eq bytes.now (mark rules.profile rules.clients_max) ≡ false }
-    ensures { RefusesMark result rules.profile rules.clients_max last bytes.now }
+    requires { starts_with nat_eq bytes.now (By rules mark) ≡ false }
+    ensures { By rules (RefusesMark result) last bytes.now }
 {
     if bytes.starts_with(&[84, 66, 75, 49]) {
         return LogStartFault::Plain;
@@ -63,10 +62,10 @@ fn other_mark(bytes: &[u8], rules: Rules, last: u64) -> LogStartFault
 /// The position of the entry of a record behind the entry of this position, by the record's first bytes and its length.
 pub(crate) fn check_mark(bytes: &[u8], rules: Rules, last: u64) -> Result<u64, LogStartFault>
     ensures next { IfOk result (λ position. position ≡ last + 1) }
-    ensures marked { OnOk result (starts_with nat_eq bytes.now (mark rules.profile rules.clients_max) ≡ true) }
+    ensures marked { OnOk result (starts_with nat_eq bytes.now (By rules mark) ≡ true) }
     ensures long { OnOk result (fixed_bytes ≤ length bytes.now) }
     ensures few { OnOk result (length bytes.now ≤ fixed_bytes + content_max) }
-    ensures refused { IfErr result (λ fault. RefusesMark fault rules.profile rules.clients_max last bytes.now) }
+    ensures refused { IfErr result (λ fault. By rules (RefusesMark fault) last bytes.now) }
 {
     let same = rules;
     if !bytes.starts_with(&write_mark(same)) {

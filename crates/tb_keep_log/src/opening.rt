@@ -1,16 +1,16 @@
 //! The file of a kept log is created, or opened after a crash.
-ghost use Rattle.std.specs.Prelude.{◌≡◌, ◌≤◌, true, ℕ, List, Ok, IfOk, IfErr};
-ghost use Rattle.tb_journal.specs.Device.{IsOnDisk, LeavesOnly, HasCause, IsOfCall};
+ghost use Rattle.std.specs.Prelude.{◌≡◌, ◌≤◌, Ok, IfOk, IfErr};
+ghost use Rattle.tb_journal.specs.Device.{HasCause, IsOfCall};
 ghost use Rattle.tb_journal.specs.Contents.{contents};
 ghost use Rattle.tb_journal.specs.Creating.{MayBeCreated};
 ghost use Rattle.tb_journal.specs.Reading.{extent_of};
 ghost use Rattle.tb_journal.specs.Ready.{IsReady};
 ghost use Rattle.tb_keep.specs.private.Entering.{StaysKept};
 ghost use Rattle.tb_keep.specs.Restoration.{torn_bytes};
-ghost use Rattle.tb_keep_log.specs.Keeping.{IsUsable};
+ghost use Rattle.tb_keep_log.specs.Keeping.{By, IfSound, IsUsable, OfHeld};
 ghost use Rattle.tb_keep_log.specs.Restoring.{HasLogCause, IsRestored};
-ghost use Rattle.tb_keep_log.specs.Opening.{HasStartCause, IsOpened, IsRefused, IsStartRefused, IsStarted, MayBeOpened, MayBeStarted, OpensFile, StartsFile, device_left, why_left, OpensRestored};
-ghost use Rattle.tb_keep_log.specs.private.Steps.{CreatesIn, HasCreatedCause, IsCreated, IsNotCreated, OpensAs};
+ghost use Rattle.tb_keep_log.specs.Opening.{CausedBy, HasStartCause, IsOpened, IsRefused, IsStartRefused, IsStarted, LeavesIfSound, MayBeOpened, MayBeStarted, OpensFile, Refuses, StartsFile, device_left};
+ghost use Rattle.tb_keep_log.specs.private.Steps.{CreatesIn, HasCreatedCause, IsCreated, IsNotCreated, IsReadTo, IsUsableBy, OpensAs};
 ghost use Rattle.tb_journal.specs.Opening.{LeavesSameRecords};
 
 use crate::faults::LogStartFault;
@@ -44,9 +44,8 @@ fn not_started<D: Device>(failed: NotOpened<D>) -> NotStarted<D>
 
 /// The number of torn bytes of a file that was read to this extent: those behind its records and the latch there.
 fn torn_behind<D: Device>(device: &mut D, extent: Extent) -> Result<u64, Fault>
-    ensures torn { (file : List ℕ) → D.holds device.old file → extent_of (contents file) ≡ Ok extent
-        → IfOk result (λ torn. torn ≡ torn_bytes file) }
-    ensures same { (file : List ℕ) → D.holds device.old file → D.holds device.new file }
+    ensures torn { OfHeld (D.holds device.old) (λ file. extent_of (contents file) ≡ Ok extent → IfOk result (λ torn. torn ≡ torn_bytes file)) }
+    ensures same { OfHeld (D.holds device.old) (D.holds device.new) }
     ensures stays { D.tells → StaysKept (D.disk device.old) (D.disk device.new) }
     ensures named { IfErr result IsOfCall }
     ensures cause { D.tells → HasCause result (D.disk device.old) (D.disk device.new) }
@@ -67,16 +66,11 @@ fn open_read<D: Device, A: Allocator + Clone>(
     cut: u64,
 ) -> Result<LogKeeper<D, A>, NotStarted<D>>
     requires few { extent.count ≤ extent.end }
-    requires kept { D.tells → (D.disk device).sound ≡ true → IsOnDisk (D.disk device) }
-    requires restored { D.tells
-        → IsRestored rules.profile rules.clients_max (D.disk device).seen follower extent }
+    requires read { D.tells → IsReadTo rules follower extent (D.disk device) }
     requires torn { D.tells → cut ≡ torn_bytes (D.disk device).seen }
-    ensures opened { D.tells → (D.disk device).sound ≡ true
-        → IfOk result (IsOpened D.disk (D.disk device).seen) }
-    ensures ready { D.tells → (D.disk device).sound ≡ true
-        → IfOk result (λ keeper. IsReady D.disk keeper.journal) }
+    ensures opened { IfSound D.Device device (IfOk result (IsOpened D.disk (D.disk device).seen)) }
     ensures any_moment { D.tells → LeavesSameRecords (D.disk device) (D.disk (device_left result)) }
-    ensures cause { D.tells → HasLogCause (why_left result) (D.disk device) (D.disk (device_left result)) }
+    ensures cause { D.tells → CausedBy D.disk device result HasLogCause }
     ensures usable { IfOk result IsUsable }
     ensures any_device { OpensAs result rules follower cut }
 {
@@ -96,23 +90,13 @@ fn open_short<D: Device, A: Allocator + Clone>(
     follower: Follower<A>,
 ) -> Result<LogKeeper<D, A>, NotStarted<D>>
     requires few { extent.count ≤ extent.end }
-    requires kept { D.tells → (D.disk device).sound ≡ true → IsOnDisk (D.disk device) }
-    requires restored { D.tells
-        → IsRestored rules.profile rules.clients_max (D.disk device).seen follower extent }
-    ensures opened { D.tells → (D.disk device).sound ≡ true
-        → IfOk result (IsOpened D.disk (D.disk device).seen) }
-    ensures ready { D.tells → (D.disk device).sound ≡ true
-        → IfOk result (λ keeper. IsReady D.disk keeper.journal) }
-    ensures any_moment { D.tells → (D.disk device).sound ≡ true
-        → LeavesOnly (D.disk device) (D.disk (device_left result)) (MayBeOpened (D.disk device)) }
-    ensures refused { D.tells
-        → IfErr result
-        (λ failed.
-        IsRefused failed.fault rules.profile rules.clients_max (D.disk device) (D.disk failed.device)) }
-    ensures cause { D.tells → HasLogCause (why_left result) (D.disk device) (D.disk (device_left result)) }
-    ensures usable { IfOk result IsUsable }
-    ensures rules { IfOk result (λ keeper. keeper.rules ≡ rules) }
-    ensures handed { (file : List ℕ) → D.holds device file → OpensRestored result rules follower extent file }
+    requires read { D.tells → IsReadTo rules follower extent (D.disk device) }
+    ensures opened { IfSound D.Device device (IfOk result (IsOpened D.disk (D.disk device).seen)) }
+    ensures any_moment { D.tells → LeavesIfSound D.disk device (device_left result) MayBeOpened }
+    ensures refused { D.tells → Refuses D.disk device result (λ why. By rules (IsRefused why)) }
+    ensures cause { D.tells → CausedBy D.disk device result HasLogCause }
+    ensures usable { IfOk result (IsUsableBy rules) }
+    ensures handed { OfHeld (D.holds device) (λ file. By rules IsRestored file follower extent → By rules (OpensFile result) file) }
 {
     let mut device = device;
     match torn_behind(&mut device, extent) {
@@ -143,25 +127,18 @@ impl<D: Device, A: Allocator + Copy> LogKeeper<D, A> {
         rules: Rules,
     ) -> Result<LogKeeper<D, A>, NotStarted<D>>
         // Where no sync has failed before.
-        ensures opened { D.tells → (D.disk device).sound ≡ true
-            → IfOk result (IsOpened D.disk (D.disk device).seen) }
+        ensures opened { IfSound D.Device device (IfOk result (IsOpened D.disk (D.disk device).seen)) }
         // So `keep_log` may serve.
         ensures usable { IfOk result IsUsable }
         ensures rules { IfOk result (λ keeper. keeper.rules ≡ rules) }
-        ensures ready { D.tells → (D.disk device).sound ≡ true
-            → IfOk result (λ keeper. IsReady D.disk keeper.journal) }
+        ensures ready { IfSound D.Device device (IfOk result (λ keeper. IsReady D.disk keeper.journal)) }
         // A crash at any moment of the call leaves the records that were there, so that the call may be made again.
-        ensures any_moment { D.tells → (D.disk device).sound ≡ true
-            → LeavesOnly (D.disk device) (D.disk (device_left result)) (MayBeOpened (D.disk device)) }
+        ensures any_moment { D.tells → LeavesIfSound D.disk device (device_left result) MayBeOpened }
         // A file that is refused stays as it was.
-        ensures refused { D.tells
-            → IfErr result
-            (λ failed.
-            IsRefused failed.fault rules.profile rules.clients_max (D.disk device) (D.disk failed.device)) }
-        ensures cause { D.tells → HasLogCause (why_left result) (D.disk device) (D.disk (device_left result)) }
+        ensures refused { D.tells → Refuses D.disk device result (λ why. By rules (IsRefused why)) }
+        ensures cause { D.tells → CausedBy D.disk device result HasLogCause }
         // Of any device, by the file that its reads are of.
-        ensures handed { (file : List ℕ) → D.holds device file
-            → OpensFile result rules.profile rules.clients_max file }
+        ensures handed { OfHeld (D.holds device) (By rules (OpensFile result)) }
     {
         let mut device = device;
         let same = rules;
@@ -179,19 +156,14 @@ impl<D: Device, A: Allocator + Copy> LogKeeper<D, A> {
         device: D,
         rules: Rules,
     ) -> Result<LogKeeper<D, A>, NotStarted<D>>
-        ensures created { D.tells → (D.disk device).sound ≡ true
-            → IfOk result (IsCreated D.disk (D.disk device).seen) }
+        ensures created { IfSound D.Device device (IfOk result (IsCreated D.disk (D.disk device).seen)) }
         ensures usable { IfOk result IsUsable }
         ensures rules { IfOk result (λ keeper. keeper.rules ≡ rules) }
-        ensures ready { D.tells → (D.disk device).sound ≡ true
-            → IfOk result (λ keeper. IsReady D.disk keeper.journal) }
-        ensures any_moment { D.tells → (D.disk device).sound ≡ true
-            → LeavesOnly (D.disk device) (D.disk (device_left result)) (MayBeCreated (D.disk device)) }
-        ensures refused { D.tells
-            → IfErr result (λ failed. IsNotCreated failed.fault (D.disk device) (D.disk failed.device)) }
-        ensures cause { D.tells → HasCreatedCause (why_left result) (D.disk device) (D.disk (device_left result)) }
-        ensures handed { (file : List ℕ) → D.holds device file
-            → CreatesIn D.holds result rules.profile rules.clients_max file }
+        ensures ready { IfSound D.Device device (IfOk result (λ keeper. IsReady D.disk keeper.journal)) }
+        ensures any_moment { D.tells → LeavesIfSound D.disk device (device_left result) MayBeCreated }
+        ensures refused { D.tells → Refuses D.disk device result IsNotCreated }
+        ensures cause { D.tells → CausedBy D.disk device result HasCreatedCause }
+        ensures handed { OfHeld (D.holds device) (By rules (CreatesIn D.holds result)) }
     {
         let _clients = rules.clients_max.get();
         let Ok(follower) = Follower::new_in(global, alloc, rules.profile, rules.clients_max) else {
@@ -214,22 +186,15 @@ impl<D: Device, A: Allocator + Copy> LogKeeper<D, A> {
         rules: Rules,
     ) -> Result<LogKeeper<D, A>, NotStarted<D>>
         // Where no sync has failed before.
-        ensures started { D.tells → (D.disk device).sound ≡ true
-            → IfOk result (IsStarted D.disk (D.disk device).seen) }
+        ensures started { IfSound D.Device device (IfOk result (IsStarted D.disk (D.disk device).seen)) }
         ensures usable { IfOk result IsUsable }
         ensures rules { IfOk result (λ keeper. keeper.rules ≡ rules) }
-        ensures ready { D.tells → (D.disk device).sound ≡ true
-            → IfOk result (λ keeper. IsReady D.disk keeper.journal) }
-        ensures any_moment { D.tells → (D.disk device).sound ≡ true
-            → LeavesOnly (D.disk device) (D.disk (device_left result)) (MayBeStarted (D.disk device)) }
-        ensures refused { D.tells
-            → IfErr result
-            (λ failed.
-            IsStartRefused failed.fault rules.profile rules.clients_max (D.disk device) (D.disk failed.device)) }
-        ensures cause { D.tells → HasStartCause (why_left result) (D.disk device) (D.disk (device_left result)) }
+        ensures ready { IfSound D.Device device (IfOk result (λ keeper. IsReady D.disk keeper.journal)) }
+        ensures any_moment { D.tells → LeavesIfSound D.disk device (device_left result) MayBeStarted }
+        ensures refused { D.tells → Refuses D.disk device result (λ why. By rules (IsStartRefused why)) }
+        ensures cause { D.tells → CausedBy D.disk device result HasStartCause }
         // Of any device, by the file that its reads are of.
-        ensures handed { (file : List ℕ) → D.holds device file
-            → StartsFile result rules.profile rules.clients_max file }
+        ensures handed { OfHeld (D.holds device) (By rules (StartsFile result)) }
     {
         let same = rules;
         match LogKeeper::create(global, alloc, device, same) {

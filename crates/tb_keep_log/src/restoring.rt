@@ -1,13 +1,13 @@
 //! A follower behind all records of a file.
-ghost use Rattle.std.specs.Prelude.{◌≡◌, ◌≤◌, true, ℕ, List, [], IfOk, OnOk};
+ghost use Rattle.std.specs.Prelude.{◌≡◌, ◌≤◌, true, IfOk, OnOk};
 ghost use Rattle.tb_journal.specs.Device.{IsOnDisk};
-ghost use Rattle.tb_journal.specs.Scans.{HasRead, GoesFurther, ScanCause};
+ghost use Rattle.tb_journal.specs.Scans.{GoesFurther, ScanCause};
 ghost use Rattle.tb_keep.specs.private.Entering.{StaysKept};
 ghost use Rattle.tb_keep.specs.Opening.{IsUntouched};
 ghost use Rattle.tb_keep.specs.private.Sources.{IsNext};
 ghost use Rattle.tb_keep_log.specs.Restoring.{HasLogCause, Restores};
 ghost use Rattle.tb_keep_log.specs.private.Steps.{ReadCause, EntersNextBy, EntersAllBy};
-ghost use Rattle.tb_keep_log.specs.Keeping.{OfEachRead};
+ghost use Rattle.tb_keep_log.specs.Keeping.{By, IfSound, OfEachRead, OfHeld, OfUnread};
 
 use crate::entries::enter_record;
 use crate::faults::LogStartFault;
@@ -18,9 +18,8 @@ use tb_log::Follower;
 
 /// Reads the next record, and answers whether there is one.
 pub(crate) fn read_record<D: Device>(scan: &mut Scan, device: &mut D) -> Result<bool, OpenFault>
-    ensures reads { (file : List ℕ) (read : List (List ℕ))
-        → D.holds device.old file → HasRead read file scan.old → IsNext result read file scan.new }
-    ensures same { (file : List ℕ) → D.holds device.old file → D.holds device.new file }
+    ensures reads { OfEachRead (D.holds device.old) scan.old (λ read file. IsNext result read file scan.new) }
+    ensures same { OfHeld (D.holds device.old) (D.holds device.new) }
     ensures stays { D.tells → StaysKept (D.disk device.old) (D.disk device.new) }
     ensures cause { D.tells → ScanCause result scan.old (D.disk device.old) (D.disk device.new) }
     ensures further { IfOk result (λ more. more ≡ true → GoesFurther scan.old scan.new) }
@@ -37,7 +36,7 @@ fn enter_next<D: Device, A: Allocator + Clone>(
     device: &mut D,
 ) -> Result<bool, LogStartFault>
     ensures enters { OfEachRead (D.holds device.old) scan.old (EntersNextBy rules result scan.new follower.old follower.new) }
-    ensures same { (file : List ℕ) → D.holds device.old file → D.holds device.new file }
+    ensures same { OfHeld (D.holds device.old) (D.holds device.new) }
     ensures stays { D.tells → StaysKept (D.disk device.old) (D.disk device.new) }
     ensures cause { D.tells → ReadCause result scan.old (D.disk device.old) (D.disk device.new) }
     ensures further { IfOk result (λ more. more ≡ true → GoesFurther scan.old scan.new) }
@@ -61,7 +60,7 @@ fn enter_all<D: Device, A: Allocator + Clone>(
     device: &mut D,
 ) -> Result<(), LogStartFault>
     ensures enters { OfEachRead (D.holds device.old) scan.old (EntersAllBy rules result scan.new follower.old follower.new) }
-    ensures same { (file : List ℕ) → D.holds device.old file → D.holds device.new file }
+    ensures same { OfHeld (D.holds device.old) (D.holds device.new) }
     ensures stays { D.tells → StaysKept (D.disk device.old) (D.disk device.new) }
     ensures cause { D.tells → ReadCause result scan.old (D.disk device.old) (D.disk device.new) }
 {
@@ -83,13 +82,11 @@ fn read_by<D: Device, A: Allocator + Clone>(
     scan: &mut Scan,
     device: &mut D,
 ) -> Result<(Follower<A>, Extent), LogStartFault>
-    ensures found { (file : List ℕ) → D.holds device.old file → HasRead [] file scan.old
-        → Restores result rules.profile rules.clients_max file }
+    ensures found { OfUnread (D.holds device.old) scan.old (By rules (Restores result)) }
     ensures few { IfOk result (λ found. found.1.count ≤ found.1.end) }
-    ensures same { (file : List ℕ) → D.holds device.old file → D.holds device.new file }
+    ensures same { OfHeld (D.holds device.old) (D.holds device.new) }
     ensures stays { D.tells → StaysKept (D.disk device.old) (D.disk device.new) }
-    ensures cause { D.tells → HasRead [] (D.disk device.old).seen scan.old
-        → HasLogCause result (D.disk device.old) (D.disk device.new) }
+    ensures cause { D.tells → ReadCause result scan.old (D.disk device.old) (D.disk device.new) }
 {
     let _clients = rules.clients_max.get();
     let Ok(mut follower) = Follower::new_in(global, alloc, rules.profile, rules.clients_max) else {
@@ -111,12 +108,12 @@ pub fn read_log<D: Device, A: Allocator + Clone>(
     device: &mut D,
 ) -> Result<(Follower<A>, Extent), LogStartFault>
     // Of any device, by the file that its reads are of.
-    ensures found { (file : List ℕ) → D.holds device.old file → Restores result rules.profile rules.clients_max file }
+    ensures found { OfHeld (D.holds device.old) (By rules (Restores result)) }
     ensures few { IfOk result (λ found. found.1.count ≤ found.1.end) }
     // Where no sync has failed before.
-    ensures kept { D.tells → (D.disk device.old).sound ≡ true → OnOk result (IsOnDisk (D.disk device.new)) }
+    ensures kept { IfSound D.Device device.old (OnOk result (IsOnDisk (D.disk device.new))) }
     ensures sound { D.tells → OnOk result ((D.disk device.new).sound ≡ (D.disk device.old).sound) }
-    ensures same { (file : List ℕ) → D.holds device.old file → D.holds device.new file }
+    ensures same { OfHeld (D.holds device.old) (D.holds device.new) }
     ensures untouched { D.tells → IsUntouched (D.disk device.old) (D.disk device.new) }
     ensures cause { D.tells → HasLogCause result (D.disk device.old) (D.disk device.new) }
 {

@@ -3,7 +3,7 @@ ghost use Rattle.std.specs.Prelude.{◌≡◌, true, false, [], IfOk, IfErr, OnO
 ghost use Rattle.tb_journal.specs.Ready.{IsReady};
 ghost use Rattle.tb_keep_log.specs.Keeping.{IsUsable};
 ghost use Rattle.tb_keep_log.specs.Serving.{KeepsLog};
-ghost use Rattle.tb_keep_log.specs.private.Steps.{TakesEntry, MissesEntry, TellsBytes, Answers, Puts, PutsAndTells, EntersEntryOver, NextOver, ServedOver};
+ghost use Rattle.tb_keep_log.specs.private.Steps.{TakesFrom, MissesFrom, TellsBytes, Answers, Puts, PutsAndTells, EntersEntryOn, NextOn, ServedOn};
 
 use crate::entries::serve_entry;
 use crate::faults::KeepLogFault;
@@ -21,12 +21,8 @@ fn take_entry<A: Allocator + Clone, R: Source>(
     follower: &mut Follower<A>,
     reader: &mut R,
 ) -> Result<(Vec<u8>, Vec<u8>), LogFault>
-    ensures takes { IfOk result
-        (λ taken.
-        TakesEntry taken.0.items taken.1.items follower.old follower.new (R.input reader.old)
-        (R.input reader.new)) }
-    ensures misses { IfErr result
-        (λ fault. MissesEntry fault follower.old (R.input reader.old) (R.input reader.new)) }
+    ensures takes { IfOk result (TakesFrom R.input follower.old follower.new reader.old reader.new) }
+    ensures misses { IfErr result (MissesFrom R.input follower.old reader.old reader.new) }
 {
     match entry_from(global, reader, follower.position()) {
         Ok((position, content)) => match serve_entry(global, follower, position, &content) {
@@ -111,7 +107,7 @@ fn keep_entry<D: Device, A: Allocator + Clone, R: Source, W: Sink>(
     requires usable { journal.old.usable ≡ true }
     requires none_waits { journal.old.waiting ≡ [] }
     requires ready { D.tells → IsReady D.disk journal.old }
-    ensures { EntersEntryOver D.tells D.disk R.input W.output rules result follower.old journal.old reader.old writer.old follower.new journal.new reader.new writer.new }
+    ensures { EntersEntryOn D.Device R.input W.output rules result follower.old journal.old reader.old writer.old follower.new journal.new reader.new writer.new }
 {
     match take_entry(global, follower, reader) {
         Ok((content, held)) => match record_of(global, rules, follower, &content) {
@@ -134,7 +130,7 @@ fn keep_next<D: Device, A: Allocator + Clone, R: Source, W: Sink>(
     requires usable { journal.old.usable ≡ true }
     requires none_waits { journal.old.waiting ≡ [] }
     requires ready { D.tells → IsReady D.disk journal.old }
-    ensures next { NextOver D.tells D.disk R.input W.output rules result follower.old journal.old reader.old writer.old follower.new journal.new reader.new writer.new }
+    ensures next { NextOn D.Device R.input W.output rules result follower.old journal.old reader.old writer.old follower.new journal.new reader.new writer.new }
     ensures usable { OnOk result (journal.new.usable ≡ true) }
     ensures none_waits { OnOk result (journal.new.waiting ≡ []) }
     ensures ready { D.tells → OnOk result (IsReady D.disk journal.new) }
@@ -166,7 +162,7 @@ fn keep_all<D: Device, A: Allocator + Clone, R: Source, W: Sink>(
     requires usable { journal.old.usable ≡ true }
     requires none_waits { journal.old.waiting ≡ [] }
     requires ready { D.tells → IsReady D.disk journal.old }
-    ensures served { ServedOver D.tells D.disk R.input W.output rules result follower.old journal.old reader.old writer.old follower.new journal.new reader.new writer.new }
+    ensures served { ServedOn D.Device R.input W.output rules result follower.old journal.old reader.old writer.old follower.new journal.new reader.new writer.new }
     ensures usable { OnOk result (journal.new.usable ≡ true) }
     ensures none_waits { OnOk result (journal.new.waiting ≡ []) }
     ensures ready { D.tells → OnOk result (IsReady D.disk journal.new) }

@@ -1,7 +1,8 @@
 -- What is read of an entry behind its kind, and why it is refused.
 -- Cited by public contracts of: entries.
-use Rattle.std.specs.Prelude.{ℕ, ◌≡◌, ◌≢◌, ◌⊎◌, ◌+◌, ◌≤◌, ◌<◌, nat_le, nat_lt, List, [], ◌++◌, length, Option, Some, None, if◌then◌else◌, Err}
+use Rattle.std.specs.Prelude.{ℕ, ◌≡◌, ◌≢◌, ◌⊎◌, ◌+◌, ◌≤◌, ◌<◌, nat_le, nat_lt, List, [], ◌++◌, length, Option, Some, None, if◌then◌else◌, Err, Vec}
 use Rattle.std.specs.Io.KnownBytes.{Consumes, IsAtEnd}
+use Rattle.std.specs.declared.alloc.Global.{Global}
 use Rattle.tb_records.specs.declared.faults.FrameFault.{FrameFault}
 use Rattle.tb_records.specs.declared.faults.FrameFault.TheVariants as frame
 use Rattle.tb_records.specs.Ordered.{Each}
@@ -52,6 +53,10 @@ pub record ReadsEntry (content : List ℕ) (last : ℕ) (before after : Input) :
   pub few : length content ≤ content_max
   pub bytes : Consumes before.left after.left (summed (last + 1) (checksum_of (last + 1) content) content)
   pub counted : after.failed ≡ before.failed
+
+-- so was one that is given with its position
+abbrev pub GivesEntry : ℕ → Input → Input → ℕ × Vec ℕ Global → Type 0
+GivesEntry last before after entry = ReadsEntry entry.1.items last before after
 
 -- its numbers are wrong: no byte behind them was read
 pub record IsWrong (fault : LogFault) (last : ℕ) (before after : Input) : Type 0 where

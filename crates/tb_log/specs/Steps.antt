@@ -1,6 +1,6 @@
 -- What a follower's steps do: for private functions alone.
 -- Cited by public contracts of: followers, following, inputs.
-use Rattle.std.specs.Prelude.{ℕ, true, false, ◌≡◌, ◌≢◌, ◌⊎◌, ◌≤◌, ◌<◌, Bool, List, [], ◌∷◌, ◌++◌, length, take, Option, Some, None, Result, Ok, Err, MatchResult, Vec}
+use Rattle.std.specs.Prelude.{ℕ, true, false, ◌≡◌, ◌≢◌, ◌⊎◌, ◌≤◌, ◌<◌, Bool, List, [], ◌∷◌, ◌++◌, length, take, Option, Some, None, Result, Ok, Err, MatchOption, MatchResult, Vec}
 use Rattle.std.specs.Io.KnownBytes.{Consumes, IsAtEnd}
 use Rattle.std.specs.declared.alloc.Global.{Global}
 use Rattle.tb_records.specs.Ordered.{Each}
@@ -16,7 +16,7 @@ use Rattle.tb_log.specs.declared.entries.Head.{Head}
 use Rattle.tb_log.specs.Format.{content_of, numbers, checksum_of, standing_item, number_bytes}
 use Rattle.tb_log.specs.Following.{Following, with_content, Item, Entry, with_item, item_bytes, given_to, IsAnswered}
 use Rattle.tb_log.specs.Entries.{Breaks, IsCutShort, IsPairs, ReadsEntry, RefusesEntry}
-use Rattle.tb_log.specs.Follows.{IsUntimely, Serves, Stops, ItemFits, Refuses}
+use Rattle.tb_log.specs.Follows.{Answers, IsUntimely, Serves, Stops, ItemFits, Refuses}
 
 -- reading
 
@@ -46,6 +46,10 @@ Misses n fault before after = Breaks fault before after ⊎ EndsWithin n fault b
 abbrev pub Reads : {X : Type 0} → ℕ → (X → List ℕ) → Result X LogFault → Input → Input → Type 0
 Reads n bytes_of result before after = MatchResult result (λ x. Takes (bytes_of x) before after) (λ fault. Misses n fault before after)
 
+-- all bytes of a buffer were read
+abbrev pub Fills : List ℕ → Result (Unit {0}) LogFault → Input → Input → Type 0
+Fills buffer result before after = Reads (length buffer) (λ _. buffer) result before after
+
 -- bytes into memory that is taken before the first is read
 abbrev pub ReadsBytes : ℕ → Result (Vec ℕ Global) LogFault → Input → Input → Type 0
 ReadsBytes n (Ok bytes) before after = Takes bytes.items before after
@@ -57,6 +61,10 @@ Begins (Ok None) before after = Takes [] before after × IsAtEnd after.left
 Begins (Ok (Some kind)) before after = Takes (kind ∷ []) before after
 Begins (Err fault) before after = Breaks fault before after
 
+-- what is wrong with an entry's numbers is answered, and nothing else
+abbrev pub Judges : Result (Unit {0}) LogFault → Option LogFault → Type 0
+Judges result wrong = MatchOption wrong (result ≡ Ok tt) (λ fault. result ≡ Err fault)
+
 abbrev pub head_bytes : Head → List ℕ
 head_bytes head = numbers head.position head.length ++ number_bytes 4 head.checksum
 
@@ -65,6 +73,10 @@ pub record ReadsContent (head : Head) (content : List ℕ) (before after : Input
   pub long : length content ≡ head.length
   pub read : Takes content before after
   pub sum : head.checksum ≡ checksum_of head.position content
+
+-- the content that was read is given
+abbrev pub GivesContent : Head → Input → Input → Vec ℕ Global → Type 0
+GivesContent head before after bytes = ReadsContent head bytes.items before after
 
 pub record MissesContent (head : Head) (fault : LogFault) (before after : Input) : Type 0 where
   pub content : List ℕ
@@ -87,6 +99,10 @@ abbrev pub NoFrame : ℕ → LogFault → Pair → State → Type 0
 NoFrame position NoMemory p S = Unit {0}
 NoFrame position (TimeExhausted at) p S = (at ≡ position) × IsUntimely S p
 NoFrame position fault p S = ⊥
+
+-- a pair is answered over a writer
+abbrev pub Replies : {W : Type 0} → (W → Output) → ℕ → Result (Unit {0}) LogFault → Following → Following → Pair → W → W → Type 0
+Replies output index result F G p writer later = Answers index result F G p (output writer) (output later)
 
 -- bytes were written, or the device failed and left a prefix of them
 abbrev pub Writes : Result (Unit {0}) LogFault → List ℕ → Output → Output → Type 0

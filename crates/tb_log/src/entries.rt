@@ -1,8 +1,8 @@
 //! An entry from a reader, behind its kind: its numbers are tested before its content is read, and its checksum after.
-ghost use Rattle.std.specs.Prelude.{◌≡◌, ◌≤◌, ◌+◌, length, Ok, Err, IfOk, IfErr, OnOk, MatchOption};
-ghost use Rattle.tb_log.specs.Entries.{head_fault, pair_fault, IsPairs, IsNoPairs, ReadsEntry, RefusesEntry};
+ghost use Rattle.std.specs.Prelude.{◌≡◌, ◌≤◌, ◌+◌, length, IfOk, IfErr, OnOk};
+ghost use Rattle.tb_log.specs.Entries.{head_fault, pair_fault, IsPairs, IsNoPairs, GivesEntry, RefusesEntry};
 ghost use Rattle.tb_log.specs.Format.{content_max};
-ghost use Rattle.tb_log.specs.Steps.{head_bytes, Reads, ReadsContent, Loses};
+ghost use Rattle.tb_log.specs.Steps.{head_bytes, Judges, Reads, GivesContent, Loses};
 
 use crate::checksums::entry_sum;
 use crate::faults::LogFault;
@@ -39,8 +39,7 @@ fn head_from<S: Source>(source: &mut S) -> Result<Head, LogFault>
 
 /// Says what is wrong with the numbers of an entry behind the last position.
 fn judge_head(head: &Head, last: u64) -> Result<(), LogFault>
-    ensures { MatchOption (head_fault last head.now.position head.now.length) (result ≡ Ok tt)
-        (λ fault. result ≡ Err fault) }
+    ensures { Judges result (head_fault last head.now.position head.now.length) }
 {
     let position = head.position;
     if position <= last {
@@ -58,8 +57,7 @@ fn judge_head(head: &Head, last: u64) -> Result<(), LogFault>
 /// Reads the content behind the numbers, and tests its checksum.
 fn content_from<S: Source>(alloc: Global, source: &mut S, head: &Head) -> Result<Vec<u8>, LogFault>
     requires { head.now.length ≤ content_max }
-    ensures whole { IfOk result
-        (λ bytes. ReadsContent head.now bytes.items (S.input source.old) (S.input source.new)) }
+    ensures whole { IfOk result (GivesContent head.now (S.input source.old) (S.input source.new)) }
     ensures lost { IfErr result
         (λ f. Loses head.now f (S.input source.old) (S.input source.new)) }
 {
@@ -105,8 +103,7 @@ pub fn entry_from<S: Source>(
     last: u64,
 ) -> Result<(u64, Vec<u8>), LogFault>
     ensures place { IfOk result (λ entry. entry.0 ≡ last + 1) }
-    ensures read { IfOk result
-        (λ entry. ReadsEntry entry.1.items last (S.input source.old) (S.input source.new)) }
+    ensures read { IfOk result (GivesEntry last (S.input source.old) (S.input source.new)) }
     ensures pairs { IfOk result (λ entry. IsPairs entry.1.items) }
     ensures wrong { IfErr result
         (λ f. RefusesEntry f last (S.input source.old) (S.input source.new)) }

@@ -2,8 +2,7 @@
 ghost use Rattle.std.specs.Prelude.{◌≡◌, ◌+◌, IfOk, IfErr};
 ghost use Rattle.tb_log.specs.Format.{placed};
 ghost use Rattle.tb_log.specs.Following.{begun, with_content};
-ghost use Rattle.tb_log.specs.Follows.{Answers};
-ghost use Rattle.tb_log.specs.Steps.{Frames, NoFrame, standing_of, TellsStanding, Writes};
+ghost use Rattle.tb_log.specs.Steps.{Frames, NoFrame, Replies, standing_of, TellsStanding, Writes};
 
 use crate::chains::Chain;
 use crate::faults::LogFault;
@@ -45,7 +44,7 @@ fn frame_of<A: Allocator + Clone>(
     request: Request,
 ) -> Result<Vec<u8>, LogFault>
     ensures frame { IfOk result
-        (λ frame. Frames frame.items (moment, request) machine.old machine.new) }
+        (λ made. Frames made.items (moment, request) machine.old machine.new) }
     ensures none { IfErr result (λ f. NoFrame position f (moment, request) machine.old) }
 {
     let mut frame = Counting::new(Vec::new(global));
@@ -113,8 +112,7 @@ impl<A: Allocator + Clone> Follower<A> {
         moment: u64,
         request: Request,
     ) -> Result<(), LogFault>
-        ensures { Answers index result self.old self.new (moment, request) (W.output writer.old)
-            (W.output writer.new) }
+        ensures { Replies W.output index result self.old self.new (moment, request) writer.old writer.new }
     {
         let frame = frame_of(global, &mut self.machine, self.position, moment, request)?;
         let line = numbered(global, self.position, index, &frame)?;

@@ -22,8 +22,7 @@ pub fn serve_content<A: Allocator + Clone, W: Sink>(
     writer: &mut W,
 ) -> Result<(), LogFault>
     requires { length content.now ≤ content_max }
-    ensures { ServesContent result follower.old follower.new content.now (W.output writer.old)
-        (W.output writer.new) }
+    ensures { ServesContent result follower.old follower.new content.now (W.output writer.old) (W.output writer.new) }
 {
     let mut source = Counting::new(content);
     for index in 0..0x100_0000u32 {

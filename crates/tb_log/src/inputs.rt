@@ -1,8 +1,8 @@
 //! Bytes and numbers from a reader.
-ghost use Rattle.std.specs.Prelude.{◌≡◌, length, vec_len, IfOk, IfErr};
+ghost use Rattle.std.specs.Prelude.{◌≡◌, vec_len, IfOk, IfErr};
 ghost use Rattle.tb_log.specs.Entries.{Breaks};
 ghost use Rattle.tb_log.specs.Format.{number_bytes};
-ghost use Rattle.tb_log.specs.Steps.{Filled, Reads, ReadsBytes, Begins};
+ghost use Rattle.tb_log.specs.Steps.{Filled, Fills, Reads, ReadsBytes, Begins};
 
 use crate::faults::LogFault;
 use byteorder::{ByteOrder, LittleEndian};
@@ -29,7 +29,7 @@ fn fill<S: Source>(source: &mut S, buffer: &mut [u8]) -> Result<usize, LogFault>
 /// Fills the buffer. Short where the input ends before.
 #[tactic(auto, using(crate::proofs::Taking::all_filled, crate::proofs::Taking::cut_short, crate::proofs::Taking::misses_by))]
 fn fill_all<S: Source>(source: &mut S, buffer: &mut [u8]) -> Result<(), LogFault>
-    ensures { Reads (length buffer.new) (λ _. buffer.new) result (S.input source.old) (S.input source.new) }
+    ensures { Fills buffer.new result (S.input source.old) (S.input source.new) }
 {
     if fill(source, buffer)? < buffer.len() {
         return Err(LogFault::Short);

@@ -16,7 +16,7 @@ use Rattle.tb_log.specs.Format.{content_of}
 use Rattle.tb_keep.specs.Rounds.{entered, entries_from, state_from, IsUntimely}
 use Rattle.tb_keep_log.specs.declared.faults.DumpLogFault.{DumpLogFault}
 use Rattle.tb_keep_log.specs.declared.faults.DumpLogFault.TheVariants as dump
-use Rattle.tb_keep_log.specs.Dumping.{AreTimely, HasDumpCause, HasNoPair, StopsRecord, StopsDump, DumpsLog}
+use Rattle.tb_keep_log.specs.Dumping.{AreTimely, HasDumpCause, HasNoPair, StopsRecord, StopsDump}
 use Rattle.tb_keep_log.specs.Restoring.{fixed_bytes, HasMark}
 use Rattle.tb_keep.specs.declared.restoring.Rules.{Rules}
 
@@ -97,13 +97,18 @@ DumpsAll (Err fault) profile clients_max read file S before after = StopsDump fa
 abbrev pub ReadCause : {T : Type 0} → Result T DumpLogFault → Place → Disk → Disk → Type 0
 ReadCause result scan before after = (read : List (List ℕ)) → HasRead read before.seen scan → HasDumpCause result before after
 
--- the same by the rules of a file, over a writer
+-- the same of one pair, and of the pairs of a content, over a writer
+module _ {W : Type 0} (output : W → Output) where
+  abbrev pub DumpsOne : Result (Unit {0}) DumpLogFault → State → State → Pair → W → W → Type 0
+  DumpsOne result S T p writer later = DumpsPair result S T p (output writer) (output later)
+
+  abbrev pub DumpsPairsOf : Result (Unit {0}) DumpLogFault → State → State → List ℕ → W → W → Type 0
+  DumpsPairsOf result S T content writer later = DumpsContent result S T content (output writer) (output later)
+
+-- and by the rules of a file
 module _ (rules : Rules) {W : Type 0} (output : W → Output) where
   abbrev pub DumpsNextOver : Result Bool DumpLogFault → Place → State → State → W → W → List (List ℕ) → List ℕ → Type 0
   DumpsNextOver result scan S T writer later read file = DumpsNext result rules.profile rules.clients_max read file scan S T (output writer) (output later)
 
   abbrev pub DumpsAllOver : Result (Unit {0}) DumpLogFault → State → W → W → List (List ℕ) → List ℕ → Type 0
   DumpsAllOver result S writer later read file = DumpsAll result rules.profile rules.clients_max read file S (output writer) (output later)
-
-  abbrev pub DumpsLogOver : Result (Unit {0}) DumpLogFault → List ℕ → W → W → Type 0
-  DumpsLogOver result file writer later = DumpsLog result rules.profile rules.clients_max file (output writer) (output later)

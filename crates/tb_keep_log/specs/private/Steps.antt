@@ -1,13 +1,16 @@
 -- The steps of reading and of serving: for private functions alone.
 -- Cited by private contracts alone, of: entries, opening, restoring, serving.
-use Rattle.std.specs.Prelude.{ℕ, Bool, true, false, ◌≡◌, ◌⊎◌, List, [], ◌∷◌, ◌++◌, Result, Ok, Err, OnOk, IfErr}
+use Rattle.std.specs.Prelude.{ℕ, Bool, true, false, ◌≡◌, ◌⊎◌, List, [], ◌∷◌, ◌++◌, Result, Ok, Err, OnOk, IfErr, Vec}
+use Rattle.std.specs.declared.alloc.Global.{Global}
 use Rattle.tb_records.specs.declared.limits.Profile.{Profile}
 use Rattle.tb_records.specs.Transport.{Input, Output, Sent, CutOff}
+use Rattle.tb_journal.specs.declared.devices.Device as devices
 use Rattle.tb_journal.specs.declared.faults.Fault.{Fault}
 use Rattle.tb_journal.specs.declared.faults.Fault.TheVariants.{NotEmpty}
 use Rattle.tb_journal.specs.declared.opening.OpenFault.TheVariants as open_faults
+use Rattle.tb_journal.specs.declared.reading.Extent.{Extent}
 use Rattle.tb_journal.specs.Creating.{is_blank}
-use Rattle.tb_journal.specs.Device.{Disk, FailsNone, LeavesOnly, HasFailed}
+use Rattle.tb_journal.specs.Device.{Disk, FailsNone, IsOnDisk, LeavesOnly, HasFailed}
 use Rattle.tb_journal.specs.Contents.{Records, contents, recorded}
 use Rattle.tb_journal.specs.Opening.{RefusesFile}
 use Rattle.tb_journal.specs.Ready.{Kept, IsReady}
@@ -29,8 +32,8 @@ use Rattle.tb_keep_log.specs.declared.faults.KeepLogFault.TheVariants as keep
 use Rattle.tb_keep_log.specs.declared.faults.LogStartFault.{LogStartFault}
 use Rattle.tb_keep_log.specs.declared.faults.LogStartFault.TheVariants as start
 use Rattle.tb_keep_log.specs.declared.opening.NotStarted.{NotStarted}
-use Rattle.tb_keep_log.specs.Keeping.{Keeping, Keeps, Leads, record_bytes, record_of}
-use Rattle.tb_keep_log.specs.Restoring.{EntersRecord, HasLogCause, IsHaltedContent, StopsAt}
+use Rattle.tb_keep_log.specs.Keeping.{By, IsUsable, Keeping, Keeps, Leads, record_bytes, record_of}
+use Rattle.tb_keep_log.specs.Restoring.{EntersRecord, HasLogCause, IsHaltedContent, IsRestored, StopsAt}
 use Rattle.tb_keep_log.specs.Opening.{IsCreatedCause, IsNotOfFile}
 use Rattle.tb_keep_log.specs.Serving.{Point, Turn, Halts, point, Served}
 
@@ -106,6 +109,14 @@ abbrev pub MissesEntry : LogFault → Following → Input → Input → Type 0
 MissesEntry fault F before after =
     RefusesEntry fault F.position before after
     ⊎ ((content : List ℕ) × ReadsEntry content F.position before after × IsPairs content × DropsEntry fault content F)
+
+-- the same over a reader
+module _ {R : Type 0} (input : R → Input) where
+  abbrev pub TakesFrom : Following → Following → R → R → Vec ℕ Global × Vec ℕ Global → Type 0
+  TakesFrom F G reader rest taken = TakesEntry taken.0.items taken.1.items F G (input reader) (input rest)
+
+  abbrev pub MissesFrom : Following → R → R → LogFault → Type 0
+  MissesFrom F reader rest fault = MissesEntry fault F (input reader) (input rest)
 
 -- bytes were sent, and passed on, or the writer failed and left a prefix of them
 abbrev pub TellsBytes : Result (Unit {0}) KeepLogFault → List ℕ → Output → Output → Type 0
@@ -216,6 +227,14 @@ CreatesIn holds (Ok keeper) profile clients_max file = (is_blank file ≡ true) 
 CreatesIn holds (Err failed) profile clients_max file =
     (failed.fault ≡ start.Journal (open_faults.Device NotEmpty) → (is_blank file ≡ false) × holds failed.device file) × IsNotOfFile failed.fault
 
+-- a file on a disk was read to this extent; what was read is durable, where no sync has failed
+abbrev pub IsReadTo : Rules → Following → Extent → Disk → Type 0
+IsReadTo rules F extent disk = (disk.sound ≡ true → IsOnDisk disk) × By rules IsRestored disk.seen F extent
+
+-- a keeper of these rules that may go on
+abbrev pub IsUsableBy : {D : Type 0} → Rules → Keeping D → Type 0
+IsUsableBy rules keeper = IsUsable keeper × (keeper.rules ≡ rules)
+
 -- the same by the rules of a file, of the records that were read of it
 abbrev pub EntersNextBy : Rules → Result Bool LogStartFault → Place → Following → Following → List (List ℕ) → List ℕ → Type 0
 EntersNextBy rules result scan F G read file = EntersNext result rules.profile rules.clients_max read file scan F G
@@ -223,16 +242,16 @@ EntersNextBy rules result scan F G read file = EntersNext result rules.profile r
 abbrev pub EntersAllBy : Rules → Result (Unit {0}) LogStartFault → Place → Following → Following → List (List ℕ) → List ℕ → Type 0
 EntersAllBy rules result scan F G read file = EntersAll result rules.profile rules.clients_max read file scan F G
 
--- the same by the rules of a file, over a follower, a journal, a reader and a writer
-module _ (tells : Type 0) {D : Type 0} (disk : D → Disk) {R : Type 0} (input : R → Input) {W : Type 0} (output : W → Output) (rules : Rules) where
-  abbrev pub EntersEntryOver : Result (Unit {0}) KeepLogFault → Following → Kept D → R → W → Following → Kept D → R → W → Type 0
-  EntersEntryOver result F old reader writer G new rest later =
-      EntersEntry tells disk rules.profile rules.clients_max result F G old new (input reader) (input rest) (output writer) (output later)
+-- the same by the rules of a file, over a device that reports what its calls do or not, a reader and a writer
+module _ {D : Type 0} (its : devices.Ghosts D) {R : Type 0} (input : R → Input) {W : Type 0} (output : W → Output) (rules : Rules) where
+  abbrev pub EntersEntryOn : Result (Unit {0}) KeepLogFault → Following → Kept D → R → W → Following → Kept D → R → W → Type 0
+  EntersEntryOn result F old reader writer G new rest later =
+      EntersEntry its.tells its.disk rules.profile rules.clients_max result F G old new (input reader) (input rest) (output writer) (output later)
 
-  abbrev pub NextOver : Result Bool KeepLogFault → Following → Kept D → R → W → Following → Kept D → R → W → Type 0
-  NextOver result F old reader writer G new rest later =
-      Next tells disk rules.profile rules.clients_max result (point F old (input reader) (output writer)) (point G new (input rest) (output later))
+  abbrev pub NextOn : Result Bool KeepLogFault → Following → Kept D → R → W → Following → Kept D → R → W → Type 0
+  NextOn result F old reader writer G new rest later =
+      Next its.tells its.disk rules.profile rules.clients_max result (point F old (input reader) (output writer)) (point G new (input rest) (output later))
 
-  abbrev pub ServedOver : Result ℕ KeepLogFault → Following → Kept D → R → W → Following → Kept D → R → W → Type 0
-  ServedOver result F old reader writer G new rest later =
-      Served tells disk rules.profile rules.clients_max result (point F old (input reader) (output writer)) (point G new (input rest) (output later))
+  abbrev pub ServedOn : Result ℕ KeepLogFault → Following → Kept D → R → W → Following → Kept D → R → W → Type 0
+  ServedOn result F old reader writer G new rest later =
+      Served its.tells its.disk rules.profile rules.clients_max result (point F old (input reader) (output writer)) (point G new (input rest) (output later))

@@ -1,4 +1,4 @@
-use Rattle.std.proofs.Common.{arith, ◌≡◌, ℕ, ◌-◌, List, length, take, drop, take_all, length-drop, subst, Result, Ok, Err}
+use Rattle.std.proofs.Common.{ℕ, List, drop, subst, Result, Ok, Err}
 use Rattle.tb_keep_log.specs.Restoring.{fixed_bytes, HasMark}
 use Rattle.tb_records.specs.declared.limits.Profile.{Profile}
 use Rattle.tb_records.specs.Transport.{Output}
@@ -6,10 +6,8 @@ use Rattle.tb_machine.specs.Histories.{State}
 use Rattle.tb_keep_log.specs.declared.faults.DumpLogFault.{DumpLogFault}
 use Rattle.tb_keep_log.specs.private.DumpSteps.{DumpsContent, DumpsRecord}
 use Rattle.tb_keep_log.proofs.Dumped.{record_halts, record_refused}
+use Rattle.tb_keep_log.proofs.Holding.{whole_content}
 use Rattle.tb_keep_log.proofs.dumps.dump_record.Goals as goal
-
-whole : (bytes : List ℕ) → take (length bytes - 79) (drop 79 bytes) ≡ drop fixed_bytes bytes
-whole bytes = take_all (length bytes - 79) (drop 79 bytes) (omega (arith, length-drop 79 bytes))
 
 by : (profile : Profile) (clients_max last : ℕ) (S T : State) (bytes : List ℕ) (a b : Output) (result : Result (Unit {0}) DumpLogFault) → HasMark profile clients_max bytes → DumpsContent result S T (drop fixed_bytes bytes) a b
     → DumpsRecord result profile clients_max last S T bytes a b
@@ -21,7 +19,7 @@ returns-in-Ok g c =
     by c.args.rules.profile c.args.rules.clients_max c.args.last c.args.machine.now c.dump_content.new.machine c.args.bytes.now (g.W.Sink.output c.args.writer.now) (g.W.Sink.output c.dump_content.new.writer)
     c.dump_content.result (c.in-Ok.ensures.marked, c.in-Ok.ensures.long)
     (subst (λ (bs : List ℕ). DumpsContent c.dump_content.result c.args.machine.now c.dump_content.new.machine bs (g.W.Sink.output c.args.writer.now) (g.W.Sink.output c.dump_content.new.writer))
-    (whole c.args.bytes.now) c.dump_content.ensures)
+    (whole_content c.args.bytes.now) c.dump_content.ensures)
 
 pub returns-in-Err : goal.returns-in-Err
 returns-in-Err g c =

@@ -12,4 +12,4 @@ returns-in-Ok-clause-cause g c t =
     let mid = g.D.Device.disk c.start.new.device in
     let seen = c.start.ensures.seen t in
     let here = subst (λ (f : List ℕ). HasRead [] f c.in-Ok.scan) (sym seen) (c.in-Ok.ensures.begun old.seen (g.met.D.Device.holds_seen c.args.device.now t)) in
-    has_dump_then old mid (g.D.Device.disk c.dump_by.new.device) (c.in-Ok.ensures.cause t).ok seen c.dump_by.result (c.dump_by.ensures.cause t here)
+    has_dump_then old mid (g.D.Device.disk c.dump_by.new.device) (c.in-Ok.ensures.cause t).ok seen c.dump_by.result (c.dump_by.ensures.cause t [] here)

@@ -5,7 +5,7 @@ use Rattle.tb_keep_log.proofs.opening.open_short.Goals as goal
 pub returns-then-torn-gt-TORN_BYTES_MAX-clause-refused : goal.returns-then-torn-gt-TORN_BYTES_MAX-clause-refused
 returns-then-torn-gt-TORN_BYTES_MAX-clause-refused g c t =
     let seen = (g.D.Device.disk c.args.device).seen in
-    let found = c.requires.restored t in (
+    let found = (c.requires.read t).1 in (
       too_long c.args.rules.profile c.args.rules.clients_max seen c.args.follower c.args.extent c.args.extent.end c.in-Ok.torn found refl
           (c.in-Ok.ensures.torn seen (g.met.D.Device.holds_seen c.args.device t) found.extent_is) (omega arith),
       (c.torn_behind.ensures.stays t).untouched,

@@ -13,7 +13,7 @@ returns-in-Err-clause-found g c file holds has =
     (c.in-Err.ensures.enters file [] holds has)
 
 pub returns-in-Ok-enter_all-clause-cause : goal.returns-in-Ok-enter_all-clause-cause
-returns-in-Ok-enter_all-clause-cause g c t has = record { ok = (c.in-Ok-enter_all.ensures.cause t [] has).ok; cause = tt }
+returns-in-Ok-enter_all-clause-cause g c t read has = record { ok = (c.in-Ok-enter_all.ensures.cause t read has).ok; cause = tt }
 
 pub returns-in-Err-clause-cause : goal.returns-in-Err-clause-cause
-returns-in-Err-clause-cause g c t has = record { ok = tt; cause = (c.in-Err.ensures.cause t [] has).cause }
+returns-in-Err-clause-cause g c t read has = record { ok = tt; cause = (c.in-Err.ensures.cause t read has).cause }

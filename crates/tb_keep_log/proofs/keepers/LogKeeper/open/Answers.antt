@@ -1,16 +1,20 @@
 use Rattle.std.proofs.Common.{sym, subst, List, ℕ, ◌∙◌}
 use Rattle.tb_keep_log.specs.Restoring.{IsRestored}
-use Rattle.tb_keep_log.proofs.Opened.{opens_still, refused_reading, refused_still, stops_opening, untouched_opens}
+use Rattle.tb_keep_log.proofs.Opened.{opened_ready, opens_still, refused_reading, refused_still, stops_opening, untouched_opens}
 use Rattle.tb_keep_log.proofs.keepers.LogKeeper.open.Goals as goal
 
-pub open_short-requires-clause-restored : goal.open_short-requires-clause-restored
-open_short-requires-clause-restored g c t =
-    let old = g.D.Device.disk c.args.device in
-    subst (λ (f : List ℕ). IsRestored c.args.rules.profile c.args.rules.clients_max f c.in-Ok.follower c.in-Ok.extent) (sym (c.read_log.ensures.untouched t).seen)
-    (c.in-Ok.ensures.found old.seen (g.met.D.Device.holds_seen c.args.device t))
+pub open_short-requires-clause-read : goal.open_short-requires-clause-read
+open_short-requires-clause-read g c t =
+    let old = g.D.Device.disk c.args.device in (
+      λ sound. c.in-Ok.ensures.kept t (sym (c.in-Ok.ensures.sound t) ∙ sound),
+      subst (λ (f : List ℕ). IsRestored c.args.rules.profile c.args.rules.clients_max f c.in-Ok.follower c.in-Ok.extent) (sym (c.read_log.ensures.untouched t).seen)
+          (c.in-Ok.ensures.found old.seen (g.met.D.Device.holds_seen c.args.device t)),
+    )
 
-pub open_short-requires-clause-kept : goal.open_short-requires-clause-kept
-open_short-requires-clause-kept g c t sound = c.in-Ok.ensures.kept t (sym (c.in-Ok.ensures.sound t) ∙ sound)
+pub returns-in-Ok-clause-ready : goal.returns-in-Ok-clause-ready
+returns-in-Ok-clause-ready g c t sound =
+    let disk = g.D.Device.disk in
+    opened_ready disk (disk c.read_log.new.device).seen c.open_short.result (c.open_short.ensures.opened t (c.in-Ok.ensures.sound t ∙ sound))
 
 pub returns-in-Ok-clause-refused : goal.returns-in-Ok-clause-refused
 returns-in-Ok-clause-refused g c t =
