@@ -1,2 +1,4 @@
 -- what private contracts alone cite
+pub mod Changes
 pub mod Stages
+pub mod Texts
