@@ -89,13 +89,11 @@ PerformsOn source sink form outcome before after start written =
 
 -- words that ask for no form: the status is 2, and nothing is read or written
 abbrev pub RefusesWords : {R W : Type 0} → List (String Global) → ℕ → R → R → W → W → Type 0
-RefusesWords words status before after start written =
-    form_of (map string_bytes words) ≡ None → (status ≡ 2) × (after ≡ before) × (written ≡ start)
+RefusesWords words status before after start written = form_of (map string_bytes words) ≡ None → (status ≡ 2) × (after ≡ before) × (written ≡ start)
 
 -- and the line of usage is reported
 abbrev pub TellsUsage : {E : Type 0} → sinks.Ghosts E → List (String Global) → E → E → Type 0
-TellsUsage lines words quiet told =
-    form_of (map string_bytes words) ≡ None → TellsLine (fault_line Usage) (lines.output quiet) (lines.output told)
+TellsUsage lines words quiet told = form_of (map string_bytes words) ≡ None → TellsLine (fault_line Usage) (lines.output quiet) (lines.output told)
 
 -- a form was served, and the exit status and the line are those of the outcome
 pub record Exits (form : Form) (status : ℕ) (before after : Input) (start written quiet told : Output) : Type 0 where

@@ -11,7 +11,7 @@ use Rattle.tb_records.specs.declared.faults.FrameFault.TheVariants as frame
 use Rattle.tb_records.proofs.Sendings.{sent_rest, sent_few}
 use Rattle.tb_keep.specs.declared.faults.DumpFault.{DumpFault}
 use Rattle.tb_keep.specs.declared.faults.DumpFault.TheVariants as dump
-use Rattle.tb_keep.specs.declared.heads.Rules.{Rules}
+use Rattle.tb_keep.specs.declared.restoring.Rules.{Rules}
 use Rattle.tb_keep.specs.Following.{entries_above, WritesEntries}
 use Rattle.tb_journal.proofs.Growths.{later_same}
 use Rattle.tb_keep.proofs.Dumping.{entries_once}

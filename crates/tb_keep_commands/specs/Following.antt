@@ -10,7 +10,7 @@ use Rattle.tb_journal.specs.Growing.{Later}
 use Rattle.tb_journal.specs.Opening.{RefusesFile}
 use Rattle.tb_journal.specs.Scans.{BeginsWith, HasRead, Place}
 use Rattle.tb_keep.specs.declared.faults.DumpFault.{DumpFault}
-use Rattle.tb_keep.specs.declared.heads.Rules.{Rules}
+use Rattle.tb_keep.specs.declared.restoring.Rules.{Rules}
 use Rattle.tb_keep.specs.Following.{entries_above}
 use Rattle.tb_keep.specs.Reading.{HasDumpCause}
 use Rattle.tb_keep_commands.specs.declared.faults.Fault.{Fault}

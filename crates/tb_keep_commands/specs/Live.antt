@@ -28,8 +28,7 @@ RefreshesHeld whole holds result before after = (file : List ℕ) → holds befo
 
 -- so many bytes had the whole file at some moment of a call
 abbrev pub MeasuresWhole : {D : Type 0} → (D → List ℕ → Type 0) → Result ℕ Fault → D → D → Type 0
-MeasuresWhole whole len before after =
-    (file : List ℕ) → whole before file → Grown (whole after) file (λ later. IfOk len (λ n. n ≡ length later))
+MeasuresWhole whole len before after = (file : List ℕ) → whole before file → Grown (whole after) file (λ later. IfOk len (λ n. n ≡ length later))
 
 -- a whole file, by what the part of it represents that a device holds: it extends these records, or is refused as the part is
 abbrev pub WholeOf : Contents → List ℕ → List ℕ → Type 0

@@ -6,7 +6,7 @@ use Rattle.tb_journal.specs.declared.faults.Fault as journal
 use Rattle.tb_journal.specs.Device.{Looks}
 use Rattle.tb_keep.specs.declared.faults.StartFault.{StartFault}
 use Rattle.tb_keep.specs.declared.faults.StartFault.TheVariants as start
-use Rattle.tb_keep.specs.declared.heads.Rules.{Rules}
+use Rattle.tb_keep.specs.declared.restoring.Rules.{Rules}
 use Rattle.tb_keep.specs.Reading.{RulesAnswer}
 use Rattle.tb_keep.specs.Restoration.{HasStartCause}
 use Rattle.tb_keep_commands.specs.declared.faults.Fault.{Fault}

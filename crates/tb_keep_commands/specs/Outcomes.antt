@@ -8,7 +8,7 @@ use Rattle.tb_journal.specs.Device.{Looks, LeavesOnly}
 use Rattle.tb_keep.specs.declared.faults.DumpFault.{DumpFault}
 use Rattle.tb_keep.specs.declared.faults.KeepFault.{KeepFault}
 use Rattle.tb_keep.specs.declared.faults.StartFault.{StartFault}
-use Rattle.tb_keep.specs.declared.heads.Rules.{Rules}
+use Rattle.tb_keep.specs.declared.restoring.Rules.{Rules}
 use Rattle.tb_keep.specs.declared.opening.NotKept.{NotKept}
 use Rattle.tb_keep.specs.Keeping.{Keeping}
 use Rattle.tb_keep.specs.Opening.{IsStarted, StartsFile, IsStartRefused, MayBeStarted, HasEitherCause, device_left, why_left}

@@ -33,7 +33,7 @@ use Rattle.tb_keep.specs.declared.faults.KeepFault.{KeepFault}
 use Rattle.tb_keep.specs.declared.faults.KeepFault.TheVariants as keep
 use Rattle.tb_keep.specs.declared.faults.StartFault.{StartFault}
 use Rattle.tb_keep.specs.declared.faults.StartFault.TheVariants as start
-use Rattle.tb_keep.specs.declared.heads.Rules.{Rules}
+use Rattle.tb_keep.specs.declared.restoring.Rules.{Rules}
 use Rattle.tb_keep_commands.specs.declared.faults.Damage.{Damage}
 use Rattle.tb_keep_commands.specs.declared.faults.Damage.TheVariants.{Block, Record, Entry, Torn}
 use Rattle.tb_keep_commands.specs.declared.faults.Fault.{Fault}
@@ -275,9 +275,7 @@ TellsMade len path before after = TellsWhere (nat_eq len 0) (made_line path) bef
 
 -- what a start says that cut bytes off: how many, and where the records end that stay
 abbrev pub cut_line : ℕ → ℕ → List ℕ
-cut_line bytes at =
-    (codes "tbd: cut " ++ decimal bytes)
-    ++ ((codes " bytes of a batch that was not committed, behind byte " ++ decimal at) ++ codes "\n")
+cut_line bytes at = numbered (codes "tbd: cut ") bytes ++ line_of (numbered (codes " bytes of a batch that was not committed, behind byte ") at)
 
 -- how far the file of this path was read, in millions of bytes
 abbrev pub read_text : ℕ → ℕ → List ℕ
@@ -288,8 +286,7 @@ reading_line path read all = (codes "tbd: reading " ++ (path ++ codes ", ")) ++ 
 
 -- of a start that is reported: that it begins to read a file of a million bytes or more
 abbrev pub TellsReading : Bool → List ℕ → ℕ → Output → Output → Type 0
-TellsReading reports path bytes before after =
-    TellsWhere (reports && nat_le 1000000 bytes) (reading_line path 0 (bytes / 1000000)) before after
+TellsReading reports path bytes before after = TellsWhere (reports && nat_le 1000000 bytes) (reading_line path 0 (bytes / 1000000)) before after
 
 -- where an answer is no fault this holds of it, and of whatever file a device held
 abbrev pub IfHeld : {D X F : Type 0} → (D → List ℕ → Type 0) → D → Result X F → (X → List ℕ → Type 0) → Type 0
@@ -350,6 +347,24 @@ wrong_line said = codes "tbd: Usage:" ++ said_text said.shown said.what
 abbrev pub usage_lines : List (List ℕ) → List ℕ
 usage_lines [] = USAGE.now
 usage_lines (word ∷ rest) = wrong_line (wrong (word ∷ rest))
+
+-- what private functions alone cite
+
+-- a number before a text
+abbrev pub counted : ℕ → List ℕ → List ℕ
+counted number text = decimal number ++ text
+
+-- words, and behind a text what is wrong with them
+abbrev pub said_with : List (List ℕ) → List ℕ → List ℕ → List ℕ
+said_with shown between what = shown_words shown ++ (between ++ line_of what)
+
+-- a path between two texts, then the rules of its file and those that were asked for
+abbrev pub rules_text : List ℕ → List ℕ → List ℕ → Mismatch → List ℕ → List ℕ
+rules_text first path last both between = named first path last ++ both_text both between
+
+-- how much of how much was read, to the end of its line
+abbrev pub read_line : ℕ → ℕ → List ℕ
+read_line read all = line_of (read_text read all)
 
 -- rows
 

@@ -5,7 +5,7 @@ use Rattle.tb_records.specs.Transport.{Input, Output}
 use Rattle.tb_records.specs.declared.devices.Sink as sinks
 use Rattle.tb_journal.specs.declared.devices.Device as devices
 use Rattle.tb_journal.specs.Scans.{HasRead, Place}
-use Rattle.tb_keep.specs.declared.heads.Rules.{Rules}
+use Rattle.tb_keep.specs.declared.restoring.Rules.{Rules}
 use Rattle.tb_keep.specs.declared.salvaging.Salvaged.{Salvaged}
 use Rattle.tb_keep.specs.Keeping.{Keeping}
 use Rattle.tb_keep_commands.specs.declared.commands.Asked.{Asked}
