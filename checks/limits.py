@@ -16,7 +16,7 @@ import repository
 import tried
 
 ROOT = pathlib.Path(repository.ROOT)
-BOUND, WANTED = 7, 3
+BOUND, WANTED = 3, 3
 OLD, NEW = "64", "128"
 # How a line says this limit, and not another 64.
 SAYS = re.compile(

@@ -46,11 +46,11 @@ COLUMNS = (
     ">=40 lines",
     "casts",
 )
-CLAUSES_OVER_100 = 0.174  # wanted: 0.10
+CLAUSES_OVER_100 = 0.155  # wanted: 0.10
 # Each figure with a bound: what it has today, and what is wanted.
 BOUNDS = {
-    "lines": (117906, 74500),
-    "imports": (11909, 4700),
+    "lines": (118024, 74500),
+    "imports": (11925, 4700),
     ">160": (3, 0),
     "ghost >160": (5, 0),
     ">8 clauses": (11, 0),

@@ -333,6 +333,11 @@ def limits(table, sources):
             ),
         ),
         (
+            "clients_max",
+            most,
+            lambda: r.constant(code("tb_commands"), r'concat!\(\$before, "1 to (\d+)", \$behind\)'),
+        ),
+        (
             "time_max",
             most,
             lambda: r.constant(code("tb_records"), r"pub const LAST_MOMENT: u64 = ([\d_]+);"),
@@ -373,12 +378,6 @@ def limits(table, sources):
     for place, (name, wanted, got) in enumerate(rows):
         kind = "limits" if wanted is most else "sizes"
         yield (f"{kind}: {name} ({place + 1})", wanted[name], got)
-    for name in SAYING:
-        yield (
-            f"limits: clients_max in {name}",
-            [most["clients_max"]],
-            lambda n=name: clients_said(sources.read(n)),
-        )
     masks = {row["name"]: row["mask"] for row in table["reserved_flags"]}
     for kind in ("account", "transfer"):
         yield (
@@ -389,21 +388,6 @@ def limits(table, sources):
                 r"pub const RESERVED: u16 = (\w+);",
             ),
         )
-
-
-# The sources whose text says how many clients there can be.
-SAYING = (
-    "crates/tb_keep_commands/src/arguments.rt",
-    "crates/tb_keep_commands/src/help.rt",
-    "crates/tb_text_commands/src/explaining.rt",
-    "crates/tb_text_commands/src/help.rt",
-)
-
-
-def clients_said(text):
-    """The limits of clients that a text says."""
-    found = re.findall(r"\bCLIENTS_MAX is (?:missing, )?1 to (\d+)|\b1 to (\d+) clients\b", text)
-    return sorted({int(one or other) for one, other in found})
 
 
 # Words of statements

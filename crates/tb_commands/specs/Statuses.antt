@@ -1,7 +1,9 @@
 -- The exit status of each outcome: 0 done, 1 a device or memory failed, 2 the input or the arguments are wrong. And the line
 -- that a fault is reported by.
 -- Cited by public contracts of: commands, lines.
-use Rattle.std.specs.Prelude.{ℕ, ◌≡◌, ◌⊎◌, ◌++◌, List, Some, Result, Ok, Err, codes}
+use Rattle.std.specs.Prelude.{ℕ, ◌≡◌, ◌⊎◌, ◌++◌, List, Some, None, Result, Ok, Err, codes, map, string_bytes}
+use Rattle.std.specs.declared.alloc.Global.{Global}
+use Rattle.std.specs.declared.string.String.{String}
 use Rattle.tb_records.specs.declared.devices.Sink as sinks
 use Rattle.tb_records.specs.declared.devices.Source as sources
 use Rattle.tb_records.specs.declared.faults.FrameFault.{FrameFault}
@@ -79,6 +81,19 @@ Performs (Dump clients_max at) (Err (Serving fault)) before after start written 
 Performs Replay (Ok count) before after start written = ReplayRan (Ok count) before after start written
 Performs Replay (Err (Replaying fault)) before after start written = ReplayRan (Err fault) before after start written
 Performs form outcome before after start written = ⊥
+
+-- of what a reader gave and a writer took
+abbrev pub PerformsOn : {R W : Type 0} → sources.Ghosts R → sinks.Ghosts W → Form → Result ℕ Fault → R → R → W → W → Type 0
+PerformsOn source sink form outcome before after start written =
+    Performs form outcome (source.input before) (source.input after) (sink.output start) (sink.output written)
+
+-- words that ask for no form: the status is 2, and nothing is read or written
+abbrev pub RefusesWords : {R W : Type 0} → List (String Global) → ℕ → R → R → W → W → Type 0
+RefusesWords words status before after start written = form_of (map string_bytes words) ≡ None → (status ≡ 2) × (after ≡ before) × (written ≡ start)
+
+-- and the line of usage is reported
+abbrev pub TellsUsage : {E : Type 0} → sinks.Ghosts E → List (String Global) → E → E → Type 0
+TellsUsage lines words quiet told = form_of (map string_bytes words) ≡ None → TellsLine (fault_line Usage) (lines.output quiet) (lines.output told)
 
 -- a form was served, and the exit status and the line are those of the outcome
 pub record Exits (form : Form) (status : ℕ) (before after : Input) (start written quiet told : Output) : Type 0 where

@@ -67,6 +67,14 @@ pub fn read_id(word: &[u8]) -> Option<u128>
     number_up_to(word, u128::MAX)
 }
 
+/// Two texts with the range of a number of clients between them, 1 to `CLIENTS_MAX`: each message and each page of usage says it so.
+#[macro_export]
+macro_rules! with_clients_range {
+    ($before:literal, $behind:literal) => {
+        concat!($before, "1 to 64", $behind)
+    };
+}
+
 /// The number of clients that a word spells, from 1 to `CLIENTS_MAX`.
 pub fn read_clients_max(word: &[u8]) -> Option<ClientsMax>
     ensures { result ≡ clients_of word.now }

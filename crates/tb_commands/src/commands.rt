@@ -1,7 +1,6 @@
 //! The forms `run`, `dump` and `replay`, over any reader and writer, and the exit status of each outcome.
-ghost use Rattle.std.specs.Prelude.{◌≡◌, ◌<◌, None, map, string_bytes};
-ghost use Rattle.tb_commands.specs.Forms.{form_of};
-ghost use Rattle.tb_commands.specs.Statuses.{fault_status, fault_name, fault_line, On, TellsLine, Performs, ServesWords};
+ghost use Rattle.std.specs.Prelude.{◌≡◌, ◌<◌, map, string_bytes};
+ghost use Rattle.tb_commands.specs.Statuses.{fault_status, fault_name, fault_line, On, TellsLine, TellsUsage, PerformsOn, RefusesWords, ServesWords};
 
 use crate::arguments::{Form, read_form};
 use crate::lines::{LINE_BYTES, line_of, put_line};
@@ -85,8 +84,7 @@ fn perform<R: Source, W: Sink>(
     reader: &mut R,
     writer: &mut W,
 ) -> Result<u64, Fault>
-    ensures { Performs form result (R.input reader.old) (R.input reader.new) (W.output writer.old)
-        (W.output writer.new) }
+    ensures { PerformsOn R.Source W.Sink form result reader.old reader.new writer.old writer.new }
 {
     let count = match form {
         Form::Run(clients_max, profile) => run(alloc, profile, clients_max, reader, writer)?,
@@ -105,12 +103,8 @@ pub fn command<R: Source, W: Sink, E: Sink>(
     writer: &mut W,
     faults: &mut E,
 ) -> u8
-    ensures usage { form_of (map string_bytes words.now) ≡ None
-        → (result ≡ 2)
-        × (reader.new ≡ reader.old)
-        × (writer.new ≡ writer.old) }
-    ensures told { form_of (map string_bytes words.now) ≡ None
-        → TellsLine (fault_line Fault.Usage) (E.output faults.old) (E.output faults.new) }
+    ensures usage { RefusesWords words.now result reader.old reader.new writer.old writer.new }
+    ensures told { TellsUsage E.Sink words.now faults.old faults.new }
     ensures quiet { result ≡ 0 → faults.new ≡ faults.old }
     ensures served { On R.Source W.Sink E.Sink (ServesWords (map string_bytes words.now) result)
         reader.old reader.new writer.old writer.new faults.old faults.new }

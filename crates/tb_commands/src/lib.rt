@@ -3,7 +3,8 @@
 //!
 //! Modules, each over those before it:
 //!
-//! - `arguments`: `read_form`, what the words of the command line ask for.
+//! - `arguments`: `read_form`, what the words of the command line ask for, and `with_clients_range`, what a text says of a number of
+//!   clients.
 //! - `lines`: the line that a fault is reported by.
 //! - `commands`: `serve`, the way from arguments, input and output to `command`: each form over any reader and writer, and the exit
 //!   status of each outcome.

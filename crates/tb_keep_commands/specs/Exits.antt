@@ -4,6 +4,7 @@ use Rattle.std.specs.Prelude.{ℕ, true, false, ◌||◌, ◌≡◌, List, [], O
 use Rattle.std.specs.declared.alloc.Global.{Global}
 use Rattle.std.specs.declared.string.String.{String}
 use Rattle.tb_records.specs.Transport.{Input, Output, Sent, CutOff}
+use Rattle.tb_records.specs.declared.devices.Sink as sinks
 use Rattle.tb_keep.specs.Reading.{rules_of}
 use Rattle.tb_keep_commands.specs.declared.arguments.Form.{Form}
 use Rattle.tb_keep_commands.specs.declared.arguments.Form.TheVariants as form
@@ -15,7 +16,7 @@ use Rattle.tb_keep_commands.specs.Copies.{CopiesOver}
 use Rattle.tb_keep_commands.specs.Ends.{KnownEnds, KnownFiles, On}
 use Rattle.tb_keep_commands.specs.Forms.{file_word, form_of, new_word}
 use Rattle.tb_keep_commands.specs.Outcomes.{Outcome, Prints, RunsOver, DumpsOver, ChecksOver}
-use Rattle.tb_keep_commands.specs.Statuses.{SaysLine, fault_line, fault_path, fault_status}
+use Rattle.tb_keep_commands.specs.Statuses.{Says, SaysLine, fault_line, fault_path, fault_status, usage_lines}
 
 -- what was held back went out where all was done; where it does not go out, that is the outcome
 abbrev pub Finishes : Type 0 → Outcome → Outcome → Output → Output → Type 0
@@ -31,6 +32,10 @@ outcome_status (Err fault) = fault_status fault
 abbrev pub Tells : Outcome → List ℕ → List ℕ → Output → Output → Type 0
 Tells (Ok done) file new before after = after ≡ before
 Tells (Err fault) file new before after = SaysLine (fault_line fault (fault_path fault file new)) before after
+
+-- of words that ask for no form the line or page of usage is reported
+abbrev pub TellsUsage : {L : Type 0} → sinks.Ghosts L → List (String Global) → L → L → Type 0
+TellsUsage lines words quiet told = form_of (map string_bytes words) ≡ None → Says lines (usage_lines (map string_bytes words)) quiet told
 
 module _ {O D E : Type 0} (its : KnownFiles O D E) (ends : Terminals) (before : O) (name new : List ℕ) (left : O) where
   -- what a form does over what opens devices: `run` has the device of a name made where there is none, `dump` and `check` open one that is

@@ -16,7 +16,6 @@ use Rattle.tb_keep.specs.Reading.{HasDumpCause}
 use Rattle.tb_keep_commands.specs.declared.faults.Fault.{Fault}
 use Rattle.tb_keep_commands.specs.declared.faults.Fault.TheVariants.{Device}
 use Rattle.tb_keep_commands.specs.declared.faults.Failed.TheVariants as failed
-use Rattle.tb_keep_commands.specs.declared.following.Part.{Part}
 use Rattle.tb_keep_commands.specs.Statuses.{opened_fault, dumped_fault}
 
 -- above which commit number entries are written: all where none is given
@@ -139,47 +138,3 @@ pub record Reaches (holds : List ℕ → Type 0) (follows : Bool) (after : ℕ) 
 abbrev pub EndsRounds : (List ℕ → Type 0) → Result (Unit {0}) Fault → Bool → ℕ → List ℕ → Output → Output → Type 0
 EndsRounds holds (Ok done) follows after file start written = Reaches holds follows after file start written
 EndsRounds holds (Err fault) follows after file start written = Breaks fault follows after file start written
-
--- of whatever file a device holds
-
-abbrev pub WritesHeld : {D : Type 0} → (D → List ℕ → Type 0) → Result (Unit {0}) Fault → Bool → Option ℕ → Rules → D → D → Output → Output → Type 0
-WritesHeld holds outcome follows after rules device last start written =
-    (file : List ℕ) → holds device file → WritesPart (holds last) outcome follows after rules file start written
-
--- of which a scan has read these records
-abbrev pub OfRead : {D : Type 0} → (D → List ℕ → Type 0) → D → Place → (List ℕ → List (List ℕ) → Type 0) → Type 0
-OfRead holds device scan Is = (file : List ℕ) (read : List (List ℕ)) → holds device file → HasRead read file scan → Is file read
-
--- of which it has read none
-abbrev pub OfUnread : {D : Type 0} → (D → List ℕ → Type 0) → D → Place → (List ℕ → Type 0) → Type 0
-OfUnread holds device scan Is = (file : List ℕ) → holds device file → HasRead [] file scan → Is file
-
-abbrev pub SendsUnread : {D : Type 0} → (D → List ℕ → Type 0) → Result (Unit {0}) Fault → Bool → ℕ → D → Place → D → Output → Output → Type 0
-SendsUnread holds outcome follows after device scan last start written =
-    OfUnread holds device scan (λ file. EndsRounds (holds last) outcome follows after file start written)
-
-abbrev pub WritesUnread : {D : Type 0} → (D → List ℕ → Type 0) → Result (Unit {0}) Fault → Part → Rules → D → Place → D → Output → Output → Type 0
-WritesUnread holds outcome part rules device scan last start written =
-    OfUnread holds device scan (λ file. WritesPart (holds last) outcome part.follows part.after rules file start written)
-
--- one more round, behind those that wrote what went out so far
-abbrev pub SendsMore : {D : Type 0} → (D → List ℕ → Type 0) → Result (Unit {0}) Fault → ℕ → D → Place → Output → D → Place → Output → Type 0
-SendsMore holds outcome after device scan before last to written =
-    (file : List ℕ) (start : Output) → Grown holds after file device scan start before → GrowsBy holds outcome after file last to start written
-
--- all that are left
-abbrev pub SendsOn : {D : Type 0} → (D → List ℕ → Type 0) → Result (Unit {0}) Fault → ℕ → D → Place → Output → D → Output → Type 0
-SendsOn holds outcome after device scan before last written =
-    (file : List ℕ) (start : Output) → Grown holds after file device scan start before → EndsRounds (holds last) outcome true after file start written
-
--- why, over a device that reports what its calls do
-
-abbrev pub HasRoundCause : Type 0 → Result (Unit {0}) Fault → Disk → Place → Disk → Place → Type 0
-HasRoundCause tells outcome before scan after to =
-    tells → (read : List (List ℕ)) → HasRead read before.seen scan → RoundCause outcome before after to
-
-abbrev pub HasWholeCause : Type 0 → Result (Unit {0}) Fault → Disk → Place → Disk → Type 0
-HasWholeCause tells outcome before scan after = tells → HasRead [] before.seen scan → HasPartCause outcome before after
-
-abbrev pub HasRestCause : Type 0 → Result (Unit {0}) Fault → Disk → Place → Disk → Type 0
-HasRestCause tells outcome before scan after = tells → (read : List (List ℕ)) → HasRead read before.seen scan → HasPartCause outcome before after

@@ -1,9 +1,9 @@
 -- A file that is read while another program may append to it.
 -- Cited by public contracts of: live.
-use Rattle.std.specs.Prelude.{◌≡◌, ℕ, List, length, Result, Ok, Err}
+use Rattle.std.specs.Prelude.{◌≡◌, ℕ, List, length, Result, Ok, Err, IfOk}
 use Rattle.tb_journal.specs.declared.faults.Fault.{Fault}
 use Rattle.tb_journal.specs.Contents.{Contents, NotAJournal, Damaged, Records, contents}
-use Rattle.tb_journal.specs.Growing.{Extends, Later}
+use Rattle.tb_journal.specs.Growing.{Extends, Grown, Later}
 
 -- a device looked at its file again. What it holds is later than this file, and represents all that the whole file represented at some
 -- moment of the call
@@ -21,6 +21,14 @@ pub record LooksAgain {D : Type 0} (whole holds : D → List ℕ → Type 0) (be
 abbrev pub Refreshes : {D : Type 0} → (D → List ℕ → Type 0) → (D → List ℕ → Type 0) → D → D → List ℕ → Result (Unit {0}) Fault → Type 0
 Refreshes whole holds before after file (Ok done) = LooksAgain whole holds before after file
 Refreshes whole holds before after file (Err fault) = holds after file
+
+-- of whatever file it held
+abbrev pub RefreshesHeld : {D : Type 0} → (D → List ℕ → Type 0) → (D → List ℕ → Type 0) → Result (Unit {0}) Fault → D → D → Type 0
+RefreshesHeld whole holds result before after = (file : List ℕ) → holds before file → Refreshes whole holds before after file result
+
+-- so many bytes had the whole file at some moment of a call
+abbrev pub MeasuresWhole : {D : Type 0} → (D → List ℕ → Type 0) → Result ℕ Fault → D → D → Type 0
+MeasuresWhole whole len before after = (file : List ℕ) → whole before file → Grown (whole after) file (λ later. IfOk len (λ n. n ≡ length later))
 
 -- a whole file, by what the part of it represents that a device holds: it extends these records, or is refused as the part is
 abbrev pub WholeOf : Contents → List ℕ → List ℕ → Type 0

@@ -5,7 +5,6 @@ use Rattle.tb_records.specs.Transport.{Input, Output, Sent, CutOff}
 use Rattle.tb_journal.specs.declared.devices.Device as devices
 use Rattle.tb_journal.specs.declared.faults.Fault as journal
 use Rattle.tb_journal.specs.Device.{Looks, LeavesOnly}
-use Rattle.tb_journal.specs.Growing.{Grown}
 use Rattle.tb_keep.specs.declared.faults.DumpFault.{DumpFault}
 use Rattle.tb_keep.specs.declared.faults.KeepFault.{KeepFault}
 use Rattle.tb_keep.specs.declared.faults.StartFault.{StartFault}
@@ -24,7 +23,7 @@ use Rattle.tb_keep_commands.specs.declared.openers.OpeningFault.{OpeningFault}
 use Rattle.tb_keep_commands.specs.declared.summaries.Found.{Found}
 use Rattle.tb_keep_commands.specs.Ends.{KnownFiles}
 use Rattle.tb_keep_commands.specs.Statuses.{disk_fault, started_fault, kept_fault, failed_pipe, TellsMade, TellsCut, TellsReading, TellsReady, TellsFrames}
-use Rattle.tb_keep_commands.specs.Live.{IsWholeLength}
+use Rattle.tb_keep_commands.specs.Live.{IsWholeLength, MeasuresWhole}
 use Rattle.tb_keep_commands.specs.Following.{WritesPart, HasPartCause, dump_outcome}
 use Rattle.tb_keep_commands.specs.Naming.{Names, NamesAsked}
 use Rattle.tb_keep_commands.specs.Summaries.{ReadsWhole, summary_of, summary_text}
@@ -120,7 +119,7 @@ module _ {D : Type 0} (its : devices.Ghosts D) where
 
   -- a device was asked for the length of the whole file of which it holds a part: that at some moment of the call. What it holds stays
   pub record IsMeasured (whole : D → List ℕ → Type 0) (len : Result ℕ journal.Fault) (device after : D) : Type 0 where
-    pub long : (file : List ℕ) → whole device file → Grown (whole after) file (λ later. IfOk len (λ n. n ≡ length later))
+    pub long : MeasuresWhole whole len device after
     pub extends : OfFile device (λ file. IfOk len (IsWholeLength file))
     -- nobody else appends to the file of a device that reports what its calls do
     pub told : its.tells → IfOk len (λ n. n ≡ length (its.disk device).seen)

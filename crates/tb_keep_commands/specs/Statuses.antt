@@ -1,6 +1,6 @@
 -- The exit status of each fault, and the line that names it.
--- Cited by public contracts of: commands, copies, faults, host, lines, openers, reports, serving.
-use Rattle.std.specs.Prelude.{ℕ, zero, suc, Bool, true, false, ◌≡◌, ◌⊎◌, ◌==◌, ◌+◌, ◌-◌, ◌/◌, ◌^◌, ◌&&◌, min, nat_le, nat_eq, ◌++◌, List, [], ◌∷◌, Option, Some, None, Result, Ok, Err, if◌then◌else◌, flat_map, codes, string_bytes, refl}
+-- Cited by public contracts of: copies, faults, host, lines, openers, reports, serving.
+use Rattle.std.specs.Prelude.{ℕ, zero, suc, Bool, true, false, ◌≡◌, ◌⊎◌, ◌==◌, ◌+◌, ◌-◌, ◌/◌, ◌^◌, ◌&&◌, min, nat_le, nat_eq, ◌++◌, List, [], ◌∷◌, Option, Some, None, Result, Ok, Err, IfOk, if◌then◌else◌, flat_map, codes, string_bytes, refl}
 use Rattle.std.specs.Fmt.{decimal, digits}
 use Rattle.std.specs.IoError.{error_kind}
 use Rattle.std.specs.declared.io.Error.{Error}
@@ -13,8 +13,10 @@ use Rattle.tb_records.specs.Faults.{fault_name}
 use Rattle.tb_records.specs.declared.faults.FrameFault.{FrameFault}
 use Rattle.tb_records.specs.Transport.{Output, Sent, CutOff}
 use Rattle.tb_records.specs.declared.devices.Sink as sinks
+use Rattle.tb_journal.specs.declared.devices.Device as devices
 use Rattle.tb_journal.specs.declared.faults.Fault as journal
 use Rattle.tb_journal.specs.declared.faults.Fault.TheVariants as disk
+use Rattle.tb_journal.specs.Device.{IsLookedAt}
 use Rattle.tb_journal.specs.declared.real.FileFault.{FileFault}
 use Rattle.tb_journal.specs.declared.real.FileFault.TheVariants as file
 use Rattle.tb_journal.specs.declared.reading.Refusal.{Refusal}
@@ -166,6 +168,22 @@ fault_status (OtherRules numbers) = 7
 fault_status Full = 8
 fault_status SyncFailed = 9
 
+-- a number behind a text
+abbrev pub numbered : List ℕ → ℕ → List ℕ
+numbered text number = text ++ decimal number
+
+-- a path between two texts
+abbrev pub named : List ℕ → List ℕ → List ℕ → List ℕ
+named first path last = first ++ (path ++ last)
+
+-- a text to the end of its line
+abbrev pub line_of : List ℕ → List ℕ
+line_of text = text ++ codes "\n"
+
+-- the line of what is wrong at a place
+abbrev pub place_line : List ℕ → ℕ → List ℕ → List ℕ
+place_line first place what = line_of (numbered first place ++ (codes ": " ++ what))
+
 abbrev pub damage_text : Damage → List ℕ
 damage_text (Block at) = codes "at byte " ++ decimal at
 damage_text (Record place fault) = codes "record " ++ decimal place ++ (codes ": " ++ fault_name fault)
@@ -235,6 +253,10 @@ fault_text SyncFailed path = sync_text
 abbrev pub SaysLine : List ℕ → Output → Output → Type 0
 SaysLine line before after = (Sent line before after × (after.held ≡ false)) ⊎ CutOff line before after
 
+-- of a writer of lines, before and after a call
+abbrev pub Says : {E : Type 0} → sinks.Ghosts E → List ℕ → E → E → Type 0
+Says lines line before after = SaysLine line (lines.output before) (lines.output after)
+
 abbrev pub fault_line : Fault → List ℕ → List ℕ
 fault_line fault path = codes "tbd: " ++ (fault_text fault path ++ codes "\n")
 
@@ -253,9 +275,7 @@ TellsMade len path before after = TellsWhere (nat_eq len 0) (made_line path) bef
 
 -- what a start says that cut bytes off: how many, and where the records end that stay
 abbrev pub cut_line : ℕ → ℕ → List ℕ
-cut_line bytes at =
-    (codes "tbd: cut " ++ decimal bytes)
-    ++ ((codes " bytes of a batch that was not committed, behind byte " ++ decimal at) ++ codes "\n")
+cut_line bytes at = numbered (codes "tbd: cut ") bytes ++ line_of (numbered (codes " bytes of a batch that was not committed, behind byte ") at)
 
 -- how far the file of this path was read, in millions of bytes
 abbrev pub read_text : ℕ → ℕ → List ℕ
@@ -266,8 +286,15 @@ reading_line path read all = (codes "tbd: reading " ++ (path ++ codes ", ")) ++ 
 
 -- of a start that is reported: that it begins to read a file of a million bytes or more
 abbrev pub TellsReading : Bool → List ℕ → ℕ → Output → Output → Type 0
-TellsReading reports path bytes before after =
-    TellsWhere (reports && nat_le 1000000 bytes) (reading_line path 0 (bytes / 1000000)) before after
+TellsReading reports path bytes before after = TellsWhere (reports && nat_le 1000000 bytes) (reading_line path 0 (bytes / 1000000)) before after
+
+-- where an answer is no fault this holds of it, and of whatever file a device held
+abbrev pub IfHeld : {D X F : Type 0} → (D → List ℕ → Type 0) → D → Result X F → (X → List ℕ → Type 0) → Type 0
+IfHeld holds device answer Is = (file : List ℕ) → holds device file → IfOk answer (λ x. Is x file)
+
+-- a device was made of another that was looked at, and reports the same of what its calls do
+abbrev pub IsMadeLooking : {D X F : Type 0} → devices.Ghosts D → devices.Ghosts X → D → Result X F → Type 0
+IsMadeLooking its made device answer = its.tells → IfOk answer (λ x. IsLookedAt (its.disk device) (made.disk x))
 
 -- from which offset on it is first reported how far a file was read: of no file where that is not wanted
 abbrev pub first_due : Bool → ℕ
@@ -320,6 +347,24 @@ wrong_line said = codes "tbd: Usage:" ++ said_text said.shown said.what
 abbrev pub usage_lines : List (List ℕ) → List ℕ
 usage_lines [] = USAGE.now
 usage_lines (word ∷ rest) = wrong_line (wrong (word ∷ rest))
+
+-- what private functions alone cite
+
+-- a number before a text
+abbrev pub counted : ℕ → List ℕ → List ℕ
+counted number text = decimal number ++ text
+
+-- words, and behind a text what is wrong with them
+abbrev pub said_with : List (List ℕ) → List ℕ → List ℕ → List ℕ
+said_with shown between what = shown_words shown ++ (between ++ line_of what)
+
+-- a path between two texts, then the rules of its file and those that were asked for
+abbrev pub rules_text : List ℕ → List ℕ → List ℕ → Mismatch → List ℕ → List ℕ
+rules_text first path last both between = named first path last ++ both_text both between
+
+-- how much of how much was read, to the end of its line
+abbrev pub read_line : ℕ → ℕ → List ℕ
+read_line read all = line_of (read_text read all)
 
 -- rows
 

@@ -1,2 +1,3 @@
 -- what private contracts alone cite
+pub mod Changes
 pub mod Stages

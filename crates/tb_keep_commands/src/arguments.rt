@@ -3,7 +3,7 @@ ghost use Rattle.std.specs.Prelude.{◌≡◌, map, take, string_bytes};
 ghost use Rattle.tb_keep_commands.specs.Forms.{form_alone, form_by, form_of, form_over, form_three, form_four, form_five, dump_from, dump_later, is_follow, run_form, run_four, run_five, file_word, new_word, copy_form, is_copy, wrong_new, wrong_copy, is_number, is_no_file, is_progress, wrong_last, wrong_five, wrong_clients, wrong_run, wrong_follow, wrong_behind, wrong_count, wrong_over, wrong};
 ghost use Rattle.tb_commands.specs.Forms.{clients_of};
 
-use tb_commands::{number, read_clients_max, read_profile};
+use tb_commands::{number, read_clients_max, read_profile, with_clients_range};
 use tb_records::{ClientsMax, Profile};
 
 /// What the program is asked to do.
@@ -242,10 +242,10 @@ pub fn read_form(words: &[String]) -> Option<Form>
 }
 
 /// What is wrong with a number of clients that is out of its range.
-pub const CLIENTS_WRONG: &str = "CLIENTS_MAX is 1 to 64";
+pub const CLIENTS_WRONG: &str = with_clients_range!("CLIENTS_MAX is ", "");
 
 /// What is wrong where no number of clients is given.
-pub const CLIENTS_MISSING: &str = "CLIENTS_MAX is missing, 1 to 64";
+pub const CLIENTS_MISSING: &str = with_clients_range!("CLIENTS_MAX is missing, ", "");
 
 /// What is wrong with four words that begin with `run`, of which the third is to be a number of clients.
 fn wrong_last(clients_max: &str) -> &'static str

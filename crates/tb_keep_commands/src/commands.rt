@@ -1,10 +1,9 @@
 //! The program's forms, over what opens devices, any reader and any writer, and the exit status of each outcome.
 ghost use Rattle.std.specs.Prelude.{◌≡◌, ◌||◌, None, map, string_bytes};
 ghost use Rattle.tb_keep_commands.specs.Forms.{form_of};
-ghost use Rattle.tb_keep_commands.specs.Statuses.{SaysLine, usage_lines};
-ghost use Rattle.tb_keep_commands.specs.Exits.{Does, Finishes};
-ghost use Rattle.tb_keep_commands.specs.private.Stages.{ExitsOn, PerformsOn, Runs};
-ghost use Rattle.tb_keep_commands.specs.Outcomes.{Prints, DumpsPart, DumpsOver, ChecksOver};
+ghost use Rattle.tb_keep_commands.specs.Exits.{Does, Finishes, TellsUsage};
+ghost use Rattle.tb_keep_commands.specs.private.Stages.{ChecksOn, DumpsAsked, DumpsOn, ExitsOn, PerformsOn, Runs};
+ghost use Rattle.tb_keep_commands.specs.Outcomes.{Prints};
 
 use crate::arguments::{Form, file_word, new_word, read_form};
 use crate::copying::copy_over;
@@ -42,8 +41,7 @@ fn run_over<O: Opener, R: Source, W: Outlet, E: Sink>(
     writer: &mut W,
     faults: &mut E,
 ) -> Result<(), Fault>
-    ensures { Runs ⟦<O as Ends<R, W, E>>⟧.its rules told.now talks opener.old opener.new result
-        reader.old reader.new writer.old writer.new faults.old faults.new }
+    ensures { Runs ⟦<O as Ends<R, W, E>>⟧.its rules told.now talks opener result reader writer faults }
 {
     tell_frames(talks, faults);
     match opener.make(told.path) {
@@ -60,8 +58,7 @@ fn dump_part<O: Opener, W: Outlet>(
     writer: &mut W,
     part: Part,
 ) -> Result<(), Fault>
-    ensures { DumpsPart O.Reading.Device (O.ended opener.now) part.after part.follows result device.old device.new
-        (W.output writer.old) (W.output writer.new) }
+    ensures { DumpsAsked O.Reading.Device W.Sink (O.ended opener.now) part result device writer }
 {
     match (part.after, part.follows) {
         (None, false) => dump(alloc, device, writer),
@@ -77,8 +74,7 @@ fn dump_over<O: Opener, W: Outlet>(
     writer: &mut W,
     part: Part,
 ) -> Result<(), Fault>
-    ensures { DumpsOver ⟦<O as Files>⟧.its name.now opener.old opener.new part.after part.follows result
-        (W.output writer.old) (W.output writer.new) }
+    ensures { DumpsOn ⟦<O as Files>⟧.its W.Sink name.now part result opener writer }
 {
     let opened = opener.open(name);
     match opened {
@@ -99,7 +95,7 @@ fn check_over<O: Opener, W: Sink>(
     name: &str,
     writer: &mut W,
 ) -> Result<(), Fault>
-    ensures { ChecksOver ⟦<O as Files>⟧.its name.now opener.old opener.new result (W.output writer.old) (W.output writer.new) }
+    ensures { ChecksOn ⟦<O as Files>⟧.its W.Sink name.now result opener writer }
 {
     let found = opener.open(name);
     match found {
@@ -148,8 +144,7 @@ fn perform<O: Opener, R: Source, W: Outlet, E: Sink>(
     writer: &mut W,
     faults: &mut E,
 ) -> Result<(), Fault>
-    ensures { PerformsOn ⟦<O as Ends<R, W, E>>⟧.its asked.now opener.old opener.new result
-        reader.old reader.new writer.old writer.new faults.old faults.new }
+    ensures { PerformsOn ⟦<O as Ends<R, W, E>>⟧.its asked.now opener result reader writer faults }
 {
     let name = asked.file;
     match asked.form {
@@ -198,8 +193,7 @@ fn exit<O: Opener, R: Source, W: Outlet, E: Sink>(
     writer: &mut W,
     faults: &mut E,
 ) -> u8
-    ensures { ExitsOn ⟦<O as Ends<R, W, E>>⟧.its asked.now opener.old opener.new result
-        reader.old reader.new writer.old writer.new faults.old faults.new }
+    ensures { ExitsOn ⟦<O as Ends<R, W, E>>⟧.its asked.now opener result reader writer faults }
 {
     let done = perform(alloc, opener, asked, reader, writer, faults);
     match finish(done, writer) {
@@ -227,8 +221,7 @@ pub fn command<O: Opener, R: Source, W: Outlet, E: Sink>(
     ensures unopened { form_of (map string_bytes words.now) ≡ None → opener.new ≡ opener.old }
     ensures unread { form_of (map string_bytes words.now) ≡ None → reader.new ≡ reader.old }
     ensures unwritten { form_of (map string_bytes words.now) ≡ None → writer.new ≡ writer.old }
-    ensures told { let said = map string_bytes words.now in
-        form_of said ≡ None → SaysLine (usage_lines said) (E.output faults.old) (E.output faults.new) }
+    ensures told { TellsUsage E.Sink words.now faults.old faults.new }
     ensures served { Does ⟦<O as Ends<R, W, E>>⟧.its ends words.now opener.old opener.new result
         reader.old reader.new writer.old writer.new faults.old faults.new }
 {

@@ -1,7 +1,9 @@
 //! A file copied into a new one: up to its first damage, or where it is whole.
 ghost use Rattle.std.specs.Prelude.{◌≡◌, true};
-ghost use Rattle.tb_keep_commands.specs.Copies.{copied_of, copied_text, refused_by, EndsCopy, NamesCopy, CopiesLong, CopiesFile, MakesCopy, CopiesHeaded, CopiesOver};
+ghost use Rattle.tb_keep_commands.specs.Copies.{copied_of, copied_text, refused_by, NamesCopy, CopiesLong, CopiesFile};
 ghost use Rattle.tb_keep_commands.specs.Outcomes.{PrintsText};
+ghost use Rattle.tb_keep_commands.specs.private.Changes.{OnDevice, OnWriter};
+ghost use Rattle.tb_keep_commands.specs.private.Stages.{CopiesHeadedOn, CopiesOn, EndsSalvage, MakesCopyOn};
 
 use crate::copies::{Copied, damage_of};
 use crate::ends::Files;
@@ -57,8 +59,7 @@ fn end_copy<N: Device + Drop, W: Sink>(
     whole: bool,
     writer: &mut W,
 ) -> Result<(), Fault>
-    ensures { EndsCopy (refused_by whole salvaged.stop) (copied_of len salvaged) result (W.output writer.old)
-        (W.output writer.new) }
+    ensures { OnWriter W.Sink (EndsSalvage len whole salvaged result) writer }
 {
     let copied = copied_of(&salvaged, len);
     let stop = salvaged.stop;
@@ -98,8 +99,7 @@ fn copy_long<D: Live, N: Device + Drop, W: Sink>(
     writer: &mut W,
 ) -> Result<(), Fault>
     requires { N.tells → (N.disk into).sound ≡ true }
-    ensures { CopiesLong D.Device D.whole N.Device len whole result into from.old from.new (W.output writer.old)
-        (W.output writer.new) }
+    ensures { OnDevice W.Sink (CopiesLong D.Device D.whole N.Device len whole result into) from writer }
 {
     match salvage(alloc, from, into) {
         Ok(salvaged) => end_copy(alloc, salvaged, len, whole, writer),
@@ -117,8 +117,7 @@ pub(crate) fn copy<D: Live, N: Device + Drop, W: Sink>(
     writer: &mut W,
 ) -> Result<(), Fault>
     requires { N.tells → (N.disk into).sound ≡ true }
-    ensures { CopiesFile D.Device D.whole N.Device whole result into from.old from.new (W.output writer.old)
-        (W.output writer.new) }
+    ensures { OnDevice W.Sink (CopiesFile D.Device D.whole N.Device whole result into) from writer }
 {
     match from.file_len() {
         Ok(len) => copy_long(alloc, from, len, into, whole, writer),
@@ -138,8 +137,7 @@ fn copy_made<O: Opener, W: Sink>(
     whole: bool,
     writer: &mut W,
 ) -> Result<(), Fault>
-    ensures { MakesCopy ⟦<O as Files>⟧.its new.now opener.old opener.new whole result from.old from.new
-        (W.output writer.old) (W.output writer.new) }
+    ensures { MakesCopyOn ⟦<O as Files>⟧.its W.Sink new.now whole result opener from writer }
 {
     let made = opener.make_new(new);
     match made {
@@ -157,8 +155,7 @@ fn copy_headed<O: Opener, W: Sink>(
     whole: bool,
     writer: &mut W,
 ) -> Result<(), Fault>
-    ensures { CopiesHeaded ⟦<O as Files>⟧.its new.now opener.old opener.new whole result from.old from.new
-        (W.output writer.old) (W.output writer.new) }
+    ensures { CopiesHeadedOn ⟦<O as Files>⟧.its W.Sink new.now whole result opener from writer }
 {
     match read_rules(alloc, from) {
         Ok(_rules) => copy_made(alloc, opener, new, from, whole, writer),
@@ -175,8 +172,7 @@ pub(crate) fn copy_over<O: Opener, W: Sink>(
     whole: bool,
     writer: &mut W,
 ) -> Result<(), Fault>
-    ensures { CopiesOver ⟦<O as Files>⟧.its new.now name.now opener.old opener.new whole result
-        (W.output writer.old) (W.output writer.new) }
+    ensures { CopiesOn ⟦<O as Files>⟧.its W.Sink new.now name.now whole result opener writer }
 {
     let opened = opener.open(name);
     match opened {

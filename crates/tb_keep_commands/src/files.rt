@@ -4,6 +4,7 @@ ghost use Rattle.tb_keep.specs.Opening.{IsUntouched};
 ghost use Rattle.tb_keep.specs.Restoration.{HasStartCause};
 ghost use Rattle.tb_keep_commands.specs.Summaries.{ReadsWhole, summary_text};
 ghost use Rattle.tb_keep_commands.specs.Outcomes.{DumpsFound, DumpsFile, ChecksLong, ChecksFile, PrintsText};
+ghost use Rattle.tb_keep_commands.specs.private.Changes.{OnDevice};
 
 use crate::faults::{Failed, Fault, disk_fault, dumped_fault};
 use crate::live::Live;
@@ -46,8 +47,7 @@ fn dump_found<D: Device, W: Sink>(
     found: Found,
     writer: &mut W,
 ) -> Result<(), Fault>
-    ensures { DumpsFound D.Device (Ok found) result device.old device.new (W.output writer.old)
-        (W.output writer.new) }
+    ensures { OnDevice W.Sink (DumpsFound D.Device (Ok found) result) device writer }
 {
     match write_dump(alloc, device, found.rules, writer) {
         Ok(()) => Ok(()),
@@ -61,8 +61,7 @@ pub(crate) fn dump<D: Device, W: Sink>(
     device: &mut D,
     writer: &mut W,
 ) -> Result<(), Fault>
-    ensures { DumpsFile D.Device result device.old device.new (W.output writer.old)
-        (W.output writer.new) }
+    ensures { OnDevice W.Sink (DumpsFile D.Device result) device writer }
 {
     match read_whole(alloc, device) {
         Ok(found) => dump_found(alloc, device, found, writer),
@@ -90,8 +89,7 @@ fn check_long<D: Device, W: Sink>(
     len: usize,
     writer: &mut W,
 ) -> Result<(), Fault>
-    ensures { ChecksLong D.Device len result device.old device.new (W.output writer.old)
-        (W.output writer.new) }
+    ensures { OnDevice W.Sink (ChecksLong D.Device len result) device writer }
 {
     match read_whole(alloc, device) {
         Ok(found) => report(alloc, found.summary(len), writer),
@@ -105,8 +103,7 @@ pub(crate) fn check<D: Live, W: Sink>(
     device: &mut D,
     writer: &mut W,
 ) -> Result<(), Fault>
-    ensures { ChecksFile D.Device D.whole result device.old device.new (W.output writer.old)
-        (W.output writer.new) }
+    ensures { OnDevice W.Sink (ChecksFile D.Device D.whole result) device writer }
 {
     match device.file_len() {
         Ok(len) => check_long(alloc, device, len, writer),

@@ -1,8 +1,8 @@
 //! The entries of a file above a commit number, written as the file grows.
 ghost use Rattle.std.specs.Prelude.{◌≡◌, true, ℕ, List, IfOk, OnOk};
-ghost use Rattle.tb_keep_commands.specs.Following.{floor_of, start_of, OfRead, SendsRound, SendsMore, SendsOn, SendsUnread, WritesUnread, WritesHeld, HasRoundCause, HasRestCause, HasWholeCause, HasPartCause};
-ghost use Rattle.tb_keep_commands.specs.Live.{LooksAgain};
-ghost use Rattle.tb_keep_commands.specs.Outcomes.{Prints, FollowsFile};
+ghost use Rattle.tb_keep_commands.specs.Following.{floor_of, start_of};
+ghost use Rattle.tb_keep_commands.specs.Outcomes.{Prints};
+ghost use Rattle.tb_keep_commands.specs.private.Stages.{FollowsAsked, HasHeldCause, HasRestCause, HasRoundCause, HasWholeCause, LooksOnOk, SendsMore, SendsOn, SendsRest, SendsUnread, WritesHeld, WritesUnread};
 
 use crate::faults::{Failed, Fault, disk_fault, dumped_fault, opened_fault};
 use crate::files::read_whole;
@@ -32,11 +32,10 @@ fn send_round<D: Device, W: Outlet>(
     writer: &mut W,
     after: u64,
 ) -> Result<(), Fault>
-    ensures sends { OfRead D.holds device.old scan.old
-        (λ file read. SendsRound result after read file scan.new (W.output writer.old) (W.output writer.new)) }
+    ensures sends { SendsRest D.holds W.Sink result after scan device writer }
     ensures gone { IfOk result (λ _. W.gone writer.new) }
     ensures same { (file : List ℕ) → D.holds device.old file → D.holds device.new file }
-    ensures cause { HasRoundCause D.tells result (D.disk device.old) scan.old (D.disk device.new) scan.new }
+    ensures cause { HasRoundCause D.Device result scan device }
 {
     match write_entries(scan, device, writer, after) {
         Ok(_) => match writer.finish() {
@@ -54,11 +53,10 @@ fn send_more<D: Live, W: Outlet>(
     writer: &mut W,
     after: u64,
 ) -> Result<(), Fault>
-    ensures sends { SendsMore D.holds result after device.old scan.old (W.output writer.old)
-        device.new scan.new (W.output writer.new) }
+    ensures sends { SendsMore D.holds W.Sink result after scan device writer }
     ensures gone { IfOk result (λ _. W.gone writer.new) }
-    ensures looks { (file : List ℕ) → D.holds device.old file → OnOk result (LooksAgain D.whole D.holds device.old device.new file) }
-    ensures cause { HasRoundCause D.tells result (D.disk device.old) scan.old (D.disk device.new) scan.new }
+    ensures looks { LooksOnOk D.whole D.holds result device }
+    ensures cause { HasRoundCause D.Device result scan device }
 {
     match device.refresh() {
         Ok(()) => {
@@ -77,10 +75,9 @@ fn send_on<O: Opener, W: Outlet>(
     writer: &mut W,
     after: u64,
 ) -> Result<(), Fault>
-    ensures sends { SendsOn O.Reading.holds result after device.old scan.old (W.output writer.old)
-        device.new (W.output writer.new) }
+    ensures sends { SendsOn O.Reading.holds W.Sink result after scan device writer }
     ensures ends { OnOk result (O.ended opener.now) }
-    ensures cause { HasRestCause O.Reading.tells result (O.Reading.disk device.old) scan.old (O.Reading.disk device.new) }
+    ensures cause { HasRestCause O.Reading.Device result scan device }
 {
     for _ in 0..u64::MAX {
         if !opener.pause() {
@@ -104,10 +101,9 @@ fn send_entries<O: Opener, W: Outlet>(
     after: u64,
     follows: bool,
 ) -> Result<(), Fault>
-    ensures sends { SendsUnread O.Reading.holds result follows after device.old scan.old device.new
-        (W.output writer.old) (W.output writer.new) }
+    ensures sends { SendsUnread O.Reading.holds W.Sink result follows after scan device writer }
     ensures ends { follows ≡ true → OnOk result (O.ended opener.now) }
-    ensures cause { HasWholeCause O.Reading.tells result (O.Reading.disk device.old) scan.old (O.Reading.disk device.new) }
+    ensures cause { HasWholeCause O.Reading.Device result scan device }
 {
     match send_round(scan, device, writer, after) {
         Ok(()) => {
@@ -154,10 +150,9 @@ fn send_part<O: Opener, W: Outlet>(
     writer: &mut W,
     part: Part,
 ) -> Result<(), Fault>
-    ensures writes { WritesUnread O.Reading.holds result part rules device.old scan.old device.new
-        (W.output writer.old) (W.output writer.new) }
+    ensures writes { WritesUnread O.Reading.holds W.Sink result part rules scan device writer }
     ensures ends { part.follows ≡ true → OnOk result (O.ended opener.now) }
-    ensures cause { HasWholeCause O.Reading.tells result (O.Reading.disk device.old) scan.old (O.Reading.disk device.new) }
+    ensures cause { HasWholeCause O.Reading.Device result scan device }
 {
     match send_start(writer, rules, part.after) {
         Ok(()) => {
@@ -177,10 +172,9 @@ fn part_found<O: Opener, W: Outlet>(
     writer: &mut W,
     part: Part,
 ) -> Result<(), Fault>
-    ensures writes { WritesHeld O.Reading.holds result part.follows part.after rules device.old device.new
-        (W.output writer.old) (W.output writer.new) }
+    ensures writes { WritesHeld O.Reading.holds W.Sink result part rules device writer }
     ensures ends { part.follows ≡ true → OnOk result (O.ended opener.now) }
-    ensures cause { O.Reading.tells → HasPartCause result (O.Reading.disk device.old) (O.Reading.disk device.new) }
+    ensures cause { HasHeldCause O.Reading.Device result device }
 {
     match Scan::start(alloc, device) {
         Ok(scan) => {
@@ -202,8 +196,7 @@ pub(crate) fn follow<O: Opener, W: Outlet>(
     writer: &mut W,
     part: Part,
 ) -> Result<(), Fault>
-    ensures { FollowsFile O.Reading.Device (O.ended opener.now) part.after part.follows result device.old device.new (W.output writer.old)
-        (W.output writer.new) }
+    ensures { FollowsAsked O.Reading.Device W.Sink (O.ended opener.now) part result device writer }
 {
     match read_whole(alloc, device) {
         Ok(found) => part_found(alloc, opener, device, found.rules, writer, part),

@@ -4,7 +4,8 @@
 pub const VERSION: &str = "tbd 0.1.0\n";
 
 /// How the program is used.
-pub const USAGE: &str = "Usage: tbd FORM
+pub const USAGE: &str = tb_commands::with_clients_range!(
+    "Usage: tbd FORM
 
 Keeps a ledger in a file: what was answered is in the file, whenever the program or the machine ends.
 
@@ -28,9 +29,11 @@ Keeps a ledger in a file: what was answered is in the file, whenever the program
   backup FILE NEW                 the same of a FILE that is whole, else status 6
   --help, -h, --version
 
-CLIENTS_MAX is 1 to 64, PROFILE 1 or 2; a file keeps those that it was made with. FILE is no
+CLIENTS_MAX is ",
+    ", PROFILE 1 or 2; a file keeps those that it was made with. FILE is no
 number and does not begin with -: the file 64 is ./64. So is NEW. One run or follow serves a file
 at a time; the other forms only read it, also while it is served. The exit status is 0 where all is
 done; else a line of standard error names the fault: 1 Device or NoMemory, 2 Usage or a request that
 is none, 4 Locked, 5 NotAJournal or Plain, 6 Damaged, 7 OtherRules, 8 Full, 9 SyncFailed.
-";
+"
+);

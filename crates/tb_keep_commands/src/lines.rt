@@ -1,9 +1,8 @@
 //! The lines of standard error.
-ghost use Rattle.std.specs.Prelude.{◌≡◌, ◌++◌, Some, codes, map, string_bytes};
-ghost use Rattle.std.specs.Fmt.{decimal};
-ghost use Rattle.tb_records.specs.Transport.{IsSent};
-ghost use Rattle.tb_keep_commands.specs.Statuses.{damage_text, opening_text, failed_text, kind_text, numbers_text, both_text, mismatch_text, fault_text, fault_line, read_text, reading_line, shown_words, said_text, wrong_line, usage_lines, Passes, SaysLine, TellsMade, TellsCut, TellsReading, TellsReady, TellsFrames};
+ghost use Rattle.std.specs.Prelude.{◌≡◌, ◌++◌, Some, map, string_bytes};
+ghost use Rattle.tb_keep_commands.specs.Statuses.{damage_text, opening_text, failed_text, kind_text, numbers_text, both_text, mismatch_text, fault_text, fault_line, reading_line, shown_words, said_text, wrong_line, usage_lines, counted, line_of, named, numbered, place_line, read_line, rules_text, said_with, Passes, Says, TellsMade, TellsCut, TellsReading, TellsReady, TellsFrames};
 ghost use Rattle.tb_keep_commands.specs.Forms.{wrong};
+ghost use Rattle.tb_keep_commands.specs.private.Changes.{Puts};
 
 use crate::arguments::wrong;
 use crate::faults::{Damage, Failed, Fault, Mismatch, Numbers};
@@ -15,7 +14,7 @@ use tb_records::{FrameFault, Sink, put_all};
 
 /// Writes two texts, one behind the other.
 fn put_both<E: Sink>(faults: &mut E, first: &str, second: &str) -> Result<(), FrameFault>
-    ensures { IsSent result (first.now ++ second.now) (E.output faults.old) (E.output faults.new) }
+    ensures { Puts E.Sink result (first.now ++ second.now) faults }
 {
     match put_all(faults, first.as_bytes()) {
         Ok(()) => put_all(faults, second.as_bytes()),
@@ -25,8 +24,7 @@ fn put_both<E: Sink>(faults: &mut E, first: &str, second: &str) -> Result<(), Fr
 
 /// Writes a text, the path of a file and a text behind it.
 fn put_named<E: Sink>(faults: &mut E, first: &str, path: &str, last: &str) -> Result<(), FrameFault>
-    ensures { IsSent result (first.now ++ (path.now ++ last.now)) (E.output faults.old)
-        (E.output faults.new) }
+    ensures { Puts E.Sink result (named first.now path.now last.now) faults }
 {
     match put_all(faults, first.as_bytes()) {
         Ok(()) => put_both(faults, path, last),
@@ -36,7 +34,7 @@ fn put_named<E: Sink>(faults: &mut E, first: &str, path: &str, last: &str) -> Re
 
 /// Writes a text and a number behind it.
 fn put_number<E: Sink>(faults: &mut E, first: &str, number: u64) -> Result<(), FrameFault>
-    ensures { IsSent result (first.now ++ decimal number) (E.output faults.old) (E.output faults.new) }
+    ensures { Puts E.Sink result (numbered first.now number) faults }
 {
     let mut buffer = Buffer::new();
     put_both(faults, first, buffer.format(number))
@@ -50,8 +48,7 @@ fn put_place<E: Sink>(
     second: &str,
     what: &str,
 ) -> Result<(), FrameFault>
-    ensures { IsSent result ((first.now ++ decimal place) ++ (second.now ++ what.now)) (E.output faults.old)
-        (E.output faults.new) }
+    ensures { Puts E.Sink result (numbered first.now place ++ (second.now ++ what.now)) faults }
 {
     match put_number(faults, first, place) {
         Ok(()) => put_both(faults, second, what),
@@ -61,7 +58,7 @@ fn put_place<E: Sink>(
 
 /// Writes a number and a text behind it.
 fn put_counted<E: Sink>(faults: &mut E, number: u64, last: &str) -> Result<(), FrameFault>
-    ensures { IsSent result (decimal number ++ last.now) (E.output faults.old) (E.output faults.new) }
+    ensures { Puts E.Sink result (counted number last.now) faults }
 {
     let mut buffer = Buffer::new();
     put_both(faults, buffer.format(number), last)
@@ -75,8 +72,7 @@ fn put_torn<E: Sink>(
     at: u64,
     last: &str,
 ) -> Result<(), FrameFault>
-    ensures { IsSent result ((decimal bytes ++ first.now) ++ (decimal at ++ last.now)) (E.output faults.old)
-        (E.output faults.new) }
+    ensures { Puts E.Sink result (counted bytes first.now ++ counted at last.now) faults }
 {
     match put_counted(faults, bytes, first) {
         Ok(()) => put_counted(faults, at, last),
@@ -86,7 +82,7 @@ fn put_torn<E: Sink>(
 
 /// Writes what is damaged.
 fn put_damage<E: Sink>(faults: &mut E, damage: Damage) -> Result<(), FrameFault>
-    ensures { IsSent result (damage_text damage) (E.output faults.old) (E.output faults.new) }
+    ensures { Puts E.Sink result (damage_text damage) faults }
 {
     match damage {
         Damage::Block { at } => put_number(faults, "at byte ", at as u64),
@@ -104,7 +100,7 @@ fn put_damage<E: Sink>(faults: &mut E, damage: Damage) -> Result<(), FrameFault>
 
 /// Writes why a file of this path was not opened.
 fn put_opening<E: Sink>(faults: &mut E, fault: OpeningFault, path: &str) -> Result<(), FrameFault>
-    ensures { IsSent result (opening_text fault path.now) (E.output faults.old) (E.output faults.new) }
+    ensures { Puts E.Sink result (opening_text fault path.now) faults }
 {
     match fault {
         OpeningFault::Locked => put_all(faults, b"Locked: another program has the file open"),
@@ -125,7 +121,7 @@ fn put_opening<E: Sink>(faults: &mut E, fault: OpeningFault, path: &str) -> Resu
 
 /// Writes a text and what is damaged.
 fn put_damaged<E: Sink>(faults: &mut E, first: &str, damage: Damage) -> Result<(), FrameFault>
-    ensures { IsSent result (first.now ++ damage_text damage) (E.output faults.old) (E.output faults.new) }
+    ensures { Puts E.Sink result (first.now ++ damage_text damage) faults }
 {
     match put_all(faults, first.as_bytes()) {
         Ok(()) => put_damage(faults, damage),
@@ -135,7 +131,7 @@ fn put_damaged<E: Sink>(faults: &mut E, first: &str, damage: Damage) -> Result<(
 
 /// Writes what failed of a program over a file of this path.
 fn put_failed<E: Sink>(faults: &mut E, which: Failed, path: &str) -> Result<(), FrameFault>
-    ensures { IsSent result (failed_text which path.now) (E.output faults.old) (E.output faults.new) }
+    ensures { Puts E.Sink result (failed_text which path.now) faults }
 {
     match which {
         Failed::Input => put_all(faults, b"Device: standard input"),
@@ -146,7 +142,7 @@ fn put_failed<E: Sink>(faults: &mut E, which: Failed, path: &str) -> Result<(), 
 
 /// Writes that a file of this path is no ledger, and of what kind it is.
 fn put_kind<E: Sink>(faults: &mut E, kind: Kind, path: &str) -> Result<(), FrameFault>
-    ensures { IsSent result (kind_text kind path.now) (E.output faults.old) (E.output faults.new) }
+    ensures { Puts E.Sink result (kind_text kind path.now) faults }
 {
     match kind {
         Kind::Unread => put_all(faults, b"NotAJournal"),
@@ -191,8 +187,7 @@ fn put_two<E: Sink>(
     second: &str,
     two: u64,
 ) -> Result<(), FrameFault>
-    ensures { IsSent result ((first.now ++ decimal one) ++ (second.now ++ decimal two)) (E.output faults.old)
-        (E.output faults.new) }
+    ensures { Puts E.Sink result (numbered first.now one ++ numbered second.now two) faults }
 {
     match put_number(faults, first, one) {
         Ok(()) => put_number(faults, second, two),
@@ -203,7 +198,7 @@ fn put_two<E: Sink>(
 /// Writes rules in words.
 #[tactic(auto, unfolding(crate::specs::Statuses::numbers_text))]
 fn put_numbers<E: Sink>(faults: &mut E, numbers: Numbers) -> Result<(), FrameFault>
-    ensures { IsSent result (numbers_text numbers) (E.output faults.old) (E.output faults.new) }
+    ensures { Puts E.Sink result (numbers_text numbers) faults }
 {
     put_two(
         faults,
@@ -216,7 +211,7 @@ fn put_numbers<E: Sink>(faults: &mut E, numbers: Numbers) -> Result<(), FrameFau
 
 /// Writes a text and rules in words behind it.
 fn put_asked<E: Sink>(faults: &mut E, first: &str, asked: Numbers) -> Result<(), FrameFault>
-    ensures { IsSent result (first.now ++ numbers_text asked) (E.output faults.old) (E.output faults.new) }
+    ensures { Puts E.Sink result (first.now ++ numbers_text asked) faults }
 {
     match put_all(faults, first.as_bytes()) {
         Ok(()) => put_numbers(faults, asked),
@@ -230,7 +225,7 @@ fn put_both_numbers<E: Sink>(
     both: Mismatch,
     between: &str,
 ) -> Result<(), FrameFault>
-    ensures { IsSent result (both_text both between.now) (E.output faults.old) (E.output faults.new) }
+    ensures { Puts E.Sink result (both_text both between.now) faults }
 {
     match put_numbers(faults, both.made) {
         Ok(()) => put_asked(faults, between, both.asked),
@@ -247,9 +242,7 @@ fn put_rules<E: Sink>(
     both: Mismatch,
     between: &str,
 ) -> Result<(), FrameFault>
-    ensures { IsSent result
-        ((first.now ++ (path.now ++ last.now)) ++ both_text both between.now)
-        (E.output faults.old) (E.output faults.new) }
+    ensures { Puts E.Sink result (rules_text first.now path.now last.now both between.now) faults }
 {
     match put_named(faults, first, path, last) {
         Ok(()) => put_both_numbers(faults, both, between),
@@ -263,7 +256,7 @@ fn put_mismatch<E: Sink>(
     numbers: Option<Mismatch>,
     path: &str,
 ) -> Result<(), FrameFault>
-    ensures { IsSent result (mismatch_text numbers path.now) (E.output faults.old) (E.output faults.new) }
+    ensures { Puts E.Sink result (mismatch_text numbers path.now) faults }
 {
     match numbers {
         Some(both) => put_rules(
@@ -283,7 +276,7 @@ fn put_mismatch<E: Sink>(
 
 /// Writes a fault's name, and what there is to say of it, over a file of this path.
 fn put_fault<E: Sink>(faults: &mut E, fault: Fault, path: &str) -> Result<(), FrameFault>
-    ensures { IsSent result (fault_text fault path.now) (E.output faults.old) (E.output faults.new) }
+    ensures { Puts E.Sink result (fault_text fault path.now) faults }
 {
     match fault {
         Fault::Usage => put_all(faults, b"Usage"),
@@ -317,8 +310,7 @@ fn pass<E: Sink>(sent: Result<(), FrameFault>, faults: &mut E)
 
 /// Writes a fault and the end of its line.
 fn put_rest<E: Sink>(faults: &mut E, fault: Fault, path: &str) -> Result<(), FrameFault>
-    ensures { IsSent result (fault_text fault path.now ++ codes "\n") (E.output faults.old)
-        (E.output faults.new) }
+    ensures { Puts E.Sink result (line_of (fault_text fault path.now)) faults }
 {
     match put_fault(faults, fault, path) {
         Ok(()) => put_all(faults, b"\n"),
@@ -333,8 +325,7 @@ fn put_line<E: Sink>(
     fault: Fault,
     path: &str,
 ) -> Result<(), FrameFault>
-    ensures { IsSent result (first.now ++ (fault_text fault path.now ++ codes "\n")) (E.output faults.old)
-        (E.output faults.new) }
+    ensures { Puts E.Sink result (first.now ++ line_of (fault_text fault path.now)) faults }
 {
     match put_all(faults, first.as_bytes()) {
         Ok(()) => put_rest(faults, fault, path),
@@ -344,15 +335,14 @@ fn put_line<E: Sink>(
 
 /// Prints a fault over a file of this path, in one line. A failure to write it changes no status.
 pub fn tell<E: Sink>(fault: Fault, path: &str, faults: &mut E)
-    ensures { SaysLine (fault_line fault path.now) (E.output faults.old) (E.output faults.new) }
+    ensures { Says E.Sink (fault_line fault path.now) faults.old faults.new }
 {
     pass(put_line(faults, "tbd: ", fault, path), faults);
 }
 
 /// Writes a number behind a text, and the end of the line.
 fn put_end<E: Sink>(faults: &mut E, first: &str, at: u64) -> Result<(), FrameFault>
-    ensures { IsSent result ((first.now ++ decimal at) ++ codes "\n") (E.output faults.old)
-        (E.output faults.new) }
+    ensures { Puts E.Sink result (line_of (numbered first.now at)) faults }
 {
     match put_number(faults, first, at) {
         Ok(()) => put_all(faults, b"\n"),
@@ -368,9 +358,7 @@ fn put_cut<E: Sink>(
     second: &str,
     at: u64,
 ) -> Result<(), FrameFault>
-    ensures { IsSent result
-        ((first.now ++ decimal bytes) ++ ((second.now ++ decimal at) ++ codes "\n")) (E.output faults.old)
-        (E.output faults.new) }
+    ensures { Puts E.Sink result (numbered first.now bytes ++ line_of (numbered second.now at)) faults }
 {
     match put_number(faults, first, bytes) {
         Ok(()) => put_end(faults, second, at),
@@ -380,8 +368,7 @@ fn put_cut<E: Sink>(
 
 /// Writes a text, a path and a text, and the end of the line.
 fn put_path<E: Sink>(faults: &mut E, first: &str, path: &str, last: &str) -> Result<(), FrameFault>
-    ensures { IsSent result ((first.now ++ (path.now ++ last.now)) ++ codes "\n") (E.output faults.old)
-        (E.output faults.new) }
+    ensures { Puts E.Sink result (line_of (named first.now path.now last.now)) faults }
 {
     match put_named(faults, first, path, last) {
         Ok(()) => put_all(faults, b"\n"),
@@ -396,9 +383,7 @@ fn put_fault_at<E: Sink>(
     place: u64,
     what: &str,
 ) -> Result<(), FrameFault>
-    ensures { IsSent result
-        (((first.now ++ decimal place) ++ (codes ": " ++ what.now)) ++ codes "\n") (E.output faults.old)
-        (E.output faults.new) }
+    ensures { Puts E.Sink result (place_line first.now place what.now) faults }
 {
     match put_place(faults, first, place, ": ", what) {
         Ok(()) => put_all(faults, b"\n"),
@@ -408,31 +393,28 @@ fn put_fault_at<E: Sink>(
 
 /// Prints a path between two texts, in one line.
 pub fn tell_named<E: Sink>(first: &str, path: &str, last: &str, faults: &mut E)
-    ensures { SaysLine ((first.now ++ (path.now ++ last.now)) ++ codes "\n") (E.output faults.old)
-        (E.output faults.new) }
+    ensures { Says E.Sink (line_of (named first.now path.now last.now)) faults.old faults.new }
 {
     pass(put_path(faults, first, path, last), faults);
 }
 
 /// Prints a number behind a text, in one line.
 pub fn tell_number<E: Sink>(first: &str, number: u64, faults: &mut E)
-    ensures { SaysLine ((first.now ++ decimal number) ++ codes "\n") (E.output faults.old)
-        (E.output faults.new) }
+    ensures { Says E.Sink (line_of (numbered first.now number)) faults.old faults.new }
 {
     pass(put_end(faults, first, number), faults);
 }
 
 /// Prints a number behind a text and what is wrong there, in one line.
 pub fn tell_place<E: Sink>(first: &str, place: u64, what: &str, faults: &mut E)
-    ensures { SaysLine (((first.now ++ decimal place) ++ (codes ": " ++ what.now)) ++ codes "\n")
-        (E.output faults.old) (E.output faults.new) }
+    ensures { Says E.Sink (place_line first.now place what.now) faults.old faults.new }
 {
     pass(put_fault_at(faults, first, place, what), faults);
 }
 
 /// Prints what is wrong behind a text, in one line.
 pub fn tell_text<E: Sink>(first: &str, what: &str, faults: &mut E)
-    ensures { SaysLine (first.now ++ (what.now ++ codes "\n")) (E.output faults.old) (E.output faults.new) }
+    ensures { Says E.Sink (first.now ++ line_of what.now) faults.old faults.new }
 {
     pass(put_behind(faults, first, what), faults);
 }
@@ -452,8 +434,7 @@ pub fn tell_cut<E: Sink>(bytes: u64, at: u64, faults: &mut E)
 
 /// Writes words, a space before each.
 fn put_words<E: Sink>(faults: &mut E, words: &[String]) -> Result<(), FrameFault>
-    ensures { IsSent result (shown_words (map string_bytes words.now)) (E.output faults.old)
-        (E.output faults.new) }
+    ensures { Puts E.Sink result (shown_words (map string_bytes words.now)) faults }
 {
     match words {
         [] => Ok(()),
@@ -466,7 +447,7 @@ fn put_words<E: Sink>(faults: &mut E, words: &[String]) -> Result<(), FrameFault
 
 /// Writes what is wrong, and the end of the line.
 fn put_what<E: Sink>(faults: &mut E, what: &str) -> Result<(), FrameFault>
-    ensures { IsSent result (what.now ++ codes "\n") (E.output faults.old) (E.output faults.new) }
+    ensures { Puts E.Sink result (line_of what.now) faults }
 {
     match put_all(faults, what.as_bytes()) {
         Ok(()) => put_all(faults, b"\n"),
@@ -476,8 +457,7 @@ fn put_what<E: Sink>(faults: &mut E, what: &str) -> Result<(), FrameFault>
 
 /// Writes a text and what is wrong behind it.
 fn put_behind<E: Sink>(faults: &mut E, first: &str, what: &str) -> Result<(), FrameFault>
-    ensures { IsSent result (first.now ++ (what.now ++ codes "\n")) (E.output faults.old)
-        (E.output faults.new) }
+    ensures { Puts E.Sink result (first.now ++ line_of what.now) faults }
 {
     match put_all(faults, first.as_bytes()) {
         Ok(()) => put_what(faults, what),
@@ -492,9 +472,7 @@ fn put_said<E: Sink>(
     between: &str,
     what: &str,
 ) -> Result<(), FrameFault>
-    ensures { IsSent result
-        (shown_words (map string_bytes shown.now) ++ (between.now ++ (what.now ++ codes "\n")))
-        (E.output faults.old) (E.output faults.new) }
+    ensures { Puts E.Sink result (said_with (map string_bytes shown.now) between.now what.now) faults }
 {
     match put_words(faults, shown) {
         Ok(()) => put_behind(faults, between, what),
@@ -509,9 +487,7 @@ fn put_wrong<E: Sink>(
     shown: &[String],
     what: &str,
 ) -> Result<(), FrameFault>
-    ensures { IsSent result
-        (first.now ++ said_text (map string_bytes shown.now) what.now)
-        (E.output faults.old) (E.output faults.new) }
+    ensures { Puts E.Sink result (first.now ++ said_text (map string_bytes shown.now) what.now) faults }
 {
     match put_all(faults, first.as_bytes()) {
         Ok(()) => put_said(faults, shown, ": ", what),
@@ -530,9 +506,7 @@ pub fn tell_made<E: Sink>(len: usize, path: &str, faults: &mut E)
 
 /// Writes how much of how much was read, in millions of bytes, and the end of the line.
 fn put_read<E: Sink>(faults: &mut E, read: u64, all: u64) -> Result<(), FrameFault>
-    ensures { IsSent result
-        (read_text read all ++ codes "\n") (E.output faults.old)
-        (E.output faults.new) }
+    ensures { Puts E.Sink result (read_line read all) faults }
 {
     match put_torn(faults, read, " of ", all, " MB") {
         Ok(()) => put_all(faults, b"\n"),
@@ -549,9 +523,7 @@ fn put_reading<E: Sink>(
     read: u64,
     all: u64,
 ) -> Result<(), FrameFault>
-    ensures { IsSent result
-        ((first.now ++ (path.now ++ last.now)) ++ (read_text read all ++ codes "\n"))
-        (E.output faults.old) (E.output faults.new) }
+    ensures { Puts E.Sink result (named first.now path.now last.now ++ read_line read all) faults }
 {
     match put_named(faults, first, path, last) {
         Ok(()) => put_read(faults, read, all),
@@ -565,7 +537,7 @@ pub(crate) const MEGABYTE: usize = 1_000_000;
 /// Reports how much of a file of this path was read, of how much, in millions of bytes.
 #[tactic(auto, using(crate::proofs::Passing::said))]
 pub(crate) fn tell_read<E: Sink>(path: &str, read: u64, all: u64, faults: &mut E)
-    ensures { SaysLine (reading_line path.now read all) (E.output faults.old) (E.output faults.new) }
+    ensures { Says E.Sink (reading_line path.now read all) faults.old faults.new }
 {
     pass(
         put_reading(faults, "tbd: reading ", path, ", ", read, all),
@@ -607,8 +579,7 @@ pub(crate) fn tell_frames<E: Sink>(talks: bool, faults: &mut E)
 
 /// Writes the line of words that are none of the program's forms.
 fn put_usage<E: Sink>(faults: &mut E, words: &[String]) -> Result<(), FrameFault>
-    ensures { IsSent result (wrong_line (wrong (map string_bytes words.now))) (E.output faults.old)
-        (E.output faults.new) }
+    ensures { Puts E.Sink result (wrong_line (wrong (map string_bytes words.now))) faults }
 {
     let (shown, what) = wrong(words);
     put_wrong(faults, "tbd: Usage:", shown, what)
@@ -618,8 +589,7 @@ fn put_usage<E: Sink>(faults: &mut E, words: &[String]) -> Result<(), FrameFault
 /// it changes no status.
 #[tactic(auto, using(crate::proofs::Passing::said))]
 pub fn tell_usage<E: Sink>(words: &[String], faults: &mut E)
-    ensures { SaysLine (usage_lines (map string_bytes words.now)) (E.output faults.old)
-        (E.output faults.new) }
+    ensures { Says E.Sink (usage_lines (map string_bytes words.now)) faults.old faults.new }
 {
     match words {
         [] => pass(put_all(faults, USAGE.as_bytes()), faults),

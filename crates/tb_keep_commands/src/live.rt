@@ -1,8 +1,7 @@
 //! A file that is read while another program may append to it.
 ghost use Rattle.std.specs.Prelude.{◌≡◌, ℕ, List, length, IfOk, IfErr};
 ghost use Rattle.tb_journal.specs.Device.{Looks, IsOfCall};
-ghost use Rattle.tb_journal.specs.Growing.{Grown};
-ghost use Rattle.tb_keep_commands.specs.Live.{IsWholeLength, Refreshes};
+ghost use Rattle.tb_keep_commands.specs.Live.{IsWholeLength, MeasuresWhole, RefreshesHeld};
 
 use tb_journal::{Device, Fault, Growing, Memory, Snapshot};
 
@@ -14,8 +13,7 @@ pub trait Live: Device {
 
     /// The number of bytes of the whole file now.
     fn file_len(&mut self) -> Result<usize, Fault>
-        ensures long { (file : List ℕ) → whole self.old file
-            → Grown (whole self.new) file (λ later. IfOk result (λ len. len ≡ length later)) }
+        ensures long { MeasuresWhole whole result self.old self.new }
         // Of any device: what it holds begins the file whose length that is.
         ensures extends { (file : List ℕ) → Self.holds self.old file → IfOk result (IsWholeLength file) }
         // Of a device that reports what its calls do: nobody else appends to that.
@@ -27,7 +25,7 @@ pub trait Live: Device {
     /// Goes on to what has been committed by now: to all that the whole file represented at some moment of the call. On a fault it
     /// holds what it held.
     fn refresh(&mut self) -> Result<(), Fault>
-        ensures later { (file : List ℕ) → Self.holds self.old file → Refreshes whole Self.holds self.old self.new file result }
+        ensures later { RefreshesHeld whole Self.holds result self.old self.new }
         ensures looks { Self.tells → Looks result (Self.disk self.old) (Self.disk self.new) };
 }
 

@@ -1,7 +1,7 @@
 //! A file that reports how far it was read.
 ghost use Rattle.std.specs.Prelude.{◌≡◌, ◌≤◌, ℕ, List, length, IfErr, IfOk, MatchResult, string_bytes};
-ghost use Rattle.tb_journal.specs.Device.{IsOfCall, IsLookedAt, Looks, ReadsAt};
-ghost use Rattle.tb_keep_commands.specs.Statuses.{first_due, Reports};
+ghost use Rattle.tb_journal.specs.Device.{IsOfCall, Looks, ReadsAt};
+ghost use Rattle.tb_keep_commands.specs.Statuses.{first_due, IfHeld, IsMadeLooking, Reports};
 
 use crate::lines::{MEGABYTE, tell_read};
 use std::alloc::Global;
@@ -32,12 +32,11 @@ impl<D: Device + Drop, E: Sink + Drop> Reported<D, E> {
         lines: E,
         reports: bool,
     ) -> Result<Reported<D, E>, Fault>
-        ensures same { (file : List ℕ) → D.holds device file
-            → IfOk result (λ reported. ⟦<Reported<D, E> as Device>⟧.holds reported file) }
-        ensures looks { D.tells → IfOk result (λ reported. IsLookedAt (D.disk device) (⟦<Reported<D, E> as Device>⟧.disk reported)) }
+        ensures same { IfHeld D.holds device result ⟦<Reported<D, E> as Device>⟧.holds }
+        ensures looks { IsMadeLooking D.Device ⟦<Reported<D, E> as Device>⟧ device result }
         ensures named { IfErr result IsOfCall }
         ensures path { IfOk result (λ reported. string_bytes reported.path ≡ path.now) }
-        ensures len { (file : List ℕ) → D.holds device file → IfOk result (λ reported. reported.len ≡ length file) }
+        ensures len { IfHeld D.holds device result (λ reported file. reported.len ≡ length file) }
         ensures due { IfOk result (λ reported. reported.due ≡ first_due reports) }
         ensures silent { IfOk result (λ reported. reported.lines ≡ lines) }
     {
@@ -83,7 +82,7 @@ impl<D: Device + Drop, E: Sink + Drop> Device for Reported<D, E> {
 
     fn read_at(&mut self, at: usize, into: &mut [u8]) -> Result<usize, Fault>
         ensures within { IfOk result (λ count. count ≤ length into.new) }
-        ensures bytes { (file : List ℕ) → D.holds self.old.device file → IfOk result (λ count. ReadsAt count at file into.new) }
+        ensures bytes { IfHeld D.holds self.old.device result (λ n file. ReadsAt n at file into.new) }
         ensures same { (file : List ℕ) → D.holds self.old.device file → D.holds self.new.device file }
         ensures names { IfErr result IsOfCall }
         ensures looks { D.tells → Looks result (D.disk self.old.device) (D.disk self.new.device) }

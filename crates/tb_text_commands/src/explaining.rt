@@ -19,6 +19,12 @@ const SAMPLE_BYTES: usize = 32;
 /// Why a pair is not served for which no time is left.
 const LATE: &str = "its moment is above 2^63 - 1; where its request is new, no time is left";
 
+/// Why bytes are not read as a dump.
+const NO_HEAD: &str = tb_commands::with_clients_range!(
+    "the first 16 bytes are no head: TBSDUMP1, profile 1 or 2, ",
+    " clients"
+);
+
 /// A frame's fault in words.
 fn frame_words(fault: FrameFault) -> &'static str {
     match fault {
@@ -39,8 +45,7 @@ fn frame_words(fault: FrameFault) -> &'static str {
 /// A dump's fault in words.
 fn dump_words(fault: DumpFault) -> &'static str {
     match fault {
-        DumpFault::Head =>
-            "the first 16 bytes are no head: TBSDUMP1, profile 1 or 2, 1 to 64 clients",
+        DumpFault::Head => NO_HEAD,
         DumpFault::Mark => "a mark is not 2, or is there under profile 2",
         DumpFault::Frame(fault) => frame_words(fault),
         DumpFault::NotLegal => "it does not follow from the entries before it",

@@ -4,7 +4,8 @@
 pub const VERSION: &str = "tbt 0.1.0\n";
 
 /// How the program is used.
-pub const USAGE: &str = "Usage: tbt FORM
+pub const USAGE: &str = tb_commands::with_clients_range!(
+    "Usage: tbt FORM
 
 Reads standard input, writes standard output.
 
@@ -23,7 +24,8 @@ Reads standard input, writes standard output.
   explain                    a script or a dump in, where and why tbs stops in it out
   --help, -h, --version
 
-CLIENTS_MAX is 1 to 64, PROFILE 1 or 2. The exit status is 0 where all is done, 1 where a
+CLIENTS_MAX is ",
+    ", PROFILE 1 or 2. The exit status is 0 where all is done, 1 where a
 device or memory failed, 2 where the input or the arguments are wrong.
 
 On a terminal tbt run 2 shows a prompt, and help there shows statements. Its ledger ends with it.
@@ -36,7 +38,8 @@ Example: two accounts, a transfer of 100, and how an account stands then.
   create_transfers id=11 debit_account_id=1 credit_account_id=2 amount=100 ledger=700 code=10;
   lookup_accounts id=2;
   END
-";
+"
+);
 
 /// What a conversation on a terminal begins with.
 pub const GREETING: &str = "A statement ends with `;`. `help` shows some, `exit` or Ctrl-D ends.\n";

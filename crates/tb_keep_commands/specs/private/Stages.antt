@@ -1,15 +1,23 @@
 -- What the private functions behind a command do, as they have its parts.
--- Cited by private contracts alone, of: commands, serving.
-use Rattle.std.specs.Prelude.{ℕ, Bool}
+-- Cited by private contracts alone, of: commands, copying, following, serving.
+use Rattle.std.specs.Prelude.{ℕ, Bool, true, List, [], OnOk}
 use Rattle.tb_records.specs.Transport.{Input, Output}
+use Rattle.tb_records.specs.declared.devices.Sink as sinks
 use Rattle.tb_journal.specs.declared.devices.Device as devices
+use Rattle.tb_journal.specs.Scans.{HasRead, Place}
 use Rattle.tb_keep.specs.declared.restoring.Rules.{Rules}
+use Rattle.tb_keep.specs.declared.salvaging.Salvaged.{Salvaged}
 use Rattle.tb_keep.specs.Keeping.{Keeping}
 use Rattle.tb_keep_commands.specs.declared.commands.Asked.{Asked}
+use Rattle.tb_keep_commands.specs.declared.following.Part.{Part}
 use Rattle.tb_keep_commands.specs.declared.serving.Told.{Told}
-use Rattle.tb_keep_commands.specs.Ends.{KnownEnds, On}
+use Rattle.tb_keep_commands.specs.Copies.{CopiesHeaded, CopiesOver, EndsCopy, MakesCopy, copied_of, refused_by}
+use Rattle.tb_keep_commands.specs.Ends.{KnownEnds, KnownFiles, On}
 use Rattle.tb_keep_commands.specs.Exits.{Exits, Performs}
-use Rattle.tb_keep_commands.specs.Outcomes.{Outcome, RunsOver, ServesFile, ServesKept, ServesLong}
+use Rattle.tb_keep_commands.specs.Following.{EndsRounds, Grown, GrowsBy, HasPartCause, RoundCause, SendsRound, WritesPart}
+use Rattle.tb_keep_commands.specs.Live.{LooksAgain}
+use Rattle.tb_keep_commands.specs.Outcomes.{ChecksOver, DumpsOver, DumpsPart, FollowsFile, Outcome, RunsOver, ServesFile, ServesKept, ServesLong}
+use Rattle.tb_keep_commands.specs.private.Changes.{Change, OnDevice, OnWriter, new, old}
 
 -- a start that is reported so
 module _ {D : Type 0} (its : devices.Ghosts D) (outcome : Outcome) where
@@ -22,20 +30,112 @@ module _ {D : Type 0} (its : devices.Ghosts D) (outcome : Outcome) where
   abbrev pub RunsTold : Rules → Told → D → Input → Input → Output → Output → Output → Output → Type 0
   RunsTold rules told device = ServesFile its outcome rules told.path.now told.reports device
 
+-- what is written of a file of so many bytes that was copied, or why it is refused
+abbrev pub EndsSalvage : {N : Type 0} → ℕ → Bool → Salvaged N → Outcome → Output → Output → Type 0
+EndsSalvage len whole salvaged outcome = EndsCopy (refused_by whole salvaged.stop) (copied_of len salvaged) outcome
+
+-- the part of a dump that was asked for, of what a device holds
+module _ {D W : Type 0} (its : devices.Ghosts D) (sink : sinks.Ghosts W) (Ended : Type 0) (part : Part) (outcome : Outcome) where
+  abbrev pub DumpsAsked : Change D → Change W → Type 0
+  DumpsAsked device writer = OnDevice sink (DumpsPart its Ended part.after part.follows outcome) device writer
+
+  abbrev pub FollowsAsked : Change D → Change W → Type 0
+  FollowsAsked device writer = OnDevice sink (FollowsFile its Ended part.after part.follows outcome) device writer
+
+-- what was asked for, over the files of a command
+module _ {O D E W : Type 0} (its : KnownFiles O D E) (sink : sinks.Ghosts W) where
+  abbrev pub DumpsOn : List ℕ → Part → Outcome → Change O → Change W → Type 0
+  DumpsOn name part outcome opener writer = OnWriter sink (DumpsOver its name (old opener) (new opener) part.after part.follows outcome) writer
+
+  abbrev pub ChecksOn : List ℕ → Outcome → Change O → Change W → Type 0
+  ChecksOn name outcome opener writer = OnWriter sink (ChecksOver its name (old opener) (new opener) outcome) writer
+
+  abbrev pub CopiesOn : List ℕ → List ℕ → Bool → Outcome → Change O → Change W → Type 0
+  CopiesOn into name whole outcome opener writer = OnWriter sink (CopiesOver its into name (old opener) (new opener) whole outcome) writer
+
+  abbrev pub CopiesHeadedOn : List ℕ → Bool → Outcome → Change O → Change E → Change W → Type 0
+  CopiesHeadedOn into whole outcome opener from writer =
+      OnDevice sink (CopiesHeaded its into (old opener) (new opener) whole outcome) from writer
+
+  abbrev pub MakesCopyOn : List ℕ → Bool → Outcome → Change O → Change E → Change W → Type 0
+  MakesCopyOn into whole outcome opener from writer = OnDevice sink (MakesCopy its into (old opener) (new opener) whole outcome) from writer
+
 -- what was asked for, over the ends of a command
 module _ {O D E R W L : Type 0} (its : KnownEnds O D E R W L) where
-  abbrev pub ExitsOn : Asked → O → O → ℕ → R → R → W → W → L → L → Type 0
-  ExitsOn asked before left status first last start written quiet told =
-      On its.source its.sink its.lines (Exits its.files asked.ends before asked.file.now asked.new.now left (its.gone written) asked.form status)
-      first last start written quiet told
+  -- of what its reader gave, and its writer and its writer of lines took
+  abbrev pub OnEnds : (Input → Input → Output → Output → Output → Output → Type 0) → Change R → Change W → Change L → Type 0
+  OnEnds Does reader writer lines =
+      On its.source its.sink its.lines Does (old reader) (new reader) (old writer) (new writer) (old lines) (new lines)
 
-  abbrev pub PerformsOn : Asked → O → O → Outcome → R → R → W → W → L → L → Type 0
-  PerformsOn asked before left outcome first last start written quiet told =
-      On its.source its.sink its.lines (Performs its.files asked.ends before asked.file.now asked.new.now left asked.form outcome)
-      first last start written quiet told
+  abbrev pub ExitsOn : Asked → Change O → ℕ → Change R → Change W → Change L → Type 0
+  ExitsOn asked opener status reader writer lines =
+      OnEnds (Exits its.files asked.ends (old opener) asked.file.now asked.new.now (new opener) (its.gone (new writer)) asked.form status)
+      reader writer lines
 
-  abbrev pub Runs : Rules → Told → Bool → O → O → Outcome → R → R → W → W → L → L → Type 0
-  Runs rules told talks before left outcome first last start written quiet said =
-      On its.source its.sink its.lines
-      (RunsOver its.files.file (its.files.opener.makes before told.path.now) left outcome rules told.path.now told.reports talks)
-      first last start written quiet said
+  abbrev pub PerformsOn : Asked → Change O → Outcome → Change R → Change W → Change L → Type 0
+  PerformsOn asked opener outcome reader writer lines =
+      OnEnds (Performs its.files asked.ends (old opener) asked.file.now asked.new.now (new opener) asked.form outcome) reader writer lines
+
+  abbrev pub Runs : Rules → Told → Bool → Change O → Outcome → Change R → Change W → Change L → Type 0
+  Runs rules told talks opener outcome reader writer lines =
+      OnEnds (RunsOver its.files.file (its.files.opener.makes (old opener) told.path.now) (new opener) outcome rules told.path.now told.reports talks)
+      reader writer lines
+
+-- of the entries above a commit number, of whatever file a device holds
+module _ {D W : Type 0} (holds : D → List ℕ → Type 0) (sink : sinks.Ghosts W) (outcome : Outcome) where
+  -- of which a scan has read some records: the entries of the others are written
+  abbrev pub SendsRest : ℕ → Change Place → Change D → Change W → Type 0
+  SendsRest after scan device writer =
+      (file : List ℕ) (read : List (List ℕ)) → holds (old device) file → HasRead read file (old scan)
+      → OnWriter sink (SendsRound outcome after read file (new scan)) writer
+
+  -- one more round, behind those that wrote what went out so far
+  abbrev pub SendsMore : ℕ → Change Place → Change D → Change W → Type 0
+  SendsMore after scan device writer =
+      (file : List ℕ) (start : Output) → Grown holds after file (old device) (old scan) start (sink.output (old writer))
+      → GrowsBy holds outcome after file (new device) (new scan) start (sink.output (new writer))
+
+  -- all that are left
+  abbrev pub SendsOn : ℕ → Change Place → Change D → Change W → Type 0
+  SendsOn after scan device writer =
+      (file : List ℕ) (start : Output) → Grown holds after file (old device) (old scan) start (sink.output (old writer))
+      → EndsRounds (holds (new device)) outcome true after file start (sink.output (new writer))
+
+  -- of which a scan has read nothing
+  abbrev pub SendsUnread : Bool → ℕ → Change Place → Change D → Change W → Type 0
+  SendsUnread follows after scan device writer =
+      (file : List ℕ) → holds (old device) file → HasRead [] file (old scan)
+      → OnWriter sink (EndsRounds (holds (new device)) outcome follows after file) writer
+
+  abbrev pub WritesUnread : Part → Rules → Change Place → Change D → Change W → Type 0
+  WritesUnread part rules scan device writer =
+      (file : List ℕ) → holds (old device) file → HasRead [] file (old scan)
+      → OnWriter sink (WritesPart (holds (new device)) outcome part.follows part.after rules file) writer
+
+  abbrev pub WritesHeld : Part → Rules → Change D → Change W → Type 0
+  WritesHeld part rules device writer =
+      (file : List ℕ) → holds (old device) file → OnWriter sink (WritesPart (holds (new device)) outcome part.follows part.after rules file) writer
+
+-- a device looked at its file again, whatever it held
+abbrev pub LooksOnOk : {D : Type 0} → (D → List ℕ → Type 0) → (D → List ℕ → Type 0) → Outcome → Change D → Type 0
+LooksOnOk whole holds outcome device =
+    (file : List ℕ) → holds (old device) file → OnOk outcome (LooksAgain whole holds (old device) (new device) file)
+
+-- why, over a device that reports what its calls do
+module _ {D : Type 0} (its : devices.Ghosts D) (outcome : Outcome) where
+  abbrev pub HasRoundCause : Change Place → Change D → Type 0
+  HasRoundCause scan device =
+      its.tells → (read : List (List ℕ)) → HasRead read (its.disk (old device)).seen (old scan)
+      → RoundCause outcome (its.disk (old device)) (its.disk (new device)) (new scan)
+
+  abbrev pub HasRestCause : Change Place → Change D → Type 0
+  HasRestCause scan device =
+      its.tells → (read : List (List ℕ)) → HasRead read (its.disk (old device)).seen (old scan)
+      → HasPartCause outcome (its.disk (old device)) (its.disk (new device))
+
+  abbrev pub HasWholeCause : Change Place → Change D → Type 0
+  HasWholeCause scan device =
+      its.tells → HasRead [] (its.disk (old device)).seen (old scan) → HasPartCause outcome (its.disk (old device)) (its.disk (new device))
+
+  abbrev pub HasHeldCause : Change D → Type 0
+  HasHeldCause device = its.tells → HasPartCause outcome (its.disk (old device)) (its.disk (new device))
