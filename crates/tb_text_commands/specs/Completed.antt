@@ -1,6 +1,7 @@
 -- A statement that leaves out its moment, its client, its session or its request's number, and the whole statement that
 -- it represents.
 -- Cited by public contracts of: completing_laws.
+use Prim.Native.String.{String}
 use Rattle.std.specs.Prelude.{ℕ, true, ◌≡◌, ◌&&◌, ◌==◌, ◌+◌, ◌^◌, nat_lt, option_map, List, [], ◌++◌, Option, Some, None, if◌then◌else◌, codes}
 use Rattle.std.specs.Option.{is_some, option_and_then, option_or}
 use Rattle.std.specs.Fmt.{decimal}
@@ -126,6 +127,10 @@ of_seven clock next text = completed clock (Some 7) (λ c. Open 3 next) text
 abbrev pub of_nobody : Option ℕ → List ℕ → List ℕ
 of_nobody clock text = completed clock None (λ c. Closed 4) text
 
+-- of client 7, these lines are put before a text
+abbrev pub SevenAdds : Option ℕ → ℕ → String → String → Type 0
+SevenAdds clock next text lines = of_seven clock next (codes text) ≡ codes lines ++ codes text
+
 -- what is reported of a text by itself
 
 abbrev pub NamesMoment : List ℕ → Type 0
@@ -143,3 +148,11 @@ IsRegister text = operation_named (first_word (head_of text).1) ≡ Some Registe
 -- by this clock nothing is filled in, whatever is known of clients
 abbrev pub StandsForItself : Option ℕ → List ℕ → Type 0
 StandsForItself clock text = (last : Option ℕ) (standing : ℕ → Standing) → completed clock last standing text ≡ text
+
+-- each text of two kinds does, by this clock
+abbrev pub AllStand : (List ℕ → Type 0) → (List ℕ → Type 0) → Option ℕ → Type 0
+AllStand Names Is clock = (text : List ℕ) → Names text → Is text → StandsForItself clock text
+
+-- each that also gives a moment does, by any clock
+abbrev pub AllStandInTime : (List ℕ → Type 0) → (List ℕ → Type 0) → Type 0
+AllStandInTime Names Is = (text : List ℕ) (clock : Option ℕ) → NamesMoment text → Names text → Is text → StandsForItself clock text

@@ -1,5 +1,5 @@
 -- What the words of the command line ask for.
--- Cited by public contracts of: arguments, commands, host.
+-- Cited by public contracts of: arguments, host.
 use Rattle.std.specs.Prelude.{ℕ, ◌||◌, nat_eq, List, [], ◌∷◌, Option, Some, None, if◌then◌else◌, codes}
 use Rattle.std.specs.Cmp.Lexicographic.{pointwise}
 use Rattle.tb_commands.specs.Forms.{clients_of, profile_of}

@@ -1,9 +1,9 @@
 //! Bytes that were read and wait to be taken: statements, or replies, one by one.
 ghost use Rattle.std.specs.List.{list_all};
-ghost use Rattle.std.specs.Prelude.{◌==◌, ◌≡◌, [], IfErr, IfOk, OnOk, Some, drop, false, not, take, true};
+ghost use Rattle.std.specs.Prelude.{◌==◌, ◌≡◌, [], IfErr, IfOk, OnOk, drop, false, not, take, true};
 ghost use Rattle.tb_records.specs.Transport.{Input, Sent};
-ghost use Rattle.tb_text_commands.specs.Ends.{Ended, is_passing};
-ghost use Rattle.tb_text_commands.specs.private.Taken.{HoldsAsBefore, IsOfReading, Stays, rest_of, statement_in, waiting};
+ghost use Rattle.tb_text_commands.specs.Ends.{is_passing};
+ghost use Rattle.tb_text_commands.specs.private.Taken.{EndedOver, HoldsAll, HoldsAsBefore, IsOfReading, OnRest, Stays, rest_of, statement_in, waiting};
 ghost use Rattle.tb_text_commands.specs.Typed.{ends_with_cut_line, is_longest_line};
 
 use crate::faults::Fault;
@@ -185,10 +185,8 @@ impl Intake {
         reader: &mut R,
         writer: &mut W,
     ) -> Result<bool, Fault>
-        ensures ended { Ended result (R.input reader.old) (R.input reader.new) (W.output writer.old)
-            (W.output writer.new) }
-        ensures kept { IfOk result (λ _.
-            Stays (waiting self.old (R.input reader.old)) (waiting self.new (R.input reader.new))) }
+        ensures ended { EndedOver R.input W.output result reader.old reader.new writer.old writer.new }
+        ensures kept { OnOk result (OnRest R.input Stays self.old reader.old self.new reader.new) }
         ensures end { IfOk result (λ more. more ≡ false → self.new.ended ≡ true) }
         ensures fault { IfErr result (λ fault. is_passing fault ≡ false) }
         ensures cause { IfErr result IsOfReading }
@@ -215,10 +213,8 @@ impl Intake {
         reader: &mut R,
         writer: &mut W,
     ) -> Result<(), Fault>
-        ensures ended { Ended result (R.input reader.old) (R.input reader.new) (W.output writer.old)
-            (W.output writer.new) }
-        ensures all { OnOk result (Stays (waiting self.old (R.input reader.old))
-            (Some (rest_of self.new))) }
+        ensures ended { EndedOver R.input W.output result reader.old reader.new writer.old writer.new }
+        ensures all { OnOk result (HoldsAll self.new (waiting self.old (R.input reader.old))) }
         ensures silent { Sent [] (W.output writer.old) (W.output writer.new) }
     {
         for _ in 0..u64::MAX {
