@@ -57,11 +57,7 @@ left_out_of_register g c = record nothing { client = unless_given g.client c }
 -- where the session is left out: it is the client's, and a client that has none is registered first
 abbrev pub without_session : Given → ℕ → Standing → LeftOut
 without_session g c (Open session next) = record (left_out_of_register g c) { session = Some session; request = unless_given g.request next }
-without_session g c (Closed session) = record (left_out_of_register g c) {
-  registered = Some c;
-  session = Some session;
-  request = unless_given g.request 1;
-}
+without_session g c (Closed session) = record (left_out_of_register g c) { registered = Some c; session = Some session; request = unless_given g.request 1 }
 without_session g c Unknown = nothing
 
 abbrev pub by_session : Given → ℕ → Standing → Option ℕ → LeftOut
@@ -70,9 +66,7 @@ by_session g c standing (Some session) = record (left_out_of_register g c) { req
 
 -- where client and request are given, a session that is left out is 0, as ever
 abbrev pub left_out_of_batch : Given → ℕ → Standing → LeftOut
-left_out_of_batch g c standing =
-    if is_some g.client && is_some g.request then nothing
-    else by_session g c standing g.session
+left_out_of_batch g c standing = if is_some g.client && is_some g.request then nothing else by_session g c standing g.session
 
 -- The moment is the clock's, where there is a clock and the statement has none; a client that is registered first is
 -- registered at the statement's moment.
@@ -95,8 +89,7 @@ left_out_by clock None standing g rest = nothing
 left_out_by clock (Some c) standing g rest = left_out clock g rest c (standing c)
 
 unfoldable pub left_out_in : Option ℕ → Option ℕ → (ℕ → Standing) → List ℕ → LeftOut
-left_out_in clock last standing text =
-    left_out_by clock (option_or (head_of text).0.client last) standing (head_of text).0 (head_of text).1
+left_out_in clock last standing text = left_out_by clock (option_or (head_of text).0.client last) standing (head_of text).0 (head_of text).1
 
 -- a line of a number, between a field's name with `=` and an ending
 abbrev pub number_line : List ℕ → List ℕ → Option ℕ → List ℕ

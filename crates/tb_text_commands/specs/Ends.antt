@@ -132,5 +132,4 @@ ExitsBy words talks status input before after output start written report quiet 
 
 -- words that ask for no form are refused, and no device is touched
 abbrev pub RefusesWords : {A R W : Type 0} → List (String A) → ℕ → R → R → W → W → Type 0
-RefusesWords words status before after start written =
-    form_of (map string_bytes words) ≡ None → (status ≡ 2) × (after ≡ before) × (written ≡ start)
+RefusesWords words status before after start written = form_of (map string_bytes words) ≡ None → (status ≡ 2) × (after ≡ before) × (written ≡ start)

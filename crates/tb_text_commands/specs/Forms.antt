@@ -37,8 +37,7 @@ form_with word clients = if pointwise nat_eq word (codes "run") then run_by (cli
 
 -- `run CLIENTS_MAX PROFILE`
 abbrev pub form_with_two : List ℕ → List ℕ → List ℕ → Option Form
-form_with_two word second last =
-    if pointwise nat_eq word (codes "run") then run_by (clients_of second) (profile_of last) else None
+form_with_two word second last = if pointwise nat_eq word (codes "run") then run_by (clients_of second) (profile_of last) else None
 
 -- a form without options
 abbrev pub plain_form : List ℕ → List (List ℕ) → Option Form

@@ -28,8 +28,7 @@ past_gap bytes = drop (gap_length false bytes) bytes
 
 -- the bytes of a word or a number
 abbrev pub is_word_byte : ℕ → Bool
-is_word_byte b =
-    (nat_le 97 b && nat_le b 122) || (nat_le 65 b && nat_le b 90) || (nat_le 48 b && nat_le b 57) || b == 95
+is_word_byte b = (nat_le 97 b && nat_le b 122) || (nat_le 65 b && nat_le b 90) || (nat_le 48 b && nat_le b 57) || b == 95
 
 -- the length of the word that bytes begin with
 abbrev pub word_length : List ℕ → ℕ

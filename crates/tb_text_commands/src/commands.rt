@@ -6,6 +6,7 @@ ghost use Rattle.tb_text_commands.specs.private.Audited.{AuditsOver};
 ghost use Rattle.tb_text_commands.specs.private.Refusals.{ExplainsOver, NamesForeign, NamesOwn, fault_in};
 ghost use Rattle.tb_text_commands.specs.private.Taken.{ReadsOver};
 ghost use Rattle.tb_text_commands.specs.Typed.{IsReadBy, is_typed};
+
 use crate::arguments::{Form, read_form, wrong_words};
 use crate::auditing::audit;
 use crate::converting::convert;

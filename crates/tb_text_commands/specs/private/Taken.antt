@@ -94,6 +94,25 @@ statement_in intake =
     let length_before = before_semicolon intake.in_comment further in
     if nat_lt length_before (length further) then Some (intake.searched + length_before + 1 - intake.at) else None
 
+-- a comment goes on behind bytes
+abbrev pub comment_behind : Bool → List ℕ → Bool
+comment_behind in_comment [] = in_comment
+comment_behind in_comment (b ∷ bs) =
+    if b == 10 then comment_behind false bs
+    else if b == 35 then comment_behind true bs
+    else comment_behind in_comment bs
+
+-- the first bytes of the rest were searched: no statement ends in them, and a comment goes on behind them where that is said
+pub record IsSearched (intake : Intake) : Type 0 where
+  pub taken : List ℕ
+  pub seen : List ℕ
+  pub further : List ℕ
+  pub bytes_are : intake.bytes.items ≡ taken ++ (seen ++ further)
+  pub at_is : intake.at ≡ length taken
+  pub searched_is : intake.searched ≡ length taken + length seen
+  pub none : before_semicolon false seen ≡ length seen
+  pub comment : intake.in_comment ≡ comment_behind false seen
+
 -- faults
 
 -- of reading: the device failed, or there is no memory
