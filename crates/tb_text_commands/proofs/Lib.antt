@@ -4,6 +4,7 @@ pub mod Placing
 pub mod Putting
 pub mod ExplainedRuns
 pub mod ReplayedRuns
+pub mod Searched
 pub mod Taking
 pub mod TypedParts
 pub mod Watching

@@ -8,6 +8,7 @@ use Rattle.tb_records.specs.declared.bodies.Body.{Body}
 use Rattle.tb_records.specs.declared.bodies.Body.TheVariants as body
 use Rattle.tb_records.specs.declared.operations.Operation.TheVariants as op
 use Rattle.tb_records.specs.declared.records.EventResult.{EventResult}
+use Rattle.tb_records.specs.declared.records.Transfer.{Transfer}
 use Rattle.tb_records.specs.AccountResults.{account_result_code, account_result_name, account_results}
 use Rattle.tb_records.specs.DumpBytes.{profile_number}
 use Rattle.tb_records.specs.Messages.{operation}
@@ -73,10 +74,14 @@ abbrev pub outcome_word : ℕ → Option EventResult → List ℕ
 outcome_word number None = codes "created"
 outcome_word number (Some refused) = result_word number refused.result
 
+-- a time
+abbrev pub time_field : ℕ → ℕ → List ℕ
+time_field mark time = digits_field mark (codes "time") time
+
 -- what is said of a reported thing
 
 abbrev pub entry_begin : Entry → List ℕ
-entry_begin e = digits_field 123 (codes "commit") e.commit ++ digits_field 44 (codes "time") e.time
+entry_begin e = digits_field 123 (codes "commit") e.commit ++ time_field 44 e.time
 
 -- the place of an event, and its result by the operation's number
 abbrev pub place_field : ℕ → ℕ → Option EventResult → List ℕ
@@ -93,7 +98,7 @@ event_parts e place outcome id = entry_begin e ∷ place_field (operation e.requ
 -- what a line begins with, and what is in it behind that, in this order
 abbrev pub parts : Told → List (List ℕ)
 parts (begins head) = (number_field 123 (codes "profile") (profile_number head.profile) ++ number_field 44 (codes "clients_max") head.clients_max) ∷ []
-parts (expires e end t) = digits_field 123 (codes "time") end ∷ object_field (codes "expired") t.id ∷ []
+parts (expires e end t) = time_field 123 end ∷ object_field (codes "expired") t.id ∷ []
 parts (enters e) = entry_begin e ∷ asked_by e ∷ name_field 44 (codes "operation") (operation_word e.request.body) ∷ []
 parts (opens e place outcome a) = event_parts e place outcome a.id
 parts (settles e place outcome t pending) = event_parts e place outcome t.id
@@ -150,3 +155,10 @@ pub record IsLineOf (said : List (List ℕ)) (line : List ℕ) : Type 0 where
 
 abbrev pub IsJsonLine : Told → List ℕ → Type 0
 IsJsonLine told line = IsLineOf (parts told) line
+
+-- for private functions alone: the line of an event with an id, and that of a transfer that expired before any entry
+abbrev pub IsEventLine : Entry → ℕ → Option EventResult → ℕ → List ℕ → Type 0
+IsEventLine e place outcome id line = IsLineOf (event_parts e place outcome id) line
+
+abbrev pub IsExpiryLine : ℕ → Transfer → List ℕ → Type 0
+IsExpiryLine end t line = (e : Entry) → IsJsonLine (expires e end t) line

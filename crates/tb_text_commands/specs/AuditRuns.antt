@@ -312,10 +312,8 @@ pub record AuditedBy (wanted : Wanted) (status : ℕ) (before after : Input) (st
 
 -- a form that is an audit ran as one
 abbrev pub AuditsBy : Form → Result (Unit {0}) Fault → Input → Input → Output → Output → Type 0
-AuditsBy asked result before after start written =
-    (wanted : Wanted) → asked ≡ form.Audit wanted → AuditRanFor wanted result before after start written
+AuditsBy asked result before after start written = (wanted : Wanted) → asked ≡ form.Audit wanted → AuditRanFor wanted result before after start written
 
 -- words that ask for an audit: it ended with a status
 abbrev pub AuditedWhere : List (List ℕ) → ℕ → Input → Input → Output → Output → Type 0
-AuditedWhere words status before after start written =
-    (wanted : Wanted) → form_of words ≡ Some (form.Audit wanted) → AuditedBy wanted status before after start written
+AuditedWhere words status before after start written = (wanted : Wanted) → form_of words ≡ Some (form.Audit wanted) → AuditedBy wanted status before after start written

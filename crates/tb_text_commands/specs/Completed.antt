@@ -1,6 +1,7 @@
 -- A statement that leaves out its moment, its client, its session or its request's number, and the whole statement that
 -- it represents.
 -- Cited by public contracts of: completing_laws.
+use Prim.Native.String.{String}
 use Rattle.std.specs.Prelude.{ℕ, true, ◌≡◌, ◌&&◌, ◌==◌, ◌+◌, ◌^◌, nat_lt, option_map, List, [], ◌++◌, Option, Some, None, if◌then◌else◌, codes}
 use Rattle.std.specs.Option.{is_some, option_and_then, option_or}
 use Rattle.std.specs.Fmt.{decimal}
@@ -56,11 +57,7 @@ left_out_of_register g c = record nothing { client = unless_given g.client c }
 -- where the session is left out: it is the client's, and a client that has none is registered first
 abbrev pub without_session : Given → ℕ → Standing → LeftOut
 without_session g c (Open session next) = record (left_out_of_register g c) { session = Some session; request = unless_given g.request next }
-without_session g c (Closed session) = record (left_out_of_register g c) {
-  registered = Some c;
-  session = Some session;
-  request = unless_given g.request 1;
-}
+without_session g c (Closed session) = record (left_out_of_register g c) { registered = Some c; session = Some session; request = unless_given g.request 1 }
 without_session g c Unknown = nothing
 
 abbrev pub by_session : Given → ℕ → Standing → Option ℕ → LeftOut
@@ -69,9 +66,7 @@ by_session g c standing (Some session) = record (left_out_of_register g c) { req
 
 -- where client and request are given, a session that is left out is 0, as ever
 abbrev pub left_out_of_batch : Given → ℕ → Standing → LeftOut
-left_out_of_batch g c standing =
-    if is_some g.client && is_some g.request then nothing
-    else by_session g c standing g.session
+left_out_of_batch g c standing = if is_some g.client && is_some g.request then nothing else by_session g c standing g.session
 
 -- The moment is the clock's, where there is a clock and the statement has none; a client that is registered first is
 -- registered at the statement's moment.
@@ -94,8 +89,7 @@ left_out_by clock None standing g rest = nothing
 left_out_by clock (Some c) standing g rest = left_out clock g rest c (standing c)
 
 unfoldable pub left_out_in : Option ℕ → Option ℕ → (ℕ → Standing) → List ℕ → LeftOut
-left_out_in clock last standing text =
-    left_out_by clock (option_or (head_of text).0.client last) standing (head_of text).0 (head_of text).1
+left_out_in clock last standing text = left_out_by clock (option_or (head_of text).0.client last) standing (head_of text).0 (head_of text).1
 
 -- a line of a number, between a field's name with `=` and an ending
 abbrev pub number_line : List ℕ → List ℕ → Option ℕ → List ℕ
@@ -126,6 +120,10 @@ of_seven clock next text = completed clock (Some 7) (λ c. Open 3 next) text
 abbrev pub of_nobody : Option ℕ → List ℕ → List ℕ
 of_nobody clock text = completed clock None (λ c. Closed 4) text
 
+-- of client 7, these lines are put before a text
+abbrev pub SevenAdds : Option ℕ → ℕ → String → String → Type 0
+SevenAdds clock next text lines = of_seven clock next (codes text) ≡ codes lines ++ codes text
+
 -- what is reported of a text by itself
 
 abbrev pub NamesMoment : List ℕ → Type 0
@@ -143,3 +141,11 @@ IsRegister text = operation_named (first_word (head_of text).1) ≡ Some Registe
 -- by this clock nothing is filled in, whatever is known of clients
 abbrev pub StandsForItself : Option ℕ → List ℕ → Type 0
 StandsForItself clock text = (last : Option ℕ) (standing : ℕ → Standing) → completed clock last standing text ≡ text
+
+-- each text of two kinds does, by this clock
+abbrev pub AllStand : (List ℕ → Type 0) → (List ℕ → Type 0) → Option ℕ → Type 0
+AllStand Names Is clock = (text : List ℕ) → Names text → Is text → StandsForItself clock text
+
+-- each that also gives a moment does, by any clock
+abbrev pub AllStandInTime : (List ℕ → Type 0) → (List ℕ → Type 0) → Type 0
+AllStandInTime Names Is = (text : List ℕ) (clock : Option ℕ) → NamesMoment text → Names text → Is text → StandsForItself clock text

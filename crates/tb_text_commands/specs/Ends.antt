@@ -1,6 +1,6 @@
 -- How a form of the program ends: whether its reader or its writer failed.
 -- Cited by public contracts of: commands.
-use Rattle.std.specs.Prelude.{ℕ, Bool, true, false, ◌≡◌, ◌⊎◌, List, IfSome, OnOk, Option, Some, None, Result, Ok, Err}
+use Rattle.std.specs.Prelude.{ℕ, Bool, true, false, ◌≡◌, ◌⊎◌, List, IfSome, OnOk, Option, Some, None, Result, Ok, Err, String, map, string_bytes}
 use Rattle.tb_records.specs.Transport.{Input, Output, risen, Refuses}
 use Rattle.tb_commands.specs.Statuses.{TellsLine}
 use Rattle.tb_text_commands.specs.declared.faults.Fault.{Fault}
@@ -129,3 +129,7 @@ abbrev pub ExitsBy : {R W E : Type 0} → List (List ℕ) → Bool → ℕ → (
 ExitsBy words talks status input before after output start written report quiet told =
     (form : Form) → form_of words ≡ Some form
     → Exits form talks status (input before) (input after) (output start) (output written) (report quiet) (report told)
+
+-- words that ask for no form are refused, and no device is touched
+abbrev pub RefusesWords : {A R W : Type 0} → List (String A) → ℕ → R → R → W → W → Type 0
+RefusesWords words status before after start written = form_of (map string_bytes words) ≡ None → (status ≡ 2) × (after ≡ before) × (written ≡ start)

@@ -32,8 +32,7 @@ EndsWellAs script_end.TooLong served = 2 ^ 64 - 2 ≤ served
 abbrev pub StopsAs : ScriptEnd → FrameFault → List Pair → Type 0
 StopsAs (script_end.Whole pairs) fault served = ⊥
 StopsAs (script_end.Late place) fault served = place.number ≤ length served
-StopsAs (script_end.Wrong place told) fault served =
-    (told ≡ fault) × (place.number ≡ length served + 1) × (place.at ≡ length (flat_map timed_bytes served))
+StopsAs (script_end.Wrong place told) fault served = (told ≡ fault) × (place.number ≡ length served + 1) × (place.at ≡ length (flat_map timed_bytes served))
 StopsAs script_end.TooLong fault served = 2 ^ 64 - 2 ≤ length served
 
 -- whatever the number of clients and the profile, and whatever the writer

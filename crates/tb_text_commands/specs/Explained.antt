@@ -1,6 +1,6 @@
 -- What `explain` says: how far `tbs` reads a script, and how far it replays a dump.
 -- Public contracts reach it through: ExplainLaws, Explanations.
-use Rattle.std.specs.Prelude.{ℕ, false, true, ◌≡◌, ◌+◌, ◌<◌, ◌≤◌, ◌-◌, ◌^◌, ◌≢◌, ◌⊎◌, IsTrue, min, List, [], ◌∷◌, ◌++◌, length, flat_map, replicate, Option, Some, None, Ok, Err}
+use Rattle.std.specs.Prelude.{ℕ, false, true, ◌≡◌, ◌+◌, ◌<◌, ◌≤◌, ◌-◌, ◌^◌, ◌≢◌, ◌⊎◌, IsTrue, min, List, [], ◌∷◌, ◌++◌, length, flat_map, replicate, MatchOption, MatchResult, Option, Some, None, Result, Ok, Err}
 use Rattle.tb_records.specs.declared.dumps.DumpFault.{DumpFault}
 use Rattle.tb_records.specs.declared.dumps.DumpFault.TheVariants as dump
 use Rattle.tb_records.specs.declared.dumps.DumpItem.{DumpItem}
@@ -171,3 +171,8 @@ pub record EndsHeaded (end : DumpEnd) (bytes : List ℕ) : Type 0 where
 abbrev pub DumpEnds : DumpEnd → List ℕ → Type 0
 DumpEnds (dump_end.NoHead fault) bytes = (fault ≡ dump.Head) × HasNoHead bytes
 DumpEnds end bytes = EndsHeaded end bytes
+
+-- for private functions alone: what comes next in a rest is a value of a kind, nothing behind the last one, or what a fault
+-- does not let be read
+abbrev pub ComesNext : {V F : Type 0} → Result (Option V) F → List ℕ → (V → Type 0) → (F → List ℕ → Type 0) → Type 0
+ComesNext result rest Is IsNone = MatchResult result (λ next. MatchOption next (rest ≡ []) Is) (λ fault. IsNone fault rest)

@@ -1,5 +1,5 @@
 -- What the words of the command line ask for.
--- Cited by public contracts of: arguments, commands, host.
+-- Cited by public contracts of: arguments, host.
 use Rattle.std.specs.Prelude.{ℕ, ◌||◌, nat_eq, List, [], ◌∷◌, Option, Some, None, if◌then◌else◌, codes}
 use Rattle.std.specs.Cmp.Lexicographic.{pointwise}
 use Rattle.tb_commands.specs.Forms.{clients_of, profile_of}
@@ -37,8 +37,7 @@ form_with word clients = if pointwise nat_eq word (codes "run") then run_by (cli
 
 -- `run CLIENTS_MAX PROFILE`
 abbrev pub form_with_two : List ℕ → List ℕ → List ℕ → Option Form
-form_with_two word second last =
-    if pointwise nat_eq word (codes "run") then run_by (clients_of second) (profile_of last) else None
+form_with_two word second last = if pointwise nat_eq word (codes "run") then run_by (clients_of second) (profile_of last) else None
 
 -- a form without options
 abbrev pub plain_form : List ℕ → List (List ℕ) → Option Form

@@ -1,7 +1,7 @@
 -- What comes before the operation of a statement: at, client, session and request, each with its number, in any order,
 -- with spaces and comments between.
 -- Public contracts reach it through: Completed, Typed.
-use Rattle.std.specs.Prelude.{ℕ, Bool, true, false, not, ◌&&◌, ◌||◌, ◌==◌, ◌+◌, ◌*◌, ◌^◌, nat_le, nat_lt, List, [], ◌∷◌, length, drop, take, unwrap_or, Option, Some, None, if◌then◌else◌}
+use Rattle.std.specs.Prelude.{ℕ, Bool, true, false, not, ◌≡◌, ◌&&◌, ◌||◌, ◌==◌, ◌+◌, ◌*◌, ◌^◌, nat_le, nat_lt, List, [], ◌∷◌, length, drop, take, unwrap_or, MatchOption, Option, Some, None, if◌then◌else◌}
 use Rattle.std.specs.Option.{option_and_then, is_none, is_some}
 use Rattle.tb_records.specs.declared.operations.Operation.{Operation}
 use Rattle.tb_records.specs.declared.operations.Operation.TheVariants.{Register}
@@ -28,8 +28,7 @@ past_gap bytes = drop (gap_length false bytes) bytes
 
 -- the bytes of a word or a number
 abbrev pub is_word_byte : ℕ → Bool
-is_word_byte b =
-    (nat_le 97 b && nat_le b 122) || (nat_le 65 b && nat_le b 90) || (nat_le 48 b && nat_le b 57) || b == 95
+is_word_byte b = (nat_le 97 b && nat_le b 122) || (nat_le 65 b && nat_le b 90) || (nat_le 48 b && nat_le b 57) || b == 95
 
 -- the length of the word that bytes begin with
 abbrev pub word_length : List ℕ → ℕ
@@ -132,3 +131,7 @@ begins_operation bytes =
     && is_none (field_named (first_word bytes))
     && is_none (behind_equals (behind_word bytes))
     && (nat_lt (word_length bytes) (length bytes) || is_batch (operation_named (first_word bytes)))
+
+-- for private functions alone: an answer is what is found, as a value of it shows it, or none where nothing is
+abbrev pub IsFound : {V W : Type 0} → (V → W) → Option V → Option W → Type 0
+IsFound value answer found = MatchOption answer (found ≡ None) (λ it. found ≡ Some (value it))

@@ -29,6 +29,10 @@ stored_results rows client = option_map_or (λ row. results_in row.reply.body) (
 abbrev pub placed_at : List (Option EventResult) → ℕ → Option EventResult
 placed_at by_place place = slice_index_or by_place place None
 
+-- each place has what a function gives it
+abbrev pub AreAt : List (Option EventResult) → (ℕ → Option EventResult) → Type 0
+AreAt by_place given = (place : ℕ) → placed_at by_place place ≡ given place
+
 -- a result was noted at its place, unless there was one
 abbrev pub NotesResult : EventResult → List (Option EventResult) → List (Option EventResult) → Type 0
 NotesResult judged before after = (place : ℕ) → placed_at after place ≡ option_or (placed_at before place) (result_at (judged ∷ []) place)

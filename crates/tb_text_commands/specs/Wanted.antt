@@ -1,6 +1,6 @@
 -- What the lines of an audit report, and which of them are wanted.
 -- Public contracts reach it through: AuditLines, AuditRuns.
-use Rattle.std.specs.Prelude.{ℕ, Bool, true, false, not, ◌&&◌, ◌||◌, ◌==◌, nat_le, Option, Some, None, if◌then◌else◌, unwrap_or}
+use Rattle.std.specs.Prelude.{ℕ, Bool, true, false, not, ◌≡◌, ◌&&◌, ◌||◌, ◌==◌, nat_le, Option, Some, None, if◌then◌else◌, unwrap_or}
 use Rattle.std.specs.Option.{option_map_or}
 use Rattle.tb_records.specs.declared.dumps.DumpHead.{DumpHead}
 use Rattle.tb_records.specs.declared.records.Account.{Account}
@@ -76,3 +76,7 @@ is_timely w other = true
 -- it is wanted where its entry is, and where it is one of the account that is asked for
 abbrev pub is_wanted : Wanted → Told → Bool
 is_wanted w t = is_timely w t && option_map_or (is_of t) w.account true
+
+-- for private functions alone: the line of an event is wanted or not, whatever its place and its result
+abbrev pub WantsEvent : {X : Type 0} → Wanted → (ℕ → Option EventResult → X → Told) → X → Bool → Type 0
+WantsEvent w told event result = (place : ℕ) (outcome : Option EventResult) → result ≡ is_wanted w (told place outcome event)

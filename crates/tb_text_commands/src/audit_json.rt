@@ -1,9 +1,8 @@
 //! The lines of an audit as JSON, written straight into bytes: there is one for each event.
-ghost use Rattle.std.specs.Prelude.{◌≡◌, ◌==◌, ◌++◌, [], IfOk, OnOk, codes, decimal, filter, not};
+ghost use Rattle.std.specs.Prelude.{◌≡◌, ◌==◌, ◌++◌, [], IfOk, OnOk, decimal, filter, not};
 ghost use Rattle.tb_records.specs.DumpBytes.{profile_number};
-ghost use Rattle.tb_machine.specs.declared.entries.Entry.{Entry};
-ghost use Rattle.tb_text_commands.specs.AuditLines.{Extends, IsJsonLine, IsLineOf, IsWord, Shows, ShowsField, asked_by, digits_field, entry_begin, event_parts, in_quotes, key, object_field, one_line, outcome_word, place_field};
-ghost use Rattle.tb_text_commands.specs.Wanted.{begins, enters, expires, moves, stands};
+ghost use Rattle.tb_text_commands.specs.AuditLines.{Extends, IsEventLine, IsExpiryLine, IsJsonLine, IsWord, Shows, ShowsField, asked_by, entry_begin, in_quotes, key, object_field, one_line, outcome_word, place_field, time_field};
+ghost use Rattle.tb_text_commands.specs.Wanted.{begins, enters, moves, stands};
 
 use crate::lines::operation_name;
 use crate::objects::{Field, Record, Shown, result_shown};
@@ -293,7 +292,7 @@ impl Times {
     #[tactic(auto, using(crate::proofs::AuditTexts::extends_self, crate::proofs::AuditTexts::extends_join))]
     fn put(self, line: &mut Vec<u8>, mark: u8, time: u128) -> Result<(), AllocError>
         ensures { OnOk result
-            (Extends (line.old.items ++ digits_field mark (codes "time") time) line.new.items) }
+            (Extends (line.old.items ++ time_field mark time) line.new.items) }
     {
         put_field(line, mark, "time", Shown::Digits(time))?;
         if self.is_utc {
@@ -367,7 +366,7 @@ impl Times {
         outcome: Option<EventResult>,
         event: &R,
     ) -> Result<Vec<u8>, AllocError>
-        ensures { IfOk result (λ line. IsLineOf (event_parts entry.now place outcome (R.id event.now)) line.items) }
+        ensures { IfOk result (λ line. IsEventLine entry.now place outcome (R.id event.now) line.items) }
     {
         let mut line = self.begun_of(entry)?;
         put_place(&mut line, entry.request.operation(), place, outcome)?;
@@ -377,8 +376,7 @@ impl Times {
 
     /// The line of a pending transfer that expired at a time.
     pub fn expiry_line(self, end: u128, transfer: &Transfer) -> Result<Vec<u8>, AllocError>
-        ensures { IfOk result (λ line. (entry : Entry)
-            → IsJsonLine (expires entry end transfer.now) line.items) }
+        ensures { IfOk result (λ line. IsExpiryLine end transfer.now line.items) }
     {
         let mut line = begun(self.alloc)?;
         self.put(&mut line, b'{', end)?;

@@ -1,7 +1,7 @@
 //! What writes the lines of an audit.
 ghost use Rattle.std.specs.Prelude.{[], ◌∷◌, Bool, List, ℕ};
 ghost use Rattle.tb_text_commands.specs.AuditLines.{IsJsonLine};
-ghost use Rattle.tb_text_commands.specs.AuditRuns.{Prints, Telling};
+ghost use Rattle.tb_text_commands.specs.AuditRuns.{Prints};
 ghost use Rattle.tb_text_commands.specs.Ends.{Written};
 ghost use Rattle.tb_text_commands.specs.Wanted.{Told, begins, enters, expires, is_wanted, moves, opens, settling_by, stands};
 
@@ -24,8 +24,7 @@ pub trait Teller {
     /// Prints the head of a dump.
     fn tell_head<W: Sink>(&self, writer: &mut W, head: &DumpHead) -> Result<(), Fault>
         ensures written { Written result (W.output writer.old) (W.output writer.new) }
-        ensures told { Telling IsLine (wants self.now) result (begins head.now ∷ [])
-            (W.output writer.old) (W.output writer.new) };
+        ensures told { Prints IsLine (wants self.now) result (begins head.now ∷ []) W.output writer.old writer.new };
 
     /// Prints a pending transfer whose timeout ran out before an entry, and when it did.
     fn tell_expiry<W: Sink>(
@@ -36,15 +35,12 @@ pub trait Teller {
         transfer: &Transfer,
     ) -> Result<(), Fault>
         ensures written { Written result (W.output writer.old) (W.output writer.new) }
-        ensures told { Telling IsLine (wants self.now) result
-            (expires entry.now end transfer.now ∷ []) (W.output writer.old)
-            (W.output writer.new) };
+        ensures told { Prints IsLine (wants self.now) result (expires entry.now end transfer.now ∷ []) W.output writer.old writer.new };
 
     /// Prints an entry: who asked for it.
     fn tell_entry<W: Sink>(&self, writer: &mut W, entry: &Entry) -> Result<(), Fault>
         ensures written { Written result (W.output writer.old) (W.output writer.new) }
-        ensures told { Telling IsLine (wants self.now) result (enters entry.now ∷ [])
-            (W.output writer.old) (W.output writer.new) };
+        ensures told { Prints IsLine (wants self.now) result (enters entry.now ∷ []) W.output writer.old writer.new };
 
     /// Prints what became of an account that the event of a place asks for.
     fn tell_opening<W: Sink>(
@@ -77,8 +73,7 @@ pub trait Teller {
     /// Prints a mark.
     fn tell_mark<W: Sink>(&self, writer: &mut W) -> Result<(), Fault>
         ensures written { Written result (W.output writer.old) (W.output writer.new) }
-        ensures told { Telling IsLine (wants self.now) result (moves ∷ []) (W.output writer.old)
-            (W.output writer.new) };
+        ensures told { Prints IsLine (wants self.now) result (moves ∷ []) W.output writer.old writer.new };
 
     /// Prints an account as it is behind an entry.
     fn tell_standing<W: Sink>(
@@ -88,8 +83,7 @@ pub trait Teller {
         account: &Account,
     ) -> Result<(), Fault>
         ensures written { Written result (W.output writer.old) (W.output writer.new) }
-        ensures told { Telling IsLine (wants self.now) result (stands entry.now account.now ∷ [])
-            (W.output writer.old) (W.output writer.new) };
+        ensures told { Prints IsLine (wants self.now) result (stands entry.now account.now ∷ []) W.output writer.old writer.new };
 }
 
 /// Lines of JSON, of what is wanted.

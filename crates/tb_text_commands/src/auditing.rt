@@ -1,13 +1,12 @@
 //! A dump joined with what its replay gives: who asked, what became of each event, expiries, and the balances of an account.
 ghost use Rattle.std.specs.Prelude.{◌≡◌, [], IfErr, IfOk, OnOk};
-ghost use Rattle.tb_machine.specs.Histories.{start};
 ghost use Rattle.avl_tree.specs.Map.{entries};
 ghost use Rattle.tb_text_commands.specs.Audits.{Enters, GoesOver, NoneIsDue, waits_behind};
-ghost use Rattle.tb_text_commands.specs.AuditRuns.{AuditRan, AuditRanFor, AuditsEntry, AuditsItem, AuditsMark, Changes, Finds, Prints, ReadsHead, RefusesEntry, Telling, TellsDue, account_of, audited_from};
-ghost use Rattle.tb_text_commands.specs.private.Audited.{PrintsAccount, PutsItems, PutsNext, audited, batch_of, events_of, told_of, waiting_of, waits_now};
-ghost use Rattle.tb_text_commands.specs.Ends.{Converts, Ended, IsOfInput, Written};
-ghost use Rattle.tb_text_commands.specs.private.Taken.{TakesIf};
-ghost use Rattle.tb_text_commands.specs.Whole.{IsDump, IsItem, Parts, WasWhole};
+ghost use Rattle.tb_text_commands.specs.AuditRuns.{AuditRan, AuditsEntry, AuditsItem, AuditsMark, Changes, Finds, Prints, ReadsHead, RefusesEntry, TellsDue, account_of, audited_from};
+ghost use Rattle.tb_text_commands.specs.private.Audited.{PrintsAccount, PutsItems, PutsNext, RanOver, Watches, audited, batch_of, events_of, machine_of, told_of, waiting_of, waits_now};
+ghost use Rattle.tb_text_commands.specs.Ends.{IsOfInput, Written};
+ghost use Rattle.tb_text_commands.specs.private.Taken.{AreItems, EndedOver, ReadsDump, TakesItemIf};
+ghost use Rattle.tb_text_commands.specs.Whole.{WasWhole};
 
 use crate::audit_lines::{JsonLines, Teller};
 use crate::dumps::next_item;
@@ -39,7 +38,7 @@ impl Replay {
     /// The machine that a dump's head asks for, before its entries.
     fn new(alloc: Global, head: &DumpHead, account: Option<u128>) -> Result<Replay, AllocError>
         ensures machine { IfOk result (λ replay.
-            replay.machine ≡ start head.now.profile head.now.clients_max) }
+            replay.machine ≡ machine_of head.now) }
         ensures waits { IfOk result (λ replay. entries replay.waits.by_end ≡ []) }
         ensures from { IfOk result (λ replay. audited replay ≡ audited_from account head.now) }
     {
@@ -57,8 +56,7 @@ impl Replay {
         ensures machine { self.new.machine ≡ self.old.machine }
         ensures account { self.new.account ≡ self.old.account }
         ensures told { self.new.told ≡ self.old.told }
-        ensures waits { OnOk result (waiting_of self.new
-            ≡ waits_now self.old.machine entry.now (waiting_of self.old)) }
+        ensures waits { OnOk result (Watches waits_now entry.now self.old self.new) }
     {
         match entry.request.body() {
             Body::CreateTransfers(events) => {
@@ -81,8 +79,7 @@ impl Replay {
         ensures refused { IfErr result (λ fault. RefusesEntry fault self.old.machine entry.now) }
         ensures account { self.new.account ≡ self.old.account }
         ensures told { self.new.told ≡ self.old.told }
-        ensures waits { OnOk result (entries self.new.waits.by_end
-            ≡ waits_behind self.old.machine entry.now (entries self.old.waits.by_end)) }
+        ensures waits { OnOk result (Watches waits_behind entry.now self.old self.new) }
     {
         if !self.machine.fits(entry) {
             return Err(Fault::Dump(DumpFault::NotLegal));
@@ -162,9 +159,7 @@ impl Replay {
         writer: &mut W,
     ) -> Result<(), Fault>
         ensures written { Written result (W.output writer.old) (W.output writer.new) }
-        ensures told { Telling T.IsLine (T.wants teller.now) result
-            (batch_of self.now.machine entry.now)
-            (W.output writer.old) (W.output writer.new) }
+        ensures told { Prints T.IsLine (T.wants teller.now) result (batch_of self.now.machine entry.now) W.output writer.old writer.new }
     {
         match entry.request.body() {
             Body::CreateAccounts(events) => {
@@ -187,9 +182,7 @@ impl Replay {
         writer: &mut W,
     ) -> Result<(), Fault>
         ensures written { Written result (W.output writer.old) (W.output writer.new) }
-        ensures told { Telling T.IsLine (T.wants teller.now) result
-            (told_of self.now.machine entry.now)
-            (W.output writer.old) (W.output writer.new) }
+        ensures told { Prints T.IsLine (T.wants teller.now) result (told_of self.now.machine entry.now) W.output writer.old writer.new }
     {
         teller.tell_entry(writer, entry)?;
         self.tell_batch(entry, teller, writer)
@@ -293,10 +286,8 @@ impl Replay {
         reader: &mut R,
         writer: &mut W,
     ) -> Result<bool, Fault>
-        ensures ended { Ended result (R.input reader.old) (R.input reader.new)
-            (W.output writer.old) (W.output writer.new) }
-        ensures taken { IfOk result (λ more.
-            TakesIf IsItem more (R.input reader.old).left (R.input reader.new).left) }
+        ensures ended { EndedOver R.input W.output result reader.old reader.new writer.old writer.new }
+        ensures taken { TakesItemIf result (R.input reader.old) (R.input reader.new) }
         ensures audits { PutsNext T.IsLine (T.wants teller.now) result self.old self.new
             R.input reader.old reader.new W.output writer.old writer.new }
     {
@@ -315,9 +306,8 @@ impl Replay {
         reader: &mut R,
         writer: &mut W,
     ) -> Result<(), Fault>
-        ensures ended { Ended result (R.input reader.old) (R.input reader.new)
-            (W.output writer.old) (W.output writer.new) }
-        ensures whole { OnOk result (WasWhole (Parts IsItem) (R.input reader.old).left) }
+        ensures ended { EndedOver R.input W.output result reader.old reader.new writer.old writer.new }
+        ensures whole { OnOk result (WasWhole AreItems (R.input reader.old).left) }
         ensures audits { PutsItems T.IsLine (T.wants teller.now) result self.old
             R.input reader.old reader.new W.output writer.old writer.new }
     {
@@ -358,8 +348,7 @@ fn put_head<T: Teller, R: Source, W: Sink>(
     reader: &mut R,
     writer: &mut W,
 ) -> Result<DumpHead, Fault>
-    ensures ended { Ended result (R.input reader.old) (R.input reader.new) (W.output writer.old)
-        (W.output writer.new) }
+    ensures ended { EndedOver R.input W.output result reader.old reader.new writer.old writer.new }
     ensures told { ReadsHead T.IsLine (T.wants teller.now) result (R.input reader.old) (R.input reader.new)
         (W.output writer.old) (W.output writer.new) }
 {
@@ -377,10 +366,8 @@ fn audit_by<T: Teller, R: Source, W: Sink>(
     reader: &mut R,
     writer: &mut W,
 ) -> Result<(), Fault>
-    ensures ran { AuditRan T.IsLine (T.wants teller.now) result account (R.input reader.old)
-        (R.input reader.new) (W.output writer.old) (W.output writer.new) }
-    ensures converts { Converts IsDump result (R.input reader.old) (R.input reader.new)
-        (W.output writer.old) (W.output writer.new) }
+    ensures ran { AuditRan T.IsLine (T.wants teller.now) result account (R.input reader.old) (R.input reader.new) (W.output writer.old) (W.output writer.new) }
+    ensures converts { ReadsDump R.input W.output result reader.old reader.new writer.old writer.new }
 {
     let head = put_head(teller, reader, writer)?;
     let mut replay = Replay::new(alloc, &head, account)?;
@@ -397,10 +384,8 @@ pub fn audit<R: Source, W: Sink>(
     reader: &mut R,
     writer: &mut W,
 ) -> Result<(), Fault>
-    ensures converts { Converts IsDump result (R.input reader.old) (R.input reader.new)
-        (W.output writer.old) (W.output writer.new) }
-    ensures ran { AuditRanFor wanted result (R.input reader.old) (R.input reader.new)
-        (W.output writer.old) (W.output writer.new) }
+    ensures converts { ReadsDump R.input W.output result reader.old reader.new writer.old writer.new }
+    ensures ran { RanOver R.input W.output wanted result reader.old reader.new writer.old writer.new }
 {
     let account = wanted.account;
     audit_by(alloc, account, &JsonLines { alloc, wanted }, reader, writer)

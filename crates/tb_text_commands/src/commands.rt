@@ -1,13 +1,11 @@
 //! The program's forms, over any reader and writer.
-ghost use Rattle.std.specs.Prelude.{◌≡◌, ◌<◌, false, IfErr, None, OnOk, Option, map, string_bytes, true, ℕ};
-ghost use Rattle.tb_text_commands.specs.declared.arguments.Form.{Form};
-ghost use Rattle.tb_text_commands.specs.AuditRuns.{AuditedWhere, AuditsBy};
-ghost use Rattle.tb_text_commands.specs.Ends.{Converts, ExitsBy, TellsAs};
-ghost use Rattle.tb_text_commands.specs.Explanations.{Explained};
-ghost use Rattle.tb_text_commands.specs.Forms.{form_of};
-ghost use Rattle.tb_text_commands.specs.private.Refusals.{NamesForeign, NamesOwn, fault_in};
+ghost use Rattle.std.specs.Prelude.{◌≡◌, ◌<◌, false, IfErr, map, string_bytes};
+ghost use Rattle.tb_text_commands.specs.AuditRuns.{AuditedWhere};
+ghost use Rattle.tb_text_commands.specs.Ends.{ExitsBy, RefusesWords, TellsAs};
+ghost use Rattle.tb_text_commands.specs.private.Audited.{AuditsOver};
+ghost use Rattle.tb_text_commands.specs.private.Refusals.{ExplainsOver, NamesForeign, NamesOwn, fault_in};
+ghost use Rattle.tb_text_commands.specs.private.Taken.{ReadsOver};
 ghost use Rattle.tb_text_commands.specs.Typed.{IsReadBy, is_typed};
-ghost use Rattle.tb_text_commands.specs.Whole.{IsInputOf};
 
 use crate::arguments::{Form, read_form, wrong_words};
 use crate::auditing::audit;
@@ -36,13 +34,10 @@ fn perform<C: Clock, R: Source, W: Sink, E: Sink>(
     writer: &mut W,
     faults: &mut E,
 ) -> Result<(), Fault>
-    ensures done { Converts (IsReadBy form talks) result (R.input reader.old) (R.input reader.new)
-        (W.output writer.old) (W.output writer.new) }
+    ensures done { ReadsOver R.input W.output (IsReadBy form talks) result reader.old reader.new writer.old writer.new }
     ensures silent { is_typed form talks ≡ false → faults.new ≡ faults.old }
-    ensures audited { AuditsBy form result (R.input reader.old) (R.input reader.new)
-        (W.output writer.old) (W.output writer.new) }
-    ensures explained { form ≡ Form.Explain → OnOk result
-        (Explained (R.input reader.old) (W.output writer.old) (W.output writer.new)) }
+    ensures audited { AuditsOver R.input W.output form result reader.old reader.new writer.old writer.new }
+    ensures explained { ExplainsOver R.input W.output form result reader.old writer.old writer.new }
 {
     match form {
         Form::Script => {
@@ -107,13 +102,10 @@ fn perform_known<C: Clock, R: Source, W: Sink, E: Sink>(
     writer: &mut W,
     faults: &mut E,
 ) -> Result<(), Refused>
-    ensures done { Converts (IsReadBy form talks) (fault_in result) (R.input reader.old) (R.input reader.new)
-        (W.output writer.old) (W.output writer.new) }
+    ensures done { ReadsOver R.input W.output (IsReadBy form talks) (fault_in result) reader.old reader.new writer.old writer.new }
     ensures silent { is_typed form talks ≡ false → faults.new ≡ faults.old }
-    ensures audited { AuditsBy form (fault_in result) (R.input reader.old) (R.input reader.new)
-        (W.output writer.old) (W.output writer.new) }
-    ensures explained { form ≡ Form.Explain → OnOk result
-        (Explained (R.input reader.old) (W.output writer.old) (W.output writer.new)) }
+    ensures audited { AuditsOver R.input W.output form (fault_in result) reader.old reader.new writer.old writer.new }
+    ensures explained { ExplainsOver R.input W.output form result reader.old writer.old writer.new }
     ensures foreign { IfErr result (NamesForeign form talks (R.input reader.old).left) }
     ensures own { IfErr result (NamesOwn form talks (R.input reader.old).left) }
 {
@@ -158,8 +150,7 @@ pub fn command<C: Clock, R: Source, W: Sink, E: Sink>(
 ) -> u8
     ensures status { result < 3 }
     ensures quiet { result ≡ 0 → talks ≡ false → faults.new ≡ faults.old }
-    ensures usage { form_of (map string_bytes words.now) ≡ None
-        → (result ≡ 2) × (reader.new ≡ reader.old) × (writer.new ≡ writer.old) }
+    ensures usage { RefusesWords words.now result reader.old reader.new writer.old writer.new }
     ensures ended { ExitsBy (map string_bytes words.now) talks result R.input reader.old reader.new
         W.output writer.old writer.new E.output faults.old faults.new }
     ensures audited { AuditedWhere (map string_bytes words.now) result (R.input reader.old) (R.input reader.new)

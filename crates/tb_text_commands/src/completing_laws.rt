@@ -1,26 +1,21 @@
 //! What holds of every statement that is completed, and rows of it.
-ghost use Rattle.std.specs.Prelude.{◌≡◌, List, Option, ℕ, Some, None, codes};
-ghost use Rattle.tb_text_commands.specs.Completed.{IsRegister, NamesClient, NamesMoment, NamesRequest, StandsForItself, completed, of_nobody, of_seven};
+ghost use Rattle.std.specs.Prelude.{◌≡◌, Some, None, codes};
+ghost use Rattle.tb_text_commands.specs.Completed.{AllStand, AllStandInTime, IsRegister, NamesClient, NamesRequest, SevenAdds, completed, of_nobody, of_seven};
 ghost use Rattle.tb_text_commands.specs.declared.completing.Standing.TheVariants.{Unknown};
 
 /// Nothing is put before a statement that gives client and request, nor before a register that gives a client, but
 /// for the clock's moment: where there is no clock, as in `script`, or a moment is given too, what had a meaning keeps it.
 #[tactic(auto, unfolding(crate::specs::Completed::left_out_in, crate::specs::Completed::written))]
 pub fn whole_statement_stays()
-    ensures script { (text : List ℕ) → NamesClient text → NamesRequest text
-        → StandsForItself None text }
-    ensures run { (text : List ℕ) (clock : Option ℕ) → NamesMoment text → NamesClient text
-        → NamesRequest text → StandsForItself clock text }
-    ensures register { (text : List ℕ) → NamesClient text → IsRegister text
-        → StandsForItself None text }
-    ensures register_run { (text : List ℕ) (clock : Option ℕ) → NamesMoment text
-        → NamesClient text → IsRegister text → StandsForItself clock text }
+    ensures script { AllStand NamesClient NamesRequest None }
+    ensures run { AllStandInTime NamesClient NamesRequest }
+    ensures register { AllStand NamesClient IsRegister None }
+    ensures register_run { AllStandInTime NamesClient IsRegister }
 {}
 
 /// A lookup alone, of client 7, which has session 3 and made two requests there.
 pub fn lookup_alone()
-    ensures { of_seven None 3 (codes "lookup_accounts id=1;")
-        ≡ codes "client=7\nsession=3\nrequest=3\nlookup_accounts id=1;" }
+    ensures { SevenAdds None 3 "lookup_accounts id=1;" "client=7\nsession=3\nrequest=3\n" }
 {}
 
 /// A client that has no session is registered first.
@@ -31,8 +26,7 @@ pub fn registered_first()
 
 /// A lookup at the clock's moment.
 pub fn by_the_clock()
-    ensures { of_seven (Some 50) 3 (codes "request=4 lookup_accounts id=1;")
-        ≡ codes "at=50\nclient=7\nsession=3\nrequest=4 lookup_accounts id=1;" }
+    ensures { SevenAdds (Some 50) 3 "request=4 lookup_accounts id=1;" "at=50\nclient=7\nsession=3\n" }
 {}
 
 /// A client is registered at the moment of the statement, not at the clock's.
@@ -49,14 +43,12 @@ pub fn register_alone()
 
 /// The next request in a session that is named, behind a comment.
 pub fn next_request()
-    ensures { of_seven None 9 (codes "# request=4\n session=3 lookup_accounts;")
-        ≡ codes "client=7\nrequest=9\n# request=4\n session=3 lookup_accounts;" }
+    ensures { SevenAdds None 9 "# request=4\n session=3 lookup_accounts;" "client=7\nrequest=9\n" }
 {}
 
 /// An operation that is misspelled is completed too, so that its fault reports what could be there.
 pub fn misspelled()
-    ensures { of_seven None 3 (codes "lookup_acounts id=1;")
-        ≡ codes "client=7\nsession=3\nrequest=3\nlookup_acounts id=1;" }
+    ensures { SevenAdds None 3 "lookup_acounts id=1;" "client=7\nsession=3\nrequest=3\n" }
 {}
 
 /// Before a field that is misspelled nothing is put, nor where a statement ends before its operation, or within a word

@@ -2,9 +2,9 @@
 ghost use Rattle.std.specs.Prelude.{◌≡◌, IfErr, IfOk, List, OnOk, Option, Result, ℕ, ⊤};
 ghost use Rattle.tb_records.specs.Transport.{Input, Output};
 ghost use Rattle.tb_text_commands.specs.declared.faults.Fault.{Fault};
-ghost use Rattle.tb_text_commands.specs.Ends.{Ended, Written};
+ghost use Rattle.tb_text_commands.specs.Ends.{Written};
 ghost use Rattle.tb_text_commands.specs.private.Putting.{Halts, HaltsNext};
-ghost use Rattle.tb_text_commands.specs.private.Taken.{TakesIf, TakesNext};
+ghost use Rattle.tb_text_commands.specs.private.Taken.{EndedOver, NextOver, TakesIf};
 ghost use Rattle.tb_text_commands.specs.Whole.{Parts, WasWhole};
 
 use crate::faults::Fault;
@@ -30,11 +30,8 @@ pub trait Converter {
     /// Takes the next part: None where there is none. What was written is passed on first, where the part may have to be
     /// waited for.
     fn next<R: Source, W: Sink>(&mut self, reader: &mut R, writer: &mut W) -> Next<Self::Piece>
-        ensures ended { Ended result (R.input reader.old) (R.input reader.new) (W.output writer.old)
-            (W.output writer.new) }
-        ensures taken { IfOk result (λ next.
-            TakesNext Part next (remaining self.old (R.input reader.old))
-            (remaining self.new (R.input reader.new))) }
+        ensures ended { EndedOver R.input W.output result reader.old reader.new writer.old writer.new }
+        ensures taken { NextOver remaining R.input Part result self.old reader.old self.new reader.new }
         ensures read { Reads self.old result (R.input reader.old) (R.input reader.new) };
 
     /// Writes what a part represents.
@@ -53,8 +50,7 @@ pub fn convert_next<C: Converter, R: Source, W: Sink>(
     reader: &mut R,
     writer: &mut W,
 ) -> Result<bool, Fault>
-    ensures ended { Ended result (R.input reader.old) (R.input reader.new) (W.output writer.old)
-        (W.output writer.new) }
+    ensures ended { EndedOver R.input W.output result reader.old reader.new writer.old writer.new }
     ensures taken { IfOk result (λ more.
         TakesIf C.Part more (C.remaining converter.old (R.input reader.old))
         (C.remaining converter.new (R.input reader.new))) }
@@ -74,8 +70,7 @@ pub fn convert<C: Converter + Drop, R: Source, W: Sink>(
     reader: &mut R,
     writer: &mut W,
 ) -> Result<(), Fault>
-    ensures ended { Ended result (R.input reader.old) (R.input reader.new) (W.output writer.old)
-        (W.output writer.new) }
+    ensures ended { EndedOver R.input W.output result reader.old reader.new writer.old writer.new }
     ensures whole { OnOk result (WasWhole (Parts C.Part) (C.remaining converter (R.input reader.old))) }
     ensures halts { IfErr result (Halts C.Part C.remaining C.Reads C.Puts converter (R.input reader.old)
         (R.input reader.new) (W.output writer.new)) }

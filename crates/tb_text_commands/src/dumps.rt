@@ -1,17 +1,16 @@
 //! The forms that read a dump: its lines, and the script that makes its history.
-ghost use Rattle.std.specs.Prelude.{◌≡◌, [], IfOk, Ok, Result};
-ghost use Rattle.tb_records.specs.DumpBytes.{HeadAnswers};
+ghost use Rattle.std.specs.Prelude.{◌≡◌, [], IfOk, Result};
 ghost use Rattle.tb_records.specs.Inputs.{timed_bytes};
 ghost use Rattle.tb_records.specs.Transport.{Output, Sent};
 ghost use Rattle.tb_machine.specs.declared.entries.Entry.{Entry};
 ghost use Rattle.tb_text_commands.specs.declared.faults.Fault.{Fault};
 ghost use Rattle.tb_text_commands.specs.AuditLines.{IsJsonLine};
 ghost use Rattle.tb_text_commands.specs.AuditRuns.{ReadsItem};
-ghost use Rattle.tb_text_commands.specs.Ends.{Converts, Ended, Written};
-ghost use Rattle.tb_text_commands.specs.private.Putting.{IsLine, PutsItem, PutsSome, entry_of};
-ghost use Rattle.tb_text_commands.specs.private.Taken.{TakesNext};
+ghost use Rattle.tb_text_commands.specs.Ends.{Written};
+ghost use Rattle.tb_text_commands.specs.private.Putting.{HeadRead, IsLine, PutsItem, PutsSome, entry_of};
+ghost use Rattle.tb_text_commands.specs.private.Taken.{AreItems, ReadsOver, EndedOver, ReadsDump, TakesItem};
 ghost use Rattle.tb_text_commands.specs.Wanted.{moves};
-ghost use Rattle.tb_text_commands.specs.Whole.{IsDump, IsItem, Parts};
+ghost use Rattle.tb_text_commands.specs.Whole.{IsItem};
 
 use crate::audit_json::{head_line, mark_line};
 use crate::converting::{Converter, Next, convert};
@@ -47,10 +46,8 @@ pub fn tell_head<R: Source, W: Sink>(
     reader: &mut R,
     writer: &mut W,
 ) -> Result<DumpHead, Fault>
-    ensures ended { Ended result (R.input reader.old) (R.input reader.new) (W.output writer.old)
-        (W.output writer.new) }
-    ensures answer { IfOk result (λ head.
-        HeadAnswers (Ok head) (R.input reader.old).left (R.input reader.new).left) }
+    ensures ended { EndedOver R.input W.output result reader.old reader.new writer.old writer.new }
+    ensures answer { IfOk result (HeadRead (R.input reader.old) (R.input reader.new)) }
 {
     let head = read_head_from(reader)?;
     put_line(writer, head_line(alloc, &head))?;
@@ -63,10 +60,8 @@ pub fn next_item<R: Source, W: Sink>(
     reader: &mut R,
     writer: &mut W,
 ) -> Next<DumpItem>
-    ensures ended { Ended result (R.input reader.old) (R.input reader.new) (W.output writer.old)
-        (W.output writer.new) }
-    ensures taken { IfOk result (λ next.
-        TakesNext IsItem next (R.input reader.old).left (R.input reader.new).left) }
+    ensures ended { EndedOver R.input W.output result reader.old reader.new writer.old writer.new }
+    ensures taken { TakesItem result (R.input reader.old) (R.input reader.new) }
     ensures read { ReadsItem result (R.input reader.old) (R.input reader.new) }
     ensures silent { Sent [] (W.output writer.old) (W.output writer.new) }
 {
@@ -135,8 +130,7 @@ pub fn convert_items<T: ItemWriter + Drop, R: Source, W: Sink>(
     reader: &mut R,
     writer: &mut W,
 ) -> Result<(), Fault>
-    ensures { Converts (Parts IsItem) result (R.input reader.old) (R.input reader.new)
-        (W.output writer.old) (W.output writer.new) }
+    ensures { ReadsOver R.input W.output AreItems result reader.old reader.new writer.old writer.new }
 {
     convert(DumpItems { alloc, item_writer }, reader, writer)
 }
@@ -163,8 +157,7 @@ impl ItemWriter for ItemLines {
 
 /// Writes a line for the head, each entry and the mark of a dump.
 pub fn dump<R: Source, W: Sink>(alloc: Global, reader: &mut R, writer: &mut W) -> Result<(), Fault>
-    ensures { Converts IsDump result (R.input reader.old) (R.input reader.new)
-        (W.output writer.old) (W.output writer.new) }
+    ensures { ReadsDump R.input W.output result reader.old reader.new writer.old writer.new }
 {
     tell_head(alloc, reader, writer)?;
     convert_items(alloc, ItemLines { alloc }, reader, writer)
@@ -190,8 +183,7 @@ impl ItemWriter for EntryPairs {
 
 /// Writes the script that makes a dump's history.
 pub fn pairs<R: Source, W: Sink>(alloc: Global, reader: &mut R, writer: &mut W) -> Result<(), Fault>
-    ensures { Converts IsDump result (R.input reader.old) (R.input reader.new)
-        (W.output writer.old) (W.output writer.new) }
+    ensures { ReadsDump R.input W.output result reader.old reader.new writer.old writer.new }
 {
     read_head_from(reader)?;
     convert_items(alloc, EntryPairs {}, reader, writer)

@@ -1,6 +1,6 @@
 //! What comes before the operation of a statement.
-ghost use Rattle.std.specs.Prelude.{◌≡◌, ◌≤◌, length, MatchOption, None, Some, false};
-ghost use Rattle.tb_text_commands.specs.Heads.{begins_operation, behind_equals, behind_word, field_named, field_read, first_word, gap_length, head_of, is_batch, is_register, is_word_byte, next, number_from, number_of, operation_named, past_gap, with_digit, with_field, word_length};
+ghost use Rattle.std.specs.Prelude.{◌≡◌, ◌≤◌, length, false};
+ghost use Rattle.tb_text_commands.specs.Heads.{IsFound, begins_operation, behind_equals, behind_word, field_named, field_read, first_word, gap_length, head_of, is_batch, is_register, is_word_byte, next, number_from, number_of, operation_named, past_gap, with_digit, with_field, word_length};
 
 use tb_records::Operation;
 use tb_text::{Field, Word, digit, word_named};
@@ -75,8 +75,7 @@ pub fn behind_word(bytes: &[u8]) -> &[u8]
 
 /// What follows a `=`.
 fn behind_equals(bytes: &[u8]) -> Option<&[u8]>
-    ensures { MatchOption result (behind_equals bytes.now ≡ None)
-        (λ rest. behind_equals bytes.now ≡ Some rest.now) }
+    ensures { IsFound (λ rest. rest.now) result (behind_equals bytes.now) }
 {
     match bytes {
         [b'=', rest @ ..] => Some(past_gap(rest)),
@@ -145,8 +144,7 @@ impl Given {
 
 /// The field that the bytes begin with, among those before it, and what follows it.
 fn field_read(given: Given, bytes: &[u8]) -> Option<(Given, &[u8])>
-    ensures { MatchOption result (field_read given bytes.now ≡ None)
-        (λ found. field_read given bytes.now ≡ Some (found.0, found.1.now)) }
+    ensures { IsFound (λ found. (found.0, found.1.now)) result (field_read given bytes.now) }
 {
     let field = field_named(first_word(bytes))?;
     let value = behind_equals(behind_word(bytes))?;

@@ -1,9 +1,9 @@
 //! Bytes that were read and wait to be taken: statements, or replies, one by one.
 ghost use Rattle.std.specs.List.{list_all};
-ghost use Rattle.std.specs.Prelude.{◌==◌, ◌≡◌, [], IfErr, IfOk, OnOk, Some, drop, false, not, take, true};
+ghost use Rattle.std.specs.Prelude.{◌==◌, ◌≡◌, [], IfErr, IfOk, OnOk, drop, false, not, take, true};
 ghost use Rattle.tb_records.specs.Transport.{Input, Sent};
-ghost use Rattle.tb_text_commands.specs.Ends.{Ended, is_passing};
-ghost use Rattle.tb_text_commands.specs.private.Taken.{HoldsAsBefore, IsOfReading, Stays, rest_of, statement_in, waiting};
+ghost use Rattle.tb_text_commands.specs.Ends.{is_passing};
+ghost use Rattle.tb_text_commands.specs.private.Taken.{EndedOver, HoldsAll, HoldsAsBefore, IsOfReading, IsSearched, OnRest, Stays, rest_of, statement_in, waiting};
 ghost use Rattle.tb_text_commands.specs.Typed.{ends_with_cut_line, is_longest_line};
 
 use crate::faults::Fault;
@@ -57,7 +57,8 @@ pub struct Intake {
 impl Intake {
     /// Nothing read yet.
     pub fn new(alloc: Global) -> Intake
-        ensures { (input : Input) → waiting result input ≡ input.left }
+        ensures left { (input : Input) → waiting result input ≡ input.left }
+        ensures searched { IsSearched result }
     {
         Intake {
             alloc,
@@ -127,6 +128,7 @@ impl Intake {
     /// Takes bytes of the rest.
     pub fn take(&mut self, length: usize)
         ensures rest { rest_of self.new ≡ drop length (rest_of self.old) }
+        ensures searched { IsSearched self.new }
         ensures same { self.new.ended ≡ self.old.ended }
     {
         self.taken_at = self.position_at(gap_length(self.first(length)));
@@ -142,6 +144,7 @@ impl Intake {
     pub fn statement(&mut self) -> Option<usize>
         ensures kept { HoldsAsBefore self.old self.new }
         ensures found { result ≡ statement_in self.old }
+        ensures searched { IsSearched self.old → IsSearched self.new }
     {
         let rest = self.bytes.get(self.searched..).unwrap_or(&[]);
         let mut in_comment = self.in_comment;
@@ -165,6 +168,7 @@ impl Intake {
     fn make_room(&mut self)
         ensures bytes { self.new.bytes.items ≡ rest_of self.old }
         ensures first { self.new.at ≡ 0 }
+        ensures searched { IsSearched self.old → IsSearched self.new }
         ensures same { self.new.ended ≡ self.old.ended }
     {
         if self.at == 0 {
@@ -185,13 +189,12 @@ impl Intake {
         reader: &mut R,
         writer: &mut W,
     ) -> Result<bool, Fault>
-        ensures ended { Ended result (R.input reader.old) (R.input reader.new) (W.output writer.old)
-            (W.output writer.new) }
-        ensures kept { IfOk result (λ _.
-            Stays (waiting self.old (R.input reader.old)) (waiting self.new (R.input reader.new))) }
+        ensures ended { EndedOver R.input W.output result reader.old reader.new writer.old writer.new }
+        ensures kept { OnOk result (OnRest R.input Stays self.old reader.old self.new reader.new) }
         ensures end { IfOk result (λ more. more ≡ false → self.new.ended ≡ true) }
         ensures fault { IfErr result (λ fault. is_passing fault ≡ false) }
         ensures cause { IfErr result IsOfReading }
+        ensures searched { IsSearched self.old → IsSearched self.new }
         ensures silent { Sent [] (W.output writer.old) (W.output writer.new) }
     {
         if self.ended {
@@ -215,10 +218,8 @@ impl Intake {
         reader: &mut R,
         writer: &mut W,
     ) -> Result<(), Fault>
-        ensures ended { Ended result (R.input reader.old) (R.input reader.new) (W.output writer.old)
-            (W.output writer.new) }
-        ensures all { OnOk result (Stays (waiting self.old (R.input reader.old))
-            (Some (rest_of self.new))) }
+        ensures ended { EndedOver R.input W.output result reader.old reader.new writer.old writer.new }
+        ensures all { OnOk result (HoldsAll self.new (waiting self.old (R.input reader.old))) }
         ensures silent { Sent [] (W.output writer.old) (W.output writer.new) }
     {
         for _ in 0..u64::MAX {

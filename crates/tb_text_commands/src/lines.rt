@@ -1,8 +1,7 @@
 //! Replies and entries as lines of JSON.
 ghost use Rattle.std.specs.Prelude.{◌≡◌, IfOk, codes, false};
 ghost use Rattle.tb_records.specs.Messages.{is_operation};
-ghost use Rattle.tb_records.specs.Operations.{operation_code, operation_name};
-ghost use Rattle.tb_text_commands.specs.private.Names.{status_word};
+ghost use Rattle.tb_text_commands.specs.private.Names.{NamesOperation, status_word};
 ghost use Rattle.tb_text_commands.specs.private.Putting.{IsLine};
 
 use crate::lists::{EventResults, Ids, List, Records};
@@ -42,8 +41,7 @@ fn status_name(status: Status) -> &'static str
 
 /// The name of an operation's number.
 pub fn operation_name(operation: u8) -> &'static str
-    ensures named { (known : Operation) → operation_code known ≡ operation
-        → result.now ≡ operation_name known }
+    ensures named { NamesOperation operation result.now }
     ensures unknown { is_operation operation ≡ false → result.now ≡ codes "unknown" }
 {
     match Operation::from_code(operation) {

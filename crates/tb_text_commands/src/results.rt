@@ -1,7 +1,7 @@
 //! What became of the events of a machine's last entry.
 ghost use Rattle.std.specs.Prelude.{◌≡◌, ◌≤◌, ℕ, IfOk, None, OnOk, length, slice_index_or};
 ghost use Rattle.std.proofs.Props.{props};
-ghost use Rattle.tb_text_commands.specs.Results.{NotesResult, result_at, stored_results};
+ghost use Rattle.tb_text_commands.specs.Results.{AreAt, NotesResult, placed_at, result_at, stored_results};
 
 use std::alloc::{AllocError, Global};
 use tb_machine::Machine;
@@ -32,8 +32,7 @@ pub struct Outcomes<'a> {
 /// Makes a list so long that a place is next or in it.
 fn reach(by_place: &mut Vec<Option<EventResult>>, place: usize) -> Result<(), AllocError>
     ensures long { OnOk result (place ≤ length by_place.new.items) }
-    ensures same { OnOk result ((other : ℕ)
-        → slice_index_or by_place.new.items other None ≡ slice_index_or by_place.old.items other None) }
+    ensures same { OnOk result (AreAt by_place.new.items (placed_at by_place.old.items)) }
 {
     for _ in by_place.len()..place {
         by_place.push(None)?;
@@ -57,8 +56,7 @@ fn note(by_place: &mut Vec<Option<EventResult>>, judged: EventResult) -> Result<
 
 /// Results by their places: of those of one place the first.
 fn placed(alloc: Global, results: &[EventResult]) -> Result<Vec<Option<EventResult>>, AllocError>
-    ensures { IfOk result (λ by_place. (place : ℕ)
-        → slice_index_or by_place.items place None ≡ result_at results.now place) }
+    ensures { IfOk result (λ by_place. AreAt by_place.items (result_at results.now)) }
 {
     let mut by_place = Vec::new(alloc);
     for index in 0..results.len() {

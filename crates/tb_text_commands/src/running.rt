@@ -2,12 +2,11 @@
 ghost use Rattle.std.specs.Prelude.{◌≡◌, IfErr, IfOk, OnOk, Some};
 ghost use Rattle.tb_records.specs.Transport.{Input};
 ghost use Rattle.tb_sessions.specs.Judged.{class_of};
-ghost use Rattle.tb_text_commands.specs.private.Answered.{Answers, Enters, IsOfLine, IsOfReply, IsOfServing, IsPlaced};
+ghost use Rattle.tb_text_commands.specs.private.Answered.{AnswersByClass, Enters, IsOfLine, IsOfReply, IsOfServing, IsPlaced};
 ghost use Rattle.tb_text_commands.specs.Completed.{standing_in};
-ghost use Rattle.tb_text_commands.specs.Ends.{Ended, Written, is_passing};
-ghost use Rattle.tb_text_commands.specs.private.Taken.{IsOfStatement, TakesTurn, TakesUnlessEnded, waiting};
-ghost use Rattle.tb_text_commands.specs.Typed.{IsTyped};
-ghost use Rattle.tb_text_commands.specs.Whole.{IsStatement, WasWhole};
+ghost use Rattle.tb_text_commands.specs.Ends.{Written, is_passing};
+ghost use Rattle.tb_text_commands.specs.private.Taken.{EndedOver, IsOfStatement, ServedOver, TurnOver, WasTyped, waiting};
+ghost use Rattle.tb_text_commands.specs.Whole.{IsStatement};
 
 use crate::completing::{Standing, Standings};
 use crate::converting::{Converter, Next};
@@ -80,8 +79,7 @@ impl<C: Clock> Server<'_, C> {
     /// new one is entered first.
     fn answer(&mut self, moment: u64, request: Request) -> Result<Option<Reply>, Fault>
         ensures fault { IfErr result IsOfServing }
-        ensures answers { Answers (class_of self.old.machine.rows request) result self.old.machine
-            self.new.machine (moment, request) }
+        ensures answers { AnswersByClass result self.old.machine self.new.machine (moment, request) }
         ensures last { self.new.last ≡ self.old.last }
     {
         match self.machine.class(&request) {
@@ -216,10 +214,8 @@ fn turn<C: Clock, R: Source, W: Sink, E: Sink>(
     writer: &mut W,
     faults: &mut E,
 ) -> Result<bool, Fault>
-    ensures ended { Ended result (R.input reader.old) (R.input reader.new) (W.output writer.old)
-        (W.output writer.new) }
-    ensures taken { TakesTurn result (waiting conversation.old.intake (R.input reader.old))
-        (waiting conversation.new.intake (R.input reader.new)) }
+    ensures ended { EndedOver R.input W.output result reader.old reader.new writer.old writer.new }
+    ensures taken { TurnOver R.input result conversation.old reader.old conversation.new reader.new }
 {
     let Conversation { intake, server } = conversation;
     match next_typed(intake, server, reader, writer, faults)? {
@@ -237,10 +233,8 @@ fn serve_turn<C: Clock, R: Source, W: Sink, E: Sink>(
     writer: &mut W,
     faults: &mut E,
 ) -> Result<bool, Fault>
-    ensures ended { Ended result (R.input reader.old) (R.input reader.new) (W.output writer.old)
-        (W.output writer.new) }
-    ensures taken { TakesUnlessEnded result (waiting conversation.old.intake (R.input reader.old))
-        (waiting conversation.new.intake (R.input reader.new)) }
+    ensures ended { EndedOver R.input W.output result reader.old reader.new writer.old writer.new }
+    ensures taken { ServedOver R.input result conversation.old reader.old conversation.new reader.new }
 {
     match turn(conversation, reader, writer, faults) {
         Err(fault) if is_passing(&fault) => {
@@ -260,9 +254,8 @@ fn serve_turns<C: Clock, R: Source, W: Sink, E: Sink>(
     faults: &mut E,
 ) -> Result<(), Fault>
     ensures whole { OnOk result
-        (WasWhole IsTyped (waiting conversation.old.intake (R.input reader.old))) }
-    ensures ended { Ended result (R.input reader.old) (R.input reader.new) (W.output writer.old)
-        (W.output writer.new) }
+        (WasTyped (waiting conversation.old.intake (R.input reader.old))) }
+    ensures ended { EndedOver R.input W.output result reader.old reader.new writer.old writer.new }
 {
     for _ in 0..u64::MAX {
         if !serve_turn(conversation, reader, writer, faults)? {
@@ -280,10 +273,9 @@ pub fn converse<C: Clock, R: Source, W: Sink, E: Sink>(
     writer: &mut W,
     faults: &mut E,
 ) -> Result<(), Fault>
-    ensures ended { Ended result (R.input reader.old) (R.input reader.new) (W.output writer.old)
-        (W.output writer.new) }
+    ensures ended { EndedOver R.input W.output result reader.old reader.new writer.old writer.new }
     ensures whole { OnOk result
-        (WasWhole IsTyped (waiting conversation.entry.intake (R.input reader.old))) }
+        (WasTyped (waiting conversation.entry.intake (R.input reader.old))) }
 {
     put_line(GREETING.as_bytes(), faults);
     let done = serve_turns(&mut conversation, reader, writer, faults);

@@ -1,11 +1,10 @@
 //! The forms between statements, scripts and replies.
-ghost use Rattle.std.specs.Prelude.{◌≡◌, IfErr, IfOk, flat_map};
+ghost use Rattle.std.specs.Prelude.{◌≡◌, IfErr, IfOk, OnErr, flat_map};
 ghost use Rattle.tb_records.specs.Inputs.{timed_bytes};
-ghost use Rattle.tb_records.specs.Transport.{IsSent};
 ghost use Rattle.tb_text.specs.Printed.{statement_text};
-ghost use Rattle.tb_text_commands.specs.AuditRuns.{PutsAll, PutsNothing};
+ghost use Rattle.tb_text_commands.specs.AuditRuns.{PutsNothing};
 ghost use Rattle.tb_text_commands.specs.Ends.{Written};
-ghost use Rattle.tb_text_commands.specs.private.Putting.{IsLine, PutsSome, ReadsPair};
+ghost use Rattle.tb_text_commands.specs.private.Putting.{IsLine, IsSentPair, PutsOver, PutsSome, ReadsPair};
 ghost use Rattle.tb_text_commands.specs.private.Taken.{IsOfFrame, IsOfStatement, waiting};
 ghost use Rattle.tb_text_commands.specs.Whole.{IsPair, IsReplyFrame, IsStatement};
 
@@ -25,7 +24,7 @@ use tb_text::print_request;
 /// Writes bytes.
 pub fn put<W: Sink>(writer: &mut W, bytes: &[u8]) -> Result<(), Fault>
     ensures written { Written result (W.output writer.old) (W.output writer.new) }
-    ensures put { PutsAll result bytes.now (W.output writer.old) (W.output writer.new) }
+    ensures put { PutsOver W.output result bytes.now writer.old writer.new }
 {
     Ok(put_all(writer, bytes)?)
 }
@@ -34,16 +33,15 @@ pub fn put<W: Sink>(writer: &mut W, bytes: &[u8]) -> Result<(), Fault>
 pub fn put_line<W: Sink>(writer: &mut W, line: Result<Vec<u8>, AllocError>) -> Result<(), Fault>
     ensures written { Written result (W.output writer.old) (W.output writer.new) }
     ensures put { IfOk line
-        (λ line. PutsAll result line.items (W.output writer.old) (W.output writer.new)) }
-    ensures refused { IfErr line
-        (λ refused. PutsNothing result (W.output writer.old) (W.output writer.new)) }
+        (λ line. PutsOver W.output result line.items writer.old writer.new) }
+    ensures refused { OnErr line (PutsNothing result (W.output writer.old) (W.output writer.new)) }
 {
     put(writer, line?.as_slice())
 }
 
 /// Sends a moment and the frame of a request.
 fn send_timed<W: Sink>(writer: &mut W, moment: u64, request: &Request) -> Result<(), FrameFault>
-    ensures { IsSent result (timed_bytes (moment, request.now)) (W.output writer.old) (W.output writer.new) }
+    ensures { IsSentPair result (moment, request.now) (W.output writer.old) (W.output writer.new) }
 {
     put_all(writer, &moment.to_le_bytes())?;
     send_request(writer, request)
@@ -52,8 +50,7 @@ fn send_timed<W: Sink>(writer: &mut W, moment: u64, request: &Request) -> Result
 /// Writes a pair of a script.
 pub fn put_pair<W: Sink>(writer: &mut W, moment: u64, request: &Request) -> Result<(), Fault>
     ensures written { Written result (W.output writer.old) (W.output writer.new) }
-    ensures put { PutsAll result (timed_bytes (moment, request.now)) (W.output writer.old)
-        (W.output writer.new) }
+    ensures put { PutsOver W.output result (timed_bytes (moment, request.now)) writer.old writer.new }
 {
     Ok(send_timed(writer, moment, request)?)
 }
@@ -61,8 +58,7 @@ pub fn put_pair<W: Sink>(writer: &mut W, moment: u64, request: &Request) -> Resu
 /// Writes pairs of a script.
 fn put_pairs<W: Sink>(writer: &mut W, pairs: &[(u64, Request)]) -> Result<(), Fault>
     ensures written { Written result (W.output writer.old) (W.output writer.new) }
-    ensures put { PutsAll result (flat_map timed_bytes pairs.now) (W.output writer.old)
-        (W.output writer.new) }
+    ensures put { PutsOver W.output result (flat_map timed_bytes pairs.now) writer.old writer.new }
 {
     for (moment, request) in pairs {
         put_pair(writer, *moment, request)?;

@@ -1,7 +1,6 @@
 //! Statements that are read one by one.
-ghost use Rattle.std.specs.Prelude.{IfErr, IfOk, OnOk};
-ghost use Rattle.tb_text_commands.specs.Ends.{Ended};
-ghost use Rattle.tb_text_commands.specs.private.Taken.{IsOfStatement, IsOfText, TakesIfWrong, TakesNext, TakesPart, waiting};
+ghost use Rattle.std.specs.Prelude.{IfErr, OnOk};
+ghost use Rattle.tb_text_commands.specs.private.Taken.{EndedOver, IsOfStatement, IsOfText, OnRest, TakesIfWrong, TakesPart, TakesStatement};
 ghost use Rattle.tb_text_commands.specs.Whole.{IsStatement};
 
 use crate::completing::{Standings, completed, untold_at, words_to_fill};
@@ -94,11 +93,8 @@ pub fn next_statement<R: Source, W: Sink, S: Standings>(
     reader: &mut R,
     writer: &mut W,
 ) -> Next<Items<(u64, Request)>>
-    ensures ended { Ended result (R.input reader.old) (R.input reader.new) (W.output writer.old)
-        (W.output writer.new) }
-    ensures taken { IfOk result (λ next.
-        TakesNext IsStatement next (waiting intake.old (R.input reader.old))
-        (waiting intake.new (R.input reader.new))) }
+    ensures ended { EndedOver R.input W.output result reader.old reader.new writer.old writer.new }
+    ensures taken { OnRest R.input (TakesStatement result) intake.old reader.old intake.new reader.new }
     ensures fault { IfErr result IsOfStatement }
 {
     for _ in 0..u64::MAX {

@@ -1,6 +1,6 @@
 //! How far `tbs` reads a script or replays a dump, and why no further.
-ghost use Rattle.std.specs.Prelude.{◌≡◌, ◌++◌, [], IfOk, MatchOption, MatchResult, List, ℕ};
-ghost use Rattle.tb_text_commands.specs.Explained.{ComesOfItem, DumpEnds, EndsBehind, Follows, FollowsEntry, FollowsMark, IsCause, IsNextItem, IsNextPair, IsNoItem, IsNoPair, ScriptEnds};
+ghost use Rattle.std.specs.Prelude.{◌≡◌, ◌++◌, IfOk, List, ℕ};
+ghost use Rattle.tb_text_commands.specs.Explained.{ComesNext, ComesOfItem, DumpEnds, EndsBehind, Follows, FollowsEntry, FollowsMark, IsCause, IsNextItem, IsNextPair, IsNoItem, IsNoPair, ScriptEnds};
 ghost use Rattle.tb_text_commands.specs.declared.stops.DumpEnd.TheVariants as DumpEnd;
 
 use crate::kinds::begins_with;
@@ -68,10 +68,7 @@ pub enum DumpEnd {
 
 /// The moment of the next pair of a script, and what follows it; or the fault of what is there.
 fn next_pair(alloc: Global, rest: &[u8]) -> Result<Option<(u64, &[u8])>, FrameFault>
-    ensures { MatchResult result
-        (λ next. MatchOption next (rest.now ≡ [])
-        (λ it. IsNextPair it.0 rest.now it.1.now))
-        (λ fault. IsNoPair fault rest.now) }
+    ensures { ComesNext result rest.now (λ it. IsNextPair it.0 rest.now it.1.now) IsNoPair }
 {
     let mut reader = Counting::new(rest);
     match read_timed_from(alloc, &mut reader)? {
@@ -172,10 +169,7 @@ fn follow(machine: &mut Machine<Global>, item: DumpItem) -> Result<Option<Stop>,
 
 /// The next item of a dump, and what follows it.
 fn next_item(alloc: Global, rest: &[u8]) -> Result<Option<(DumpItem, &[u8])>, DumpFault>
-    ensures { MatchResult result
-        (λ next. MatchOption next (rest.now ≡ [])
-        (λ it. IsNextItem it.0 rest.now it.1.now))
-        (λ fault. IsNoItem fault rest.now) }
+    ensures { ComesNext result rest.now (λ it. IsNextItem it.0 rest.now it.1.now) IsNoItem }
 {
     let mut reader = Counting::new(rest);
     match read_item_from(alloc, &mut reader)? {

@@ -1,7 +1,7 @@
 //! What is typed on a terminal, read line by line behind a prompt.
-ghost use Rattle.std.specs.Prelude.{◌≡◌, IfErr, IfOk, false, true};
-ghost use Rattle.tb_text_commands.specs.Ends.{Ended, IsOfInput, Passed, is_passing};
-ghost use Rattle.tb_text_commands.specs.private.Taken.{CutRefused, HoldsAsBefore, IsOfText, Stays, TakesTyped, TypedOfRest, waiting};
+ghost use Rattle.std.specs.Prelude.{◌≡◌, IfErr, IfOk, OnOk, false, true};
+ghost use Rattle.tb_text_commands.specs.Ends.{IsOfInput, Passed, is_passing};
+ghost use Rattle.tb_text_commands.specs.private.Taken.{CutRefused, EndedOver, HoldsAsBefore, IsOfText, OnRest, Stays, TakesTyped, TypedOfRest};
 
 use crate::asking::{Ask, ask_in};
 use crate::completing::Standings;
@@ -96,10 +96,8 @@ fn read_line<R: Source, W: Sink, E: Sink>(
     writer: &mut W,
     faults: &mut E,
 ) -> Result<bool, Fault>
-    ensures ended { Ended result (R.input reader.old) (R.input reader.new) (W.output writer.old)
-        (W.output writer.new) }
-    ensures kept { IfOk result (λ _.
-        Stays (waiting intake.old (R.input reader.old)) (waiting intake.new (R.input reader.new))) }
+    ensures ended { EndedOver R.input W.output result reader.old reader.new writer.old writer.new }
+    ensures kept { OnOk result (OnRest R.input Stays intake.old reader.old intake.new reader.new) }
     ensures end { IfOk result (λ more. more ≡ false → intake.new.ended ≡ true) }
     ensures fault { IfErr result (λ fault. is_passing fault ≡ false) }
 {
@@ -145,10 +143,8 @@ pub fn next_typed<R: Source, W: Sink, E: Sink, S: Standings>(
     writer: &mut W,
     faults: &mut E,
 ) -> Result<Typed, Fault>
-    ensures ended { Ended result (R.input reader.old) (R.input reader.new) (W.output writer.old)
-        (W.output writer.new) }
-    ensures taken { TakesTyped result (waiting intake.old (R.input reader.old))
-        (waiting intake.new (R.input reader.new)) }
+    ensures ended { EndedOver R.input W.output result reader.old reader.new writer.old writer.new }
+    ensures taken { OnRest R.input (TakesTyped result) intake.old reader.old intake.new reader.new }
 {
     for _ in 0..u64::MAX {
         if let Some(length) = whole_length(intake, standings)? {

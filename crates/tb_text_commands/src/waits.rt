@@ -2,7 +2,8 @@
 ghost use Rattle.std.specs.Prelude.{◌≡◌, [], OnOk, unwrap_or};
 ghost use Rattle.tb_ledger.specs.Books.{transfer_at};
 ghost use Rattle.avl_tree.specs.Map.{entries};
-ghost use Rattle.tb_text_commands.specs.Audits.{TakesDue, began, ended, wait_key, waits_with, watched_from, watched_one};
+ghost use Rattle.tb_text_commands.specs.private.Audited.{Becomes, WatchesEvent, WatchesEvents};
+ghost use Rattle.tb_text_commands.specs.Audits.{TakesDue, began, ended, wait_key, waits_with};
 
 use crate::results::Outcomes;
 use avl_tree::AvlMap;
@@ -65,8 +66,7 @@ impl Waits {
 
     /// Watches an event that was accepted: one that has a timeout, or one that ends the wait of another.
     fn watch_one(&mut self, machine: &Machine<Global>, event: &Transfer) -> Result<(), AllocError>
-        ensures { OnOk result (entries self.new.by_end
-            ≡ waits_with machine.now.books event.now (entries self.old.by_end)) }
+        ensures { OnOk result (Becomes (waits_with machine.now.books event.now) self.old self.new) }
     {
         if event.is_resolving() {
             if let Some(pending) = machine.transfer(event.pending_id) {
@@ -88,8 +88,7 @@ impl Waits {
         place: usize,
         event: &Transfer,
     ) -> Result<(), AllocError>
-        ensures { OnOk result (entries self.new.by_end
-            ≡ watched_one machine.now.books outcomes.now.results.now place event.now (entries self.old.by_end)) }
+        ensures { OnOk result (WatchesEvent machine.now outcomes.now place event.now self.old self.new) }
     {
         if outcomes.at(place).is_some() {
             return Ok(());
@@ -104,8 +103,7 @@ impl Waits {
         events: &[Transfer],
         outcomes: &Outcomes<'_>,
     ) -> Result<(), AllocError>
-        ensures { OnOk result (entries self.new.by_end
-            ≡ watched_from machine.now.books outcomes.now.results.now 0 events.now (entries self.old.by_end)) }
+        ensures { OnOk result (WatchesEvents machine.now outcomes.now events.now self.old self.new) }
     {
         for (place, event) in events.iter().enumerate() {
             self.watch_event(machine, outcomes, place, event)?;

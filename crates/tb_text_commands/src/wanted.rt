@@ -1,8 +1,7 @@
 //! Which lines of an audit are wanted.
-ghost use Rattle.std.specs.Prelude.{◌≡◌, Option, ℕ};
+ghost use Rattle.std.specs.Prelude.{◌≡◌, ℕ};
 ghost use Rattle.tb_records.specs.declared.dumps.DumpHead.{DumpHead};
-ghost use Rattle.tb_records.specs.declared.records.EventResult.{EventResult};
-ghost use Rattle.tb_text_commands.specs.Wanted.{begins, enters, expires, is_of_either, is_wanted, is_within, moves, names, opens, resolved_by, settling_by, stands};
+ghost use Rattle.tb_text_commands.specs.Wanted.{WantsEvent, begins, enters, expires, is_of_either, is_wanted, is_within, moves, names, opens, resolved_by, settling_by, stands};
 
 use std::alloc::Global;
 use tb_machine::{Entry, Machine};
@@ -91,8 +90,7 @@ impl Wanted {
 
     /// Says that the line of an account is wanted: of an event that creates it, or of its balances.
     pub(crate) fn takes_account(&self, entry: &Entry, account: &Account) -> bool
-        ensures opening { (place : ℕ) (outcome : Option EventResult)
-            → result ≡ is_wanted self.now (opens entry.now place outcome account.now) }
+        ensures opening { WantsEvent self.now (opens entry.now) account.now result }
         ensures standing { result ≡ is_wanted self.now (stands entry.now account.now) }
     {
         self.takes(entry)
@@ -120,9 +118,7 @@ impl Wanted {
         entry: &Entry,
         transfer: &Transfer,
     ) -> bool
-        ensures { (place : ℕ) (outcome : Option EventResult)
-            → result ≡ is_wanted self.now
-            (settling_by machine.now.books entry.now place outcome transfer.now) }
+        ensures { WantsEvent self.now (settling_by machine.now.books entry.now) transfer.now result }
     {
         self.takes(entry)
             && match self.account {

@@ -2,6 +2,7 @@
 -- Cited by private contracts alone, of: running.
 use Rattle.std.specs.Prelude.{true, false, ◌≡◌, Option, Some, None, Result, Ok, Err}
 use Rattle.tb_records.specs.Messages.{Answer}
+use Rattle.tb_sessions.specs.Judged.{class_of}
 use Rattle.tb_sessions.specs.declared.classes.Class.{Class}
 use Rattle.tb_sessions.specs.declared.classes.Class.TheVariants.{New, Repeat}
 use Rattle.tb_machine.specs.Histories.{State, refusal, status_of, step}
@@ -36,6 +37,10 @@ abbrev pub Answers : Class → Result (Option Answer) Fault → State → State 
 Answers New result S T p = AnswersNew result S T p
 Answers Repeat result S T p = AnswersRepeat result S T
 Answers class result S T p = Refuses class result S T p
+
+-- the same by the class of the request in the state
+abbrev pub AnswersByClass : Result (Option Answer) Fault → State → State → Pair → Type 0
+AnswersByClass result S T p = Answers (class_of S.rows p.1) result S T p
 
 -- a fault of serving: there is no memory, or no time is left
 abbrev pub IsOfServing : Fault → Type 0

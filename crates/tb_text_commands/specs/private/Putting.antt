@@ -1,15 +1,18 @@
 -- What is read as a part of an input, and what is written for it: for private functions alone.
 -- Cited by private contracts alone, of: converting, dumps, lines, scripts.
 use Rattle.std.specs.Prelude.{ℕ, ◌≡◌, ◌⊎◌, List, [], ◌∷◌, ◌++◌, Option, Some, None, Result, Ok, Err}
+use Rattle.tb_records.specs.declared.dumps.DumpHead.{DumpHead}
 use Rattle.tb_records.specs.declared.dumps.DumpItem.{DumpItem}
 use Rattle.tb_records.specs.declared.dumps.DumpItem.TheVariants as item
 use Rattle.tb_records.specs.declared.faults.FrameFault.{FrameFault}
-use Rattle.tb_records.specs.Inputs.{TimedAnswers}
+use Rattle.tb_records.specs.DumpBytes.{HeadAnswers}
+use Rattle.tb_records.specs.Inputs.{TimedAnswers, timed_bytes}
 use Rattle.tb_records.specs.Messages.{Message}
-use Rattle.tb_records.specs.Transport.{CutOff, Input, Output, Sent}
+use Rattle.tb_records.specs.Transport.{CutOff, Input, IsSent, Output, Sent}
 use Rattle.tb_machine.specs.declared.entries.Entry.{Entry}
 use Rattle.tb_text_commands.specs.declared.faults.Fault.{Fault}
 use Rattle.tb_text_commands.specs.declared.faults.Fault.TheVariants.{Device, NoMemory, TooLong}
+use Rattle.tb_text_commands.specs.AuditRuns.{PutsAll}
 use Rattle.tb_text_commands.specs.Statuses.{frame_fault_of}
 use Rattle.tb_text_commands.specs.private.Taken.{TakesParts}
 
@@ -55,3 +58,15 @@ abbrev pub Halts : {C X : Type 0} → (List ℕ → Type 0) → (C → Input →
 Halts {C} Part remaining Reads Puts converter before after written fault =
     (fault ≡ TooLong)
     ⊎ ((last : C) × (middle : Input) × TakesParts Part (remaining converter before) (remaining last middle) × HaltsNext Reads Puts last middle after written fault)
+
+-- by a writer's states: bytes were written, or the device cut them off
+abbrev pub PutsOver : {W : Type 0} → (W → Output) → Result (Unit {0}) Fault → List ℕ → W → W → Type 0
+PutsOver output result bytes start written = PutsAll result bytes (output start) (output written)
+
+-- the bytes of a pair were, as the device counts them
+abbrev pub IsSentPair : Result (Unit {0}) FrameFault → ℕ × Message → Output → Output → Type 0
+IsSentPair result pair before after = IsSent result (timed_bytes pair) before after
+
+-- the head of a dump was read
+abbrev pub HeadRead : Input → Input → DumpHead → Type 0
+HeadRead before after head = HeadAnswers (Ok head) before.left after.left

@@ -1,9 +1,12 @@
 -- Why a form ended.
 -- Cited by private contracts alone, of: commands.
-use Rattle.std.specs.Prelude.{ℕ, Bool, true, ◌≡◌, IfSome, List, Option, None, Result, Ok, Err}
+use Rattle.std.specs.Prelude.{ℕ, Bool, true, ◌≡◌, IfSome, OnOk, List, Option, None, Result, Ok, Err}
+use Rattle.tb_records.specs.Transport.{Input, Output}
 use Rattle.tb_text_commands.specs.declared.arguments.Form.{Form}
+use Rattle.tb_text_commands.specs.declared.arguments.Form.TheVariants as form
 use Rattle.tb_text_commands.specs.declared.commands.Refused.{Refused}
 use Rattle.tb_text_commands.specs.declared.faults.Fault.{Fault}
+use Rattle.tb_text_commands.specs.Explanations.{Explained}
 use Rattle.tb_text_commands.specs.Kinds.{IsForeign, IsNotForeign, awaited_by, is_of_bytes}
 
 -- an outcome by its fault alone
@@ -18,3 +21,7 @@ NamesForeign form talks left refused = IfSome refused.foreign (λ it. IsForeign 
 -- a fault of what was read that names no other kind: the form reads what is there
 abbrev pub NamesOwn : Form → Bool → Option (List ℕ) → Refused → Type 0
 NamesOwn form talks left refused = is_of_bytes refused.fault ≡ true → refused.foreign ≡ None → IsNotForeign (awaited_by form talks) left
+
+-- a form that explains its input did so
+abbrev pub ExplainsOver : {X F R W : Type 0} → (R → Input) → (W → Output) → Form → Result X F → R → W → W → Type 0
+ExplainsOver input output asked result before start written = asked ≡ form.Explain → OnOk result (Explained (input before) (output start) (output written))

@@ -1,17 +1,18 @@
 -- What is taken of an input part by part, of what an intake holds, and of what its reader has left: for private functions alone.
--- Cited by private contracts alone, of: auditing, converting, dumps, intake, running, scripts, statements, typing.
-use Rattle.std.specs.Prelude.{ℕ, Bool, true, false, not, ◌≡◌, ◌+◌, ◌-◌, ◌⊎◌, ◌&&◌, ◌==◌, nat_lt, List, [], ◌∷◌, ◌++◌, drop, flat_map, length, Option, Some, None, Result, Ok, Err, if◌then◌else◌}
+-- Cited by private contracts alone, of: auditing, commands, converting, dumps, intake, running, scripts, statements, typing.
+use Rattle.std.specs.Prelude.{ℕ, Bool, true, false, not, ◌≡◌, ◌+◌, ◌-◌, ◌⊎◌, ◌&&◌, ◌==◌, nat_lt, List, [], ◌∷◌, ◌++◌, drop, flat_map, length, IfOk, Option, Some, None, Result, Ok, Err, if◌then◌else◌}
 use Rattle.std.specs.Io.KnownBytes.{prepend_known}
 use Rattle.tb_records.specs.Ordered.{Each}
-use Rattle.tb_records.specs.Transport.{Input}
+use Rattle.tb_records.specs.Transport.{Input, Output}
 use Rattle.tb_text_commands.specs.declared.faults.Fault.{Fault}
 use Rattle.tb_text_commands.specs.declared.faults.Fault.TheVariants as fault
 use Rattle.tb_text_commands.specs.declared.intake.Intake.{Intake}
+use Rattle.tb_text_commands.specs.declared.running.Conversation.{Conversation}
 use Rattle.tb_text_commands.specs.declared.typing.Typed.{Typed}
 use Rattle.tb_text_commands.specs.declared.typing.Typed.TheVariants as typed
-use Rattle.tb_text_commands.specs.Ends.{is_passing}
-use Rattle.tb_text_commands.specs.Typed.{IsTypedPart, IsWrong, Leaves, ends_with_cut_line}
-use Rattle.tb_text_commands.specs.Whole.{WasWhole}
+use Rattle.tb_text_commands.specs.Ends.{Converts, Ended, is_passing}
+use Rattle.tb_text_commands.specs.Typed.{IsTyped, IsTypedPart, IsWrong, Leaves, ends_with_cut_line}
+use Rattle.tb_text_commands.specs.Whole.{IsDump, IsItem, IsStatement, Parts, WasWhole}
 
 -- what was read and not taken yet
 abbrev pub rest_of : Intake → List ℕ
@@ -92,6 +93,25 @@ statement_in intake =
     let further = drop intake.searched intake.bytes.items in
     let length_before = before_semicolon intake.in_comment further in
     if nat_lt length_before (length further) then Some (intake.searched + length_before + 1 - intake.at) else None
+
+-- a comment goes on behind bytes
+abbrev pub comment_behind : Bool → List ℕ → Bool
+comment_behind in_comment [] = in_comment
+comment_behind in_comment (b ∷ bs) =
+    if b == 10 then comment_behind false bs
+    else if b == 35 then comment_behind true bs
+    else comment_behind in_comment bs
+
+-- the first bytes of the rest were searched: no statement ends in them, and a comment goes on behind them where that is said
+pub record IsSearched (intake : Intake) : Type 0 where
+  pub taken : List ℕ
+  pub seen : List ℕ
+  pub further : List ℕ
+  pub bytes_are : intake.bytes.items ≡ taken ++ (seen ++ further)
+  pub at_is : intake.at ≡ length taken
+  pub searched_is : intake.searched ≡ length taken + length seen
+  pub none : before_semicolon false seen ≡ length seen
+  pub comment : intake.in_comment ≡ comment_behind false seen
 
 -- faults
 
@@ -184,3 +204,58 @@ TakesUnlessEnded (Err fault) before after = Unit {0}
 abbrev pub TakesTurn : Result Bool Fault → Option (List ℕ) → Option (List ℕ) → Type 0
 TakesTurn (Ok more) before after = TakesNextTyped more before after
 TakesTurn (Err fault) before after = TakesIfPassing (is_passing fault) before after
+
+-- of a conversation's input that may not be known
+abbrev pub WasTyped : Option (List ℕ) → Type 0
+WasTyped left = WasWhole IsTyped left
+
+-- of a dump, by what its reader has left
+
+-- entries and marks, one behind the other
+abbrev pub AreItems : List ℕ → Type 0
+AreItems bytes = Parts IsItem bytes
+
+-- the next item was taken, or there is none
+abbrev pub TakesItem : {X : Type 0} → Result (Option X) Fault → Input → Input → Type 0
+TakesItem result before after = IfOk result (λ next. TakesNext IsItem next before.left after.left)
+
+abbrev pub TakesItemIf : Result Bool Fault → Input → Input → Type 0
+TakesItemIf result before after = IfOk result (λ more. TakesIf IsItem more before.left after.left)
+
+-- by the states of what holds bytes, and of its reader
+
+-- a relation of what is left to take, before and behind
+abbrev pub OnRest : {R : Type 0} → (R → Input) → (Option (List ℕ) → Option (List ℕ) → Type 0) → Intake → R → Intake → R → Type 0
+OnRest input Takes before start after rest = Takes (waiting before (input start)) (waiting after (input rest))
+
+-- a turn was served, or a turn unless a fault ended the conversation
+abbrev pub TurnOver : {C R : Type 0} → (R → Input) → Result Bool Fault → Conversation C → R → Conversation C → R → Type 0
+TurnOver input result before start after rest = OnRest input (TakesTurn result) before.intake start after.intake rest
+
+abbrev pub ServedOver : {C R : Type 0} → (R → Input) → Result Bool Fault → Conversation C → R → Conversation C → R → Type 0
+ServedOver input result before start after rest = OnRest input (TakesUnlessEnded result) before.intake start after.intake rest
+
+-- the next part was taken, or there is none
+abbrev pub NextOver : {C R X : Type 0} → (C → Input → Option (List ℕ)) → (R → Input) → (List ℕ → Type 0) → Result (Option X) Fault → C → R → C → R → Type 0
+NextOver remaining input Part result before start after rest =
+    IfOk result (λ next. TakesNext Part next (remaining before (input start)) (remaining after (input rest)))
+
+-- the next statement was, or what follows the last one
+abbrev pub TakesStatement : {X : Type 0} → Result (Option X) Fault → Option (List ℕ) → Option (List ℕ) → Type 0
+TakesStatement result before after = IfOk result (λ next. TakesNext IsStatement next before after)
+
+-- an intake holds all that was left
+abbrev pub HoldsAll : Intake → Option (List ℕ) → Type 0
+HoldsAll intake left = Stays left (Some (rest_of intake))
+
+-- by the states of a reader and of a writer: a device failed exactly where the outcome says so
+
+abbrev pub EndedOver : {X R W : Type 0} → (R → Input) → (W → Output) → Result X Fault → R → R → W → W → Type 0
+EndedOver input output result before after start written = Ended result (input before) (input after) (output start) (output written)
+
+-- a whole input was read too, where it was done
+abbrev pub ReadsOver : {R W : Type 0} → (R → Input) → (W → Output) → (List ℕ → Type 0) → Result (Unit {0}) Fault → R → R → W → W → Type 0
+ReadsOver input output Is result before after start written = Converts Is result (input before) (input after) (output start) (output written)
+
+abbrev pub ReadsDump : {R W : Type 0} → (R → Input) → (W → Output) → Result (Unit {0}) Fault → R → R → W → W → Type 0
+ReadsDump input output result before after start written = ReadsOver input output IsDump result before after start written

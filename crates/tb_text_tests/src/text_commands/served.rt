@@ -2,9 +2,11 @@
 use crate::text_commands::comparing::{holds, same};
 use crate::text_commands::forms::{
     Left, Row, Stopped, done_by, each_leaves, expect_left, first_moment, leave_the_same, left_by,
-    left_where,
+    left_where, status_where,
 };
+use std::io::{self, Read};
 use std::process::Abort;
+use tb_records::Counting;
 
 /// A conversation: a register, a batch whose last account is there already, its repeat, a number that is too high.
 const TALK: &[u8] = b"at=10 client=7 register;
@@ -165,6 +167,68 @@ const TALKS: [Row<'static>; 11] = [
 #[test]
 fn conversations(rt: HostRuntime) {
     each_leaves(&rt, &TALKS);
+}
+
+/// A reader that gives two pieces: no read gives bytes of both.
+#[derive(Drop)]
+struct InPieces<'a> {
+    first: &'a [u8],
+    second: &'a [u8],
+}
+
+impl Read for InPieces<'_> {
+    fn read(&mut self, buf: &mut [u8]) -> io::Result<usize> {
+        if self.first.is_empty() {
+            self.second.read(buf)
+        } else {
+            self.first.read(buf)
+        }
+    }
+}
+
+/// Two statements; within and behind them comments with `;` in them.
+const COMMENTED: &[u8] =
+    b"at=10 client=7 # one; two\n register; # three; client=9 register;\nat=10 client=8 register;#;";
+
+/// The replies to both statements.
+pub const BOTH: &str =
+    r#"{"client":"7","session":"1","request":0,"operation":"register","status":"reply","commit":"1","results":[]}
+{"client":"8","session":"2","request":0,"operation":"register","status":"reply","commit":"2","results":[]}
+"#;
+
+/// Says that these statements are served where a read ends at a place.
+fn serves_pieces(rt: &(impl Abort + AllocGlobal), place: usize) {
+    let first = COMMENTED.get(..place).unwrap_or(COMMENTED);
+    let second = COMMENTED.get(place..).unwrap_or(&[]);
+    let mut reader = Counting::new(InPieces { first, second });
+    let mut output = Counting::new(Vec::new(rt.alloc()));
+    let mut line = Counting::new(Vec::new(rt.alloc()));
+    let words = &["run", "2"];
+    let clock = first_moment();
+    let status = status_where(
+        rt,
+        &clock,
+        words,
+        false,
+        &mut reader,
+        &mut output,
+        &mut line,
+    );
+    let (output, line) = (output.into_inner(), line.into_inner());
+    let left = Left {
+        status,
+        output,
+        line,
+    };
+    expect_left(rt, left, 0, BOTH, "");
+}
+
+/// A `;` in a comment ends no statement, wherever a read ends: a comment may begin in one and go on in the next.
+#[test]
+fn comments_in_pieces(rt: HostRuntime) {
+    for place in 0..COMMENTED.len() {
+        serves_pieces(&rt, place);
+    }
 }
 
 /// What is right before a wrong statement is in the script.

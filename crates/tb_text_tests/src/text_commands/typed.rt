@@ -1,6 +1,7 @@
 //! Conversations on a terminal: statements and other words, line by line.
 use crate::text_commands::comparing::{holds, same};
 use crate::text_commands::forms::{Left, expect_left, first_moment, left_where, status_where};
+use crate::text_commands::served::BOTH;
 use std::io::{self, Read};
 use std::process::Abort;
 use tb_records::Counting;
@@ -21,12 +22,9 @@ fn talks(rt: &(impl Abort + AllocGlobal), text: &[u8], output: &str, shown: &str
     drop(wanted);
 }
 
-/// The reply to the register of client 7 where it is the first entry, and of client 8 where it is the second.
+/// The reply to the register of client 7 where it is the first entry.
 const REGISTERED: &str =
     "{\"client\":\"7\",\"session\":\"1\",\"request\":0,\"operation\":\"register\",\"status\":\"reply\",\"commit\":\"1\",\"results\":[]}\n";
-
-const BOTH: &str =
-    "{\"client\":\"7\",\"session\":\"1\",\"request\":0,\"operation\":\"register\",\"status\":\"reply\",\"commit\":\"1\",\"results\":[]}\n{\"client\":\"8\",\"session\":\"2\",\"request\":0,\"operation\":\"register\",\"status\":\"reply\",\"commit\":\"2\",\"results\":[]}\n";
 
 /// The next statement is read behind a wrong one, which is reported when it comes: a wrong field, and a moment that leaves no time.
 /// A mistake is no failure of the program.
