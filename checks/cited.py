@@ -46,12 +46,13 @@ HEADS = ("-- Cited by", "-- Public contracts reach it", "-- No contract cites it
 # Lines that public contracts reach: of most crates together (4,500; 100 more for the laws of a
 # script on several machines and causes of faults, 30 for flags by name, 445 for audits, snapshots
 # of a file that grows, salvage and backup, 210 for `explain` and what is typed on a terminal, 232
-# for inputs of another kind, the laws of `explain` of a dump, and the words of an audit; 4 for names
-# of what clauses repeat), and of later crates (tb_keep_commands: 212 for live files, salvage and
-# backup, 17 for names of what clauses repeat; tb_keep_log: 34 for the faults of a dump and the end
-# of the process; tb_log: 16 for an input that ends within an item).
-LINES_MAX = 5675
-LATER = {"tb_keep_commands": 764, "tb_log": 280, "tb_keep_log": 280, "tb_keep_follow": 238}
+# for inputs of another kind, the laws of `explain` of a dump, and the words of an audit; 47 for
+# names of what clauses repeat), and of later crates (tb_keep_commands: 212 for live files, salvage
+# and backup, 17 for names of what clauses repeat; tb_keep_log: 34 for the faults of a dump and the
+# end of the process, 14 for such names; tb_log: 16 for an input that ends within an item, 2 for
+# such names).
+LINES_MAX = 5718
+LATER = {"tb_keep_commands": 764, "tb_log": 282, "tb_keep_log": 294, "tb_keep_follow": 238}
 TOOLS = (
     "tb_uses",
     "tb_bench",

@@ -46,14 +46,14 @@ COLUMNS = (
     ">=40 lines",
     "casts",
 )
-CLAUSES_OVER_100 = 0.155  # wanted: 0.10
+CLAUSES_OVER_100 = 0.088  # wanted: 0.10
 # Each figure with a bound: what it has today, and what is wanted.
 BOUNDS = {
-    "lines": (118024, 74500),
-    "imports": (11925, 4700),
-    ">160": (3, 0),
+    "lines": (118403, 74500),
+    "imports": (11953, 4700),
+    ">160": (0, 0),
     "ghost >160": (5, 0),
-    ">8 clauses": (11, 0),
+    ">8 clauses": (5, 0),
     ">=40 lines": (1, 0),
     "casts": (0, 0),
 }
