@@ -140,13 +140,20 @@ impl Intake {
         self.in_comment = false;
     }
 
+    /// What was not searched yet.
+    fn further(&self) -> &[u8]
+        ensures { result.now ≡ drop self.now.searched self.now.bytes.items }
+    {
+        self.bytes.get(self.searched..).unwrap_or(&[])
+    }
+
     /// The number of bytes as far as the `;` of the next statement, where it was read.
     pub fn statement(&mut self) -> Option<usize>
         ensures kept { HoldsAsBefore self.old self.new }
         ensures found { result ≡ statement_in self.old }
         ensures searched { IsSearched self.old → IsSearched self.new }
     {
-        let rest = self.bytes.get(self.searched..).unwrap_or(&[]);
+        let rest = self.further();
         let mut in_comment = self.in_comment;
         for (place, byte) in rest.iter().enumerate() {
             match *byte {
