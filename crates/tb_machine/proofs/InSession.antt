@@ -10,8 +10,9 @@ use Rattle.tb_sessions.specs.declared.classes.Class.TheVariants.{New}
 use Rattle.tb_sessions.specs.Judged.{client_of, row_of, class_by, class_of}
 use Rattle.tb_sessions.specs.Renewal.{IsNewBeside, IsRenewal}
 use Rattle.std.specs.declared.alloc.AllocError.{AllocError}
-use Rattle.tb_records.specs.declared.faults.FrameFault.{FrameFault}
 use Rattle.tb_records.specs.Transport.{Output}
+use Rattle.tb_machine.specs.declared.executing.Told.{Told}
+use Rattle.tb_machine.specs.declared.executing.Told.TheVariants as told
 use Rattle.tb_machine.specs.declared.serving.RunFault.TheVariants as fault
 use Rattle.tb_machine.proofs.PairAnswers.{entered_answer}
 use Rattle.tb_machine.specs.Histories.{State, time_of, fits, executed, reply_at, step}
@@ -44,10 +45,10 @@ module _ {A E P : Type 0} where
   of_err (Err e) refused told is p = p
 
 -- what the server answers where the step was made
-serves_told : (answer : Result (Result (Unit {0}) FrameFault) AllocError) (S T : State) (p : Pair) (before after : Output) → IsLawful p.1 → class_of S.rows p.1 ≡ New → has_time S p ≡ true → T ≡ step S (entry_of S p)
+serves_told : (answer : Result Told AllocError) (S T : State) (p : Pair) (before after : Output) → IsLawful p.1 → class_of S.rows p.1 ≡ New → has_time S p ≡ true → T ≡ step S (entry_of S p)
     → (refused : Bool) → refused ≡ is_err answer → refused ≡ false → Tells answer (reply_at S (entry_of S p)) before after → ServesPair (served_as answer) S T p before after
-serves_told (Ok (Ok done)) S T p before after lawful class time stepped refused is none tells = entered_answer (Ok tt) S T p before after lawful class time stepped tells.told.0 tells.told.1
-serves_told (Ok (Err f)) S T p before after lawful class time stepped refused is none tells = entered_answer (Err (fault.Frame f)) S T p before after lawful class time stepped (ap fault.Frame tells.told.0.0, tells.told.0.1) tt
+serves_told (Ok told.Whole) S T p before after lawful class time stepped refused is none tells = entered_answer (Ok tt) S T p before after lawful class time stepped tells.told.0 tells.told.1
+serves_told (Ok (told.Cut f)) S T p before after lawful class time stepped refused is none tells = entered_answer (Err (fault.Frame f)) S T p before after lawful class time stepped (ap fault.Frame tells.told.0.0, tells.told.0.1) tt
 serves_told (Err f) S T p before after lawful class time stepped refused is none tells = absurd (let both : false ≡ true = sym none ∙ is in cc)
 
 module _ (S : State) (sound : IsSound S) (moment time : ℕ) (r : Message) (lawful : IsLawful r) (time_is : time ≡ time_of S moment r) (in_range : time ≤ max_time) (row : Row) (new : IsNewBeside S.rows r row) where
@@ -109,7 +110,7 @@ module _ (S : State) (sound : IsSound S) (moment time : ℕ) (r : Message) (lawf
       sound_after = sound_step S (made (S.commit + 1) time r) sound entry_comes (row_in S.books (made (S.commit + 1) time r)) refl refl (record { clients_max = clients_max; commit = S.commit + 1; books = B; rows = rows }) refl books rows_are
 
       -- what the server answers
-      pub serves : (answer : Result (Result (Unit {0}) FrameFault) AllocError) (before after : Output) (refused : Bool) → refused ≡ is_err answer → refused ≡ false
+      pub serves : (answer : Result Told AllocError) (before after : Output) (refused : Bool) → refused ≡ is_err answer → refused ≡ false
           → Tells answer (row_in S.books (made (S.commit + 1) time r)).reply before after
           → ServesPair (served_as answer) S (record { clients_max = clients_max; commit = S.commit + 1; books = B; rows = rows }) (moment, r) before after
       serves answer before after refused is none tells =

@@ -1,9 +1,10 @@
 //! The steps of a machine: how a request becomes an entry, what it does to the ledger, what its reply says, and the row that keeps both.
 ghost use Rattle.std.specs.Prelude.{◌≡◌, ◌+◌, ◌≤◌, max, OnOk, OnErr, ◌<◌, MatchResult, IsTrue, None, Some};
 ghost use Rattle.tb_records.specs.Messages.{count, item_count, items_max, operation, IsRight, IsLawful};
+ghost use Rattle.tb_records.specs.ReplyFrames.{reply_bytes, IsReply};
 ghost use Rattle.tb_ledger.specs.Verdicts.{max_time};
 ghost use Rattle.tb_machine.specs.Histories.{executed, reply_with, session_of, step, fits};
-ghost use Rattle.tb_machine.specs.private.Serving.{made, row_in, MayBeExecuted, Tells, ExecutesBody, MakesRow, served_as, ServesPair, IfNotNew, EntersAndTells};
+ghost use Rattle.tb_machine.specs.private.Serving.{made, row_in, IsTold, IfWhole, MayBeExecuted, Tells, ExecutesBody, MakesRow, served_as, ServesPair, IfUnserved, EntersAndTells};
 ghost use Rattle.tb_machine.specs.Scripts.{MakesEntry};
 
 use crate::entries::Entry;
@@ -14,27 +15,33 @@ use tb_ledger::Ledger;
 use tb_records::{Body, FrameFault, Items, Reply, ReplyBody, Request, Sink, Status, send_reply};
 use tb_sessions::{Class, Row};
 
+/// What became of the reply of a request that was executed.
+#[derive(Clone, Copy)]
+pub(crate) enum Told {
+    /// It was written.
+    Whole,
+    /// The writer's fault left a prefix of it.
+    Cut(FrameFault),
+}
+
 /// How a request was served that was to be executed by its client's row.
 #[derive(Clone, Copy)]
 pub(crate) enum Served {
-    /// It was executed, and its reply was written.
-    Told,
-    /// It was executed, and the writer's fault left a prefix of its reply.
-    Untold(FrameFault),
+    /// It was executed, and its reply was written or cut off.
+    Executed(Told),
     /// There is no memory for it: nothing was changed.
     NoMemory,
     /// It is of this class and not New there, or there is no time for it: nothing was called or changed.
-    NotNew(Class),
+    Unserved(Class),
 }
 
 impl Served {
     /// What became of a request that was called for, by what became of its reply.
-    fn of(told: Result<Result<(), FrameFault>, AllocError>) -> Served
+    fn of(told: Result<Told, AllocError>) -> Served
         ensures { result ≡ served_as told }
     {
         match told {
-            Ok(Ok(())) => Served::Told,
-            Ok(Err(fault)) => Served::Untold(fault),
+            Ok(told) => Served::Executed(told),
             Err(AllocError) => Served::NoMemory,
         }
     }
@@ -94,11 +101,11 @@ impl<A: Allocator + Clone> Machine<A> {
     ) -> Served
         ensures served { ServesPair result self.old self.new (moment, request.old)
             (W.output writer.old) (W.output writer.new) }
-        ensures unchanged { IfNotNew result (request.new ≡ request.old) }
+        ensures unchanged { IfUnserved result (request.new ≡ request.old) }
     {
         let events = request.body().event_count() as u64;
         let Some(time) = self.next_time(moment, events) else {
-            return Served::NotNew(self.class(request));
+            return Served::Unserved(self.class(request));
         };
         let commit = self.commit + 1;
         let global = self.global;
@@ -118,7 +125,7 @@ impl<A: Allocator + Clone> Machine<A> {
                 self.commit = commit;
                 Served::of(told)
             }
-            Err(class) => Served::NotNew(class),
+            Err(class) => Served::Unserved(class),
         }
     }
 
@@ -128,7 +135,7 @@ impl<A: Allocator + Clone> Machine<A> {
         &mut self,
         writer: &mut W,
         entry: Entry,
-    ) -> Result<Result<(), FrameFault>, Entry>
+    ) -> Result<Told, Entry>
         requires { IsTrue (fits self.old entry) }
         ensures { EntersAndTells W.output result self.old self.new entry writer.old writer.new }
     {
@@ -137,7 +144,7 @@ impl<A: Allocator + Clone> Machine<A> {
             Ok(row) => row,
             Err(entry) => return Err(entry),
         };
-        let told = send_reply(writer, &row.reply);
+        let told = tell(writer, &row.reply);
         let _left = self.sessions.record(row);
         self.commit = commit;
         Ok(told)
@@ -245,6 +252,17 @@ pub(crate) fn row_for<A: Allocator + Clone>(
     })
 }
 
+/// Writes a reply.
+fn tell<W: Sink>(writer: &mut W, reply: &Reply) -> Told
+    ensures sent { IsTold result (reply_bytes reply.now) (W.output writer.old) (W.output writer.new) }
+    ensures fits { IfWhole result (IsReply reply.now) }
+{
+    match send_reply(writer, reply) {
+        Ok(()) => Told::Whole,
+        Err(fault) => Told::Cut(fault),
+    }
+}
+
 /// Executes a request that is New compared with its client's row, and puts it into the row, next to the reply, which is written. What
 /// the row had for it is where the request was. Where an allocation fails all is as it was.
 ///
@@ -257,7 +275,7 @@ pub(crate) fn serve_row<A: Allocator + Clone, W: Sink>(
     time: u64,
     request: &mut Request,
     row: &mut Row,
-) -> Result<Result<(), FrameFault>, AllocError>
+) -> Result<Told, AllocError>
     requires { MayBeExecuted ledger.old (made commit time request.old) }
     ensures books { OnOk result (ledger.new ≡ executed ledger.old request.old.body time) }
     ensures row { OnOk result (row.new ≡ row_in ledger.old (made commit time request.old)) }
@@ -270,7 +288,7 @@ pub(crate) fn serve_row<A: Allocator + Clone, W: Sink>(
 {
     let body = execute(global, ledger, time, request.body())?;
     let reply = reply_with(request, commit, body);
-    let told = send_reply(writer, &reply);
+    let told = tell(writer, &reply);
     row.client = request.client();
     row.session = reply.session();
     row.commit = commit;

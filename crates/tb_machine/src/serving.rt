@@ -12,7 +12,7 @@ ghost use Rattle.tb_machine.specs.private.Serving.{EntersPair, Delivers, IsPromp
 ghost use Rattle.tb_machine.specs.Worked.{GoesOn};
 
 use crate::entries::Entry;
-use crate::executing::Served;
+use crate::executing::{Served, Told};
 use crate::machines::Machine;
 use bumpalo::Bump;
 use std::alloc::{AllocError, Allocator, Global};
@@ -161,8 +161,8 @@ fn answer_new<A: Allocator + Clone, W: Sink>(
         return Err(RunFault::TimeExhausted);
     };
     match machine.enter_and_tell(writer, entry) {
-        Ok(Ok(())) => Ok(()),
-        Ok(Err(fault)) => Err(RunFault::Frame(fault)),
+        Ok(Told::Whole) => Ok(()),
+        Ok(Told::Cut(fault)) => Err(RunFault::Frame(fault)),
         Err(_) => Err(RunFault::NoMemory),
     }
 }
@@ -219,10 +219,10 @@ pub fn serve_pair<A: Allocator + Clone, W: Sink>(
 {
     let mut request = request;
     match machine.serve_in_session(writer, moment, &mut request) {
-        Served::Told => Ok(()),
-        Served::Untold(fault) => Err(RunFault::Frame(fault)),
+        Served::Executed(Told::Whole) => Ok(()),
+        Served::Executed(Told::Cut(fault)) => Err(RunFault::Frame(fault)),
         Served::NoMemory => Err(RunFault::NoMemory),
-        Served::NotNew(class) => answer_as(machine, writer, moment, request, class),
+        Served::Unserved(class) => answer_as(machine, writer, moment, request, class),
     }
 }
 

@@ -21,7 +21,7 @@ use crate::tables::map::{Keyed, Table};
 use crate::tables::rows::Rows;
 use crate::tables::timeouts::Timeouts;
 use crate::tables::transfers::{State, TransferRow};
-use crate::tables::work::{UndoLog, Work};
+use crate::tables::work::{Undo, UndoLog, Work};
 use std::alloc::Allocator;
 use tb_records::{CreateTransferResult, Transfer, TransferFlag};
 
@@ -142,7 +142,7 @@ fn close_row<A: Allocator + Clone>(
     ensures marked { IsMarked 1 transfers.old.items transfers.new.items timeouts.old timeouts.new undo_log.old
         undo_log.new }
 {
-    undo_log.note_changed(p);
+    undo_log.note(Undo::Transfer(*p));
     let closed = transfers.update(
         p.key(),
         &mut |row: &mut TransferRow| {

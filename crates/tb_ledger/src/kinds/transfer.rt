@@ -77,7 +77,12 @@ impl Event for Transfer {
         work: &mut Work<A>,
         time: u64,
     ) -> Result<(), CreateTransferResult> {
-        take_transfer(work, self, time)
+        judge_id(&work.rows, self)?;
+        if resolving(self) {
+            take_resolving(work, self, time)
+        } else {
+            take_two_party(work, self, time)
+        }
     }
 
     fn refuse<A: Allocator + Clone>(&self, rows: &mut Rows<A>, refusal: CreateTransferResult) {
@@ -92,23 +97,6 @@ impl Event for Transfer {
         } };
 
     ghost open_is_new = { λ failed t final. absurd (false≢true final) };
-}
-
-/// Judges a transfer, and records it where it passes.
-pub(crate) fn take_transfer<A: Allocator + Clone>(
-    work: &mut Work<A>,
-    t: &Transfer,
-    time: u64,
-) -> Result<(), CreateTransferResult>
-    requires ready { IsPrepared HasTransfers work.old time }
-    ensures { TakesEvent transfer_events transfer_result_code work.old t.now time result work.new }
-{
-    judge_id(&work.rows, t)?;
-    if resolving(t) {
-        take_resolving(work, t, time)
-    } else {
-        take_two_party(work, t, time)
-    }
 }
 
 /// By profile 2, notes the id of a transfer that has failed for good.

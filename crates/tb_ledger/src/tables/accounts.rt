@@ -39,48 +39,13 @@ pub struct AccountRow {
 const _: () = prove!(size_of::<AccountRow>() == 128);
 
 impl Model for AccountRow {
-    ghost use Rattle.tb_ledger.specs.private.KeptRows.{KeptAccount};
+    ghost use Rattle.tb_ledger.specs.private.KeptRows.{KeptAccount, account_kept, account_row_of};
 
     ghost Value = { KeptAccount };
 
-    ghost view = { λ a.
-        record {
-          created = record {
-            id = a.id;
-            debits_pending = 0;
-            debits_posted = 0;
-            credits_pending = 0;
-            credits_posted = 0;
-            user_data_128 = a.user_data_128;
-            user_data_64 = a.user_data_64;
-            user_data_32 = a.user_data_32;
-            reserved = 0;
-            ledger = a.ledger;
-            code = a.code;
-            flags = a.flags;
-            timestamp = a.timestamp;
-          };
-          debits = record { pending = a.debits_pending; posted = a.debits_posted; held_closed = a.debits_held };
-          credits = record { pending = a.credits_pending; posted = a.credits_posted; held_closed = a.credits_held };
-        } };
+    ghost view = { account_kept };
 
-    ghost inverse = { λ row.
-        record {
-          id = row.created.id;
-          debits_pending = row.debits.pending;
-          debits_posted = row.debits.posted;
-          credits_pending = row.credits.pending;
-          credits_posted = row.credits.posted;
-          user_data_128 = row.created.user_data_128;
-          user_data_64 = row.created.user_data_64;
-          user_data_32 = row.created.user_data_32;
-          debits_held = row.debits.held_closed;
-          credits_held = row.credits.held_closed;
-          ledger = row.created.ledger;
-          code = row.created.code;
-          flags = row.created.flags;
-          timestamp = row.created.timestamp;
-        } };
+    ghost inverse = { account_row_of };
 }
 
 impl Keyed for AccountRow {

@@ -10,7 +10,7 @@ ghost use Rattle.tb_records.specs.Ordered.{put, Rising};
 use crate::tables::map::Table;
 use crate::tables::timeouts::{Timeout, Timeouts};
 use crate::tables::transfers::{State, TransferRow};
-use crate::tables::work::UndoLog;
+use crate::tables::work::{Undo, UndoLog};
 use std::alloc::Allocator;
 use tb_records::{NANOSECONDS_PER_SECOND, Transfer};
 
@@ -44,7 +44,7 @@ pub(crate) fn add_row<A: Allocator + Clone>(
     ensures marked { IsMarked 1 transfers.old.items transfers.new.items timeouts.old timeouts.new undo_log.old
         undo_log.new }
 {
-    undo_log.note_added(row);
+    undo_log.note(Undo::AddedTransfer(*row));
     transfers.insert_reserved(*row);
     list(timeouts, row);
 }

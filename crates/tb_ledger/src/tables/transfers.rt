@@ -43,47 +43,13 @@ pub struct TransferRow {
 const _: () = prove!(size_of::<TransferRow>() == 128);
 
 impl Model for TransferRow {
-    ghost use Rattle.tb_ledger.specs.private.KeptRows.{KeptTransfer};
+    ghost use Rattle.tb_ledger.specs.private.KeptRows.{KeptTransfer, transfer_kept, transfer_row_of};
 
     ghost Value = { KeptTransfer };
 
-    ghost view = { λ t.
-        record {
-          recorded = record {
-            id = t.id;
-            debit_account_id = t.debit_account_id;
-            credit_account_id = t.credit_account_id;
-            amount = t.amount;
-            pending_id = t.pending_id;
-            user_data_128 = t.user_data_128;
-            user_data_64 = t.user_data_64;
-            user_data_32 = t.user_data_32;
-            timeout = t.timeout;
-            ledger = t.ledger;
-            code = t.code;
-            flags = t.flags;
-            timestamp = t.timestamp;
-          };
-          state = t.state;
-        } };
+    ghost view = { transfer_kept };
 
-    ghost inverse = { λ row.
-        record {
-          id = row.recorded.id;
-          debit_account_id = row.recorded.debit_account_id;
-          credit_account_id = row.recorded.credit_account_id;
-          amount = row.recorded.amount;
-          pending_id = row.recorded.pending_id;
-          user_data_128 = row.recorded.user_data_128;
-          user_data_64 = row.recorded.user_data_64;
-          user_data_32 = row.recorded.user_data_32;
-          timeout = row.recorded.timeout;
-          ledger = row.recorded.ledger;
-          code = row.recorded.code;
-          flags = row.recorded.flags;
-          state = row.state;
-          timestamp = row.recorded.timestamp;
-        } };
+    ghost inverse = { transfer_row_of };
 }
 
 impl Keyed for TransferRow {

@@ -210,26 +210,6 @@ impl<A: Allocator + Clone> UndoLog<A> {
         }
     }
 
-    /// Adds the row of a transfer from before its change, where changes are noted.
-    pub fn note_changed(&mut self, row: &TransferRow)
-        requires { length self.old.changes < self.old.capacity }
-        ensures { self.new ≡ with_noted (Undo.Transfer row.now) self.old }
-    {
-        if self.noting {
-            self.push(Undo::Transfer(*row));
-        }
-    }
-
-    /// Adds the row of a transfer that is added, where changes are noted.
-    pub fn note_added(&mut self, row: &TransferRow)
-        requires { length self.old.changes < self.old.capacity }
-        ensures { self.new ≡ with_noted (Undo.AddedTransfer row.now) self.old }
-    {
-        if self.noting {
-            self.push(Undo::AddedTransfer(*row));
-        }
-    }
-
     /// Adds the rows of two accounts from before their change, where changes are noted. The search that calls this cannot know that
     /// there is capacity for both: where there is none, nothing is noted.
     pub fn note_pair(&mut self, debit: &AccountRow, credit: &AccountRow)

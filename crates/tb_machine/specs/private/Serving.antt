@@ -1,11 +1,10 @@
 -- What the steps of the server do with one pair: for private functions alone.
 -- Cited by private contracts alone, of: dumping, executing, replaying, serving.
-use Rattle.std.specs.Prelude.{true, false, ◌≡◌, ◌+◌, ◌≤◌, max, ℕ, List, Result, Ok, Err, IfOk, OnOk, MatchResult}
+use Rattle.std.specs.Prelude.{true, false, ◌≡◌, ◌+◌, ◌≤◌, max, ℕ, List, Result, Ok, Err, IfOk, MatchResult}
 use Rattle.std.specs.declared.alloc.AllocError.{AllocError}
-use Rattle.tb_records.specs.declared.faults.FrameFault.{FrameFault}
 use Rattle.tb_records.specs.declared.faults.FrameFault.TheVariants.{Device}
 use Rattle.tb_records.specs.AtHand.{holds_pair, holds_item}
-use Rattle.tb_records.specs.Transport.{Input, Output, Sent, CutOff, IsSent}
+use Rattle.tb_records.specs.Transport.{Input, Output, Sent, CutOff}
 use Rattle.tb_machine.specs.declared.serving.RunFault.{RunFault}
 use Rattle.tb_machine.specs.declared.serving.RunFault.TheVariants as fault
 use Rattle.tb_records.specs.Messages.{Message, Answer, count, item_count, items_max, IsRight}
@@ -14,6 +13,8 @@ use Rattle.tb_ledger.specs.Books.{Books}
 use Rattle.tb_ledger.specs.Verdicts.{max_time}
 use Rattle.tb_sessions.specs.declared.rows.Row.{Row}
 use Rattle.tb_sessions.specs.Judged.{class_of}
+use Rattle.tb_machine.specs.declared.executing.Told.{Told}
+use Rattle.tb_machine.specs.declared.executing.Told.TheVariants as told
 use Rattle.tb_machine.specs.declared.executing.Served.{Served}
 use Rattle.tb_machine.specs.declared.executing.Served.TheVariants as served
 use Rattle.tb_machine.specs.Runs.{AnswersPair}
@@ -58,33 +59,41 @@ ExecutesBody result B body time later = MatchResult result (λ answer. (later �
 abbrev pub MakesRow : Result Row Entry → Books → Entry → Books → Type 0
 MakesRow result B e later = MatchResult result (λ row. (later ≡ executed B e.request.body e.time) × (row ≡ row_in B e)) (λ back. (back ≡ e) × (later ≡ B))
 
+-- a reply was written, or the device failed and left a prefix of it
+abbrev pub IsTold : Told → List ℕ → Output → Output → Type 0
+IsTold told.Whole bytes before after = Sent bytes before after
+IsTold (told.Cut f) bytes before after = (f ≡ Device) × CutOff bytes before after
+
+abbrev pub IfWhole : Told → Type 0 → Type 0
+IfWhole told.Whole P = P
+IfWhole (told.Cut f) P = Unit {0}
+
 -- an entry was entered, and its reply written, or a prefix of it; where there was no memory the entry came back, and nothing changed
-abbrev pub EntersAndTells : {W : Type 0} → (W → Output) → Result (Result (Unit {0}) FrameFault) Entry → State → State → Entry → W → W → Type 0
+abbrev pub EntersAndTells : {W : Type 0} → (W → Output) → Result Told Entry → State → State → Entry → W → W → Type 0
 EntersAndTells output result S T e writer later =
     MatchResult result
-    (λ told. (T ≡ step S e) × IsSent told (reply_bytes (reply_at S e)) (output writer) (output later) × OnOk told (IsReply (reply_at S e)))
+    (λ told. (T ≡ step S e) × IsTold told (reply_bytes (reply_at S e)) (output writer) (output later) × IfWhole told (IsReply (reply_at S e)))
     (λ back. (back ≡ e) × (T ≡ S) × (later ≡ writer))
 
 -- where an entry was executed, its reply was written, or a prefix of it
-pub record Tells (served : Result (Result (Unit {0}) FrameFault) AllocError) (reply : Answer) (before after : Output) : Type 0 where
-  pub told : IfOk served (λ told. IsSent told (reply_bytes reply) before after × OnOk told (IsReply reply))
+pub record Tells (served : Result Told AllocError) (reply : Answer) (before after : Output) : Type 0 where
+  pub told : IfOk served (λ told. IsTold told (reply_bytes reply) before after × IfWhole told (IsReply reply))
 
 -- what became of a request, by what the call at its client's row answers
-abbrev pub served_as : Result (Result (Unit {0}) FrameFault) AllocError → Served
-served_as (Ok (Ok done)) = served.Told
-served_as (Ok (Err f)) = served.Untold f
+abbrev pub served_as : Result Told AllocError → Served
+served_as (Ok told) = served.Executed told
 served_as (Err refused) = served.NoMemory
 
 -- the server's answer to a pair that was served by its client's row; of any other its class is reported, and nothing changed
 abbrev pub ServesPair : Served → State → State → Pair → Output → Output → Type 0
-ServesPair served.Told S T p before after = AnswersPair (Ok tt) S T p before after
-ServesPair (served.Untold f) S T p before after = AnswersPair (Err (fault.Frame f)) S T p before after
+ServesPair (served.Executed told.Whole) S T p before after = AnswersPair (Ok tt) S T p before after
+ServesPair (served.Executed (told.Cut f)) S T p before after = AnswersPair (Err (fault.Frame f)) S T p before after
 ServesPair served.NoMemory S T p before after = AnswersPair (Err fault.NoMemory) S T p before after
-ServesPair (served.NotNew class) S T p before after = (class ≡ class_of S.rows p.1) × (T ≡ S) × (after ≡ before)
+ServesPair (served.Unserved class) S T p before after = (class ≡ class_of S.rows p.1) × (T ≡ S) × (after ≡ before)
 
-abbrev pub IfNotNew : Served → Type 0 → Type 0
-IfNotNew (served.NotNew class) P = P
-IfNotNew other P = Unit {0}
+abbrev pub IfUnserved : Served → Type 0 → Type 0
+IfUnserved (served.Unserved class) P = P
+IfUnserved other P = Unit {0}
 
 -- a new pair is entered: the machine moves on by its entry, or stays
 abbrev pub EntersPair : Result (Unit {0}) RunFault → State → State → Pair → Type 0

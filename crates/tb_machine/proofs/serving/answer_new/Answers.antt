@@ -6,7 +6,7 @@ use Rattle.tb_machine.specs.declared.serving.RunFault.TheVariants as fault
 use Rattle.tb_machine.specs.Histories.{is_new, step, reply_at}
 use Rattle.tb_machine.proofs.PairAnswers.{entered_answer}
 use Rattle.tb_machine.proofs.serving.answer_new.Goals as goal
-use Rattle.tb_machine.proofs.serving.answer_new.Goals.{in-Ok-Ok, in-Ok-Err, in-Err}
+use Rattle.tb_machine.proofs.serving.answer_new.Goals.{in-Ok-Whole, in-Ok-Cut, in-Err}
 
 pub returns : goal.returns
 returns g c =
@@ -15,16 +15,16 @@ returns g c =
     let before = g.W.Sink.output c.args.writer.now in
     let after = g.W.Sink.output c.enter_and_tell.new.writer in
     elim c.match-enter_and_tell.branch [
-      | in-Ok-Ok w ↦
-          let told = w.in-Ok-Ok.ensures in
-          let sent = subst (λ (e : Entry). Sent (reply_bytes (reply_at S e)) before after) timed.1 (rw w.in-Ok-Ok.field-0-is at told.1) in
-          let fits = subst (λ (e : Entry). IsReply (reply_at S e)) timed.1 (rw w.in-Ok-Ok.field-0-is at told.2) in
+      | in-Ok-Whole w ↦
+          let told = w.in-Ok-Whole.ensures in
+          let sent = subst (λ (e : Entry). Sent (reply_bytes (reply_at S e)) before after) timed.1 (rw w.in-Ok-Whole.field-0-is at told.1) in
+          let fits = subst (λ (e : Entry). IsReply (reply_at S e)) timed.1 (rw w.in-Ok-Whole.field-0-is at told.2) in
           rw w.result-is (entered_answer (Ok tt) S c.enter_and_tell.new.self (c.args.moment, c.args.request) before after c.in-Some.ensures.lawful c.requires timed.0 (told.0 ∙ ap (step S) timed.1) sent fits)
-      | in-Ok-Err w ↦
-          let told = w.in-Ok-Err.ensures in
-          let cut = rw w.in-Ok-Err.field-0-is at told.1 in
+      | in-Ok-Cut w ↦
+          let told = w.in-Ok-Cut.ensures in
+          let cut = rw w.in-Ok-Cut.field-0-is at told.1 in
           let sent = subst (λ (e : Entry). CutOff (reply_bytes (reply_at S e)) before after) timed.1 cut.1 in
-          rw w.result-is (entered_answer (Err (fault.Frame w.in-Ok-Err.fault)) S c.enter_and_tell.new.self (c.args.moment, c.args.request) before after c.in-Some.ensures.lawful c.requires timed.0 (told.0 ∙ ap (step S) timed.1) (ap fault.Frame cut.0, sent) tt)
+          rw w.result-is (entered_answer (Err (fault.Frame w.in-Ok-Cut.fault)) S c.enter_and_tell.new.self (c.args.moment, c.args.request) before after c.in-Some.ensures.lawful c.requires timed.0 (told.0 ∙ ap (step S) timed.1) (ap fault.Frame cut.0, sent) tt)
       | in-Err w ↦
           let back = w.in-Err.ensures in
           rw w.result-is (ap is_new c.requires, timed.0, back.1, ap g.W.Sink.output back.2)

@@ -25,11 +25,11 @@ returns g c =
     let back : replaced transfer_row_key p later ≡ old = rw closed (replaced-replaced transfer_row_key (settled c.args.state p) p old c.requires.found) in
     let timed : listed p moved ≡ ts = rw taken (undone_unlisted p ts c.unlist.ensures.ordered c.requires.is_listed) in
     let undo_log = c.args.undo_log.now in
-    let grown = c.note_changed.new.self in
+    let grown = c.note.new.self in
     record {
       transfers = stored c.update-closed.new.self (replaced transfer_row_key (settled c.args.state p) old) c.args.transfers.now.spare closed c.update-closed.ensures.capacity;
       timeouts = taken;
-      marked = grown_by (Transfer p) undo_log grown c.note_changed.ensures (λ pushed accounts.
+      marked = grown_by (Transfer p) undo_log grown c.note.ensures (λ pushed accounts.
           leads_by undo_log.changes grown.changes (Transfer p) (record { accounts = accounts; transfers = old; timeouts = ts }) (record { accounts = accounts; transfers = later; timeouts = moved }) pushed
           (λ i. record { accounts = accounts; transfers = back i; timeouts = timed i }) (rw taken (can_relist p ts c.unlist.ensures.ordered c.requires.is_listed)));
     }

@@ -14,7 +14,7 @@ returns-clause-marked g c =
     let untimed : unlisted row moved ≡ ts = rw c.list.ensures (undone_listed row ts c.requires.can_list) in
     let back : taken_out transfer_row_key row.recorded.id later ≡ old = rw c.insert_reserved.ensures.table (taken_out-put transfer_row_key row old c.requires.fresh) in
     let undo_log = c.args.undo_log.now in
-    let grown = c.note_added.new.self in
-    grown_by (AddedTransfer row) undo_log grown c.note_added.ensures (λ pushed accounts.
+    let grown = c.note.new.self in
+    grown_by (AddedTransfer row) undo_log grown c.note.ensures (λ pushed accounts.
     leads_by undo_log.changes grown.changes (AddedTransfer row) (record { accounts = accounts; transfers = old; timeouts = ts }) (record { accounts = accounts; transfers = later; timeouts = moved }) pushed
     (λ i. record { accounts = accounts; transfers = back i; timeouts = untimed i }) (λ is. (c.requires.can_list is).in_range))
