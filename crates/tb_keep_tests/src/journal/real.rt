@@ -141,6 +141,8 @@ fn files_that_are_opened_or_refused(rt: HostRuntime) {
     expect_opened(&rt, b"a text", Err(foreign), b"a text");
     expect_opened(&rt, &DAMAGED, Err(damaged), &DAMAGED);
     expect(&rt, !is_locked(&rt, "no_file.tbj"));
+    // a regular file that not even root may write
+    expect(&rt, !is_locked(&rt, "/sys/kernel/notes"));
 }
 
 /// Counts the records of a file that is only looked at.
