@@ -362,8 +362,8 @@ def orders(tbd, folder, shim):
 
 # Mutants: the program's own body, where nothing is to be caught, one that replies before it commits, and one that does not sync.
 BUILDS = (
-    ("the program as it is", "crates/tb_keep/src/serving.rt", "keeper.journal.commit()?;", "keeper.journal.commit()?;"),
-    ("replies before it commits", "crates/tb_keep/src/serving.rt", "keeper.journal.commit()?;", "hand_out(replies, writer)?; keeper.journal.commit()?;"),
+    ("the program as it is", "crates/tb_keep/src/rounds.rt", "keeper.journal.commit()?;", "keeper.journal.commit()?;"),
+    ("replies before it commits", "crates/tb_keep/src/rounds.rt", "keeper.journal.commit()?;", "hand_out(replies, writer)?; keeper.journal.commit()?;"),
     ("does not sync", "crates/tb_journal/src/calls.rt", "Ok(()) => device.sync(),", "Ok(()) => Ok(()),"),
 )
 

@@ -21,8 +21,8 @@ use Rattle.tb_machine.specs.Replays.{ReplayRan}
 use Rattle.tb_commands.specs.declared.arguments.Form.{Form}
 use Rattle.tb_commands.specs.declared.arguments.Form.TheVariants.{Run, Dump, Replay}
 use Rattle.tb_commands.specs.Forms.{form_of}
-use Rattle.tb_commands.specs.declared.commands.Fault.{Fault}
-use Rattle.tb_commands.specs.declared.commands.Fault.TheVariants.{Usage, Serving, Replaying}
+use Rattle.tb_commands.specs.declared.commands.CommandFault.{CommandFault}
+use Rattle.tb_commands.specs.declared.commands.CommandFault.TheVariants.{Usage, Serving, Replaying}
 
 abbrev pub frame_status : FrameFault → ℕ
 frame_status frame.Device = 1
@@ -40,18 +40,18 @@ dump_status (dump.Frame fault) = frame_status fault
 dump_status dump.NoMemory = 1
 dump_status fault = 2
 
-abbrev pub fault_status : Fault → ℕ
+abbrev pub fault_status : CommandFault → ℕ
 fault_status Usage = 2
 fault_status (Serving fault) = run_status fault
 fault_status (Replaying fault) = dump_status fault
 
 -- the status of a form that was done, or not to its end
-abbrev pub outcome_status : Result ℕ Fault → ℕ
+abbrev pub outcome_status : Result ℕ CommandFault → ℕ
 outcome_status (Ok count) = 0
 outcome_status (Err fault) = fault_status fault
 
 -- a fault's name, as its line shows it
-abbrev pub fault_name : Fault → List ℕ
+abbrev pub fault_name : CommandFault → List ℕ
 fault_name Usage = codes "Usage"
 fault_name (Serving fault) = run_fault_name fault
 fault_name (Replaying fault) = dump_fault_name fault
@@ -60,7 +60,7 @@ fault_name (Replaying fault) = dump_fault_name fault
 abbrev pub line_named : List ℕ → List ℕ
 line_named name = codes "tbs: " ++ name ++ codes "\n"
 
-abbrev pub fault_line : Fault → List ℕ
+abbrev pub fault_line : CommandFault → List ℕ
 fault_line fault = line_named (fault_name fault)
 
 -- a line was written, or a prefix of it, where the writer failed or took nothing
@@ -68,12 +68,12 @@ abbrev pub TellsLine : List ℕ → Output → Output → Type 0
 TellsLine line before after = Sent line before after ⊎ CutOff line before after
 
 -- nothing is reported of a form that was done, and of a fault its line
-abbrev pub Tells : Result ℕ Fault → Output → Output → Type 0
+abbrev pub Tells : Result ℕ CommandFault → Output → Output → Type 0
 Tells (Ok count) before after = after ≡ before
 Tells (Err fault) before after = TellsLine (fault_line fault) before after
 
 -- what a form was served with: the number of replies, or of entries, or the fault that came
-abbrev pub Performs : Form → Result ℕ Fault → Input → Input → Output → Output → Type 0
+abbrev pub Performs : Form → Result ℕ CommandFault → Input → Input → Output → Output → Type 0
 Performs (Run clients_max profile) (Ok count) before after start written = Ran profile clients_max (Ok count) before after start written
 Performs (Run clients_max profile) (Err (Serving fault)) before after start written = Ran profile clients_max (Err fault) before after start written
 Performs (Dump clients_max at) (Ok count) before after start written = DumpRan clients_max at (Ok count) before after start written
@@ -83,7 +83,7 @@ Performs Replay (Err (Replaying fault)) before after start written = ReplayRan (
 Performs form outcome before after start written = ⊥
 
 -- of what a reader gave and a writer took
-abbrev pub PerformsOn : {R W : Type 0} → sources.Ghosts R → sinks.Ghosts W → Form → Result ℕ Fault → R → R → W → W → Type 0
+abbrev pub PerformsOn : {R W : Type 0} → sources.Ghosts R → sinks.Ghosts W → Form → Result ℕ CommandFault → R → R → W → W → Type 0
 PerformsOn source sink form outcome before after start written =
     Performs form outcome (source.input before) (source.input after) (sink.output start) (sink.output written)
 
@@ -97,7 +97,7 @@ TellsUsage lines words quiet told = form_of (map string_bytes words) ≡ None �
 
 -- a form was served, and the exit status and the line are those of the outcome
 pub record Exits (form : Form) (status : ℕ) (before after : Input) (start written quiet told : Output) : Type 0 where
-  pub outcome : Result ℕ Fault
+  pub outcome : Result ℕ CommandFault
   pub performed : Performs form outcome before after start written
   pub status_is : status ≡ outcome_status outcome
   pub line : Tells outcome quiet told

@@ -14,7 +14,7 @@ use tb_records::{Buffered, Counting, DumpFault, FrameFault, Sink, Source};
 
 /// Why the program ends with a status other than 0; shown by its name alone.
 #[derive(Clone, Copy, Debug, PartialEq, Eq)]
-pub enum Fault {
+pub enum CommandFault {
     /// The arguments are none of the program's forms.
     Usage,
     /// The script could not be served to its end.
@@ -23,37 +23,38 @@ pub enum Fault {
     Replaying(DumpFault),
 }
 
-impl From<RunFault> for Fault {
-    ghost use Rattle.tb_commands.specs.declared.commands.Fault.TheVariants.{Serving};
+impl From<RunFault> for CommandFault {
+    ghost use Rattle.tb_commands.specs.declared.commands.CommandFault.TheVariants.{Serving};
 
     ghost from_gives = { λ of_run fault. fault ≡ Serving of_run };
 
-    fn from(fault: RunFault) -> Fault {
-        Fault::Serving(fault)
+    fn from(fault: RunFault) -> CommandFault {
+        CommandFault::Serving(fault)
     }
 }
 
-impl From<DumpFault> for Fault {
-    ghost use Rattle.tb_commands.specs.declared.commands.Fault.TheVariants.{Replaying};
+impl From<DumpFault> for CommandFault {
+    ghost use Rattle.tb_commands.specs.declared.commands.CommandFault.TheVariants.{Replaying};
 
     ghost from_gives = { λ of_dump fault. fault ≡ Replaying of_dump };
 
-    fn from(fault: DumpFault) -> Fault {
-        Fault::Replaying(fault)
+    fn from(fault: DumpFault) -> CommandFault {
+        CommandFault::Replaying(fault)
     }
 }
 
-impl Fault {
+impl CommandFault {
     /// 1 where a device or memory failed, 2 where the input or the arguments are wrong.
     pub fn status(self) -> u8
         ensures value { result ≡ fault_status self }
         ensures failing { 0 < result }
     {
         match self {
-            Fault::Serving(RunFault::NoMemory) => 1,
-            Fault::Serving(RunFault::Frame(FrameFault::Device | FrameFault::NoMemory)) => 1,
-            Fault::Replaying(DumpFault::NoMemory) => 1,
-            Fault::Replaying(DumpFault::Frame(FrameFault::Device | FrameFault::NoMemory)) => 1,
+            CommandFault::Serving(RunFault::NoMemory) => 1,
+            CommandFault::Serving(RunFault::Frame(FrameFault::Device | FrameFault::NoMemory)) => 1,
+            CommandFault::Replaying(DumpFault::NoMemory) => 1,
+            CommandFault::Replaying(DumpFault::Frame(FrameFault::Device | FrameFault::NoMemory)) =>
+                1,
             _ => 2,
         }
     }
@@ -63,15 +64,15 @@ impl Fault {
         ensures { result.now ≡ fault_name self }
     {
         match self {
-            Fault::Usage => "Usage",
-            Fault::Serving(fault) => fault.name(),
-            Fault::Replaying(fault) => fault.name(),
+            CommandFault::Usage => "Usage",
+            CommandFault::Serving(fault) => fault.name(),
+            CommandFault::Replaying(fault) => fault.name(),
         }
     }
 }
 
 /// Writes the line `tbs: ` and the fault's name. A failure to write it changes no status.
-pub fn tell<E: Sink>(fault: Fault, faults: &mut E)
+pub fn tell<E: Sink>(fault: CommandFault, faults: &mut E)
     ensures { TellsLine (fault_line fault) (E.output faults.old) (E.output faults.new) }
 {
     put_line(line_of(fault.name()).as_slice(), faults);
@@ -83,7 +84,7 @@ fn perform<R: Source, W: Sink>(
     form: Form,
     reader: &mut R,
     writer: &mut W,
-) -> Result<u64, Fault>
+) -> Result<u64, CommandFault>
     ensures { PerformsOn R.Source W.Sink form result reader.old reader.new writer.old writer.new }
 {
     let count = match form {
@@ -110,7 +111,7 @@ pub fn command<R: Source, W: Sink, E: Sink>(
         reader.old reader.new writer.old writer.new faults.old faults.new }
 {
     let Some(form) = read_form(words) else {
-        tell(Fault::Usage, faults);
+        tell(CommandFault::Usage, faults);
         return 2;
     };
     match perform(alloc, form, reader, writer) {
@@ -122,8 +123,8 @@ pub fn command<R: Source, W: Sink, E: Sink>(
     }
 }
 
-/// The bytes of input and of output that are held at a time.
-const BUFFER_BYTES: usize = 65536;
+/// The bytes that a program buffers of its input, and of its output.
+pub const BUFFER_BYTES: usize = 65536;
 
 /// The words after the program's name.
 pub fn words<R: Env + AllocGlobal>(rt: &R) -> io::Result<Vec<String>> {
@@ -146,7 +147,7 @@ pub fn serve<R: Read + Drop, W: Write + Drop, E: Sink>(
     let input = BufReader::with_capacity(alloc, BUFFER_BYTES, input);
     let output = BufWriter::with_capacity(alloc, BUFFER_BYTES, output);
     let (Ok(input), Ok(output)) = (input, output) else {
-        return refuse(Fault::Serving(RunFault::NoMemory), faults);
+        return refuse(CommandFault::Serving(RunFault::NoMemory), faults);
     };
     let mut reader = Buffered::new(input);
     let mut writer = Counting::new(output);
@@ -154,22 +155,25 @@ pub fn serve<R: Read + Drop, W: Write + Drop, E: Sink>(
     let status = command(alloc, words, &mut reader, &mut writer, &mut line);
     // Replies that stay in the buffer are lost: that fault comes before any other.
     if writer.into_inner().flush().is_err() {
-        return refuse(Fault::Serving(RunFault::Frame(FrameFault::Device)), faults);
+        return refuse(
+            CommandFault::Serving(RunFault::Frame(FrameFault::Device)),
+            faults,
+        );
     }
     put_line(line.into_inner().as_slice(), faults);
     status
 }
 
 /// The fault where the words cannot be had: a word is no text, or there is no memory for them.
-pub fn fault_of(error: &io::Error) -> Fault {
+pub fn fault_of(error: &io::Error) -> CommandFault {
     match error.kind() {
-        io::ErrorKind::OutOfMemory => Fault::Serving(RunFault::NoMemory),
-        _ => Fault::Usage,
+        io::ErrorKind::OutOfMemory => CommandFault::Serving(RunFault::NoMemory),
+        _ => CommandFault::Usage,
     }
 }
 
 /// Prints the fault, and answers its status.
-pub fn refuse<E: Sink>(fault: Fault, faults: &mut E) -> u8
+pub fn refuse<E: Sink>(fault: CommandFault, faults: &mut E) -> u8
     ensures value { result ≡ fault_status fault }
     ensures told { TellsLine (fault_line fault) (E.output faults.old) (E.output faults.new) }
 {

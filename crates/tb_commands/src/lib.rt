@@ -15,5 +15,5 @@ mod commands;
 mod lines;
 
 pub use arguments::{Form, number, read_clients_max, read_form, read_id, read_profile};
-pub use commands::{Fault, command, fault_of, refuse, serve, tell, words};
+pub use commands::{BUFFER_BYTES, CommandFault, command, fault_of, refuse, serve, tell, words};
 pub use lines::{LINE_BYTES, line_by, line_of, put_line};

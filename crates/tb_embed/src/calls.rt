@@ -4,9 +4,9 @@ ghost use Rattle.std.specs.Prelude.{◌≡◌, None};
 ghost use Rattle.tb_embed.specs.Outcomes.{Tells, TellsLength};
 ghost use Rattle.tb_embed.specs.Calls.{standing, id_of, Opens, ServesFrame, ShowsAccount, ShowsTransfer};
 
-use crate::opening::open;
+use crate::asking::serve;
+use crate::handles::open;
 use crate::servers::TbServer;
-use crate::serving::serve;
 use crate::showing::{show_account, show_transfer};
 use std::alloc::Global;
 

@@ -9,24 +9,24 @@
 //! - `servers`: `TbServer`, the handle.
 //! - `rooms`: the caller's buffer, as a writer.
 //! - `replies`: how long a reply is, and that its numbers fit.
-//! - `opening`: a handle opened.
-//! - `serving`: one frame read, served and answered.
+//! - `handles`: a handle opened.
+//! - `asking`: one frame read, served and answered.
 //! - `showing`: accounts and transfers shown outside sessions.
 //! - `calls`: what C calls.
 //! - `laws`: laws of the calls: functions that do nothing.
 //! - `tests`: the calls, made as C makes them.
 #![tactic(auto)]
 
+mod asking;
 pub mod calls;
+mod handles;
 pub mod held;
 pub mod laws;
 pub mod loose;
-mod opening;
 pub mod outcomes;
 mod replies;
 mod rooms;
 pub mod servers;
-mod serving;
 mod showing;
 #[cfg(test)]
 mod tests;

@@ -13,12 +13,9 @@ mod arguments;
 use arguments::{Form, read_form};
 use std::io::{self, BufReader, BufWriter, Write};
 use std::process::ExitCode;
-use tb_commands::words;
+use tb_commands::{BUFFER_BYTES, words};
 use tb_log::{LogFault, follow};
 use tb_records::{Buffered, CLIENTS_MAX, Counting};
-
-/// The bytes of input and of output that are held at a time.
-const BUFFER_BYTES: usize = 1 << 16;
 
 /// Follows the log of standard input to standard output.
 fn follow_input(rt: &HostRuntime, form: Form) -> Result<u64, LogFault> {

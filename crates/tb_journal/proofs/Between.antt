@@ -2,7 +2,7 @@
 use Rattle.std.proofs.Common.{◌≡◌, ◌⊎◌, inl, inr, ⊎_elim, ℕ, ◌+◌, ◌≤◌, List, length, take, drop, refl, sym, ◌∙◌, ap, subst, arith, Result, Ok, Err, length-take}
 use Rattle.std.proofs.lemmas.List.{take-take}
 use Rattle.std.proofs.Math.Seq.{take-length}
-use Rattle.tb_journal.specs.declared.faults.Fault.{Fault}
+use Rattle.tb_journal.specs.declared.faults.JournalFault.{JournalFault}
 use Rattle.tb_journal.specs.Device.{Disk, Torn, Cut, Elapses, Rises, FailsNone, HasFailed, HasCause, IsLookedAt}
 use Rattle.tb_journal.specs.System.{Changes}
 
@@ -14,14 +14,14 @@ none_same a = λ fault. refl
 pub none_then : (a b c : Disk) → FailsNone a b → FailsNone b c → FailsNone a c
 none_then a b c first second = λ fault. second fault ∙ first fault
 
-pub failed_then : (a b c : Disk) (fault : Fault) → FailsNone a b → HasFailed b c fault → HasFailed a c fault
+pub failed_then : (a b c : Disk) (fault : JournalFault) → FailsNone a b → HasFailed b c fault → HasFailed a c fault
 failed_then a b c fault none failed = record {
   named = failed.named;
   counted = subst (λ (n : ℕ). Rises n (c.failures fault)) (none fault) failed.counted;
   others = λ other. ⊎_elim (λ same. inl same) (λ same. inr (same ∙ none other)) (failed.others other);
 }
 
-pub cause_then : {T : Type 0} (result : Result T Fault) (a b c : Disk) → FailsNone a b → HasCause result b c
+pub cause_then : {T : Type 0} (result : Result T JournalFault) (a b c : Disk) → FailsNone a b → HasCause result b c
     → HasCause result a c
 cause_then (Ok x) a b c none cause = record { ok = none_then a b c none cause.ok; cause = tt }
 cause_then (Err fault) a b c none cause = record { ok = tt; cause = failed_then a b c fault none cause.cause }

@@ -1,7 +1,7 @@
 -- Whether a file is blank: by its length, and then by its bytes.
 use Rattle.std.proofs.lemmas.Grind.{common_steps}
 use Rattle.std.proofs.Common.{◌≡◌, inl, ℕ, ◌<◌, Bool, false, List, length, refl, subst, arith, Result, Ok, OnOk}
-use Rattle.tb_journal.specs.declared.faults.Fault.{Fault}
+use Rattle.tb_journal.specs.declared.faults.JournalFault.{JournalFault}
 use Rattle.tb_journal.specs.Device.{Disk, LeavesOnly, Looks, FailsNone}
 use Rattle.tb_journal.specs.Opening.{IsAsBefore}
 use Rattle.tb_journal.specs.Creating.{is_blank, FindsBlank}
@@ -14,7 +14,7 @@ too_long file b is long = grind (arith, common_steps, blank_short)
 pub longer_not : (file : List ℕ) → 9 < length file → false ≡ is_blank file
 longer_not file long = too_long file (is_blank file) refl long
 
-module _ (before mid : Disk) (now : (c : List ℕ) → before.left_since before.moment c → before.may_leave c) (result : Result ℕ Fault) (looks : Looks result before mid) where
+module _ (before mid : Disk) (now : (c : List ℕ) → before.left_since before.moment c → before.may_leave c) (result : Result ℕ JournalFault) (looks : Looks result before mid) where
   looked : LeavesOnly before mid (IsAsBefore before)
   looked = goes_on before before mid (IsAsBefore before) (started before (IsAsBefore before) (λ c left. inl (now c left))) looks.looks.time (λ c left. inl (looks.looks.crash c left))
 
@@ -29,4 +29,4 @@ module _ (before mid : Disk) (now : (c : List ℕ) → before.left_since before.
   }
     where
       none : FailsNone before mid
-      none = subst (λ (r : Result ℕ Fault). OnOk r (FailsNone before mid)) answers looks.cause.ok
+      none = subst (λ (r : Result ℕ JournalFault). OnOk r (FailsNone before mid)) answers looks.cause.ok

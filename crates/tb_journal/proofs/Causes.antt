@@ -1,6 +1,6 @@
 -- A failure since a later moment, where no call has failed before it, is one since an earlier moment.
 use Rattle.std.proofs.Common.{◌≡◌, inl, inr, ⊎_elim, ℕ, ◌≤◌, ◌^◌, List, length, refl, ◌∙◌, subst, Result, Ok, Err}
-use Rattle.tb_journal.specs.declared.faults.Fault.{Fault}
+use Rattle.tb_journal.specs.declared.faults.JournalFault.{JournalFault}
 use Rattle.tb_journal.specs.declared.opening.OpenFault.{OpenFault}
 use Rattle.tb_journal.specs.declared.opening.OpenFault.TheVariants as open_faults
 use Rattle.tb_journal.specs.Device.{Disk, Rises, FailsNone, HasFailed, HasCause, IsCause, HasOwnCause}
@@ -13,7 +13,7 @@ none_at_once disk fault = refl
 pub none_since : (before mid after : Disk) → FailsNone before mid → FailsNone mid after → FailsNone before after
 none_since before mid after first second fault = second fault ∙ first fault
 
-pub failed_since : (before mid after : Disk) (fault : Fault) → FailsNone before mid → HasFailed mid after fault
+pub failed_since : (before mid after : Disk) (fault : JournalFault) → FailsNone before mid → HasFailed mid after fault
     → HasFailed before after fault
 failed_since before mid after fault none failed = record {
   named = failed.named;
@@ -21,19 +21,19 @@ failed_since before mid after fault none failed = record {
   others = λ other. ⊎_elim (λ is. inl is) (λ same. inr (same ∙ none other)) (failed.others other);
 }
 
-pub cause_since : (before mid after : Disk) (fault : Fault) → FailsNone before mid → IsCause mid after fault
+pub cause_since : (before mid after : Disk) (fault : JournalFault) → FailsNone before mid → IsCause mid after fault
     → IsCause before after fault
 cause_since before mid after fault none cause = ⊎_elim
     (λ failed. inl (failed_since before mid after fault none failed))
     (λ own. inr (own.0, none_since before mid after none own.1)) cause
 
 module _ {T : Type 0} (before mid after : Disk) where
-  pub has_cause_since : (result : Result T Fault) → FailsNone before mid → HasCause result mid after
+  pub has_cause_since : (result : Result T JournalFault) → FailsNone before mid → HasCause result mid after
       → HasCause result before after
   has_cause_since (Ok x) none has = record { ok = none_since before mid after none has.ok; cause = tt }
   has_cause_since (Err fault) none has = record { ok = tt; cause = failed_since before mid after fault none has.cause }
 
-  pub has_own_cause_since : (result : Result T Fault) → FailsNone before mid → HasOwnCause result mid after
+  pub has_own_cause_since : (result : Result T JournalFault) → FailsNone before mid → HasOwnCause result mid after
       → HasOwnCause result before after
   has_own_cause_since (Ok x) none has = record { ok = none_since before mid after none has.ok; cause = tt }
   has_own_cause_since (Err fault) none has = record { ok = tt; cause = cause_since before mid after fault none has.cause }

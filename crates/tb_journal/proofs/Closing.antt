@@ -2,7 +2,7 @@
 use Rattle.std.proofs.Common.{◌≡◌, ◌⊎◌, ⊎_elim, ℕ, ◌+◌, ◌-◌, ◌≤◌, ◌<◌, min, List, [], ◌∷◌, ◌++◌, length, take, drop, refl, sym, ◌∙◌, ap, subst, arith, length-drop, length-append, Result, Ok, Err, IfOk}
 use Rattle.std.specs.Prelude.{set}
 use Rattle.std.proofs.lemmas.List.{take-take, take_at, take_all, drop-take, drop-append-le, take_more_set, length-take-le, length-set}
-use Rattle.tb_journal.specs.declared.faults.Fault.{Fault}
+use Rattle.tb_journal.specs.declared.faults.JournalFault.{JournalFault}
 use Rattle.tb_journal.specs.Device.{ReadsAt}
 use Rattle.tb_journal.specs.private.Hops.{Closes}
 
@@ -47,7 +47,7 @@ module _ (end at count : ℕ) (file read : List ℕ) (within : at ≤ end) (ther
             ∙ sym (take_all (left + 1) (drop at shown) (omega (arith, length-drop at shown, all, within)));
       }
 
-  pub closed_reads : (into : List ℕ) (result : Result ℕ Fault) → IfOk result (Closes count left read into) → IfOk result (λ told. ReadsAt told at shown into)
+  pub closed_reads : (into : List ℕ) (result : Result ℕ JournalFault) → IfOk result (Closes count left read into) → IfOk result (λ told. ReadsAt told at shown into)
   closed_reads into (Err fault) closes = tt
   closed_reads into (Ok told) closes = ⊎_elim
       (λ short. subst (λ (n : ℕ). ReadsAt n at shown into) (sym short.1) (subst (λ (l : List ℕ). ReadsAt count at shown l) (sym short.2) (before short.0)))

@@ -1,6 +1,6 @@
 -- How a snapshot finds its end, and what it holds then.
 use Rattle.std.proofs.Common.{◌≡◌, inl, ℕ, ◌+◌, ◌≤◌, Bool, true, false, List, [], ◌∷◌, ◌++◌, length, take, refl, sym, ◌∙◌, ap, subst, Result, Ok, Err, IfOk}
-use Rattle.tb_journal.specs.declared.faults.Fault.{Fault}
+use Rattle.tb_journal.specs.declared.faults.JournalFault.{JournalFault}
 use Rattle.tb_journal.specs.declared.hops.Hop.{Hop}
 use Rattle.tb_journal.specs.declared.hops.Hop.TheVariants as hops
 use Rattle.tb_journal.specs.declared.snapshots.Found.{Found}
@@ -172,7 +172,7 @@ module _ {G : Type 0} (grows : G → List ℕ → Type 0) (old : Snapped G) (sho
 
   -- its reads
 
-  module _ (now : List ℕ → Type 0) (result : Result ℕ Fault) (at : ℕ) (into : List ℕ) where
+  module _ (now : List ℕ → Type 0) (result : Result ℕ JournalFault) (at : ℕ) (into : List ℕ) where
     pub reads_whole : old.closed ≡ false → Grown now held.file (λ later. IfOk result (λ count. ReadsAt count at later into)) → IfOk result (λ count. ReadsAt count at shown into)
     reads_whole is grown = subst (λ (file : List ℕ). IfOk result (λ count. ReadsAt count at file into)) (whole_later is grown.later grown.after) grown.has
 
@@ -187,7 +187,7 @@ module _ {G : Type 0} (grows : G → List ℕ → Type 0) (old : Snapped G) (sho
   pub len_blocks : old.closed ≡ true → length shown ≡ old.end + 1
   len_blocks is = shown_length old.end held.shows.met shown (held_blocks is)
 
-  pub len_whole : old.closed ≡ false → (now : List ℕ → Type 0) (result : Result ℕ Fault) → Grown now held.file (λ later. IfOk result (λ len. len ≡ length later)) → IfOk result (λ len. len ≡ length shown)
+  pub len_whole : old.closed ≡ false → (now : List ℕ → Type 0) (result : Result ℕ JournalFault) → Grown now held.file (λ later. IfOk result (λ len. len ≡ length later)) → IfOk result (λ len. len ≡ length shown)
   len_whole is now result grown = subst (λ (file : List ℕ). IfOk result (λ len. len ≡ length file)) (whole_later is grown.later grown.after) grown.has
 
 -- how far a file was searched
@@ -235,12 +235,12 @@ module _ (before mid now : List ℕ → Type 0) (from end : ℕ) (piece : List �
 
 -- on results
 
-pub all_since : (grows : List ℕ → Type 0) (a b : List ℕ) (before : Later a b) (result : Result Found Fault) → IfOk result (IsFound grows b) → IfOk result (IsFound grows a)
+pub all_since : (grows : List ℕ → Type 0) (a b : List ℕ) (before : Later a b) (result : Result Found JournalFault) → IfOk result (IsFound grows b) → IfOk result (IsFound grows a)
 all_since grows a b before (Ok found) is = found_since grows a b before found is
 all_since grows a b before (Err fault) is = tt
 
 pub all_more : (end : ℕ) (bytes met shown : List ℕ) (since : Later met bytes) (shows : ShowsBlocks end met shown) (mid grows : List ℕ → Type 0) (closed : Bool) → closed ≡ false
-    → (first : Grown mid bytes (λ later. TellsLatch end later closed)) → (result : Result Found Fault) → IfOk result (IsFound grows first.later) → IfOk result (GoesOn grows bytes shown)
+    → (first : Grown mid bytes (λ later. TellsLatch end later closed)) → (result : Result Found JournalFault) → IfOk result (IsFound grows first.later) → IfOk result (GoesOn grows bytes shown)
 all_more end bytes met shown since shows mid grows closed is first (Ok found) more = more_found end bytes met shown since shows mid grows closed is first found more
 all_more end bytes met shown since shows mid grows closed is first (Err fault) more = tt
 
@@ -268,14 +268,14 @@ module _ {G : Type 0} {grows : G → List ℕ → Type 0} {shown : List ℕ} {vi
   pub len_of_blocks : view.closed ≡ true → view.end + 1 ≡ length shown
   len_of_blocks met = sym (len_blocks grows view shown held_as met)
 
-  pub len_of_all : view.closed ≡ false → (now : List ℕ → Type 0) (result : Result ℕ Fault)
+  pub len_of_all : view.closed ≡ false → (now : List ℕ → Type 0) (result : Result ℕ JournalFault)
       → ((file : List ℕ) → grows view.file file → Grown now file (λ later. IfOk result (λ len. len ≡ length later))) → IfOk result (λ len. len ≡ length shown)
   len_of_all final now result call = let here = held_as in len_whole grows view shown here final now result (call here.file here.now)
 
-  pub reads_of_all : view.closed ≡ false → (now : List ℕ → Type 0) (result : Result ℕ Fault) (at : ℕ) (into : List ℕ)
+  pub reads_of_all : view.closed ≡ false → (now : List ℕ → Type 0) (result : Result ℕ JournalFault) (at : ℕ) (into : List ℕ)
       → ((file : List ℕ) → grows view.file file → Grown now file (λ later. IfOk result (λ count. ReadsAt count at later into))) → IfOk result (λ count. ReadsAt count at shown into)
   reads_of_all final now result at into call = let here = held_as in reads_whole grows view shown here now result at into final (call here.file here.now)
 
-  pub reads_of_blocks : view.closed ≡ true → (now : List ℕ → Type 0) (result : Result ℕ Fault) (at : ℕ) (into : List ℕ)
+  pub reads_of_blocks : view.closed ≡ true → (now : List ℕ → Type 0) (result : Result ℕ JournalFault) (at : ℕ) (into : List ℕ)
       → ReadsBlocks (grows view.file) now view.end at into result → IfOk result (λ count. ReadsAt count at shown into)
   reads_of_blocks met now result at into call = let here = held_as in reads_blocks grows view shown here now result at into met (call here.file here.now)

@@ -3,8 +3,8 @@ use Rattle.std.proofs.Common.{◌≡◌, ◌⊎◌, ⊎_elim, ℕ, ◌≤◌, �
 use Rattle.std.proofs.lemmas.Grind.{common_steps}
 use Rattle.std.proofs.lemmas.List.{append-nil, drop_all}
 use Rattle.std.specs.List.{starts_with}
-use Rattle.tb_journal.specs.declared.faults.Fault.{Fault}
-use Rattle.tb_journal.specs.declared.faults.Fault.TheVariants as faults
+use Rattle.tb_journal.specs.declared.faults.JournalFault.{JournalFault}
+use Rattle.tb_journal.specs.declared.faults.JournalFault.TheVariants as faults
 use Rattle.tb_journal.specs.declared.opening.OpenFault.{OpenFault}
 use Rattle.tb_journal.specs.declared.opening.OpenFault.TheVariants as open_faults
 use Rattle.tb_journal.specs.Device.{Disk, IsSettled, HasFailed, Torn, LeavesOnly, overwritten}
@@ -43,7 +43,7 @@ torn_short file c short torn = omega (arith, short, torn.no_longer)
 whole : (file : List ℕ) → length file ≤ 9 → overwritten file 0 (journal_of []) ≡ journal_of []
 whole file short = ap (λ (l : List ℕ). journal_of [] ++ l) (drop_all 9 file (omega (arith, short))) ∙ append-nil (journal_of [])
 
-pub begun : (before after : Disk) (result : Result (Unit {0}) Fault) → is_blank before.seen ≡ true → Overwrites 0 (journal_of []) result before after → WritesFirst result before after
+pub begun : (before after : Disk) (result : Result (Unit {0}) JournalFault) → is_blank before.seen ≡ true → Overwrites 0 (journal_of []) result before after → WritesFirst result before after
 begun before after result blank write = record {
   ok = done result write.ok;
   settled = write.settled;
@@ -51,7 +51,7 @@ begun before after result blank write = record {
   cause = write.cause;
 }
   where
-    done : (r : Result (Unit {0}) Fault) → OnOk r (after.seen ≡ overwritten before.seen 0 (journal_of []))
+    done : (r : Result (Unit {0}) JournalFault) → OnOk r (after.seen ≡ overwritten before.seen 0 (journal_of []))
         → OnOk r (IsWhole after × (recorded after.seen ≡ []))
     done (Err f) shown = tt
     done (Ok x) shown =

@@ -1,6 +1,6 @@
 -- A write or a cut that is followed by a sync.
 use Rattle.std.proofs.Common.{◌≡◌, ⊎_elim, ℕ, ◌≤◌, List, length, take, true, sym, ◌∙◌, subst, arith, Result, Ok, Err, OnOk}
-use Rattle.tb_journal.specs.declared.faults.Fault.{Fault}
+use Rattle.tb_journal.specs.declared.faults.JournalFault.{JournalFault}
 use Rattle.tb_journal.specs.Device.{Disk, Only, IsOnDisk, IsSettled, Torn, Cut, LeavesOnly, FailsNone, HasCause, Writes, Cuts, Syncs, overwritten}
 use Rattle.tb_journal.specs.Shown.{torn_part, torn_same, cut_same, cut_whole}
 use Rattle.tb_journal.specs.Steps.{Overwrites, Shortens}
@@ -8,11 +8,11 @@ use Rattle.tb_journal.proofs.Moments.{started, goes_on}
 use Rattle.tb_journal.proofs.Causes.{has_cause_since}
 
 -- what a sync keeps
-settled_by : (before mid after : Disk) (synced : Result (Unit {0}) Fault) → mid.sound ≡ before.sound → IsSettled before
+settled_by : (before mid after : Disk) (synced : Result (Unit {0}) JournalFault) → mid.sound ≡ before.sound → IsSettled before
     → Syncs synced mid after → OnOk synced (IsSettled after)
 settled_by before mid after synced same settled sync = by_answer synced sync.durable sync.sound
   where
-    by_answer : (r : Result (Unit {0}) Fault) → OnOk r (mid.sound ≡ true → Only mid.seen after.may_leave)
+    by_answer : (r : Result (Unit {0}) JournalFault) → OnOk r (mid.sound ≡ true → Only mid.seen after.may_leave)
         → OnOk r (after.sound ≡ mid.sound) → OnOk r (IsSettled after)
     by_answer (Ok x) durable sound = record {
       kept = λ c left. durable (same ∙ settled.sound) c left ∙ sym sync.seen;
@@ -20,12 +20,12 @@ settled_by before mid after synced same settled sync = by_answer synced sync.dur
     }
     by_answer (Err fault) durable sound = tt
 
-shown_by : (after : Disk) (file mid : List ℕ) (synced : Result (Unit {0}) Fault) → after.seen ≡ mid → mid ≡ file
+shown_by : (after : Disk) (file mid : List ℕ) (synced : Result (Unit {0}) JournalFault) → after.seen ≡ mid → mid ≡ file
     → OnOk synced (after.seen ≡ file)
 shown_by after file mid (Ok x) same is = same ∙ is
 shown_by after file mid (Err fault) same is = tt
 
-module _ (at : ℕ) (bytes : List ℕ) (before mid : Disk) (within : at ≤ length before.seen) (now : (c : List ℕ) → before.left_since before.moment c → before.may_leave c) (result : Result (Unit {0}) Fault) (write : Writes at bytes result before mid) where
+module _ (at : ℕ) (bytes : List ℕ) (before mid : Disk) (within : at ≤ length before.seen) (now : (c : List ℕ) → before.left_since before.moment c → before.may_leave c) (result : Result (Unit {0}) JournalFault) (write : Writes at bytes result before mid) where
   abbrev Outcome : List ℕ → Type 0
   Outcome = Torn at (length bytes) before.seen
 
@@ -38,15 +38,15 @@ module _ (at : ℕ) (bytes : List ℕ) (before mid : Disk) (within : at ≤ leng
       (started before Outcome (λ c left. subst Outcome (sym (kept c (now c left))) (torn_same at (length bytes) before.seen)))
       write.time (torn kept)
 
-  pub overwrite_failed : (fault : Fault) → result ≡ Err fault → Overwrites at bytes (Err fault) before mid
+  pub overwrite_failed : (fault : JournalFault) → result ≡ Err fault → Overwrites at bytes (Err fault) before mid
   overwrite_failed fault is = record {
     ok = tt;
     settled = λ settled. tt;
     any_moment = λ settled. written settled.kept;
-    cause = subst (λ (r : Result (Unit {0}) Fault). HasCause r before mid) is write.cause;
+    cause = subst (λ (r : Result (Unit {0}) JournalFault). HasCause r before mid) is write.cause;
   }
 
-  pub overwrite_synced : (after : Disk) (synced : Result (Unit {0}) Fault) → result ≡ Ok tt
+  pub overwrite_synced : (after : Disk) (synced : Result (Unit {0}) JournalFault) → result ≡ Ok tt
       → Syncs synced mid after → Overwrites at bytes synced before after
   overwrite_synced after synced is sync = record {
     ok = shown_by after (overwritten before.seen at bytes) mid.seen synced sync.seen shown;
@@ -59,12 +59,12 @@ module _ (at : ℕ) (bytes : List ℕ) (before mid : Disk) (within : at ≤ leng
   }
     where
       shown : mid.seen ≡ overwritten before.seen at bytes
-      shown = subst (λ (r : Result (Unit {0}) Fault). OnOk r (mid.seen ≡ overwritten before.seen at bytes)) is write.written
+      shown = subst (λ (r : Result (Unit {0}) JournalFault). OnOk r (mid.seen ≡ overwritten before.seen at bytes)) is write.written
 
       none : FailsNone before mid
-      none = subst (λ (r : Result (Unit {0}) Fault). OnOk r (FailsNone before mid)) is write.cause.ok
+      none = subst (λ (r : Result (Unit {0}) JournalFault). OnOk r (FailsNone before mid)) is write.cause.ok
 
-module _ (len : ℕ) (before mid : Disk) (now : (c : List ℕ) → before.left_since before.moment c → before.may_leave c) (result : Result (Unit {0}) Fault) (cut : Cuts len result before mid) where
+module _ (len : ℕ) (before mid : Disk) (now : (c : List ℕ) → before.left_since before.moment c → before.may_leave c) (result : Result (Unit {0}) JournalFault) (cut : Cuts len result before mid) where
   abbrev Shorter : List ℕ → Type 0
   Shorter = Cut len before.seen
 
@@ -77,15 +77,15 @@ module _ (len : ℕ) (before mid : Disk) (now : (c : List ℕ) → before.left_s
       (started before Shorter (λ c left. subst Shorter (sym (kept c (now c left))) (cut_same len before.seen)))
       cut.time (shorter kept)
 
-  pub shorten_failed : (fault : Fault) → result ≡ Err fault → Shortens len (Err fault) before mid
+  pub shorten_failed : (fault : JournalFault) → result ≡ Err fault → Shortens len (Err fault) before mid
   shorten_failed fault is = record {
     ok = tt;
     settled = λ settled. tt;
     any_moment = λ settled. shortened settled.kept;
-    cause = subst (λ (r : Result (Unit {0}) Fault). HasCause r before mid) is cut.cause;
+    cause = subst (λ (r : Result (Unit {0}) JournalFault). HasCause r before mid) is cut.cause;
   }
 
-  pub shorten_synced : (after : Disk) (synced : Result (Unit {0}) Fault) → result ≡ Ok tt
+  pub shorten_synced : (after : Disk) (synced : Result (Unit {0}) JournalFault) → result ≡ Ok tt
       → Syncs synced mid after → Shortens len synced before after
   shorten_synced after synced is sync = record {
     ok = shown_by after (take len before.seen) mid.seen synced sync.seen shown;
@@ -98,7 +98,7 @@ module _ (len : ℕ) (before mid : Disk) (now : (c : List ℕ) → before.left_s
   }
     where
       shown : mid.seen ≡ take len before.seen
-      shown = subst (λ (r : Result (Unit {0}) Fault). OnOk r (mid.seen ≡ take len before.seen)) is cut.cut
+      shown = subst (λ (r : Result (Unit {0}) JournalFault). OnOk r (mid.seen ≡ take len before.seen)) is cut.cut
 
       none : FailsNone before mid
-      none = subst (λ (r : Result (Unit {0}) Fault). OnOk r (FailsNone before mid)) is cut.cause.ok
+      none = subst (λ (r : Result (Unit {0}) JournalFault). OnOk r (FailsNone before mid)) is cut.cause.ok

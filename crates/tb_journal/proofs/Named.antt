@@ -1,25 +1,25 @@
 -- No call on a device fails as NotEmpty.
 use Rattle.std.proofs.Common.{arith, ◌≡◌, true, List, ℕ, [], Result, Ok, Err, IfOk, IfErr}
 use Rattle.std.proofs.lemmas.Grind.{common_steps}
-use Rattle.tb_journal.specs.declared.faults.Fault.{Fault}
-use Rattle.tb_journal.specs.declared.faults.Fault.TheVariants.{NotEmpty}
+use Rattle.tb_journal.specs.declared.faults.JournalFault.{JournalFault}
+use Rattle.tb_journal.specs.declared.faults.JournalFault.TheVariants.{NotEmpty}
 use Rattle.tb_journal.specs.declared.opening.NotOpened.{NotOpened}
 use Rattle.tb_journal.specs.declared.opening.OpenFault.TheVariants as open_faults
 use Rattle.tb_journal.specs.Device.{Disk, IsOfCall, IsOfSync}
 use Rattle.tb_journal.specs.Ready.{Kept, IsOver}
 use Rattle.tb_journal.specs.Creating.{is_blank, CreatesIn}
 
-pub call_other : (fault : Fault) → IsOfCall fault → fault ≡ NotEmpty → ⊥
+pub call_other : (fault : JournalFault) → IsOfCall fault → fault ≡ NotEmpty → ⊥
 call_other fault named is = grind (arith, common_steps)
 
-pub sync_other : (fault : Fault) → IsOfSync fault → fault ≡ NotEmpty → ⊥
+pub sync_other : (fault : JournalFault) → IsOfSync fault → fault ≡ NotEmpty → ⊥
 sync_other fault named is = grind (arith, common_steps)
 
-pub calls_other : {T : Type 0} (result : Result T Fault) → IfErr result IsOfCall → IfErr result (λ fault. fault ≡ NotEmpty → ⊥)
+pub calls_other : {T : Type 0} (result : Result T JournalFault) → IfErr result IsOfCall → IfErr result (λ fault. fault ≡ NotEmpty → ⊥)
 calls_other (Ok value) named = tt
 calls_other (Err fault) named = call_other fault named
 
-pub syncs_other : {T : Type 0} (result : Result T Fault) → IfErr result IsOfSync → IfErr result (λ fault. fault ≡ NotEmpty → ⊥)
+pub syncs_other : {T : Type 0} (result : Result T JournalFault) → IfErr result IsOfSync → IfErr result (λ fault. fault ≡ NotEmpty → ⊥)
 syncs_other (Ok value) named = tt
 syncs_other (Err fault) named = sync_other fault named
 

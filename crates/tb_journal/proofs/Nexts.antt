@@ -2,7 +2,7 @@
 use Rattle.std.proofs.Common.{◌≡◌, inr, ℕ, ◌+◌, ◌-◌, ◌≤◌, ◌^◌, Bool, List, [], ◌∷◌, ◌++◌, length, take, drop, refl, sym, ◌∙◌, ap, subst, arith, length-append, length-drop, length-take, take-append-drop, Err}
 use Rattle.std.proofs.lemmas.Grind.{common_steps}
 use Rattle.std.proofs.lemmas.List.{append-nil, take_all, drop_all, drop-take}
-use Rattle.tb_journal.specs.declared.faults.Fault.TheVariants as faults
+use Rattle.tb_journal.specs.declared.faults.JournalFault.TheVariants as faults
 use Rattle.tb_journal.specs.declared.opening.OpenFault.TheVariants as open_faults
 use Rattle.tb_journal.specs.declared.reading.Head.{Head}
 use Rattle.tb_journal.specs.declared.reading.Head.TheVariants as heads

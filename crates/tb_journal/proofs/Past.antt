@@ -10,7 +10,7 @@ use Rattle.std.proofs.lemmas.Bool.Decides.{nat_tests}
 use Rattle.tb_journal.specs.Failures.{counted}
 use Rattle.std.specs.Prelude.{Vec}
 use Rattle.std.specs.declared.alloc.Global.{Global}
-use Rattle.tb_journal.specs.declared.faults.Fault.{Fault}
+use Rattle.tb_journal.specs.declared.faults.JournalFault.{JournalFault}
 use Rattle.tb_journal.specs.declared.memory.Call.{Call}
 use Rattle.tb_journal.specs.declared.memory.Call.TheVariants as variants
 use Rattle.tb_journal.specs.declared.memory.Failures.{Failures}
@@ -57,9 +57,9 @@ left_to : (first : List ℕ) (calls later : List Call) (call : Call) → later �
 left_to first calls later call is c now = more_left first calls call c (subst (λ (l : List Call). LeftBy first (reverse l) c) is now)
 
 -- a failure is counted
-pub failed_by : (first : List ℕ) (calls later : List Call) (old new : List ℕ) (f g : Failures) (s t : Bool) (fault told : Fault) → told ≡ fault
+pub failed_by : (first : List ℕ) (calls later : List Call) (old new : List ℕ) (f g : Failures) (s t : Bool) (fault told : JournalFault) → told ≡ fault
     → IsOfCall fault ⊎ IsOfSync fault → Rises (counted f fault) (counted g fault)
-    → ((other : Fault) → (other ≡ fault) ⊎ (counted g other ≡ counted f other))
+    → ((other : JournalFault) → (other ≡ fault) ⊎ (counted g other ≡ counted f other))
     → HasFailed (disk_after first calls old f s) (disk_after first later new g t) told
 failed_by first calls later old new f g s t fault told is named rises others =
     subst (HasFailed (disk_after first calls old f s) (disk_after first later new g t)) (sym is)
@@ -75,7 +75,7 @@ module _ (first : List ℕ) (calls later : List Call) (old new : List ℕ) (f g 
   elapses_to : (call : Call) → later ≡ calls ++ call ∷ [] → Elapses (disk_after first calls old f s) (disk_after first later new g t)
   elapses_to call is = subst (λ (l : List Call). Elapses (disk_after first calls old f s) (disk_after first l new g t)) (sym is) (more_elapses first calls call old new f g s t)
 
-module _ (first : List ℕ) (calls later : List Call) (old new : List ℕ) (f g : Failures) (s : Bool) (result : Result (Unit {0}) Fault) (cause : HasCause result (disk_after first calls old f s) (disk_after first later new g s)) where
+module _ (first : List ℕ) (calls later : List Call) (old new : List ℕ) (f g : Failures) (s : Bool) (result : Result (Unit {0}) JournalFault) (cause : HasCause result (disk_after first calls old f s) (disk_after first later new g s)) where
   -- a write
   module _ (at : ℕ) (bytes : List ℕ) (done : OnOk result (new ≡ overwritten old at bytes)) where
     pub wrote : (v : Vec ℕ Global) (shown : Bool) → v.items ≡ bytes → later ≡ calls ++ variants.Write at v shown ∷ []

@@ -2,7 +2,7 @@
 use Rattle.std.proofs.lemmas.Grind.{common_steps}
 use Rattle.std.proofs.Common.{◌≡◌, inl, ℕ, ◌+◌, ◌≤◌, List, [], ◌∷◌, ◌++◌, length, take, drop, sym, ◌∙◌, ap, subst, arith, Result, Ok, Err, OnOk}
 use Rattle.std.specs.List.{AllByRecursion}
-use Rattle.tb_journal.specs.declared.faults.Fault.{Fault}
+use Rattle.tb_journal.specs.declared.faults.JournalFault.{JournalFault}
 use Rattle.tb_journal.specs.Device.{Disk, IsSettled, Torn, FailsNone, HasCause, overwritten}
 use Rattle.tb_journal.specs.Contents.{Fits, at_rest, Records, contents, records_of, recorded, records_end}
 use Rattle.tb_journal.specs.Steps.{IsWhole, IsBeforeOrAfter, Overwrites, Publishes}
@@ -30,8 +30,8 @@ pub room : (before : Disk) → IsWhole before → (end : ℕ) → end ≡ record
 room before rest end ends = omega (arith, ends, length_file before.seen (recorded before.seen) rest.reads rest.closed)
 
 -- what holds of an answer holds where it is this one
-pub on_ok : (result : Result (Unit {0}) Fault) (F : Type 0) → result ≡ Ok tt → OnOk result F → F
-on_ok result F is so = subst (λ (r : Result (Unit {0}) Fault). OnOk r F) is so
+pub on_ok : (result : Result (Unit {0}) JournalFault) (F : Type 0) → result ≡ Ok tt → OnOk result F → F
+on_ok result F is so = subst (λ (r : Result (Unit {0}) JournalFault). OnOk r F) is so
 
 opening : (batch : List ℕ) (records : List (List ℕ)) → batch ≡ at_rest records → 1 ≤ length records
     → 255 ∷ drop 1 batch ≡ at_rest records
@@ -48,16 +48,16 @@ module _ (before : Disk) (rest : IsWhole before) (batch tail : List ℕ) (record
   behind : (c : List ℕ) → Torn (end + 1) (length tail) before.seen c → IsBeforeOrAfter olds records c
   behind c torn = inl (behind_torn before.seen olds rest.reads rest.closed (length tail) c (subst (λ (e : ℕ). Torn (e + 1) (length tail) before.seen c) ends torn))
 
-  pub stage_failed : (mid : Disk) (result : Result (Unit {0}) Fault) (f : Fault) → result ≡ Err f
+  pub stage_failed : (mid : Disk) (result : Result (Unit {0}) JournalFault) (f : JournalFault) → result ≡ Err f
       → Overwrites (end + 1) tail result before mid → Publishes records (Err f) before mid
   stage_failed mid result f is stage = record {
     ok = tt;
     settled = λ settled. tt;
     any_moment = λ settled. weaker before mid (Torn (end + 1) (length tail) before.seen) (IsBeforeOrAfter olds records) behind (stage.any_moment settled);
-    cause = subst (λ (r : Result (Unit {0}) Fault). HasCause r before mid) is stage.cause;
+    cause = subst (λ (r : Result (Unit {0}) JournalFault). HasCause r before mid) is stage.cause;
   }
 
-  module _ (mid : Disk) (result : Result (Unit {0}) Fault) (is : result ≡ Ok tt) (stage : Overwrites (end + 1) tail result before mid) where
+  module _ (mid : Disk) (result : Result (Unit {0}) JournalFault) (is : result ≡ Ok tt) (stage : Overwrites (end + 1) tail result before mid) where
     done : mid.seen ≡ overwritten before.seen (end + 1) tail
     done = on_ok result (mid.seen ≡ overwritten before.seen (end + 1) tail) is stage.ok
 
@@ -70,7 +70,7 @@ module _ (before : Disk) (rest : IsWhole before) (batch tail : List ℕ) (record
     latch : (c : List ℕ) → Torn end 1 mid.seen c → IsBeforeOrAfter olds records c
     latch c torn = grind (arith, common_steps, latch_torn, opens, staged)
 
-    pub latch_done : (after : Disk) (second : Result (Unit {0}) Fault)
+    pub latch_done : (after : Disk) (second : Result (Unit {0}) JournalFault)
         → Overwrites end (255 ∷ []) second mid after → Publishes records second before after
     latch_done after second opened_latch = record {
       ok = finished second opened_latch.ok;
@@ -81,7 +81,7 @@ module _ (before : Disk) (rest : IsWhole before) (batch tail : List ℕ) (record
       cause = has_cause_since before mid after second (on_ok result (FailsNone before mid) is stage.cause.ok) opened_latch.cause;
     }
       where
-        finished : (r : Result (Unit {0}) Fault)
+        finished : (r : Result (Unit {0}) JournalFault)
             → OnOk r (after.seen ≡ overwritten mid.seen end (255 ∷ []))
             → OnOk r (IsWhole after × (recorded after.seen ≡ olds ++ records))
         finished (Err fault) shown = tt

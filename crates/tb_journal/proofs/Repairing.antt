@@ -1,7 +1,7 @@
 -- A file is read, what follows its records cut off, and its latch closed.
 use Rattle.std.proofs.Common.{◌≡◌, ℕ, ◌≤◌, List, [], ◌∷◌, ◌++◌, length, take, sym, ◌∙◌, ap, subst, arith, Result, Ok, Err, OnOk}
 use Rattle.std.proofs.lemmas.List.{length-take-le}
-use Rattle.tb_journal.specs.declared.faults.Fault.{Fault}
+use Rattle.tb_journal.specs.declared.faults.JournalFault.{JournalFault}
 use Rattle.tb_journal.specs.Device.{Disk, IsSettled, Torn, Cut, FailsNone, HasCause, overwritten}
 use Rattle.tb_journal.specs.Contents.{Records, contents, recorded, records_end}
 use Rattle.tb_journal.specs.Steps.{IsWhole, Overwrites, Shortens}
@@ -24,15 +24,15 @@ module _ (before : Disk) (reads : contents before.seen ≡ Records (recorded bef
   shorter_same : (c : List ℕ) → Cut end before.seen c → Same c
   shorter_same c cut = cut_torn before.seen olds reads c (subst (λ (e : ℕ). Cut e before.seen c) ends cut)
 
-  pub repair_failed : (mid : Disk) (result : Result (Unit {0}) Fault) (f : Fault) → result ≡ Err f → Shortens end result before mid → Repairs (Err f) before mid
+  pub repair_failed : (mid : Disk) (result : Result (Unit {0}) JournalFault) (f : JournalFault) → result ≡ Err f → Shortens end result before mid → Repairs (Err f) before mid
   repair_failed mid result f is cut = record {
     ok = tt;
     settled = λ settled. tt;
     any_moment = λ settled. weaker before mid (Cut end before.seen) Same shorter_same (cut.any_moment settled);
-    cause = subst (λ (r : Result (Unit {0}) Fault). HasCause r before mid) is cut.cause;
+    cause = subst (λ (r : Result (Unit {0}) JournalFault). HasCause r before mid) is cut.cause;
   }
 
-  module _ (mid : Disk) (result : Result (Unit {0}) Fault) (is : result ≡ Ok tt) (cut : Shortens end result before mid) where
+  module _ (mid : Disk) (result : Result (Unit {0}) JournalFault) (is : result ≡ Ok tt) (cut : Shortens end result before mid) where
     is_cut : mid.seen ≡ take (records_end olds) before.seen
     is_cut = on_ok result (mid.seen ≡ take end before.seen) is cut.ok ∙ ap (λ (e : ℕ). take e before.seen) ends
 
@@ -45,7 +45,7 @@ module _ (before : Disk) (reads : contents before.seen ≡ Records (recorded bef
     closing : (c : List ℕ) → Torn end 1 mid.seen c → Same c
     closing c torn = close_torn before.seen olds reads c (subst (λ (f : List ℕ). Torn (records_end olds) 1 f c) is_cut (subst (λ (e : ℕ). Torn e 1 mid.seen c) ends torn))
 
-    pub repair_done : (after : Disk) (second : Result (Unit {0}) Fault) → Overwrites end (0 ∷ []) second mid after → Repairs second before after
+    pub repair_done : (after : Disk) (second : Result (Unit {0}) JournalFault) → Overwrites end (0 ∷ []) second mid after → Repairs second before after
     repair_done after second latch = record {
       ok = finished second latch.ok;
       settled = λ settled. latch.settled (mid_settled settled);
@@ -55,7 +55,7 @@ module _ (before : Disk) (reads : contents before.seen ≡ Records (recorded bef
       cause = has_cause_since before mid after second (on_ok result (FailsNone before mid) is cut.cause.ok) latch.cause;
     }
       where
-        finished : (r : Result (Unit {0}) Fault) → OnOk r (after.seen ≡ overwritten mid.seen end (0 ∷ []))
+        finished : (r : Result (Unit {0}) JournalFault) → OnOk r (after.seen ≡ overwritten mid.seen end (0 ∷ []))
             → OnOk r (IsWhole after × (recorded after.seen ≡ olds))
         finished (Err fault) shown = tt
         finished (Ok x) shown =

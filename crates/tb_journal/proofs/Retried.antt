@@ -3,7 +3,7 @@ use Rattle.std.proofs.Common.{◌≡◌, ◌≢◌, ◌⊎◌, inl, inr, ⊎_eli
 use Rattle.std.specs.Prelude.{IsErrOf}
 use Rattle.std.specs.declared.io.ErrorKind.{ErrorKind}
 use Rattle.std.specs.declared.io.ErrorKind.TheVariants as kinds
-use Rattle.tb_journal.specs.declared.faults.Fault.{Fault}
+use Rattle.tb_journal.specs.declared.faults.JournalFault.{JournalFault}
 use Rattle.tb_journal.specs.Device.{Disk, Only, Torn, Cut, Elapses, FailsNone, HasFailed, HasCause, IsLookedAt, Cuts, Syncs, overwritten}
 use Rattle.tb_journal.specs.System.{Counts, Changes, Preads, Pwrites, Ftruncates, Fdatasyncs, fault_of, sync_fault_of}
 use Rattle.tb_journal.specs.private.Posix.{ReadsSome, WritesSome}
@@ -26,7 +26,7 @@ pub record Waits (before now : Disk) (first left tries : ℕ) : Type 0 where
 pub waits_none : (a : Disk) (n : ℕ) → Waits a a n n 0
 waits_none a n = record { none = none_same a; fewer = omega arith }
 
-pub waits_again : {T : Type 0} (fault : ErrorKind → Fault) (kind : ErrorKind) (a b c : Disk) (first left later tries : ℕ)
+pub waits_again : {T : Type 0} (fault : ErrorKind → JournalFault) (kind : ErrorKind) (a b c : Disk) (first left later tries : ℕ)
     → kind ≡ kinds.Interrupted → Counts {T = T} fault (Err kind) b c → later < left → Waits a b first left tries
     → Waits a c first later (tries + 1)
 waits_again fault kind a b c first left later tries is counts less waits = record {
@@ -39,11 +39,11 @@ pub too_many : (a b : Disk) (first left tries : ℕ) → Waits a b first left tr
     → 18446744073709551615 ≤ tries → ⊥
 too_many a b first left tries waits ends given_up = omega (arith, waits.fewer, ends, given_up)
 
-ok_cause : {T U : Type 0} (fault : ErrorKind → Fault) (x : T) (y : U) (a b c : Disk) → FailsNone a b
+ok_cause : {T U : Type 0} (fault : ErrorKind → JournalFault) (x : T) (y : U) (a b c : Disk) → FailsNone a b
     → Counts {T = T} fault (Ok x) b c → HasCause {T = U} (Ok y) a c
 ok_cause fault x y a b c none counts = record { ok = none_then a b c none counts.ok; cause = tt }
 
-err_cause : {T U : Type 0} (fault : ErrorKind → Fault) (kind : ErrorKind) (why : Fault) (a b c : Disk) → FailsNone a b
+err_cause : {T U : Type 0} (fault : ErrorKind → JournalFault) (kind : ErrorKind) (why : JournalFault) (a b c : Disk) → FailsNone a b
     → kind ≢ kinds.Interrupted → why ≡ fault kind → Counts {T = T} fault (Err kind) b c → HasCause {T = U} (Err why) a c
 err_cause fault kind why a b c none other is counts = record {
   ok = tt;
@@ -56,11 +56,11 @@ module _ (at : ℕ) (into : List ℕ) (a b c : Disk) (now : CountsNow a) (looked
   pub read_done : (count : ℕ) → Preads at into (Ok count) b c → ReadsSome at into (Ok count) a c
   read_done count reads = record {
     bytes = subst (λ (file : List ℕ). take count into ≡ take count (drop at file)) looked.seen reads.bytes;
-    end = λ none_came. subst (λ (file : List ℕ). (length into ≡ 0) ⊎ (length file ≤ at)) looked.seen (reads.end (same_ok count 0 (ok_same {E = Fault} count 0 none_came)));
+    end = λ none_came. subst (λ (file : List ℕ). (length into ≡ 0) ⊎ (length file ≤ at)) looked.seen (reads.end (same_ok count 0 (ok_same {E = JournalFault} count 0 none_came)));
     looks = record { looks = looked_then a b c now looked reads.looks; cause = ok_cause fault_of count count a b c none reads.counts };
   }
 
-  pub read_failed : (kind : ErrorKind) (why : Fault) → kind ≢ kinds.Interrupted → why ≡ fault_of kind
+  pub read_failed : (kind : ErrorKind) (why : JournalFault) → kind ≢ kinds.Interrupted → why ≡ fault_of kind
       → Preads at into (Err kind) b c → ReadsSome at into (Err why) a c
   read_failed kind why other is reads = record {
     bytes = tt;
@@ -81,7 +81,7 @@ module _ (at : ℕ) (bytes : List ℕ) (a b c : Disk) (seen : b.seen ≡ a.seen)
     cause = ok_cause fault_of count count a b c none writes.counts;
   }
 
-  pub write_failed : (kind : ErrorKind) (why : Fault) → kind ≢ kinds.Interrupted → why ≡ fault_of kind
+  pub write_failed : (kind : ErrorKind) (why : JournalFault) → kind ≢ kinds.Interrupted → why ≡ fault_of kind
       → Pwrites at bytes (Err kind) b c → WritesSome at bytes (Err why) a c
   write_failed kind why other is writes = record {
     written = tt;
@@ -103,7 +103,7 @@ module _ (len : ℕ) (a b c : Disk) (seen : b.seen ≡ a.seen) (changed : Change
         cause = ok_cause fault_of tt tt a b c none cuts.counts;
       }
 
-  pub cut_failed : (kind : ErrorKind) (why : Fault) → kind ≢ kinds.Interrupted → why ≡ fault_of kind
+  pub cut_failed : (kind : ErrorKind) (why : JournalFault) → kind ≢ kinds.Interrupted → why ≡ fault_of kind
       → Ftruncates len (Err kind) b c → Cuts len (Err why) a c
   cut_failed kind why other is cuts =
       let all = changes_then (Cut len) a b c (cut_then len) changed cuts.changes in
@@ -154,7 +154,7 @@ module _ (a b c : Disk) (now : CountsNow a) (stays : a.may_leave a.seen) (partly
     cause = ok_cause sync_fault_of tt tt a b c none syncs.counts;
   }
 
-  pub sync_failed : FailsNone a b → (kind : ErrorKind) (why : Fault) → kind ≢ kinds.Interrupted → why ≡ sync_fault_of kind
+  pub sync_failed : FailsNone a b → (kind : ErrorKind) (why : JournalFault) → kind ≢ kinds.Interrupted → why ≡ sync_fault_of kind
       → Fdatasyncs (Err kind) b c → Syncs (Err why) a c
   sync_failed none kind why other is syncs = record {
     durable = tt;

@@ -2,7 +2,7 @@
 use Rattle.std.proofs.Common.{◌≡◌, ◌⊎◌, ℕ, ◌+◌, ◌-◌, ◌^◌, ◌<◌, ◌≤◌, List, [], ◌++◌, length, take, drop, refl, sym, ◌∙◌, ap, subst, arith, append_assoc, length-append, length-take, length-drop, Result, Ok, Err}
 use Rattle.std.proofs.lemmas.List.{take-append-le, take-append-drop, take_all, length-take-le, drop-drop}
 use Rattle.std.proofs.Math.Seq.{take-add, take-append-add, take-append_seam, drop-append-add}
-use Rattle.tb_journal.specs.declared.faults.Fault.{Fault}
+use Rattle.tb_journal.specs.declared.faults.JournalFault.{JournalFault}
 use Rattle.tb_journal.specs.Device.{Disk, Torn, FailsNone, IsLookedAt, Looks, ReadsAt, Writes, overwritten}
 use Rattle.tb_journal.specs.System.{Changes}
 use Rattle.tb_journal.specs.private.Posix.{ReadsSome, WritesSome}
@@ -57,7 +57,7 @@ module _ (at count : ℕ) (into : List ℕ) (a b c : Disk) (now : CountsNow a) (
         (subst (λ (file : List ℕ). take k part ≡ take k (drop (at + count) file)) so_far.looks.seen reads.bytes);
   }
 
-  pub read_fails : (why : Fault) (part : List ℕ) → ReadsSome (at + count) part (Err why) b c → Looks {T = ℕ} (Err why) a c
+  pub read_fails : (why : JournalFault) (part : List ℕ) → ReadsSome (at + count) part (Err why) b c → Looks {T = ℕ} (Err why) a c
   read_fails why part reads = record {
     looks = looked_then a b c now so_far.looks reads.looks.looks;
     cause = cause_then (Err why) a b c so_far.none reads.looks.cause;
@@ -83,7 +83,7 @@ pub rest_is : (count : ℕ) (bytes : List ℕ) → take (length bytes - count) (
 rest_is count bytes = take_all (length bytes - count) (drop count bytes) (omega (arith, length-drop count bytes))
 
 -- as `&bytes[count..]` is called: a write of the rest at the next offset
-pub as_rest : (at count offset : ℕ) (bytes : List ℕ) (result : Result ℕ Fault) (b c : Disk) → offset ≡ at + count
+pub as_rest : (at count offset : ℕ) (bytes : List ℕ) (result : Result ℕ JournalFault) (b c : Disk) → offset ≡ at + count
     → WritesSome offset (take (length bytes - count) (drop count bytes)) result b c
     → WritesSome (at + count) (drop count bytes) result b c
 as_rest at count offset bytes result b c here writes =
@@ -154,7 +154,7 @@ module _ (at count : ℕ) (bytes : List ℕ) (a b : Disk) (within : at ≤ lengt
           none = none_then a b c so_far.none writes.cause.ok;
         }
 
-    pub write_fails : (why : Fault) → WritesSome (at + count) (drop count bytes) (Err why) b c → Writes at bytes (Err why) a c
+    pub write_fails : (why : JournalFault) → WritesSome (at + count) (drop count bytes) (Err why) b c → Writes at bytes (Err why) a c
     write_fails why writes =
         let changed = all writes.changes in
         record {

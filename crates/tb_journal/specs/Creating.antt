@@ -1,8 +1,8 @@
 -- How a journal is created, and what a crash may leave of it.
 -- Cited by public contracts of: opening.
 use Rattle.std.specs.Prelude.{◌≡◌, ◌⊎◌, ◌==◌, ◌&&◌, ◌||◌, ℕ, ◌≤◌, Bool, true, false, List, [], ◌∷◌, ◌++◌, length, codes, refl, Result, Ok, Err, IfOk, OnOk, IfErr}
-use Rattle.tb_journal.specs.declared.faults.Fault.{Fault}
-use Rattle.tb_journal.specs.declared.faults.Fault.TheVariants.{Memory, NotEmpty}
+use Rattle.tb_journal.specs.declared.faults.JournalFault.{JournalFault}
+use Rattle.tb_journal.specs.declared.faults.JournalFault.TheVariants.{Memory, NotEmpty}
 use Rattle.tb_journal.specs.declared.opening.OpenFault.{OpenFault}
 use Rattle.tb_journal.specs.declared.opening.OpenFault.TheVariants as open_faults
 use Rattle.tb_journal.specs.declared.opening.NotOpened.{NotOpened}
@@ -32,7 +32,7 @@ abbrev pub MayBeCreated : Disk → List ℕ → Type 0
 MayBeCreated before file = IsAsBefore before file ⊎ ((is_blank before.seen ≡ true) × IsUnborn file)
 
 -- why no journal is created, where the device did not fail: something else is there, or it is blank and there is no memory
-abbrev pub IsOwnCreateCause : List ℕ → Fault → Type 0
+abbrev pub IsOwnCreateCause : List ℕ → JournalFault → Type 0
 IsOwnCreateCause file fault = ((fault ≡ NotEmpty) × (is_blank file ≡ false)) ⊎ ((fault ≡ Memory) × (is_blank file ≡ true))
 
 -- why no journal is created: that, or the device failed so
@@ -63,7 +63,7 @@ pub record IsNew {D : Type 0} (disk : D → Disk) (journal : Kept D) : Type 0 wh
   pub none_waits : journal.waiting ≡ []
 
 -- whether a file is blank: what a blank one has is then durable
-pub record FindsBlank (result : Result Bool Fault) (before after : Disk) : Type 0 where
+pub record FindsBlank (result : Result Bool JournalFault) (before after : Disk) : Type 0 where
   pub ok : IfOk result (λ found. found ≡ is_blank before.seen)
   pub settled : before.sound ≡ true → IfOk result (λ found. found ≡ true → IsSettled after)
   pub seen : after.seen ≡ before.seen
@@ -72,7 +72,7 @@ pub record FindsBlank (result : Result Bool Fault) (before after : Disk) : Type 
   pub cause : HasCause result before after
 
 -- the first bytes are written over a blank file
-pub record WritesFirst (result : Result (Unit {0}) Fault) (before after : Disk) : Type 0 where
+pub record WritesFirst (result : Result (Unit {0}) JournalFault) (before after : Disk) : Type 0 where
   pub ok : OnOk result (IsWhole after × (recorded after.seen ≡ []))
   pub settled : IsSettled before → OnOk result (IsSettled after)
   pub any_moment : IsSettled before → LeavesOnly before after IsUnborn

@@ -2,8 +2,8 @@
 -- Cited by public contracts of: devices, growing, journals, memory, opening, posix, scans, snapshots, systems.
 use Rattle.std.specs.Prelude.{◌<◌, ◌≡◌, ◌⊎◌, ℕ, ◌+◌, ◌-◌, ◌^◌, ◌≤◌, min, max, Bool, true, false, List, ◌++◌, length, take, drop, Result, IfOk, IfErr, OnOk, OnErr}
 use Rattle.std.proofs.Common.{arith, ⊎_elim}
-use Rattle.tb_journal.specs.declared.faults.Fault.{Fault}
-use Rattle.tb_journal.specs.declared.faults.Fault.TheVariants.{Memory, Failed, Full, SyncFailed}
+use Rattle.tb_journal.specs.declared.faults.JournalFault.{JournalFault}
+use Rattle.tb_journal.specs.declared.faults.JournalFault.TheVariants.{Memory, Failed, Full, SyncFailed}
 
 -- a disk with one file, and its clock
 pub record Disk : Type 1 where
@@ -11,7 +11,7 @@ pub record Disk : Type 1 where
   pub may_leave : List ℕ → Type 0  -- what a crash at this moment may leave
   pub moment : ℕ  -- a number that does not fall
   pub left_since : ℕ → List ℕ → Type 0  -- what a crash at some moment from that one on might have left
-  pub failures : Fault → ℕ  -- how often a call has failed with this fault
+  pub failures : JournalFault → ℕ  -- how often a call has failed with this fault
   pub sound : Bool  -- no sync has failed
 
 -- a crash leaves this and nothing else
@@ -70,33 +70,33 @@ Rises before after = (before < after) ⊎ (2 ^ 64 - 1 ≤ after)
 
 -- no call has failed since
 abbrev pub FailsNone : Disk → Disk → Type 0
-FailsNone before after = (fault : Fault) → after.failures fault ≡ before.failures fault
+FailsNone before after = (fault : JournalFault) → after.failures fault ≡ before.failures fault
 
 -- the fault that a sync has, whatever failed
-abbrev pub IsOfSync : Fault → Type 0
+abbrev pub IsOfSync : JournalFault → Type 0
 IsOfSync fault = fault ≡ SyncFailed
 
 -- and the faults that any other call on a device has
-abbrev pub IsOfCall : Fault → Type 0
+abbrev pub IsOfCall : JournalFault → Type 0
 IsOfCall fault = (fault ≡ Memory) ⊎ (fault ≡ Failed) ⊎ (fault ≡ Full)
 
 -- a call has failed with this fault since, and none with another
-pub record HasFailed (before after : Disk) (fault : Fault) : Type 0 where
+pub record HasFailed (before after : Disk) (fault : JournalFault) : Type 0 where
   pub named : IsOfCall fault ⊎ IsOfSync fault
   pub counted : Rises (before.failures fault) (after.failures fault)
-  pub others : (other : Fault) → (other ≡ fault) ⊎ (after.failures other ≡ before.failures other)
+  pub others : (other : JournalFault) → (other ≡ fault) ⊎ (after.failures other ≡ before.failures other)
 
 -- an error is a failure of the device, under its own name
-pub record HasCause {T : Type 0} (result : Result T Fault) (before after : Disk) : Type 0 where
+pub record HasCause {T : Type 0} (result : Result T JournalFault) (before after : Disk) : Type 0 where
   pub ok : OnOk result (FailsNone before after)
   pub cause : IfErr result (HasFailed before after)
 
 -- why a call ends that takes memory itself: the device failed so, or it did not fail and there is no memory
-abbrev pub IsCause : Disk → Disk → Fault → Type 0
+abbrev pub IsCause : Disk → Disk → JournalFault → Type 0
 IsCause before after fault = HasFailed before after fault ⊎ ((fault ≡ Memory) × FailsNone before after)
 
 -- an error of such a call
-pub record HasOwnCause {T : Type 0} (result : Result T Fault) (before after : Disk) : Type 0 where
+pub record HasOwnCause {T : Type 0} (result : Result T JournalFault) (before after : Disk) : Type 0 where
   pub ok : OnOk result (FailsNone before after)
   pub cause : IfErr result (IsCause before after)
 
@@ -110,11 +110,11 @@ abbrev pub OfHeld : (List ℕ → Type 0) → (List ℕ → Type 0) → Type 0
 OfHeld holds Says = (file : List ℕ) → holds file → Says file
 
 -- a read answers how many bytes of a file it gave, from an offset on
-abbrev pub GivesBytes : Result ℕ Fault → ℕ → List ℕ → List ℕ → Type 0
+abbrev pub GivesBytes : Result ℕ JournalFault → ℕ → List ℕ → List ℕ → Type 0
 GivesBytes result at into file = IfOk result (λ count. ReadsAt count at file into)
 
 -- the number of bytes of a file is answered
-abbrev pub AnswersLength : Result ℕ Fault → List ℕ → Type 0
+abbrev pub AnswersLength : Result ℕ JournalFault → List ℕ → Type 0
 AnswersLength result file = IfOk result (λ len. len ≡ length file)
 
 -- where no sync has failed before, all that a read returns is durable
@@ -133,12 +133,12 @@ pub record IsLookedAt (before after : Disk) : Type 0 where
   pub sound : after.sound ≡ before.sound
 
 -- a call that only looks
-pub record Looks {T : Type 0} (result : Result T Fault) (before after : Disk) : Type 0 where
+pub record Looks {T : Type 0} (result : Result T JournalFault) (before after : Disk) : Type 0 where
   pub looks : IsLookedAt before after
   pub cause : HasCause result before after
 
 -- a write
-pub record Writes (at : ℕ) (bytes : List ℕ) (result : Result (Unit {0}) Fault) (before after : Disk) : Type 0 where
+pub record Writes (at : ℕ) (bytes : List ℕ) (result : Result (Unit {0}) JournalFault) (before after : Disk) : Type 0 where
   pub written : OnOk result (after.seen ≡ overwritten before.seen at bytes)
   pub crash : Follows (Torn at (length bytes)) before after
   pub time : Elapses before after
@@ -146,7 +146,7 @@ pub record Writes (at : ℕ) (bytes : List ℕ) (result : Result (Unit {0}) Faul
   pub cause : HasCause result before after
 
 -- a cut
-pub record Cuts (n : ℕ) (result : Result (Unit {0}) Fault) (before after : Disk) : Type 0 where
+pub record Cuts (n : ℕ) (result : Result (Unit {0}) JournalFault) (before after : Disk) : Type 0 where
   pub cut : OnOk result (after.seen ≡ take n before.seen)
   pub crash : Follows (Cut n) before after
   pub time : Elapses before after
@@ -155,7 +155,7 @@ pub record Cuts (n : ℕ) (result : Result (Unit {0}) Fault) (before after : Dis
 
 -- a sync, before the end of which a crash may leave what it might have left, or what a read returns. Behind one that has failed
 -- none keeps anything, whatever it answers
-pub record Syncs (result : Result (Unit {0}) Fault) (before after : Disk) : Type 0 where
+pub record Syncs (result : Result (Unit {0}) JournalFault) (before after : Disk) : Type 0 where
   pub durable : OnOk result (before.sound ≡ true → Only before.seen after.may_leave)
   pub sound : OnOk result (after.sound ≡ before.sound)
   pub unsound : OnErr result (after.sound ≡ false)

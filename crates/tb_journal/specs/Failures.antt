@@ -1,11 +1,11 @@
 -- The failures of a file in memory, by the fault.
 -- Public contracts reach it through: Memory.
 use Rattle.std.specs.Prelude.{ℕ}
-use Rattle.tb_journal.specs.declared.faults.Fault.{Fault}
-use Rattle.tb_journal.specs.declared.faults.Fault.TheVariants as faults
+use Rattle.tb_journal.specs.declared.faults.JournalFault.{JournalFault}
+use Rattle.tb_journal.specs.declared.faults.JournalFault.TheVariants as faults
 use Rattle.tb_journal.specs.declared.memory.Failures.{Failures}
 
-abbrev pub counted : Failures → Fault → ℕ
+abbrev pub counted : Failures → JournalFault → ℕ
 counted failures faults.Memory = failures.memory
 counted failures faults.Failed = failures.failed
 counted failures faults.Full = failures.full

@@ -1,11 +1,11 @@
 -- The numbers and the names of faults.
 -- Cited by public contracts of: faults.
 use Rattle.std.specs.Prelude.{ℕ, List, codes}
-use Rattle.tb_journal.specs.declared.faults.Fault.{Fault}
-use Rattle.tb_journal.specs.declared.faults.Fault.TheVariants.{Memory, Failed, Full, TooLong, NotEmpty, SyncFailed}
+use Rattle.tb_journal.specs.declared.faults.JournalFault.{JournalFault}
+use Rattle.tb_journal.specs.declared.faults.JournalFault.TheVariants.{Memory, Failed, Full, TooLong, NotEmpty, SyncFailed}
 
 -- a fault's number, by which other programs may know it
-abbrev pub fault_number : Fault → ℕ
+abbrev pub fault_number : JournalFault → ℕ
 fault_number Memory = 1
 fault_number Failed = 2
 fault_number Full = 3
@@ -14,7 +14,7 @@ fault_number NotEmpty = 5
 fault_number SyncFailed = 6
 
 -- a fault's name, as a message shows it
-abbrev pub fault_name : Fault → List ℕ
+abbrev pub fault_name : JournalFault → List ℕ
 fault_name Memory = codes "Memory"
 fault_name Failed = codes "Failed"
 fault_name Full = codes "Full"
@@ -23,7 +23,7 @@ fault_name NotEmpty = codes "NotEmpty"
 fault_name SyncFailed = codes "SyncFailed"
 
 -- what a file in memory fails with where this fault is named, in a call that is no sync
-abbrev pub call_fault : Fault → Fault
+abbrev pub call_fault : JournalFault → JournalFault
 call_fault Memory = Memory
 call_fault Full = Full
 call_fault fault = Failed

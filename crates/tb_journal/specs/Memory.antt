@@ -8,7 +8,7 @@ use Rattle.tb_journal.specs.Torn.{Adds, torn_after, shown_after}
 use Rattle.tb_journal.specs.Failures.{counted}
 use Rattle.tb_journal.specs.Faults.{call_fault}
 use Rattle.tb_journal.specs.Shown.{torn_shown}
-use Rattle.tb_journal.specs.declared.faults.Fault.{Fault}
+use Rattle.tb_journal.specs.declared.faults.JournalFault.{JournalFault}
 use Rattle.tb_journal.specs.declared.memory.Failures.{Failures}
 use Rattle.tb_journal.specs.declared.memory.Memory.{Memory}
 use Rattle.tb_journal.specs.declared.memory.Call.{Call}
@@ -83,7 +83,7 @@ abbrev pub fuse_of : Memory → ℕ
 fuse_of file = file.fuse
 
 -- the fault that is named for it
-abbrev pub why_of : Memory → Fault
+abbrev pub why_of : Memory → JournalFault
 why_of file = file.why
 
 -- a call is one of those that are counted
@@ -92,5 +92,5 @@ pub record IsCounted (before after : Memory) : Type 0 where
   pub why : why_of after ≡ why_of before
 
 -- it is the turn of this call to fail, with this fault
-abbrev pub IsInTurn : Memory → Fault → Type 0
+abbrev pub IsInTurn : Memory → JournalFault → Type 0
 IsInTurn before fault = (fuse_of before ≡ 1) × (fault ≡ call_fault (why_of before))

@@ -1,8 +1,8 @@
 -- How a journal is opened, and what stays of its file.
 -- Cited by public contracts of: opening, scans.
 use Rattle.std.specs.Prelude.{◌≡◌, ◌⊎◌, ℕ, ◌≤◌, ◌^◌, List, [], length, Result, Ok, Err, IfOk, IfErr, OnOk, true}
-use Rattle.tb_journal.specs.declared.faults.Fault.{Fault}
-use Rattle.tb_journal.specs.declared.faults.Fault.TheVariants as faults
+use Rattle.tb_journal.specs.declared.faults.JournalFault.{JournalFault}
+use Rattle.tb_journal.specs.declared.faults.JournalFault.TheVariants as faults
 use Rattle.tb_journal.specs.declared.reading.Extent.{Extent}
 use Rattle.tb_journal.specs.declared.reading.Refusal.{Refusal}
 use Rattle.tb_journal.specs.declared.reading.Refusal.TheVariants as refusals
@@ -97,7 +97,7 @@ Recovers (Ok journal) file =
 Recovers (Err failed) file = RefusesFile failed.fault file
 
 -- what follows the records is cut off, and a closed latch written
-pub record Repairs (result : Result (Unit {0}) Fault) (before after : Disk) : Type 0 where
+pub record Repairs (result : Result (Unit {0}) JournalFault) (before after : Disk) : Type 0 where
   pub ok : OnOk result (IsWhole after × (recorded after.seen ≡ recorded before.seen))
   pub settled : IsSettled before → OnOk result (IsSettled after)
   pub any_moment : IsSettled before → LeavesOnly before after (λ file. contents file ≡ Records (recorded before.seen))

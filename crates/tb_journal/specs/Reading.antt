@@ -2,7 +2,7 @@
 -- Cited by public contracts of: opening, scans.
 use Rattle.std.specs.Prelude.{◌≡◌, ◌⊎◌, ℕ, ◌+◌, ◌≤◌, ◌==◌, true, List, [], ◌∷◌, length, drop, Option, Some, None, Result, Ok, Err, OnOk, if◌then◌else◌, refl}
 use Rattle.std.specs.Int.{w32, from_le_bytes}
-use Rattle.tb_journal.specs.declared.faults.Fault.{Fault}
+use Rattle.tb_journal.specs.declared.faults.JournalFault.{JournalFault}
 use Rattle.tb_journal.specs.declared.reading.Head.{Head}
 use Rattle.tb_journal.specs.declared.reading.Head.TheVariants as heads
 use Rattle.tb_journal.specs.declared.reading.Extent.{Extent}
@@ -55,7 +55,7 @@ pub record FindsHead (at : ℕ) (file ahead : List ℕ) : Type 0 where
   pub finds : front ahead ≡ front (drop at file)
 
 -- a sync, and a look at what is then durable
-pub record LooksKept {T : Type 0} (result : Result T Fault) (before after : Disk) : Type 0 where
+pub record LooksKept {T : Type 0} (result : Result T JournalFault) (before after : Disk) : Type 0 where
   pub settled : before.sound ≡ true → OnOk result (IsSettled after)
   pub seen : after.seen ≡ before.seen
   pub any_moment : LeavesOnly before after (IsAsBefore before)

@@ -1,7 +1,7 @@
 -- What the journal's calls leave on a disk.
 -- Public contracts reach it through: Ready.
 use Rattle.std.specs.Prelude.{◌≡◌, ◌⊎◌, ℕ, true, List, [], ◌∷◌, ◌++◌, length, take, Result, OnOk, ◌≤◌}
-use Rattle.tb_journal.specs.declared.faults.Fault.{Fault}
+use Rattle.tb_journal.specs.declared.faults.JournalFault.{JournalFault}
 use Rattle.tb_journal.specs.Device.{Disk, IsOnDisk, IsSettled, Torn, Cut, overwritten, LeavesOnly, HasCause}
 use Rattle.tb_journal.specs.Contents.{Records, contents, recorded, records_end, Fits, at_rest}
 use Rattle.std.specs.List.{AllByRecursion}
@@ -23,27 +23,27 @@ abbrev pub IsBeforeOrAfter : List (List ℕ) → List (List ℕ) → List ℕ �
 IsBeforeOrAfter records batch file = (contents file ≡ Records records) ⊎ (contents file ≡ Records (records ++ batch))
 
 -- a write and a sync
-pub record Overwrites (at : ℕ) (bytes : List ℕ) (result : Result (Unit {0}) Fault) (before after : Disk) : Type 0 where
+pub record Overwrites (at : ℕ) (bytes : List ℕ) (result : Result (Unit {0}) JournalFault) (before after : Disk) : Type 0 where
   pub ok : OnOk result (after.seen ≡ overwritten before.seen at bytes)
   pub settled : IsSettled before → OnOk result (IsSettled after)
   pub any_moment : IsSettled before → LeavesOnly before after (Torn at (length bytes) before.seen)
   pub cause : HasCause result before after
 
 -- a cut and a sync
-pub record Shortens (len : ℕ) (result : Result (Unit {0}) Fault) (before after : Disk) : Type 0 where
+pub record Shortens (len : ℕ) (result : Result (Unit {0}) JournalFault) (before after : Disk) : Type 0 where
   pub ok : OnOk result (after.seen ≡ take len before.seen)
   pub settled : IsSettled before → OnOk result (IsSettled after)
   pub any_moment : IsSettled before → LeavesOnly before after (Cut len before.seen)
   pub cause : HasCause result before after
 
 -- a batch that is written behind what is there
-pub record Publishes (batch : List (List ℕ)) (result : Result (Unit {0}) Fault) (before after : Disk) : Type 0 where
+pub record Publishes (batch : List (List ℕ)) (result : Result (Unit {0}) JournalFault) (before after : Disk) : Type 0 where
   pub ok : OnOk result (IsWhole after × (recorded after.seen ≡ recorded before.seen ++ batch))
   pub settled : IsSettled before → OnOk result (IsSettled after)
   pub any_moment : IsSettled before → LeavesOnly before after (IsBeforeOrAfter (recorded before.seen) batch)
   pub cause : HasCause result before after
 
 -- the same of the bytes of some records behind the closed latch
-abbrev pub WritesBatch : List ℕ → Result (Unit {0}) Fault → Disk → Disk → Type 0
+abbrev pub WritesBatch : List ℕ → Result (Unit {0}) JournalFault → Disk → Disk → Type 0
 WritesBatch bytes result before after =
     (records : List (List ℕ)) → AllByRecursion Fits records → bytes ≡ at_rest records → 1 ≤ length records → Publishes records result before after

@@ -4,12 +4,12 @@ use Rattle.std.specs.Prelude.{◌≡◌, ◌≢◌, ◌⊎◌, ℕ, ◌<◌, ◌
 use Rattle.std.proofs.Common.{arith, inl}
 use Rattle.std.specs.declared.io.ErrorKind.{ErrorKind}
 use Rattle.std.specs.declared.io.ErrorKind.TheVariants as kinds
-use Rattle.tb_journal.specs.declared.faults.Fault.{Fault}
-use Rattle.tb_journal.specs.declared.faults.Fault.TheVariants as faults
+use Rattle.tb_journal.specs.declared.faults.JournalFault.{JournalFault}
+use Rattle.tb_journal.specs.declared.faults.JournalFault.TheVariants as faults
 use Rattle.tb_journal.specs.Device.{Disk, Only, AddsNone, Follows, Torn, Cut, Elapses, FailsNone, HasFailed, IsLookedAt, overwritten}
 
 -- the fault of a call that answered so: no space, no quota and a file at its greatest length are a full disk
-unfoldable pub fault_of : ErrorKind → Fault
+unfoldable pub fault_of : ErrorKind → JournalFault
 fault_of kinds.OutOfMemory = faults.Memory
 fault_of kinds.StorageFull = faults.Full
 fault_of kinds.QuotaExceeded = faults.Full
@@ -17,11 +17,11 @@ fault_of kinds.FileTooLarge = faults.Full
 fault_of _ = faults.Failed
 
 -- the fault of a sync, whatever it answered: behind it nothing is known of the file
-abbrev pub sync_fault_of : ErrorKind → Fault
+abbrev pub sync_fault_of : ErrorKind → JournalFault
 sync_fault_of kind = faults.SyncFailed
 
 -- an error is a failure, under the name of its fault; an interruption is none
-pub record Counts {T : Type 0} (fault : ErrorKind → Fault) (result : Result T ErrorKind) (before after : Disk) : Type 0 where
+pub record Counts {T : Type 0} (fault : ErrorKind → JournalFault) (result : Result T ErrorKind) (before after : Disk) : Type 0 where
   pub ok : OnOk result (FailsNone before after)
   pub interrupted : IsErrOf result kinds.Interrupted → FailsNone before after
   pub failed : IfErr result (λ kind. kind ≢ kinds.Interrupted → HasFailed before after (fault kind))

@@ -4,7 +4,7 @@ ghost use Rattle.std.specs.List.{AllByRecursion};
 ghost use Rattle.tb_journal.specs.Contents.{Fits, block, at_rest};
 ghost use Rattle.tb_journal.specs.private.Batches.{waiting_in, blank_numbers, IsBatch, IsUnwritten, AddsBlock, block_tail};
 
-use crate::faults::Fault;
+use crate::faults::JournalFault;
 use crate::journals::RECORD_BYTES_MAX;
 use crate::reading::checksum_of;
 use crate::written::Written;
@@ -58,7 +58,7 @@ impl Batch {
     }
 
     /// Adds a record whose bytes are written where they wait. Its block has so much space.
-    pub fn add_written<W: Written>(&mut self, content: &W, room: usize) -> Result<(), Fault>
+    pub fn add_written<W: Written>(&mut self, content: &W, room: usize) -> Result<(), JournalFault>
         ensures ok { OnOk result (self.new ≡ self.old ++ W.bytes content.now ∷ []) }
         ensures known { OnOk result (W.known content.now) }
         ensures short { OnOk result (length (W.bytes content.now) < 2 ^ 24) }
@@ -144,7 +144,11 @@ fn numbers_of(content: &[u8]) -> [u8; 7]
 
 // Opens the last latch for one more block, whose record is written there, and closes the one behind it. At an Err the bytes are
 // as they were.
-fn write_block<W: Written>(bytes: &mut Vec<u8>, content: &W, room: usize) -> Result<(), Fault>
+fn write_block<W: Written>(
+    bytes: &mut Vec<u8>,
+    content: &W,
+    room: usize,
+) -> Result<(), JournalFault>
     ensures ok { OnOk result (AddsBlock (W.bytes content.now) bytes.old.items bytes.new.items) }
     ensures fits { OnOk result (Fits (W.bytes content.now)) }
     ensures known { OnOk result (W.known content.now) }
@@ -168,7 +172,11 @@ fn write_block<W: Written>(bytes: &mut Vec<u8>, content: &W, room: usize) -> Res
 }
 
 // Adds all of a block but its latch, and the latch behind it.
-fn write_parts<W: Written>(bytes: &mut Vec<u8>, content: &W, room: usize) -> Result<(), Fault>
+fn write_parts<W: Written>(
+    bytes: &mut Vec<u8>,
+    content: &W,
+    room: usize,
+) -> Result<(), JournalFault>
     ensures ok { OnOk result (bytes.new.items ≡ bytes.old.items ++ block_tail (W.bytes content.now)) }
     ensures fits { OnOk result (Fits (W.bytes content.now)) }
     ensures known { OnOk result (W.known content.now) }
@@ -182,7 +190,11 @@ fn write_parts<W: Written>(bytes: &mut Vec<u8>, content: &W, room: usize) -> Res
 }
 
 // Adds all of a block but its latch. The record comes first, and then the numbers that come before it.
-fn write_sealed<W: Written>(bytes: &mut Vec<u8>, content: &W, room: usize) -> Result<(), Fault>
+fn write_sealed<W: Written>(
+    bytes: &mut Vec<u8>,
+    content: &W,
+    room: usize,
+) -> Result<(), JournalFault>
     ensures ok { OnOk result (bytes.new.items ≡ bytes.old.items ++ drop 1 (block (W.bytes content.now))) }
     ensures fits { OnOk result (Fits (W.bytes content.now)) }
     ensures known { OnOk result (W.known content.now) }
@@ -210,16 +222,16 @@ fn write_record<W: Written>(bytes: &mut Vec<u8>, content: &W) -> Result<(), Allo
 }
 
 // Tests that a record of so many bytes is short enough, and that its block has the space.
-fn fit(count: usize, room: usize) -> Result<(), Fault>
+fn fit(count: usize, room: usize) -> Result<(), JournalFault>
     ensures short { OnOk result (count < 2 ^ 24) }
     ensures room { OnOk result (8 + count ≤ room) }
     ensures why { IfErr result (λ fault. IsUnwritten fault room count) }
 {
     if count >= RECORD_BYTES_MAX {
-        return Err(Fault::TooLong);
+        return Err(JournalFault::TooLong);
     }
     if count + 8 > room {
-        return Err(Fault::Full);
+        return Err(JournalFault::Full);
     }
     Ok(())
 }

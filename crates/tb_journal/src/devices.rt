@@ -2,7 +2,7 @@
 ghost use Rattle.std.specs.Prelude.{◌≤◌, ℕ, List, length, IfOk, IfErr};
 ghost use Rattle.tb_journal.specs.Device.{Disk, Looks, GivesBytes, AnswersLength, Writes, Cuts, Syncs, IsOfCall, IsOfSync};
 
-use crate::faults::Fault;
+use crate::faults::JournalFault;
 
 /// A file on a disk. What the calls do to it is stated of a device that knows: a real disk promises nothing, and a file in
 /// memory all of it.
@@ -17,7 +17,7 @@ pub trait Device {
     ghost holds: { Self → List ℕ → Type 0 } = { λ device file. ⊥ };
 
     /// Some of the bytes from an offset on: as many as fit, or all that are left.
-    fn read_at(&mut self, at: usize, into: &mut [u8]) -> Result<usize, Fault>
+    fn read_at(&mut self, at: usize, into: &mut [u8]) -> Result<usize, JournalFault>
         // Of any device, so that no reader trusts a count that is too large.
         ensures within { IfOk result (λ count. count ≤ length into.new) }
         // Of any device: so a reader can say of which bytes it speaks.
@@ -27,26 +27,26 @@ pub trait Device {
         ensures looks { tells → Looks result (disk self.old) (disk self.new) };
 
     /// The number of bytes.
-    fn len(&mut self) -> Result<usize, Fault>
+    fn len(&mut self) -> Result<usize, JournalFault>
         ensures bytes { (file : List ℕ) → holds self.old file → AnswersLength result file }
         ensures same { (file : List ℕ) → holds self.old file → holds self.new file }
         ensures names { IfErr result IsOfCall }
         ensures looks { tells → Looks result (disk self.old) (disk self.new) };
 
     /// Writes over what is there, and past the end. Until a sync, a crash may leave any bytes in the range.
-    fn write_at(&mut self, at: usize, bytes: &[u8]) -> Result<(), Fault>
+    fn write_at(&mut self, at: usize, bytes: &[u8]) -> Result<(), JournalFault>
         requires { tells → at ≤ length (disk self.old).seen }
         ensures names { IfErr result IsOfCall }
         ensures writes { tells → Writes at bytes.now result (disk self.old) (disk self.new) };
 
     /// Cuts the file to a length. Until a sync, a crash may leave any length between.
-    fn cut(&mut self, len: usize) -> Result<(), Fault>
+    fn cut(&mut self, len: usize) -> Result<(), JournalFault>
         requires { tells → len ≤ length (disk self.old).seen }
         ensures names { IfErr result IsOfCall }
         ensures cuts { tells → Cuts len result (disk self.old) (disk self.new) };
 
     /// After it, a crash leaves what a read returns, as long as no sync has failed.
-    fn sync(&mut self) -> Result<(), Fault>
+    fn sync(&mut self) -> Result<(), JournalFault>
         ensures same { (file : List ℕ) → holds self.old file → holds self.new file }
         ensures names { IfErr result IsOfSync }
         ensures syncs { tells → Syncs result (disk self.old) (disk self.new) };

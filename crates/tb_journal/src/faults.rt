@@ -7,7 +7,7 @@ use std::fmt;
 
 /// What went wrong in a call on a device or a journal.
 #[derive(Clone, Copy, Debug, PartialEq, Eq)]
-pub enum Fault {
+pub enum JournalFault {
     /// There is no memory.
     Memory,
     /// The device failed.
@@ -23,18 +23,18 @@ pub enum Fault {
     SyncFailed,
 }
 
-impl Fault {
+impl JournalFault {
     /// The fault's number, 1 to 6.
     pub fn number(self) -> u8
         ensures { result ≡ fault_number self }
     {
         match self {
-            Fault::Memory => 1,
-            Fault::Failed => 2,
-            Fault::Full => 3,
-            Fault::TooLong => 4,
-            Fault::NotEmpty => 5,
-            Fault::SyncFailed => 6,
+            JournalFault::Memory => 1,
+            JournalFault::Failed => 2,
+            JournalFault::Full => 3,
+            JournalFault::TooLong => 4,
+            JournalFault::NotEmpty => 5,
+            JournalFault::SyncFailed => 6,
         }
     }
 
@@ -43,37 +43,37 @@ impl Fault {
         ensures { result.now ≡ fault_name self }
     {
         match self {
-            Fault::Memory => "Memory",
-            Fault::Failed => "Failed",
-            Fault::Full => "Full",
-            Fault::TooLong => "TooLong",
-            Fault::NotEmpty => "NotEmpty",
-            Fault::SyncFailed => "SyncFailed",
+            JournalFault::Memory => "Memory",
+            JournalFault::Failed => "Failed",
+            JournalFault::Full => "Full",
+            JournalFault::TooLong => "TooLong",
+            JournalFault::NotEmpty => "NotEmpty",
+            JournalFault::SyncFailed => "SyncFailed",
         }
     }
 }
 
-impl From<AllocError> for Fault {
-    ghost use Rattle.tb_journal.specs.declared.faults.Fault.TheVariants.{Memory};
+impl From<AllocError> for JournalFault {
+    ghost use Rattle.tb_journal.specs.declared.faults.JournalFault.TheVariants.{Memory};
 
     ghost from_gives = { λ _ fault. fault ≡ Memory };
 
-    fn from(_: AllocError) -> Fault {
-        Fault::Memory
+    fn from(_: AllocError) -> JournalFault {
+        JournalFault::Memory
     }
 }
 
-impl<T: Drop> From<AllocFailed<T>> for Fault {
-    ghost use Rattle.tb_journal.specs.declared.faults.Fault.TheVariants.{Memory};
+impl<T: Drop> From<AllocFailed<T>> for JournalFault {
+    ghost use Rattle.tb_journal.specs.declared.faults.JournalFault.TheVariants.{Memory};
 
     ghost from_gives = { λ _ fault. fault ≡ Memory };
 
-    fn from(_: AllocFailed<T>) -> Fault {
-        Fault::Memory
+    fn from(_: AllocFailed<T>) -> JournalFault {
+        JournalFault::Memory
     }
 }
 
-impl fmt::Display for Fault {
+impl fmt::Display for JournalFault {
     ghost output = { λ fault. Some (fault_name fault) };
 
     fn fmt<W: fmt::Write>(&self, f: &mut fmt::Formatter<W>) -> fmt::Result {

@@ -7,7 +7,7 @@ ghost use Rattle.tb_journal.specs.Steps.{IsWhole, Overwrites, WritesBatch};
 
 use crate::batches::{Batch, OPEN};
 use crate::devices::Device;
-use crate::faults::Fault;
+use crate::faults::JournalFault;
 use crate::written::Written;
 use std::marker::Model;
 
@@ -38,44 +38,44 @@ impl<D: Device> Model for Journal<D> {
 
 impl<D: Device> Journal<D> {
     /// Lets a record wait for the next commit. The file stays as it is. At an `Err` nothing has changed.
-    pub fn append(&mut self, content: &[u8]) -> Result<(), Fault>
+    pub fn append(&mut self, content: &[u8]) -> Result<(), JournalFault>
         requires usable { self.old.usable ≡ true }
         ensures ok { OnOk result (self.new ≡ with_waiting self.old content.now) }
         ensures err { OnErr result (self.new ≡ self.old) }
-        ensures long { IsErrOf result Fault.TooLong ↔ (2 ^ 24 ≤ length content.now) }
-        ensures full { IsErrOf result Fault.Full
+        ensures long { IsErrOf result JournalFault.TooLong ↔ (2 ^ 24 ≤ length content.now) }
+        ensures full { IsErrOf result JournalFault.Full
             ↔ (length content.now < 2 ^ 24) × (2 ^ 62 < grown self.old content.now) }
-        ensures failed { IsErrOf result Fault.Failed → ⊥ }
-        ensures not_empty { IsErrOf result Fault.NotEmpty → ⊥ }
-        ensures synced { IsErrOf result Fault.SyncFailed → ⊥ }
+        ensures failed { IsErrOf result JournalFault.Failed → ⊥ }
+        ensures not_empty { IsErrOf result JournalFault.NotEmpty → ⊥ }
+        ensures synced { IsErrOf result JournalFault.SyncFailed → ⊥ }
     {
         if content.len() >= RECORD_BYTES_MAX {
-            return Err(Fault::TooLong);
+            return Err(JournalFault::TooLong);
         }
         if content.len() + 8 > FILE_BYTES_MAX - self.end - self.batch.bytes().len() {
-            return Err(Fault::Full);
+            return Err(JournalFault::Full);
         }
         match self.batch.add(content) {
             Ok(()) => Ok(()),
-            Err(_) => Err(Fault::Memory),
+            Err(_) => Err(JournalFault::Memory),
         }
     }
 
     /// The same of a record that is written where it waits. At an `Err` nothing has changed.
-    pub fn append_written<W: Written>(&mut self, content: &W) -> Result<(), Fault>
+    pub fn append_written<W: Written>(&mut self, content: &W) -> Result<(), JournalFault>
         requires usable { self.old.usable ≡ true }
         ensures ok { OnOk result (self.new ≡ with_waiting self.old (W.bytes content.now)) }
         ensures known { OnOk result (W.known content.now) }
         ensures err { OnErr result (self.new ≡ self.old) }
-        ensures long { IsErrOf result Fault.TooLong → 2 ^ 24 ≤ length (W.bytes content.now) }
-        ensures full { IsErrOf result Fault.Full
+        ensures long { IsErrOf result JournalFault.TooLong → 2 ^ 24 ≤ length (W.bytes content.now) }
+        ensures full { IsErrOf result JournalFault.Full
             → 2 ^ 62 < grown self.old (W.bytes content.now) }
         // Of a record that is too long or does not fit, memory may be missing first.
         ensures short { OnOk result (length (W.bytes content.now) < 2 ^ 24) }
         ensures fits { OnOk result (grown self.old (W.bytes content.now) ≤ 2 ^ 62) }
-        ensures failed { IsErrOf result Fault.Failed → ⊥ }
-        ensures not_empty { IsErrOf result Fault.NotEmpty → ⊥ }
-        ensures synced { IsErrOf result Fault.SyncFailed → ⊥ }
+        ensures failed { IsErrOf result JournalFault.Failed → ⊥ }
+        ensures not_empty { IsErrOf result JournalFault.NotEmpty → ⊥ }
+        ensures synced { IsErrOf result JournalFault.SyncFailed → ⊥ }
     {
         let room = FILE_BYTES_MAX - self.end - self.batch.bytes().len();
         self.batch.add_written(content, room)
@@ -84,7 +84,7 @@ impl<D: Device> Journal<D> {
     /// Writes the records that wait. At `Ok` they are acknowledged: from then on each crash leaves a file that has
     /// them. Where none waits the device is not called. It takes no memory of its own. After an `Err` the journal is
     /// not used again: the file has to be recovered.
-    pub fn commit(&mut self) -> Result<(), Fault>
+    pub fn commit(&mut self) -> Result<(), JournalFault>
         requires usable { self.old.usable ≡ true }
         requires writable { D.tells → IsWritable D.disk self.old }
 
@@ -101,7 +101,7 @@ impl<D: Device> Journal<D> {
         // A crash at any moment of the call leaves the records from before it, with the whole batch or with none of it.
         ensures any_moment { D.tells → IsReady D.disk self.old → LeavesAllOrNone D.disk self.old self.new }
 
-        ensures not_empty { IfErr result (λ fault. fault ≡ Fault.NotEmpty → ⊥) }
+        ensures not_empty { IfErr result (λ fault. fault ≡ JournalFault.NotEmpty → ⊥) }
 
         // It does not give up by itself.
         ensures cause { D.tells → HasCause result (D.disk self.old.device) (D.disk self.new.device) }
@@ -160,9 +160,9 @@ impl<D: Device> Journal<D> {
 }
 
 // Writes, and syncs.
-pub fn write_kept<D: Device>(device: &mut D, at: usize, bytes: &[u8]) -> Result<(), Fault>
+pub fn write_kept<D: Device>(device: &mut D, at: usize, bytes: &[u8]) -> Result<(), JournalFault>
     requires within { D.tells → at ≤ length (D.disk device.old).seen }
-    ensures other { IfErr result (λ fault. fault ≡ Fault.NotEmpty → ⊥) }
+    ensures other { IfErr result (λ fault. fault ≡ JournalFault.NotEmpty → ⊥) }
     ensures writes { D.tells → Overwrites at bytes.now result (D.disk device.old) (D.disk device.new) }
 {
     match device.write_at(at, bytes) {
@@ -172,12 +172,12 @@ pub fn write_kept<D: Device>(device: &mut D, at: usize, bytes: &[u8]) -> Result<
 }
 
 // Writes blocks behind the closed latch at this offset, and then opens it.
-pub fn publish<D: Device>(device: &mut D, end: usize, batch: &[u8]) -> Result<(), Fault>
+pub fn publish<D: Device>(device: &mut D, end: usize, batch: &[u8]) -> Result<(), JournalFault>
     requires some { 1 ≤ length batch.now }
     requires short { end < 2 ^ 63 }
     requires whole { D.tells → IsWhole (D.disk device.old) }
     requires ends { D.tells → end ≡ records_end (recorded (D.disk device.old).seen) }
-    ensures other { IfErr result (λ fault. fault ≡ Fault.NotEmpty → ⊥) }
+    ensures other { IfErr result (λ fault. fault ≡ JournalFault.NotEmpty → ⊥) }
     ensures publishes { D.tells → WritesBatch batch.now result (D.disk device.old) (D.disk device.new) }
 {
     let (_, tail) = batch.split_at(1);

@@ -43,7 +43,7 @@ mod tables;
 mod written;
 
 pub use devices::Device;
-pub use faults::Fault;
+pub use faults::JournalFault;
 pub use growing::Growing;
 pub use journals::{FILE_BYTES_MAX, Journal, RECORD_BYTES_MAX};
 pub use memory::Memory;

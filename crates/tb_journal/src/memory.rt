@@ -1,13 +1,13 @@
 //! A file in memory that reports what a crash may leave of it, and can fail.
 ghost use Rattle.std.specs.Prelude.{◌≡◌, ◌≢◌, ◌≤◌, ◌⊎◌, ◌++◌, ◌∷◌, true, [], Vec, List, ℕ, ◌-◌, ◌==◌, length, reverse, IfOk, IfErr, OnOk, OnErr};
 ghost use Rattle.tb_journal.specs.declared.memory.Call.TheVariants as variants;
-ghost use Rattle.tb_journal.specs.declared.faults.Fault.TheVariants as faults;
+ghost use Rattle.tb_journal.specs.declared.faults.JournalFault.TheVariants as faults;
 ghost use Rattle.tb_journal.specs.Device.{Torn, Looks, ReadsAt, Writes, Cuts, Syncs, Rises, IsOfCall, IsOfSync, overwritten, AnswersLength, GivesBytes, OfHeld};
 ghost use Rattle.tb_journal.specs.Faults.{call_fault};
 ghost use Rattle.tb_journal.specs.Torn.{Adds, torn_at, torn_by, shown_after};
 
 use crate::devices::Device;
-use crate::faults::Fault;
+use crate::faults::JournalFault;
 use crate::growing::Growing;
 use std::alloc::{AllocError, Global};
 
@@ -40,7 +40,7 @@ struct Failures {
 }
 
 impl Failures {
-    ghost use Rattle.tb_journal.specs.declared.faults.Fault.{Fault};
+    ghost use Rattle.tb_journal.specs.declared.faults.JournalFault.{JournalFault};
     ghost use Rattle.tb_journal.specs.Failures.{counted};
 
     fn none() -> Failures {
@@ -55,18 +55,18 @@ impl Failures {
     }
 
     // Counts one, and answers it.
-    fn count(&mut self, fault: Fault) -> Fault
+    fn count(&mut self, fault: JournalFault) -> JournalFault
         ensures same { result ≡ fault }
         ensures counted { Rises (counted self.old fault) (counted self.new fault) }
-        ensures others { (other : Fault) → (other ≡ fault) ⊎ (counted self.new other ≡ counted self.old other) }
+        ensures others { (other : JournalFault) → (other ≡ fault) ⊎ (counted self.new other ≡ counted self.old other) }
     {
         match fault {
-            Fault::Memory => self.memory = self.memory.saturating_add(1),
-            Fault::Failed => self.failed = self.failed.saturating_add(1),
-            Fault::Full => self.full = self.full.saturating_add(1),
-            Fault::TooLong => self.too_long = self.too_long.saturating_add(1),
-            Fault::NotEmpty => self.not_empty = self.not_empty.saturating_add(1),
-            Fault::SyncFailed => self.unsynced = self.unsynced.saturating_add(1),
+            JournalFault::Memory => self.memory = self.memory.saturating_add(1),
+            JournalFault::Failed => self.failed = self.failed.saturating_add(1),
+            JournalFault::Full => self.full = self.full.saturating_add(1),
+            JournalFault::TooLong => self.too_long = self.too_long.saturating_add(1),
+            JournalFault::NotEmpty => self.not_empty = self.not_empty.saturating_add(1),
+            JournalFault::SyncFailed => self.unsynced = self.unsynced.saturating_add(1),
         }
         fault
     }
@@ -82,7 +82,7 @@ pub struct Memory {
     // The call of this number from now fails; 0 where none will.
     fuse: u64,
     // What it fails with.
-    why: Fault,
+    why: JournalFault,
     failures: Failures,
     // No sync has failed.
     sound: bool,
@@ -106,7 +106,7 @@ impl Memory {
             calls: Vec::new(alloc),
             bytes,
             fuse: 0,
-            why: Fault::Failed,
+            why: JournalFault::Failed,
             failures: Failures::none(),
             sound: true,
         })
@@ -136,11 +136,11 @@ impl Memory {
         ensures fuse { fuse_of self.new ≡ number }
         ensures why { why_of self.new ≡ faults.Failed }
     {
-        self.fail_with(number, Fault::Failed);
+        self.fail_with(number, JournalFault::Failed);
     }
 
     /// The same, with the fault that is named, Memory or Full, where the call is no sync.
-    pub fn fail_with(&mut self, number: u64, fault: Fault)
+    pub fn fail_with(&mut self, number: u64, fault: JournalFault)
         ensures bytes { memory_bytes self.new ≡ memory_bytes self.old }
         ensures moments { moments_of self.new ≡ moments_of self.old }
         ensures sound { (memory_disk self.new).sound ≡ (memory_disk self.old).sound }
@@ -219,7 +219,7 @@ impl Device for Memory {
 
     ghost only_now = { memory_only_now };
 
-    fn read_at(&mut self, at: usize, into: &mut [u8]) -> Result<usize, Fault>
+    fn read_at(&mut self, at: usize, into: &mut [u8]) -> Result<usize, JournalFault>
         ensures within { IfOk result (λ count. count ≤ length into.new) }
         ensures bytes { OfHeld (memory_holds self.old) (GivesBytes result at into.new) }
         ensures same { (file : List ℕ) → memory_holds self.old file → memory_holds self.new file }
@@ -235,7 +235,7 @@ impl Device for Memory {
         Ok(copy_from(&self.bytes, at, into))
     }
 
-    fn len(&mut self) -> Result<usize, Fault>
+    fn len(&mut self) -> Result<usize, JournalFault>
         ensures bytes { OfHeld (memory_holds self.old) (AnswersLength result) }
         ensures same { (file : List ℕ) → memory_holds self.old file → memory_holds self.new file }
         ensures names { IfErr result IsOfCall }
@@ -250,7 +250,7 @@ impl Device for Memory {
         Ok(self.bytes.len())
     }
 
-    fn write_at(&mut self, at: usize, bytes: &[u8]) -> Result<(), Fault>
+    fn write_at(&mut self, at: usize, bytes: &[u8]) -> Result<(), JournalFault>
         requires { Unit {0} → at ≤ length (memory_disk self.old).seen }
         ensures names { IfErr result IsOfCall }
         ensures writes { Unit {0} → Writes at bytes.now result (memory_disk self.old) (memory_disk self.new) }
@@ -267,11 +267,11 @@ impl Device for Memory {
                 self.bytes = next;
                 Ok(())
             }
-            Err(_) => Err(self.failures.count(Fault::Memory)),
+            Err(_) => Err(self.failures.count(JournalFault::Memory)),
         }
     }
 
-    fn cut(&mut self, len: usize) -> Result<(), Fault>
+    fn cut(&mut self, len: usize) -> Result<(), JournalFault>
         ensures names { IfErr result IsOfCall }
         ensures cuts { Unit {0} → Cuts len result (memory_disk self.old) (memory_disk self.new) }
         ensures counts { IsCounted self.old self.new }
@@ -287,11 +287,11 @@ impl Device for Memory {
                 self.bytes.truncate(len);
                 Ok(())
             }
-            Err(_) => Err(self.failures.count(Fault::Memory)),
+            Err(_) => Err(self.failures.count(JournalFault::Memory)),
         }
     }
 
-    fn sync(&mut self) -> Result<(), Fault>
+    fn sync(&mut self) -> Result<(), JournalFault>
         ensures same { (file : List ℕ) → memory_holds self.old file → memory_holds self.new file }
         ensures names { IfErr result IsOfSync }
         ensures syncs { Unit {0} → Syncs result (memory_disk self.old) (memory_disk self.new) }
@@ -300,7 +300,7 @@ impl Device for Memory {
     {
         if trips(&mut self.fuse) {
             self.sound = false;
-            return Err(self.failures.count(Fault::SyncFailed));
+            return Err(self.failures.count(JournalFault::SyncFailed));
         }
         if !self.sound {
             return Ok(());
@@ -309,7 +309,7 @@ impl Device for Memory {
             Ok(()) => Ok(()),
             Err(_) => {
                 self.sound = false;
-                Err(self.failures.count(Fault::SyncFailed))
+                Err(self.failures.count(JournalFault::SyncFailed))
             }
         }
     }
@@ -320,23 +320,23 @@ impl Growing for Memory {
 
     ghost grows = { memory_holds };
 
-    fn read_at(&mut self, at: usize, into: &mut [u8]) -> Result<usize, Fault> {
+    fn read_at(&mut self, at: usize, into: &mut [u8]) -> Result<usize, JournalFault> {
         <Self as Device>::read_at(self, at, into)
     }
 
-    fn len(&mut self) -> Result<usize, Fault> {
+    fn len(&mut self) -> Result<usize, JournalFault> {
         <Self as Device>::len(self)
     }
 }
 
 // The fault of a call that is no sync.
-fn of_call(fault: Fault) -> Fault
+fn of_call(fault: JournalFault) -> JournalFault
     ensures names { IsOfCall result }
     ensures value { result ≡ call_fault fault }
 {
     match fault {
-        Fault::Memory | Fault::Full => fault,
-        _ => Fault::Failed,
+        JournalFault::Memory | JournalFault::Full => fault,
+        _ => JournalFault::Failed,
     }
 }
 

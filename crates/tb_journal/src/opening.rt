@@ -10,7 +10,7 @@ ghost use Rattle.tb_journal.specs.Creating.{is_torn_from, is_blank, MayBeCreated
 
 use crate::batches::{Batch, CLOSED};
 use crate::devices::Device;
-use crate::faults::Fault;
+use crate::faults::JournalFault;
 use crate::journals::{FILE_BYTES_MAX, Journal, write_kept};
 use crate::reading::{Extent, MAGIC, Refusal};
 use crate::scans::read_journal;
@@ -22,7 +22,7 @@ pub enum OpenFault {
     /// The file is no journal, or it is damaged. It is as it was.
     Refused(Refusal),
     /// A call on the device failed, there is no memory, or the file is at its greatest length.
-    Device(Fault),
+    Device(JournalFault),
 }
 
 /// A device whose file was not opened, and why.
@@ -34,7 +34,7 @@ pub struct NotOpened<D: Device> {
 
 impl<D: Device> NotOpened<D> {
     // Not opened for a fault of the device, or of memory: the file is no reason.
-    pub(crate) fn of_device(device: D, fault: Fault) -> NotOpened<D>
+    pub(crate) fn of_device(device: D, fault: JournalFault) -> NotOpened<D>
         ensures { result ≡ record { device = device; fault = OpenFault.Device fault } }
     {
         NotOpened {
@@ -45,7 +45,7 @@ impl<D: Device> NotOpened<D> {
 }
 
 // Cuts, and syncs.
-fn cut_kept<D: Device>(device: &mut D, len: usize) -> Result<(), Fault>
+fn cut_kept<D: Device>(device: &mut D, len: usize) -> Result<(), JournalFault>
     requires within { D.tells → len ≤ length (D.disk device.old).seen }
     ensures { D.tells → Shortens len result (D.disk device.old) (D.disk device.new) }
 {
@@ -57,7 +57,7 @@ fn cut_kept<D: Device>(device: &mut D, len: usize) -> Result<(), Fault>
 
 // Cuts off what follows the records, and writes a closed latch there. The cut is durable
 // first: behind a latch that is torn open, what was there would count.
-fn repair<D: Device>(device: &mut D, end: usize) -> Result<(), Fault>
+fn repair<D: Device>(device: &mut D, end: usize) -> Result<(), JournalFault>
     requires reads { D.tells → IsJournal (D.disk device.old).seen }
     requires ends { D.tells → end ≡ records_end (recorded (D.disk device.old).seen) }
     ensures { D.tells → Repairs result (D.disk device.old) (D.disk device.new) }
@@ -88,10 +88,10 @@ impl<D: Device> Journal<D> {
     {
         let Extent { end, count } = extent;
         if end >= FILE_BYTES_MAX {
-            return Err(NotOpened::of_device(device, Fault::Full));
+            return Err(NotOpened::of_device(device, JournalFault::Full));
         }
         let Ok(batch) = Batch::new(alloc) else {
-            return Err(NotOpened::of_device(device, Fault::Memory));
+            return Err(NotOpened::of_device(device, JournalFault::Memory));
         };
         let mut device = device;
         match repair(&mut device, end) {
@@ -155,16 +155,16 @@ pub fn create<D: Device>(alloc: Global, device: D) -> Result<Journal<D>, NotOpen
     let mut device = device;
     match finds_blank(&mut device) {
         Ok(true) => begin(alloc, device),
-        Ok(false) => Err(NotOpened::of_device(device, Fault::NotEmpty)),
+        Ok(false) => Err(NotOpened::of_device(device, JournalFault::NotEmpty)),
         Err(fault) => Err(NotOpened::of_device(device, fault)),
     }
 }
 
 // Says whether a file is blank. One that is longer than the first bytes is not, and is not read.
-fn finds_blank<D: Device>(device: &mut D) -> Result<bool, Fault>
+fn finds_blank<D: Device>(device: &mut D) -> Result<bool, JournalFault>
     ensures found { OfHeld (D.holds device.old) (λ file. IfOk result (λ found. found ≡ is_blank file)) }
     ensures same { (file : List ℕ) → D.holds device.old file → D.holds device.new file }
-    ensures other { IfErr result (λ fault. fault ≡ Fault.NotEmpty → ⊥) }
+    ensures other { IfErr result (λ fault. fault ≡ JournalFault.NotEmpty → ⊥) }
     ensures finds { D.tells → FindsBlank result (D.disk device.old) (D.disk device.new) }
 {
     match device.len() {
@@ -183,11 +183,11 @@ fn finds_blank<D: Device>(device: &mut D) -> Result<bool, Fault>
 }
 
 // The first bytes of a file. What is read is durable before it is read.
-fn read_kept<D: Device>(device: &mut D, into: &mut [u8]) -> Result<usize, Fault>
+fn read_kept<D: Device>(device: &mut D, into: &mut [u8]) -> Result<usize, JournalFault>
     ensures within { IfOk result (λ count. count ≤ length into.new) }
     ensures bytes { OfHeld (D.holds device.old) (GivesBytes result 0 into.new) }
     ensures same { (file : List ℕ) → D.holds device.old file → D.holds device.new file }
-    ensures other { IfErr result (λ fault. fault ≡ Fault.NotEmpty → ⊥) }
+    ensures other { IfErr result (λ fault. fault ≡ JournalFault.NotEmpty → ⊥) }
     ensures reads { D.tells → LooksKept result (D.disk device.old) (D.disk device.new) }
     ensures sound { D.tells → OnOk result ((D.disk device.new).sound ≡ (D.disk device.old).sound) }
     ensures cause { D.tells → HasCause result (D.disk device.old) (D.disk device.new) }
@@ -205,11 +205,11 @@ fn begin<D: Device>(alloc: Global, device: D) -> Result<Journal<D>, NotOpened<D>
         → LeavesOnly (D.disk device) (D.disk (device_left result)) IsUnborn }
     ensures usable { IfOk result (λ journal. (journal.usable ≡ true) × (journal.waiting ≡ [])) }
     ensures of_device { IfErr result (λ failed. IsOfDevice failed.fault) }
-    ensures other { IfErr result (λ failed. failed.fault ≡ OpenFault.Device Fault.NotEmpty → ⊥) }
+    ensures other { IfErr result (λ failed. failed.fault ≡ OpenFault.Device JournalFault.NotEmpty → ⊥) }
     ensures cause { D.tells → CausedBy D.disk device result HasCreateCause }
 {
     let Ok(batch) = Batch::new(alloc) else {
-        return Err(NotOpened::of_device(device, Fault::Memory));
+        return Err(NotOpened::of_device(device, JournalFault::Memory));
     };
     let mut device = device;
     match write_first(&mut device) {
@@ -225,9 +225,9 @@ fn begin<D: Device>(alloc: Global, device: D) -> Result<Journal<D>, NotOpened<D>
 }
 
 // Writes the first bytes, all in one write: whatever a crash leaves of them holds no record.
-fn write_first<D: Device>(device: &mut D) -> Result<(), Fault>
+fn write_first<D: Device>(device: &mut D) -> Result<(), JournalFault>
     requires blank { D.tells → is_blank (D.disk device.old).seen ≡ true }
-    ensures other { IfErr result (λ fault. fault ≡ Fault.NotEmpty → ⊥) }
+    ensures other { IfErr result (λ fault. fault ≡ JournalFault.NotEmpty → ⊥) }
     ensures writes { D.tells → WritesFirst result (D.disk device.old) (D.disk device.new) }
 {
     write_kept(device, 0, &FIRST)

@@ -5,7 +5,7 @@ ghost use Rattle.tb_journal.specs.System.{fault_of};
 ghost use Rattle.tb_journal.specs.private.Posix.{ReadsSome, WritesSome};
 
 use crate::devices::Device;
-use crate::faults::Fault;
+use crate::faults::JournalFault;
 use crate::growing::Growing;
 use crate::systems::System;
 use std::io::ErrorKind;
@@ -25,7 +25,7 @@ impl<S: System + Drop> Posix<S> {
     }
 
     /// The device of an open file, which is synced, so that what is read is durable.
-    pub fn synced(system: S) -> Result<Posix<S>, Fault>
+    pub fn synced(system: S) -> Result<Posix<S>, JournalFault>
         ensures names { IfErr result IsOfSync }
         ensures syncs { S.tells → IfOk result (λ file. Syncs (Ok tt) (S.disk system) (S.disk file.system)) }
     {
@@ -59,7 +59,7 @@ impl<S: System> Device for Posix<S> {
 
     ghost only_now = { λ file. S.only_now file.system };
 
-    fn read_at(&mut self, at: usize, into: &mut [u8]) -> Result<usize, Fault> {
+    fn read_at(&mut self, at: usize, into: &mut [u8]) -> Result<usize, JournalFault> {
         let mut count = 0;
         while count < into.len() {
             match read_some(&mut self.system, offset_of(at, count), &mut into[count..]) {
@@ -71,14 +71,14 @@ impl<S: System> Device for Posix<S> {
         Ok(count)
     }
 
-    fn len(&mut self) -> Result<usize, Fault> {
+    fn len(&mut self) -> Result<usize, JournalFault> {
         match self.system.fstat() {
             Ok(len) => Ok(len as usize),
             Err(kind) => Err(fault_of(kind)),
         }
     }
 
-    fn write_at(&mut self, at: usize, bytes: &[u8]) -> Result<(), Fault> {
+    fn write_at(&mut self, at: usize, bytes: &[u8]) -> Result<(), JournalFault> {
         let mut count = 0;
         while count < bytes.len() {
             match write_some(&mut self.system, offset_of(at, count), &bytes[count..]) {
@@ -89,11 +89,11 @@ impl<S: System> Device for Posix<S> {
         Ok(())
     }
 
-    fn cut(&mut self, len: usize) -> Result<(), Fault> {
+    fn cut(&mut self, len: usize) -> Result<(), JournalFault> {
         cut_once(&mut self.system, len)
     }
 
-    fn sync(&mut self) -> Result<(), Fault> {
+    fn sync(&mut self) -> Result<(), JournalFault> {
         sync_once(&mut self.system)
     }
 }
@@ -102,11 +102,11 @@ impl<S: System> Growing for Posix<S> {
     // By the system's calls nobody else writes.
     ghost grows = { λ file bytes. S.tells × (bytes ≡ (S.disk file.system).seen) };
 
-    fn read_at(&mut self, at: usize, into: &mut [u8]) -> Result<usize, Fault> {
+    fn read_at(&mut self, at: usize, into: &mut [u8]) -> Result<usize, JournalFault> {
         <Self as Device>::read_at(self, at, into)
     }
 
-    fn len(&mut self) -> Result<usize, Fault> {
+    fn len(&mut self) -> Result<usize, JournalFault> {
         <Self as Device>::len(self)
     }
 }
@@ -119,7 +119,7 @@ fn offset_of(at: usize, count: usize) -> u64
 }
 
 // Reads some bytes, again as long as a signal interrupts the call.
-fn read_some<S: System>(system: &mut S, offset: u64, into: &mut [u8]) -> Result<usize, Fault>
+fn read_some<S: System>(system: &mut S, offset: u64, into: &mut [u8]) -> Result<usize, JournalFault>
     ensures within { IfOk result (λ count. count ≤ length into.new) }
     ensures names { IfErr result IsOfCall }
     ensures reads { S.tells → ReadsSome offset into.new result (S.disk system.old) (S.disk system.new) }
@@ -133,11 +133,11 @@ fn read_some<S: System>(system: &mut S, offset: u64, into: &mut [u8]) -> Result<
             },
         }
     }
-    Err(Fault::Failed)
+    Err(JournalFault::Failed)
 }
 
 // Writes some of some bytes, at least one, again as long as a signal interrupts the call.
-fn write_some<S: System>(system: &mut S, offset: u64, bytes: &[u8]) -> Result<usize, Fault>
+fn write_some<S: System>(system: &mut S, offset: u64, bytes: &[u8]) -> Result<usize, JournalFault>
     requires some { 1 ≤ length bytes.now }
     requires within { S.tells → offset ≤ length (S.disk system.old).seen }
     ensures some { IfOk result (λ count. 1 ≤ count) }
@@ -148,7 +148,7 @@ fn write_some<S: System>(system: &mut S, offset: u64, bytes: &[u8]) -> Result<us
 {
     for _ in 0..u64::MAX {
         match system.pwrite(bytes, offset) {
-            Ok(0) => return Err(Fault::Failed),
+            Ok(0) => return Err(JournalFault::Failed),
             Ok(count) => return Ok(count),
             Err(kind) => match kind {
                 ErrorKind::Interrupted => {}
@@ -156,11 +156,11 @@ fn write_some<S: System>(system: &mut S, offset: u64, bytes: &[u8]) -> Result<us
             },
         }
     }
-    Err(Fault::Failed)
+    Err(JournalFault::Failed)
 }
 
 // Cuts the file, again as long as a signal interrupts the call.
-fn cut_once<S: System>(system: &mut S, len: usize) -> Result<(), Fault>
+fn cut_once<S: System>(system: &mut S, len: usize) -> Result<(), JournalFault>
     requires { S.tells → len ≤ length (S.disk system.old).seen }
     ensures names { IfErr result IsOfCall }
     ensures cuts { S.tells → Cuts len result (S.disk system.old) (S.disk system.new) }
@@ -174,11 +174,11 @@ fn cut_once<S: System>(system: &mut S, len: usize) -> Result<(), Fault>
             },
         }
     }
-    Err(Fault::Failed)
+    Err(JournalFault::Failed)
 }
 
 // Syncs the file, again as long as a signal interrupts the call.
-fn sync_once<S: System>(system: &mut S) -> Result<(), Fault>
+fn sync_once<S: System>(system: &mut S) -> Result<(), JournalFault>
     ensures names { IfErr result IsOfSync }
     ensures syncs { S.tells → Syncs result (S.disk system.old) (S.disk system.new) }
 {
@@ -187,22 +187,23 @@ fn sync_once<S: System>(system: &mut S) -> Result<(), Fault>
             Ok(()) => return Ok(()),
             Err(kind) => match kind {
                 ErrorKind::Interrupted => {}
-                _ => return Err(Fault::SyncFailed),
+                _ => return Err(JournalFault::SyncFailed),
             },
         }
     }
-    Err(Fault::SyncFailed)
+    Err(JournalFault::SyncFailed)
 }
 
 // The fault of a call that answered so.
 #[tactic(auto, unfolding(crate::specs::System::fault_of))]
-fn fault_of(kind: ErrorKind) -> Fault
+fn fault_of(kind: ErrorKind) -> JournalFault
     ensures is { result ≡ fault_of kind }
     ensures names { IsOfCall result }
 {
     match kind {
-        ErrorKind::OutOfMemory => Fault::Memory,
-        ErrorKind::StorageFull | ErrorKind::QuotaExceeded | ErrorKind::FileTooLarge => Fault::Full,
-        _ => Fault::Failed,
+        ErrorKind::OutOfMemory => JournalFault::Memory,
+        ErrorKind::StorageFull | ErrorKind::QuotaExceeded | ErrorKind::FileTooLarge =>
+            JournalFault::Full,
+        _ => JournalFault::Failed,
     }
 }

@@ -1,7 +1,7 @@
 //! A file of the system.
 ghost use Rattle.tb_journal.specs.Real.{untold};
 
-use crate::faults::Fault;
+use crate::faults::JournalFault;
 use crate::posix::Posix;
 use crate::systems::System;
 use std::fs::{File, Files, OpenFile, TryLockError};
@@ -15,7 +15,7 @@ pub enum FileFault {
     /// Another process has it open.
     Locked,
     /// A sync of the file or of its folder failed so.
-    Sync(Fault),
+    Sync(JournalFault),
     /// The system's answer to any other call.
     System(io::Error),
     /// It is no regular file: a folder, a FIFO or a device.
@@ -208,7 +208,7 @@ pub fn sync_folder<R: Files + Alloc>(rt: &R, path: &str) -> Result<(), FileFault
 
 // What a sync answered.
 fn synced(answer: io::Result<()>) -> Result<(), FileFault> {
-    answer.map_err(|_| FileFault::Sync(Fault::SyncFailed))
+    answer.map_err(|_| FileFault::Sync(JournalFault::SyncFailed))
 }
 
 // The folder that a path names a file in.

@@ -7,7 +7,7 @@ ghost use Rattle.tb_journal.specs.Scans.{Place, IsAhead, Starts, GoesFurther, Is
 ghost use Rattle.tb_journal.specs.Reading.{HasAhead, FindsHead, LooksKept, StartsScan, TellsExtent, head_is, ReadAhead};
 
 use crate::devices::Device;
-use crate::faults::Fault;
+use crate::faults::JournalFault;
 use crate::journals::FILE_BYTES_MAX;
 use crate::opening::OpenFault;
 use crate::reading::{Extent, Head, MAGIC, Refusal, asked, head_of};
@@ -71,7 +71,7 @@ impl Scan {
         ensures place { IfErr result (IsAt self.old.end) }
     {
         if self.end >= FILE_BYTES_MAX {
-            return Err(OpenFault::Device(Fault::Full));
+            return Err(OpenFault::Device(JournalFault::Full));
         }
         match head_at(&mut self.window, device, self.end) {
             Ok(Head::End) => Ok(false),
@@ -117,7 +117,7 @@ impl Scan {
 }
 
 // The first bytes of a file. What is read is durable before it is read.
-fn read_first<D: Device>(alloc: Global, device: &mut D) -> Result<Window, Fault>
+fn read_first<D: Device>(alloc: Global, device: &mut D) -> Result<Window, JournalFault>
     ensures looks { D.tells
         → LooksKept result (D.disk device.old) (D.disk device.new) }
     ensures sound { D.tells → OnOk result ((D.disk device.new).sound ≡ (D.disk device.old).sound) }
@@ -150,7 +150,7 @@ fn begin(window: Window) -> Option<Scan>
 }
 
 // What is at this offset, with its checksum. All of a block is read ahead.
-fn head_at<D: Device>(window: &mut Window, device: &mut D, at: usize) -> Result<Head, Fault>
+fn head_at<D: Device>(window: &mut Window, device: &mut D, at: usize) -> Result<Head, JournalFault>
     requires { at < 2 ^ 62 }
     ensures head { IfOk result (λ head. head ≡ head_is (front window.new.ahead)) }
     ensures short { OnOk result (length window.new.ahead < 2 ^ 63) }
@@ -266,7 +266,12 @@ impl Window {
 
     // Reads on where fewer bytes are ahead than these: then so many are there, or all that the file has left. The bytes
     // that were taken are freed.
-    pub fn fill<D: Device>(&mut self, device: &mut D, at: usize, n: usize) -> Result<(), Fault>
+    pub fn fill<D: Device>(
+        &mut self,
+        device: &mut D,
+        at: usize,
+        n: usize,
+    ) -> Result<(), JournalFault>
         requires { at < 2 ^ 62 }
         ensures ahead { (file : List ℕ) → D.holds device.old file → IsAhead at file self.old.ahead
             → OnOk result (HasAhead n at file self.new.ahead) }
@@ -315,7 +320,7 @@ fn read_behind<D: Device>(
     at: usize,
     bytes: &mut Vec<u8>,
     filled: usize,
-) -> Result<usize, Fault>
+) -> Result<usize, JournalFault>
     requires within { filled ≤ vec_len bytes.old }
     requires near { at < 2 ^ 62 }
     ensures within { IfOk result (λ count. filled + count ≤ vec_len bytes.new) }

@@ -10,7 +10,7 @@ ghost use Rattle.tb_journal.specs.Growing.{HasGrown};
 
 use crate::batches::CLOSED;
 use crate::devices::Device;
-use crate::faults::Fault;
+use crate::faults::JournalFault;
 use crate::growing::Growing;
 use crate::hops::{Hop, follow, is_end};
 use crate::journals::FILE_BYTES_MAX;
@@ -52,7 +52,7 @@ impl<G: Growing> Model for Snapshot<G> {
 
 impl<G: Growing + Drop> Snapshot<G> {
     /// Follows the blocks of a file to the closed latch, and keeps that end. No checksum is looked at: a scan does that.
-    pub fn new(alloc: Global, file: G) -> Result<Snapshot<G>, Fault>
+    pub fn new(alloc: Global, file: G) -> Result<Snapshot<G>, JournalFault>
         ensures taken { (bytes : List ℕ) → G.grows file bytes → IfOk result (Takes G.grows bytes) }
         ensures names { IfErr result IsOfCall }
     {
@@ -65,7 +65,7 @@ impl<G: Growing + Drop> Snapshot<G> {
     }
 
     /// Goes on from the end that was met to the one that is there now. At an `Err` it holds what it held.
-    pub fn refresh(&mut self) -> Result<(), Fault>
+    pub fn refresh(&mut self) -> Result<(), JournalFault>
         ensures ok { (shown : List ℕ) → (held : IsHeld G.grows self.old shown) → OnOk result (Refreshes G.grows held.file shown self.new) }
         ensures err { (shown : List ℕ) → IsHeld G.grows self.old shown → OnErr result (IsHeld G.grows self.new shown) }
         ensures names { IfErr result IsOfCall }
@@ -83,7 +83,7 @@ impl<G: Growing + Drop> Snapshot<G> {
     }
 
     /// The number of bytes of the file now, those behind the end of the snapshot too.
-    pub fn file_len(&mut self) -> Result<usize, Fault>
+    pub fn file_len(&mut self) -> Result<usize, JournalFault>
         ensures same { (shown : List ℕ) → IsHeld G.grows self.old shown → IsHeld G.grows self.new shown }
         ensures len { HasGrown (G.grows self.old.file) (G.grows self.new.file) (AnswersLength result) }
         ensures names { IfErr result IsOfCall }
@@ -107,7 +107,7 @@ impl<G: Growing> Device for Snapshot<G> {
 
     ghost only_now = { λ _ c left. left };
 
-    fn read_at(&mut self, at: usize, into: &mut [u8]) -> Result<usize, Fault> {
+    fn read_at(&mut self, at: usize, into: &mut [u8]) -> Result<usize, JournalFault> {
         if !self.found.closed {
             return self.file.read_at(at, into);
         }
@@ -117,22 +117,22 @@ impl<G: Growing> Device for Snapshot<G> {
         read_closed(&mut self.file, self.found.end, at, into)
     }
 
-    fn len(&mut self) -> Result<usize, Fault> {
+    fn len(&mut self) -> Result<usize, JournalFault> {
         if !self.found.closed {
             return self.file.len();
         }
         Ok(self.found.end + 1)
     }
 
-    fn write_at(&mut self, _at: usize, _bytes: &[u8]) -> Result<(), Fault> {
-        Err(Fault::Failed)
+    fn write_at(&mut self, _at: usize, _bytes: &[u8]) -> Result<(), JournalFault> {
+        Err(JournalFault::Failed)
     }
 
-    fn cut(&mut self, _len: usize) -> Result<(), Fault> {
-        Err(Fault::Failed)
+    fn cut(&mut self, _len: usize) -> Result<(), JournalFault> {
+        Err(JournalFault::Failed)
     }
 
-    fn sync(&mut self) -> Result<(), Fault> {
+    fn sync(&mut self) -> Result<(), JournalFault> {
         Ok(())
     }
 }
@@ -143,7 +143,7 @@ fn read_closed<G: Growing>(
     end: usize,
     at: usize,
     into: &mut [u8],
-) -> Result<usize, Fault>
+) -> Result<usize, JournalFault>
     requires within { at ≤ end }
     ensures within { IfOk result (λ count. count ≤ length into.new) }
     ensures bytes { ReadsBlocks (G.grows file.old) (G.grows file.new) end at into.new result }
@@ -155,7 +155,7 @@ fn read_closed<G: Growing>(
 
 // Puts a closed latch behind so many bytes of those that were read, where it fits. Says how many they are then:
 // fails where the file has fewer.
-fn close(into: &mut [u8], count: usize, left: usize) -> Result<usize, Fault>
+fn close(into: &mut [u8], count: usize, left: usize) -> Result<usize, JournalFault>
     requires { count ≤ length into.old }
     ensures within { IfOk result (λ told. told ≤ length into.new) }
     ensures closes { IfOk result (Closes count left into.old into.new) }
@@ -165,14 +165,14 @@ fn close(into: &mut [u8], count: usize, left: usize) -> Result<usize, Fault>
         return Ok(count);
     }
     if count < left {
-        return Err(Fault::Failed);
+        return Err(JournalFault::Failed);
     }
     into[left] = CLOSED;
     Ok(left + 1)
 }
 
 // Where a file ends, from its first bytes on.
-fn find<G: Growing>(file: &mut G, piece: &mut [u8]) -> Result<Found, Fault>
+fn find<G: Growing>(file: &mut G, piece: &mut [u8]) -> Result<Found, JournalFault>
     requires { 8 ≤ length piece.old }
     ensures found { (bytes : List ℕ) → G.grows file.old bytes → IfOk result (IsFound (G.grows file.new) bytes) }
     ensures near { IfOk result (λ found. IsNear found.end) }
@@ -189,7 +189,7 @@ fn find<G: Growing>(file: &mut G, piece: &mut [u8]) -> Result<Found, Fault>
 }
 
 // Says whether a file begins as a journal does.
-fn begins<G: Growing>(file: &mut G, piece: &mut [u8]) -> Result<bool, Fault>
+fn begins<G: Growing>(file: &mut G, piece: &mut [u8]) -> Result<bool, JournalFault>
     requires { 8 ≤ length piece.old }
     ensures tells { TellsStart (G.grows file.old) (G.grows file.new) result }
     ensures names { IfErr result IsOfCall }
@@ -205,7 +205,7 @@ fn is_journal(bytes: &[u8]) -> bool
 }
 
 // Where it ends now, of which a closed latch was met at this offset. Most often that latch is closed still.
-fn find_more<G: Growing>(file: &mut G, piece: &mut [u8], end: usize) -> Result<Found, Fault>
+fn find_more<G: Growing>(file: &mut G, piece: &mut [u8], end: usize) -> Result<Found, JournalFault>
     requires near { IsNear end }
     requires some { 8 ≤ length piece.old }
     ensures found { FindsMore (G.grows file.old) (G.grows file.new) end result }
@@ -221,7 +221,11 @@ fn find_more<G: Growing>(file: &mut G, piece: &mut [u8], end: usize) -> Result<F
 }
 
 // Says whether the latch at this offset is closed, or the file ends there. Fails where the file is shorter.
-fn still_closed<G: Growing>(file: &mut G, piece: &mut [u8], end: usize) -> Result<bool, Fault>
+fn still_closed<G: Growing>(
+    file: &mut G,
+    piece: &mut [u8],
+    end: usize,
+) -> Result<bool, JournalFault>
     requires { 8 ≤ length piece.old }
     ensures tells { TellsEnd (G.grows file.old) (G.grows file.new) end result }
     ensures names { IfErr result IsOfCall }
@@ -235,7 +239,7 @@ fn still_closed<G: Growing>(file: &mut G, piece: &mut [u8], end: usize) -> Resul
 
 // Says whether these bytes at an offset begin with a closed latch, or are the last. An offset is kept where the file reaches it:
 // one that got shorter is another file.
-fn latch_of(rest: &[u8], len: usize, end: usize) -> Result<bool, Fault>
+fn latch_of(rest: &[u8], len: usize, end: usize) -> Result<bool, JournalFault>
     ensures reaches { OnOk result (end ≤ len) }
     ensures shorter { OnErr result (len < end) }
     ensures tells { (file : List ℕ) → HasAhead 8 end file rest.now
@@ -243,13 +247,13 @@ fn latch_of(rest: &[u8], len: usize, end: usize) -> Result<bool, Fault>
     ensures names { IfErr result IsOfCall }
 {
     if len < end {
-        return Err(Fault::Failed);
+        return Err(JournalFault::Failed);
     }
     Ok(is_end(rest))
 }
 
 // Where a file ends whose blocks lead to this offset.
-fn find_end<G: Growing>(file: &mut G, piece: &mut [u8], from: usize) -> Result<Found, Fault>
+fn find_end<G: Growing>(file: &mut G, piece: &mut [u8], from: usize) -> Result<Found, JournalFault>
     requires { 8 ≤ length piece.old }
     ensures found { Finds (G.grows file.old) (G.grows file.new) from result }
     ensures same { Grows (G.grows file.old) (G.grows file.new) }
@@ -268,11 +272,11 @@ fn find_end<G: Growing>(file: &mut G, piece: &mut [u8], from: usize) -> Result<F
             Err(fault) => return Err(fault),
         }
     }
-    Err(Fault::Full)
+    Err(JournalFault::Full)
 }
 
 // Over the blocks of the piece at this offset.
-fn hop_from<G: Growing>(file: &mut G, piece: &mut [u8], at: usize) -> Result<Hop, Fault>
+fn hop_from<G: Growing>(file: &mut G, piece: &mut [u8], at: usize) -> Result<Hop, JournalFault>
     requires some { 8 ≤ length piece.old }
     requires near { at < 2 ^ 62 }
     ensures leads { HopsFrom (G.grows file.old) (G.grows file.new) at result }

@@ -1,8 +1,8 @@
 -- The cause of a fault, where no call failed before.
 use Rattle.std.proofs.Common.{arith, ◌≡◌, ◌⊎◌, inl, inr, ℕ, List, true, Result, Ok, Err, IfErr, refl, sym, subst}
 use Rattle.std.proofs.lemmas.Grind.{common_steps}
-use Rattle.tb_journal.specs.declared.faults.Fault.{Fault}
-use Rattle.tb_journal.specs.declared.faults.Fault.TheVariants as faults
+use Rattle.tb_journal.specs.declared.faults.JournalFault.{JournalFault}
+use Rattle.tb_journal.specs.declared.faults.JournalFault.TheVariants as faults
 use Rattle.tb_journal.specs.declared.opening.OpenFault.{OpenFault}
 use Rattle.tb_journal.specs.declared.opening.OpenFault.TheVariants as open_faults
 use Rattle.tb_journal.specs.Device.{Disk, FailsNone, IsCause, IsOfCall, IsOfSync}
@@ -17,7 +17,7 @@ use Rattle.tb_keep.specs.declared.faults.DumpFault.TheVariants as dump
 use Rattle.tb_keep.specs.Restoration.{HeadAnswers, IsStartCause, HasStartCause}
 use Rattle.tb_keep.specs.Opening.{IsCreateStartCause, HasCreateStartCause, IsEitherCause, HasEitherCause}
 use Rattle.tb_keep.specs.Reading.{RulesIn, IsDumpCause, HasDumpCause}
-use Rattle.tb_keep.specs.declared.restoring.Rules.{Rules}
+use Rattle.tb_keep.specs.declared.recovering.Rules.{Rules}
 use Rattle.tb_keep.specs.private.Headed.{IsOfDevice, IsDeviceCause, HasDeviceCause}
 
 -- behind calls of which none failed
@@ -49,7 +49,7 @@ module _ (before mid after : Disk) (first : FailsNone before mid) (seen : mid.se
 
 -- a head that is not committed
 
-pub device_cause : (before after : Disk) (fault : Fault) → IsOfDevice (start.Journal (open_faults.Device fault)) → IsCause before after fault
+pub device_cause : (before after : Disk) (fault : JournalFault) → IsOfDevice (start.Journal (open_faults.Device fault)) → IsCause before after fault
     → IsDeviceCause before after (start.Journal (open_faults.Device fault))
 device_cause before after faults.NotEmpty named cause = absurd named
 device_cause before after faults.Memory named cause = cause
@@ -81,7 +81,7 @@ module _ (before mid after : Disk) (first : FailsNone before mid) where
 
   -- of one that was created in a blank one
   module _ (blank : is_blank before.seen ≡ true) where
-    made : (fault : Fault) → IsCause before after fault → IsCreateCause before after (open_faults.Device fault)
+    made : (fault : JournalFault) → IsCause before after fault → IsCreateCause before after (open_faults.Device fault)
     made fault (inl failed) = inl failed
     made fault (inr (is, none)) = inr (inr (is, blank), none)
 

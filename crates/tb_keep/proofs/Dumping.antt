@@ -12,7 +12,7 @@ use Rattle.tb_keep.specs.declared.faults.DumpFault.{DumpFault}
 use Rattle.tb_keep.specs.declared.faults.DumpFault.TheVariants as dump
 use Rattle.tb_keep.specs.declared.faults.StartFault.{StartFault}
 use Rattle.tb_keep.specs.declared.faults.StartFault.TheVariants as start
-use Rattle.tb_keep.specs.declared.restoring.Rules.{Rules}
+use Rattle.tb_keep.specs.declared.recovering.Rules.{Rules}
 use Rattle.tb_keep.specs.Reading.{RulesIn, RulesAnswer, joined, behind_head, dump_with, Dumps}
 use Rattle.tb_keep.specs.private.Entering.{FindsRules}
 use Rattle.tb_keep.specs.Following.{entries_above, WritesEntries, EntriesOnce}

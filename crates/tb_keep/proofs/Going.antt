@@ -1,7 +1,7 @@
 -- Serving in rounds: those so far, and what comes next.
 use Rattle.std.proofs.Common.{◌≡◌, ◌⊎◌, ℕ, Bool, false, ◌+◌, ◌-◌, ◌^◌, ◌≤◌, arith, true, List, [], ◌∷◌, ◌++◌, length, None, Result, Ok, Err, inl, inr, refl, sym, ap, ◌∙◌, subst, append_assoc, length-append}
 use Rattle.tb_records.specs.Transport.{Input, Output, Sent, CutOff}
-use Rattle.tb_journal.specs.declared.faults.Fault.{Fault}
+use Rattle.tb_journal.specs.declared.faults.JournalFault.{JournalFault}
 use Rattle.tb_journal.specs.Device.{Disk, LeavesOnly, HasFailed}
 use Rattle.tb_journal.specs.Contents.{at_rest, blocks_length, recorded}
 use Rattle.tb_journal.specs.Steps.{IsBeforeOrAfter}
@@ -226,7 +226,7 @@ module _ {tells : Type 0} {D : Type 0} {disk : D → Disk} {k : ℕ} {before kee
   going_may (inr (due, told)) = record { going = going_told due told; prompt = told_prompt due told; room = told_room due told }
 
   -- a commit that failed
-  fails : {after : Keeping D} {next : Output} (fault : Fault) → IsUncommitted tells disk fault keeper after → next ≡ written
+  fails : {after : Keeping D} {next : Output} (fault : JournalFault) → IsUncommitted tells disk fault keeper after → next ≡ written
       → Fails tells disk fault g.more g.standing after.journal.device next
   fails {after} {next} fault un silent = record {
     some = λ t none. un.some (g.waits t ∙ none);

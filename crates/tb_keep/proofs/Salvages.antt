@@ -3,8 +3,8 @@ use Rattle.std.proofs.Common.{arith, ℕ, ◌≡◌, ◌⊎◌, inl, inr, true, 
 use Rattle.std.proofs.lemmas.Grind.{common_steps}
 use Rattle.tb_records.specs.declared.limits.Profile.{Profile}
 use Rattle.tb_records.specs.DumpBytes.{IsClients}
-use Rattle.tb_journal.specs.declared.faults.Fault.{Fault}
-use Rattle.tb_journal.specs.declared.faults.Fault.TheVariants as faults
+use Rattle.tb_journal.specs.declared.faults.JournalFault.{JournalFault}
+use Rattle.tb_journal.specs.declared.faults.JournalFault.TheVariants as faults
 use Rattle.tb_journal.specs.declared.opening.OpenFault.{OpenFault}
 use Rattle.tb_journal.specs.declared.opening.OpenFault.TheVariants as open_faults
 use Rattle.tb_journal.specs.declared.reading.Extent.{Extent}
@@ -23,7 +23,7 @@ use Rattle.tb_keep.specs.declared.faults.SalvageFault.{SalvageFault}
 use Rattle.tb_keep.specs.declared.faults.SalvageFault.TheVariants.{Old, New}
 use Rattle.tb_keep.specs.declared.faults.StartFault.{StartFault}
 use Rattle.tb_keep.specs.declared.faults.StartFault.TheVariants as start
-use Rattle.tb_keep.specs.declared.restoring.Rules.{Rules}
+use Rattle.tb_keep.specs.declared.recovering.Rules.{Rules}
 use Rattle.tb_keep.specs.declared.salvaging.NotSalvaged.{NotSalvaged}
 use Rattle.tb_keep.specs.declared.salvaging.Salvaged.{Salvaged}
 use Rattle.tb_keep.specs.Keeping.{History, state_of, records_of, head_record, Keeping, Keeps, IsKeepable, IsLedger}
@@ -151,7 +151,7 @@ never_empty before after (inl failed) = by failed.named
     by named = grind (arith, common_steps)
 never_empty before after (inr (own, none)) = own
 
-pub written_alone : (before mid after : Disk) (f : Fault) → IsWriteCause mid after f → IsLeftAlone before after (start.Journal (open_faults.Device f))
+pub written_alone : (before mid after : Disk) (f : JournalFault) → IsWriteCause mid after f → IsLeftAlone before after (start.Journal (open_faults.Device f))
 written_alone before mid after faults.NotEmpty cause = absurd (never_empty mid after cause)
 written_alone before mid after faults.Memory cause = tt
 written_alone before mid after faults.Failed cause = tt

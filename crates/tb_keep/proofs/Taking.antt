@@ -2,8 +2,8 @@
 use Rattle.std.proofs.Common.{arith, ℕ, ◌≡◌, ◌+◌, ◌<◌, ◌≤◌, inl, inr, true, List, [], ◌∷◌, ◌++◌, map, fold, length, take, ◌^◌, ◌↔◌, Result, Ok, Err, OnOk, OnErr, refl, sym, ap, ◌∙◌, subst, append_assoc, append-nil, length-append, length-take}
 use Rattle.std.specs.Prelude.{IsErrOf}
 use Rattle.std.proofs.lemmas.List.{map-append}
-use Rattle.tb_journal.specs.declared.faults.Fault.{Fault}
-use Rattle.tb_journal.specs.declared.faults.Fault.TheVariants.{Memory, Failed, Full, TooLong, NotEmpty, SyncFailed}
+use Rattle.tb_journal.specs.declared.faults.JournalFault.{JournalFault}
+use Rattle.tb_journal.specs.declared.faults.JournalFault.TheVariants.{Memory, Failed, Full, TooLong, NotEmpty, SyncFailed}
 use Rattle.tb_journal.specs.declared.opening.OpenFault.{OpenFault}
 use Rattle.tb_journal.specs.declared.opening.OpenFault.TheVariants as open_faults
 use Rattle.tb_journal.specs.declared.reading.Refusal.TheVariants as refusals
@@ -52,7 +52,7 @@ between_batch base waiting c (inl old) = (
 )
 between_batch base waiting c (inr new) = (waiting, [], new, refl)
 
-pub write_cause_since : (before mid after : Disk) (fault : Fault) → FailsNone before mid → IsWriteCause mid after fault → IsWriteCause before after fault
+pub write_cause_since : (before mid after : Disk) (fault : JournalFault) → FailsNone before mid → IsWriteCause mid after fault → IsWriteCause before after fault
 write_cause_since before mid after fault none (inl failed) = inl (failed_since before mid after fault none failed)
 write_cause_since before mid after fault none (inr (own, same)) = inr (own, none_since before mid after none same)
 
@@ -90,7 +90,7 @@ module _ {N : Type 0} (disk : N → Disk) where
     })
 
     -- nothing was done, since there is no memory, or the file would be too long
-    pub breaks_at_once : (after : Kept N) (fault : Fault) → after ≡ journal → IsWriteCause (disk journal.device) (disk journal.device) fault → Breaks disk fault [] journal after
+    pub breaks_at_once : (after : Kept N) (fault : JournalFault) → after ≡ journal → IsWriteCause (disk journal.device) (disk journal.device) fault → Breaks disk fault [] journal after
     breaks_at_once after fault is cause = subst (λ (j : Kept N). Breaks disk fault [] journal j) (sym is) (record { cause = cause; any_moment = still [] })
 
   module _ (before after : Kept N) where
@@ -111,7 +111,7 @@ module _ {N : Type 0} (disk : N → Disk) where
       any_moment = moments_of_batch leaves;
     }
 
-    pub breaks_commit : (fault : Fault) → HasFailed (disk before.device) (disk after.device) fault
+    pub breaks_commit : (fault : JournalFault) → HasFailed (disk before.device) (disk after.device) fault
         → LeavesOnly (disk before.device) (disk after.device) (IsBeforeOrAfter (recorded (disk before.device).seen) before.waiting) → Breaks disk fault [] before after
     breaks_commit fault failed leaves = record { cause = inl failed; any_moment = moments_of_batch leaves }
 
@@ -148,7 +148,7 @@ module _ {N : Type 0} (disk : N → Disk) where
       any_moment = moments two.any_moment;
     }
 
-    pub breaks_then : (fault : Fault) → Breaks disk fault ys mid last → Breaks disk fault (xs ++ ys) first last
+    pub breaks_then : (fault : JournalFault) → Breaks disk fault ys mid last → Breaks disk fault (xs ++ ys) first last
     breaks_then fault two = record {
       cause = write_cause_since (disk first.device) (disk mid.device) (disk last.device) fault one.none two.cause;
       any_moment = moments two.any_moment;
@@ -215,12 +215,12 @@ module _ {N : Type 0} (disk : N → Disk) (tells : Type 0) where
   pub puts_none : (journal : Kept N) → (tells → Latest (disk journal.device)) → journal.usable ≡ true → (tells → IsReady disk journal) → Puts disk tells (Ok tt) [] journal journal
   puts_none journal now usable ready = (usable, λ t. queues_none disk journal (now t) (ready t))
 
-  pub puts_then : (result : Result (Unit {0}) Fault) (records : List (List ℕ)) (first mid last : Kept N) → Puts disk tells (Ok tt) [] first mid → Puts disk tells result records mid last
+  pub puts_then : (result : Result (Unit {0}) JournalFault) (records : List (List ℕ)) (first mid last : Kept N) → Puts disk tells (Ok tt) [] first mid → Puts disk tells result records mid last
       → Puts disk tells result records first last
   puts_then (Ok done) records first mid last one two = (two.0, λ t. queues_then disk first mid last [] records (one.1 t) (two.1 t))
   puts_then (Err fault) records first mid last one two = λ t. breaks_then disk first mid last [] [] (one.1 t) fault (two t)
 
-  pub puts_commit : (result : Result (Unit {0}) Fault) (before after : Kept N) → OnOk result (after.usable ≡ true) → (tells → OnOk result (IsReady disk after))
+  pub puts_commit : (result : Result (Unit {0}) JournalFault) (before after : Kept N) → OnOk result (after.usable ≡ true) → (tells → OnOk result (IsReady disk after))
       → (tells → OnOk result (recorded (disk after.device).seen ≡ recorded (disk before.device).seen ++ before.waiting)) → OnOk result (after.waiting ≡ [])
       → (tells → LeavesOnly (disk before.device) (disk after.device) (IsBeforeOrAfter (recorded (disk before.device).seen) before.waiting))
       → (tells → HasCause result (disk before.device) (disk after.device)) → Puts disk tells result [] before after
@@ -233,7 +233,7 @@ module _ {N : Type 0} (disk : N → Disk) (tells : Type 0) where
   within file end closed = omega (arith, ap length closed, length-append (take end file) (0 ∷ []), length-take end file)
 
   module _ (before after : Kept N) (bytes : List ℕ) (short : length bytes < 2 ^ 24) (room : length (at_rest before.waiting) + block_bytes_max ≤ 2 ^ 22) (now : tells → Latest (disk before.device)) (ready : tells → IsReady disk before) where
-    own : (fault : Fault) → (tells → IsOwnWriteCause (disk before.device).seen fault) → after ≡ before → tells → Breaks disk fault [] before after
+    own : (fault : JournalFault) → (tells → IsOwnWriteCause (disk before.device).seen fault) → after ≡ before → tells → Breaks disk fault [] before after
     own fault is same t = breaks_at_once disk before (now t) (ready t) after fault same (inr (is t, none_at_once (disk before.device)))
 
     full : 2 ^ 62 < grown before bytes → tells → 2 ^ 62 < length (disk before.device).seen + 2 ^ 25
@@ -241,7 +241,7 @@ module _ {N : Type 0} (disk : N → Disk) (tells : Type 0) where
         let file = (disk before.device).seen in
         omega (arith, over, short, room, (ready t).ends, within file (records_end (recorded file)) (ready t).at_rest.closed)
 
-    pub puts_append : (result : Result (Unit {0}) Fault) → before.usable ≡ true → OnOk result (after ≡ record before { waiting = before.waiting ++ bytes ∷ [] }) → OnErr result (after ≡ before)
+    pub puts_append : (result : Result (Unit {0}) JournalFault) → before.usable ≡ true → OnOk result (after ≡ record before { waiting = before.waiting ++ bytes ∷ [] }) → OnErr result (after ≡ before)
         → (IsErrOf result TooLong ↔ (2 ^ 24 ≤ length bytes)) → (IsErrOf result Full ↔ (length bytes < 2 ^ 24) × (2 ^ 62 < grown before bytes)) → (IsErrOf result Failed → ⊥) → (IsErrOf result NotEmpty → ⊥) → (IsErrOf result SyncFailed → ⊥)
         → Puts disk tells result (bytes ∷ []) before after
     puts_append (Ok done) usable is same long over failed empty synced =
@@ -283,13 +283,13 @@ record_none before after (start.Journal f) S bytes stops none = absurd stops
 record_none before after (start.TornTooLong at n) S bytes stops none = none
 
 module _ {N : Type 0} (disk : N → Disk) (tells : Type 0) where
-  pub takes_not : (f : Fault) (fault : SalvageFault) (bytes : List ℕ) (before mid after : Keeping N) → fault ≡ by_device f → mid.journal ≡ before.journal
+  pub takes_not : (f : JournalFault) (fault : SalvageFault) (bytes : List ℕ) (before mid after : Keeping N) → fault ≡ by_device f → mid.journal ≡ before.journal
       → Puts disk tells (Err f) (bytes ∷ []) mid.journal after.journal → TakesRecord disk tells (Err fault) bytes before after
   takes_not f fault bytes before mid after is same breaks =
       subst (λ (g : SalvageFault). TakesRecord disk tells (Err g) bytes before after) (sym is)
       (f, refl, subst (λ (j : Kept N). tells → Breaks disk f [] j after.journal) same breaks)
 
-  pub commits_not : (f : Fault) (fault : SalvageFault) (before mid after : Keeping N) → fault ≡ by_device f → mid.journal ≡ before.journal → Puts disk tells (Err f) [] mid.journal after.journal
+  pub commits_not : (f : JournalFault) (fault : SalvageFault) (before mid after : Keeping N) → fault ≡ by_device f → mid.journal ≡ before.journal → Puts disk tells (Err f) [] mid.journal after.journal
       → CommitsTaken disk tells (Err fault) before after
   commits_not f fault before mid after is same breaks = (f, is, subst (λ (j : Kept N). tells → Breaks disk f [] j after.journal) same breaks)
 

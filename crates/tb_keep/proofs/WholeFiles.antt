@@ -13,7 +13,7 @@ use Rattle.tb_journal.proofs.Walks.{is_file}
 use Rattle.tb_machine.specs.Histories.{State}
 use Rattle.tb_keep.specs.declared.faults.StartFault.{StartFault}
 use Rattle.tb_keep.specs.declared.faults.StartFault.TheVariants as start
-use Rattle.tb_keep.specs.declared.restoring.Rules.{Rules}
+use Rattle.tb_keep.specs.declared.recovering.Rules.{Rules}
 use Rattle.tb_keep.specs.Keeping.{History, head_record, records_of as records_of_history}
 use Rattle.tb_keep.specs.Restoration.{HeadAnswers, IsRestoredFrom, StopsBehindHead, StopsFile, StopsReading, WholeStops}
 use Rattle.tb_keep.specs.Reading.{IsNoHead, HasRules, HasNoHead, RulesAnswer, IsHistory, IsNoHistory, behind_head, joined, dump_with, dump_of, WholeRules, WholeNoHead, WholeDumps}

@@ -1,8 +1,8 @@
 -- How a kept file is created and opened, and what a crash may leave of it meanwhile.
--- Cited by public contracts of: dumps, opening, restoring, salvaging, worked_rows.
+-- Cited by public contracts of: creating, dumps, recovering, salvaging, worked_rows.
 use Rattle.std.specs.Prelude.{ℕ, true, false, ◌≡◌, ◌⊎◌, ◌≤◌, ◌^◌, List, [], ◌∷◌, Result, Ok, Err, OnOk, IfOk, IfErr}
 use Rattle.tb_records.specs.declared.limits.Profile.{Profile}
-use Rattle.tb_journal.specs.declared.faults.Fault.TheVariants.{NotEmpty}
+use Rattle.tb_journal.specs.declared.faults.JournalFault.TheVariants.{NotEmpty}
 use Rattle.tb_journal.specs.declared.opening.OpenFault.TheVariants as open_faults
 use Rattle.tb_journal.specs.Device.{Disk, FailsNone, LeavesIfSound}
 use Rattle.tb_journal.specs.Contents.{Records, contents, recorded}
@@ -12,8 +12,8 @@ use Rattle.tb_machine.specs.declared.entries.Entry.{Entry}
 use Rattle.tb_machine.specs.Histories.{start as start_state}
 use Rattle.tb_keep.specs.declared.faults.StartFault.{StartFault}
 use Rattle.tb_keep.specs.declared.faults.StartFault.TheVariants as start
-use Rattle.tb_keep.specs.declared.opening.NotKept.{NotKept}
-use Rattle.tb_keep.specs.declared.restoring.Rules.{Rules}
+use Rattle.tb_keep.specs.declared.creating.NotKept.{NotKept}
+use Rattle.tb_keep.specs.declared.recovering.Rules.{Rules}
 use Rattle.tb_keep.specs.Keeping.{History, records_of, head_record, Keeping, Keeps}
 use Rattle.tb_keep.specs.Restoration.{StopsOpening, IsRestored, IsStartCause, IsNotOfFile, torn_bytes}
 

@@ -1,5 +1,5 @@
 -- What the restoring of a machine from the records of a file makes.
--- Cited by public contracts of: dumps, laws, opening, restoring, salvaging, worked_rows.
+-- Cited by public contracts of: creating, dumps, laws, recovering, salvaging, worked_rows.
 use Rattle.std.specs.Prelude.{ℕ, ◌≡◌, ◌⊎◌, ◌+◌, ◌-◌, ◌^◌, ◌<◌, ◌≤◌, IsTrue, List, [], ◌∷◌, ◌++◌, map, fold, length, refl, Some, Result, Ok, Err, OnOk, IfErr}
 use Rattle.tb_records.specs.declared.limits.Profile.{Profile}
 use Rattle.tb_records.specs.DumpBytes.{IsClients}

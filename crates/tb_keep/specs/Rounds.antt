@@ -1,5 +1,5 @@
 -- How pairs are served in rounds: their entries are committed, and then their replies are sent.
--- Cited by public contracts of: serving.
+-- Cited by public contracts of: rounds.
 use Rattle.std.specs.Prelude.{ℕ, Bool, true, false, ◌≡◌, ◌⊎◌, ◌+◌, ◌-◌, ◌^◌, ◌<◌, ◌≤◌, List, [], ◌∷◌, ◌++◌, length, map, flat_map, fold, Option, None, Result, Ok, Err, if◌then◌else◌, IsTrue}
 use Rattle.tb_records.specs.declared.faults.FrameFault.{FrameFault}
 use Rattle.tb_records.specs.declared.faults.FrameFault.TheVariants.{Device}
@@ -8,8 +8,8 @@ use Rattle.tb_records.specs.Inputs.{TimedAnswers}
 use Rattle.tb_records.specs.AtHand.{holds_pair}
 use Rattle.tb_records.specs.Transport.{Input, Output, Counts, Sent, CutOff}
 use Rattle.tb_records.specs.ReplyFrames.{reply_bytes, IsReply}
-use Rattle.tb_journal.specs.declared.faults.Fault.{Fault}
-use Rattle.tb_journal.specs.declared.faults.Fault.TheVariants.{Memory, Full, TooLong}
+use Rattle.tb_journal.specs.declared.faults.JournalFault.{JournalFault}
+use Rattle.tb_journal.specs.declared.faults.JournalFault.TheVariants.{Memory, Full, TooLong}
 use Rattle.tb_journal.specs.Device.{Disk, LeavesOnly, HasFailed}
 use Rattle.tb_journal.specs.Contents.{at_rest, recorded}
 use Rattle.tb_journal.specs.Steps.{IsAtRest, IsBeforeOrAfter}
@@ -125,14 +125,14 @@ abbrev pub Pauses : State → Input → Input → Type 0
 Pauses S middle after = (after ≡ middle) ⊎ (IsRead (Ok None) middle after ⊎ ((fault : KeepFault) × IsStop fault S middle after))
 
 -- why a journal lets no record of these bytes wait: it is too long, the journal would be, or there is no memory
-abbrev pub RefusesRecord : {D : Type 0} → Fault → Kept D → List ℕ → Type 0
+abbrev pub RefusesRecord : {D : Type 0} → JournalFault → Kept D → List ℕ → Type 0
 RefusesRecord Memory journal bytes = Unit {0}
 RefusesRecord TooLong journal bytes = 2 ^ 24 ≤ length bytes
 RefusesRecord Full journal bytes = 2 ^ 62 < journal.end + length (at_rest journal.waiting) + 8 + length bytes
 RefusesRecord fault journal bytes = ⊥
 
 -- one more pair was read, which is new and has a time, and the journal refused the record of its entry
-pub record IsUnrecorded {D : Type 0} (fault : Fault) (S : State) (journal : Kept D) (middle after : Input) : Type 0 where
+pub record IsUnrecorded {D : Type 0} (fault : JournalFault) (S : State) (journal : Kept D) (middle after : Input) : Type 0 where
   pub pair : Pair
   pub read : Reads (pair ∷ []) middle after
   pub new : is_new_in S pair ≡ true
@@ -164,7 +164,7 @@ module _ (tells : Type 0) {D : Type 0} (disk : D → Disk) where
     pub silent : output ≡ middle.output
 
   -- a commit failed of entries that are some, for a cause: a crash leaves all of the batch or nothing of it, and nothing was sent
-  pub record Fails (fault : Fault) (ps : List Pair) (middle : Standing D) (device : D) (output : Output) : Type 0 where
+  pub record Fails (fault : JournalFault) (ps : List Pair) (middle : Standing D) (device : D) (output : Output) : Type 0 where
     pub some : tells → records_from middle.state ps ≡ [] → ⊥
     pub cause : tells → HasFailed (disk middle.device) (disk device) fault
     pub any_moment : tells → LeavesOnly (disk middle.device) (disk device) (IsBeforeOrAfter (recorded (disk middle.device).seen) (records_from middle.state ps))

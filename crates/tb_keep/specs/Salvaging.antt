@@ -1,8 +1,8 @@
 -- What is taken over of a file into a new one, and what a crash may leave of that meanwhile.
 -- Cited by public contracts of: laws, salvaging.
 use Rattle.std.specs.Prelude.{ℕ, true, ◌≡◌, ◌⊎◌, ◌+◌, ◌<◌, ◌≤◌, ◌^◌, List, [], ◌∷◌, ◌++◌, length, Option, None, Some, Result, Ok, Err, OnOk, IfErr}
-use Rattle.tb_journal.specs.declared.faults.Fault.{Fault}
-use Rattle.tb_journal.specs.declared.faults.Fault.TheVariants.{Memory, Full, NotEmpty}
+use Rattle.tb_journal.specs.declared.faults.JournalFault.{JournalFault}
+use Rattle.tb_journal.specs.declared.faults.JournalFault.TheVariants.{Memory, Full, NotEmpty}
 use Rattle.tb_journal.specs.declared.opening.OpenFault.TheVariants as open_faults
 use Rattle.tb_journal.specs.declared.reading.Refusal.TheVariants as refusals
 use Rattle.tb_journal.specs.Device.{Disk, LeavesOnly, FailsNone, HasFailed}
@@ -110,13 +110,13 @@ IsNotBackedUp (New fault) file = Unit {0}
 
 -- why a file is not written to where no call has failed: there is no memory, or the file, one batch and a record have more bytes than a
 -- file can have
-abbrev pub IsOwnWriteCause : List ℕ → Fault → Type 0
+abbrev pub IsOwnWriteCause : List ℕ → JournalFault → Type 0
 IsOwnWriteCause file Memory = Unit {0}
 IsOwnWriteCause file Full = 2 ^ 62 < length file + 2 ^ 25
 IsOwnWriteCause file fault = ⊥
 
 -- the cause of a fault of the new file: that of its creation; or a call has failed so; or none has, and it is one of these
-abbrev pub IsWriteCause : Disk → Disk → Fault → Type 0
+abbrev pub IsWriteCause : Disk → Disk → JournalFault → Type 0
 IsWriteCause before after fault = HasFailed before after fault ⊎ (IsOwnWriteCause after.seen fault × FailsNone before after)
 
 abbrev pub IsNewCause : Disk → Disk → StartFault → Type 0

@@ -11,7 +11,7 @@ ghost use Rattle.tb_keep.specs.private.Sending.{SendsNext, SendsAll, above};
 ghost use Rattle.tb_keep.specs.private.Taking.{IsNotTaken};
 
 use crate::faults::{DumpFault, SalvageFault, StartFault};
-use crate::restoring::{Rules, entered_behind, read_head, read_record};
+use crate::recovering::{Rules, entered_behind, read_head, read_record};
 use std::alloc::Global;
 use tb_journal::{Device, Extent, Scan};
 use tb_machine::Machine;

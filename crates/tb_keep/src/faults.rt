@@ -3,7 +3,7 @@ ghost use Rattle.std.specs.Prelude.{◌≡◌};
 ghost use Rattle.tb_keep.specs.Faults.{keep_fault_number, keep_fault_name, start_fault_number, start_fault_name, dump_fault_name, salvage_fault_name};
 
 use std::fmt;
-use tb_journal::{Fault, OpenFault};
+use tb_journal::{JournalFault, OpenFault};
 use tb_machine::{RestoreFault, RunFault};
 use tb_records::FrameFault;
 use thiserror::Error;
@@ -15,7 +15,7 @@ pub enum KeepFault {
     /// A fault that serving without a file has too.
     Serving(RunFault),
     /// The journal failed.
-    Journal(Fault),
+    Journal(JournalFault),
 }
 
 impl KeepFault {
@@ -40,12 +40,12 @@ impl KeepFault {
     }
 }
 
-impl From<Fault> for KeepFault {
+impl From<JournalFault> for KeepFault {
     ghost use Rattle.tb_keep.specs.declared.faults.KeepFault.TheVariants.{Journal};
 
     ghost from_gives = { λ of_journal fault. fault ≡ Journal of_journal };
 
-    fn from(fault: Fault) -> KeepFault {
+    fn from(fault: JournalFault) -> KeepFault {
         KeepFault::Journal(fault)
     }
 }

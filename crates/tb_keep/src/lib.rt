@@ -4,11 +4,11 @@
 //!
 //! - `faults`: why a kept ledger does not go on.
 //! - `keepers`: `Keeper`, a machine, and the journal that its entries are in.
-//! - `restoring`: record 0 of the journal, the rules of the ledger; a machine from the records behind it, each entered before the next is
+//! - `recovering`: record 0 of the journal, the rules of the ledger; a machine from the records behind it, each entered before the next is
 //!   read.
-//! - `opening`: `create`, `Keeper::open` and `Keeper::start`.
+//! - `creating`: `create`, `Keeper::open` and `Keeper::start`.
 //! - `replies`: replies held in memory until the entries that they rest on are durable.
-//! - `serving`: `keep`, pairs served, entries committed, and then replies sent.
+//! - `rounds`: `keep`, pairs served, entries committed, and then replies sent.
 //! - `dumps`: the rules, the history, the dump and the later entries of a file, read without a write.
 //! - `salvaging`: the entries of a file taken over into a new one.
 //! - `laws`: what holds of every kept ledger: functions that do nothing.
@@ -19,21 +19,21 @@
 //! a crash.
 #![tactic(auto)]
 
+mod creating;
 mod dumps;
 mod faults;
 mod keepers;
 pub mod laws;
-mod opening;
+mod recovering;
 mod replies;
-mod restoring;
+mod rounds;
 mod salvaging;
-mod serving;
 pub mod worked_rows;
 
+pub use creating::{NotKept, create};
 pub use dumps::{read_history, read_rules, write_dump, write_entries};
 pub use faults::{DumpFault, KeepFault, SalvageFault, StartFault};
 pub use keepers::Keeper;
-pub use opening::{NotKept, create};
-pub use restoring::{Rules, read_head, restored, write_head};
+pub use recovering::{Rules, read_head, restored, write_head};
+pub use rounds::{BATCH_BYTES_MAX, HELD_BYTES_MAX, keep};
 pub use salvaging::{NotSalvaged, Salvaged, backup, salvage};
-pub use serving::{BATCH_BYTES_MAX, HELD_BYTES_MAX, keep};

@@ -10,14 +10,14 @@ ghost use Rattle.tb_keep.specs.Rounds.{block_bytes_max};
 ghost use Rattle.tb_keep.specs.Salvaging.{IsSalvaged, IsUnsalvaged, IsBackedUp, IsNotBackedUp, salvaged_device, backup_device, why_old, LeavesSome, NewCause, SaysWhy};
 ghost use Rattle.tb_keep.specs.private.Taking.{HeadRead, IsOldDevice, IsTornStop, StaysUsed, StopsBy, Puts, TakesRecord, TakesNext, TakesAll, CommitsTaken, TakesRest, of_old, stop_of, Unread};
 
+use crate::creating::{create, torn_behind};
 use crate::dumps::first_rules;
 use crate::faults::{SalvageFault, StartFault};
 use crate::keepers::Keeper;
-use crate::opening::{create, torn_behind};
-use crate::restoring::{Rules, read_record, restore_record};
-use crate::serving::{BATCH_BYTES_MAX, BLOCK_BYTES_MAX};
+use crate::recovering::{Rules, read_record, restore_record};
+use crate::rounds::{BATCH_BYTES_MAX, BLOCK_BYTES_MAX};
 use std::alloc::Global;
-use tb_journal::{Device, Extent, Fault, Journal, OpenFault, Scan};
+use tb_journal::{Device, Extent, Journal, JournalFault, OpenFault, Scan};
 
 /// A new file with the entries that were taken over.
 #[derive(Drop)]
@@ -38,7 +38,7 @@ pub struct NotSalvaged<N: Device> {
 }
 
 /// A journal's fault, as one of the new file.
-fn new_fault(fault: Fault) -> SalvageFault
+fn new_fault(fault: JournalFault) -> SalvageFault
     ensures { result ≡ SalvageFault.New (StartFault.Journal (OpenFault.Device fault)) }
 {
     SalvageFault::New(StartFault::Journal(OpenFault::Device(fault)))
@@ -46,7 +46,7 @@ fn new_fault(fault: Fault) -> SalvageFault
 
 /// Commits what waits where it may have no space for one more record.
 #[tactic(auto, using(crate::proofs::Taking::puts_commit))]
-fn make_room<N: Device>(journal: &mut Journal<N>) -> Result<(), Fault>
+fn make_room<N: Device>(journal: &mut Journal<N>) -> Result<(), JournalFault>
     requires usable { journal.old.usable ≡ true }
     requires ready { N.tells → IsReady N.disk journal.old }
     ensures puts { Puts N.disk N.tells result [] journal.old journal.new }
@@ -59,7 +59,7 @@ fn make_room<N: Device>(journal: &mut Journal<N>) -> Result<(), Fault>
 }
 
 /// Lets a record wait for the next commit, behind a batch that has space for it.
-fn append_one<N: Device>(journal: &mut Journal<N>, bytes: &[u8]) -> Result<(), Fault>
+fn append_one<N: Device>(journal: &mut Journal<N>, bytes: &[u8]) -> Result<(), JournalFault>
     requires usable { journal.old.usable ≡ true }
     requires ready { N.tells → IsReady N.disk journal.old }
     requires short { length bytes.now < 2 ^ 24 }
@@ -71,7 +71,7 @@ fn append_one<N: Device>(journal: &mut Journal<N>, bytes: &[u8]) -> Result<(), F
 
 /// Lets a record wait for the next commit, in a batch that is short enough.
 #[tactic(auto, using(crate::proofs::Taking::puts_then))]
-fn append_short<N: Device>(journal: &mut Journal<N>, bytes: &[u8]) -> Result<(), Fault>
+fn append_short<N: Device>(journal: &mut Journal<N>, bytes: &[u8]) -> Result<(), JournalFault>
     requires usable { journal.old.usable ≡ true }
     requires ready { N.tells → IsReady N.disk journal.old }
     requires short { length bytes.now < 2 ^ 24 }
@@ -197,7 +197,7 @@ fn torn_stop<D: Device>(from: &mut D, extent: Extent) -> Result<Option<StartFaul
 
 /// Commits what waits.
 #[tactic(auto, using(crate::proofs::Taking::puts_commit))]
-fn commit_waiting<N: Device>(journal: &mut Journal<N>) -> Result<(), Fault>
+fn commit_waiting<N: Device>(journal: &mut Journal<N>) -> Result<(), JournalFault>
     requires usable { journal.old.usable ≡ true }
     requires ready { N.tells → IsReady N.disk journal.old }
     ensures puts { Puts N.disk N.tells result [] journal.old journal.new }

@@ -1,6 +1,6 @@
 -- A file that is read on after others appended to it.
 use Rattle.std.proofs.Common.{◌≡◌, ℕ, Bool, List, length, Result, Ok, Err, IfOk, OnOk, OnErr, inl, refl, sym, ap, ◌∙◌, subst, arith}
-use Rattle.tb_journal.specs.declared.faults.Fault.{Fault}
+use Rattle.tb_journal.specs.declared.faults.JournalFault.{JournalFault}
 use Rattle.tb_journal.specs.Contents.{Contents, NotAJournal, Damaged, Records, contents}
 use Rattle.tb_journal.specs.Device.{Disk, Looks}
 use Rattle.tb_journal.specs.Growing.{Later, Grown}
@@ -11,7 +11,7 @@ use Rattle.tb_keep_commands.specs.Live as live
 use Rattle.tb_keep_commands.specs.Live.{LooksAgain, WholeOf, IsWholeLength}
 
 module _ {G : Type 0} (grows : G → List ℕ → Type 0) (before after : Snapped G) where
-  pub refreshed : (result : Result (Unit {0}) Fault) → ((shown : List ℕ) (held : IsHeld grows before shown) → OnOk result (Refreshes grows held.file shown after))
+  pub refreshed : (result : Result (Unit {0}) JournalFault) → ((shown : List ℕ) (held : IsHeld grows before shown) → OnOk result (Refreshes grows held.file shown after))
       → ((shown : List ℕ) → IsHeld grows before shown → OnErr result (IsHeld grows after shown))
       → (shown : List ℕ) → IsHeld grows before shown → live.Refreshes (λ (s : Snapped G). grows s.file) (IsHeld grows) before after shown result
   refreshed (Ok done) ok err shown held =
@@ -57,7 +57,7 @@ whole_same file = by (contents file) refl
     by (Damaged at) is = is
     by (Records records) is = extends_later records file file is (later_same file)
 
-pub whole_length : (file : List ℕ) (result : Result ℕ Fault) → IfOk result (λ len. len ≡ length file) → IfOk result (IsWholeLength file)
+pub whole_length : (file : List ℕ) (result : Result ℕ JournalFault) → IfOk result (λ len. len ≡ length file) → IfOk result (IsWholeLength file)
 whole_length file (Ok len) long = record { whole = file; goes_on = whole_same file; long = long }
 whole_length file (Err fault) long = tt
 
@@ -76,7 +76,7 @@ whole_shown closed end met shown last shows after = by (contents shown) refl
     by (Records records) is = shown_prefix closed end met shown last records shows after is
 
 module _ {G : Type 0} (grows : G → List ℕ → Type 0) (before : Snapped G) (now : G) where
-  pub shown_length : (result : Result ℕ Fault)
+  pub shown_length : (result : Result ℕ JournalFault)
       → ((file : List ℕ) → grows before.file file → Grown (grows now) file (λ later. IfOk result (λ len. len ≡ length later)))
       → (shown : List ℕ) → IsHeld grows before shown → IfOk result (IsWholeLength shown)
   shown_length (Ok len) long shown held =

@@ -1,6 +1,6 @@
 -- Why the writing of a part of a file's history ends, over a device that reports what its calls do.
 use Rattle.std.proofs.Common.{◌≡◌, ℕ, List, ◌++◌, Result, Ok, Err, refl, sym, subst, ap, ◌∙◌, inl}
-use Rattle.tb_journal.specs.declared.faults.Fault as journal
+use Rattle.tb_journal.specs.declared.faults.JournalFault.{JournalFault}
 use Rattle.tb_journal.specs.declared.opening.OpenFault.{OpenFault}
 use Rattle.tb_journal.specs.declared.opening.OpenFault.TheVariants as open_faults
 use Rattle.tb_journal.specs.Device.{Disk, FailsNone, Looks}
@@ -16,8 +16,8 @@ use Rattle.tb_keep.specs.declared.faults.DumpFault.TheVariants as dump
 use Rattle.tb_keep.specs.Following.{WritesEntries}
 use Rattle.tb_keep.specs.Reading.{HasDumpCause}
 use Rattle.tb_keep.proofs.Causes.{has_dump_then}
-use Rattle.tb_keep_commands.specs.declared.faults.Fault.{Fault}
-use Rattle.tb_keep_commands.specs.declared.faults.Fault.TheVariants.{Device}
+use Rattle.tb_keep_commands.specs.declared.faults.KeepCommandFault.{KeepCommandFault}
+use Rattle.tb_keep_commands.specs.declared.faults.KeepCommandFault.TheVariants.{Device}
 use Rattle.tb_keep_commands.specs.declared.faults.Failed.TheVariants as failed
 use Rattle.tb_keep_commands.specs.Statuses.{disk_fault, opened_fault, dumped_fault}
 use Rattle.tb_keep_commands.specs.Following.{HasPartCause, ReadsOn, RoundCause}
@@ -25,7 +25,7 @@ use Rattle.tb_keep_commands.specs.Following.{HasPartCause, ReadsOn, RoundCause}
 -- behind calls of which none failed
 
 module _ (before mid after : Disk) (quiet : FailsNone before mid) (seen : mid.seen ≡ before.seen) where
-  pub part_cause_then : (outcome : Result (Unit {0}) Fault) → HasPartCause outcome mid after → HasPartCause outcome before after
+  pub part_cause_then : (outcome : Result (Unit {0}) KeepCommandFault) → HasPartCause outcome mid after → HasPartCause outcome before after
   part_cause_then outcome is = record {
     result = is.result;
     outcome_is = is.outcome_is;
@@ -35,7 +35,7 @@ module _ (before mid after : Disk) (quiet : FailsNone before mid) (seen : mid.se
   pub reads_on_then : (scan : Place) → ReadsOn mid after scan → ReadsOn before after scan
   reads_on_then scan is = record { quiet = none_since before mid after quiet is.quiet; seen = is.seen ∙ seen; read = is.read; place = is.place }
 
-  pub round_cause_then : (outcome : Result (Unit {0}) Fault) (scan : Place) → RoundCause outcome mid after scan → RoundCause outcome before after scan
+  pub round_cause_then : (outcome : Result (Unit {0}) KeepCommandFault) (scan : Place) → RoundCause outcome mid after scan → RoundCause outcome before after scan
   round_cause_then (Ok done) scan is = reads_on_then scan is
   round_cause_then (Err fault) scan is = part_cause_then (Err fault) is
 
@@ -44,20 +44,20 @@ module _ (before after : Disk) where
   pub all_quiet : FailsNone before after → HasPartCause (Ok tt) before after
   all_quiet quiet = record { result = Ok tt; outcome_is = refl; cause = record { ok = quiet; cause = tt } }
 
-  pub output_failed : (fault : Fault) → fault ≡ Device failed.Output → FailsNone before after → HasPartCause (Err fault) before after
+  pub output_failed : (fault : KeepCommandFault) → fault ≡ Device failed.Output → FailsNone before after → HasPartCause (Err fault) before after
   output_failed fault is quiet =
       record { result = Err (dump.Writer frame.Device); outcome_is = ap Err is; cause = record { ok = tt; cause = quiet } }
 
   -- the file is not read on
-  pub stopped_reading : (cause : OpenFault) (fault : Fault) → fault ≡ opened_fault cause → IsOpenCause before after cause → HasPartCause (Err fault) before after
+  pub stopped_reading : (cause : OpenFault) (fault : KeepCommandFault) → fault ≡ opened_fault cause → IsOpenCause before after cause → HasPartCause (Err fault) before after
   stopped_reading cause fault is why = record { result = Err (dump.Journal cause); outcome_is = ap Err is; cause = record { ok = tt; cause = why } }
 
-  pub dump_failed : {T : Type 0} (cause : DumpFault) (fault : Fault) → fault ≡ dumped_fault cause → HasDumpCause {T = T} (Err cause) before after
+  pub dump_failed : {T : Type 0} (cause : DumpFault) (fault : KeepCommandFault) → fault ≡ dumped_fault cause → HasDumpCause {T = T} (Err cause) before after
       → HasPartCause (Err fault) before after
   dump_failed {T} cause fault is why = record { result = Err cause; outcome_is = ap Err is; cause = record { ok = tt; cause = why.cause } }
 
   -- a look at the device that fails
-  pub look_failed : {T : Type 0} (cause : journal.Fault) (fault : Fault) → fault ≡ disk_fault cause → Looks {T = T} (Err cause) before after
+  pub look_failed : {T : Type 0} (cause : JournalFault) (fault : KeepCommandFault) → fault ≡ disk_fault cause → Looks {T = T} (Err cause) before after
       → HasPartCause (Err fault) before after
   look_failed {T} cause fault is looks = stopped_reading (open_faults.Device cause) fault is (inl (inl looks.cause.cause))
 

@@ -2,7 +2,7 @@
 use Rattle.std.proofs.Common.{◌≡◌, ◌⊎◌, ℕ, Bool, true, false, List, [], ◌++◌, Option, Result, Ok, Err, refl, subst, inl, inr, ⊎_elim, append-nil}
 use Rattle.tb_journal.specs.declared.opening.OpenFault.{OpenFault}
 use Rattle.tb_journal.specs.declared.opening.OpenFault.TheVariants as open_faults
-use Rattle.tb_journal.specs.declared.faults.Fault as journal
+use Rattle.tb_journal.specs.declared.faults.JournalFault.{JournalFault}
 use Rattle.tb_journal.specs.Growing.{Later}
 use Rattle.tb_journal.specs.Opening.{RefusesFile}
 use Rattle.tb_journal.specs.Scans.{BeginsWith, Place, Starts}
@@ -11,12 +11,12 @@ use Rattle.tb_records.specs.declared.faults.FrameFault.TheVariants as frame
 use Rattle.tb_records.proofs.Sendings.{sent_rest, sent_few}
 use Rattle.tb_keep.specs.declared.faults.DumpFault.{DumpFault}
 use Rattle.tb_keep.specs.declared.faults.DumpFault.TheVariants as dump
-use Rattle.tb_keep.specs.declared.restoring.Rules.{Rules}
+use Rattle.tb_keep.specs.declared.recovering.Rules.{Rules}
 use Rattle.tb_keep.specs.Following.{entries_above, WritesEntries}
 use Rattle.tb_journal.proofs.Growths.{later_same}
 use Rattle.tb_keep.proofs.Dumping.{entries_once}
-use Rattle.tb_keep_commands.specs.declared.faults.Fault.{Fault}
-use Rattle.tb_keep_commands.specs.declared.faults.Fault.TheVariants.{Device}
+use Rattle.tb_keep_commands.specs.declared.faults.KeepCommandFault.{KeepCommandFault}
+use Rattle.tb_keep_commands.specs.declared.faults.KeepCommandFault.TheVariants.{Device}
 use Rattle.tb_keep_commands.specs.declared.faults.Failed.TheVariants as failed
 use Rattle.tb_keep_commands.specs.Statuses.{disk_fault, opened_fault, dumped_fault}
 use Rattle.tb_keep_commands.specs.Following.{GrowsTo, StopsReading, EndsBy, SendsRound, Grown, Breaks, GrowsBy, EndsRounds, WritesSome, WritesPart, start_of, floor_of}
@@ -30,17 +30,17 @@ pub then_cut : (xs ys : List ℕ) (old mid new : Output) → Sent xs old mid →
 then_cut xs ys old mid new one two = (sent_rest xs ys old mid new (xs ++ ys) refl one (Err frame.Device) (refl, two)).1
 
 -- a fault of a file that is not read on, with what went out before it
-pub stopped : (fault : Fault) (file : List ℕ) (P Q : Type 0) → (P → Q) → StopsReading fault file P → StopsReading fault file Q
+pub stopped : (fault : KeepCommandFault) (file : List ℕ) (P Q : Type 0) → (P → Q) → StopsReading fault file P → StopsReading fault file Q
 stopped fault file P Q f stops = record { why = stops.why; named = stops.named; refuses = stops.refuses; went = f stops.went }
 
 -- one that was sent, before what ends by a fault
-pub behind_ends : (fault : Fault) (file xs ys : List ℕ) (old mid new : Output) → Sent xs old mid → EndsBy fault file ys mid new → EndsBy fault file (xs ++ ys) old new
+pub behind_ends : (fault : KeepCommandFault) (file xs ys : List ℕ) (old mid new : Output) → Sent xs old mid → EndsBy fault file ys mid new → EndsBy fault file (xs ++ ys) old new
 behind_ends fault file xs ys old mid new one two =
     ⊎_elim (λ stops. inl (stopped fault file (Sent ys mid new) (Sent (xs ++ ys) old new) (both xs ys old mid new one) stops))
     (λ cut. inr (cut.0, then_cut xs ys old mid new one cut.1)) two
 
 -- what was sent is a prefix of it that the output held back and lost
-pub lost_held : (fault : Fault) (file xs : List ℕ) (old mid new : Output) → fault ≡ Device failed.Output → Sent xs old mid → CutOff [] mid new
+pub lost_held : (fault : KeepCommandFault) (file xs : List ℕ) (old mid new : Output) → fault ≡ Device failed.Output → Sent xs old mid → CutOff [] mid new
     → EndsBy fault file xs old new
 lost_held fault file xs old mid new is one two =
     inr (is, subst (λ (l : List ℕ). CutOff l old new) (append-nil xs) (then_cut xs [] old mid new one two))
@@ -54,12 +54,12 @@ pub round_done : (after : ℕ) (read : List (List ℕ)) (file : List ℕ) (scan 
     → WritesEntries (Ok count) after read file scan old mid → Sent [] mid new → SendsRound (Ok tt) after read file scan old new
 round_done after read file scan count old mid new (more, whole, place, counted, sent) held = (more, whole, place, sent_held _ old mid new sent held)
 
-pub round_lost : (after : ℕ) (read : List (List ℕ)) (file : List ℕ) (scan : Place) (count : ℕ) (fault : Fault) (old mid new : Output)
+pub round_lost : (after : ℕ) (read : List (List ℕ)) (file : List ℕ) (scan : Place) (count : ℕ) (fault : KeepCommandFault) (old mid new : Output)
     → fault ≡ Device failed.Output → WritesEntries (Ok count) after read file scan old mid → CutOff [] mid new → SendsRound (Err fault) after read file scan old new
 round_lost after read file scan count fault old mid new is (more, whole, place, counted, sent) held =
     (more, place.begins, lost_held fault file _ old mid new is sent held)
 
-pub round_broken : (after : ℕ) (read : List (List ℕ)) (file : List ℕ) (scan : Place) (cause : DumpFault) (fault : Fault) (old new : Output)
+pub round_broken : (after : ℕ) (read : List (List ℕ)) (file : List ℕ) (scan : Place) (cause : DumpFault) (fault : KeepCommandFault) (old new : Output)
     → fault ≡ dumped_fault cause → WritesEntries (Err cause) after read file scan old new → SendsRound (Err fault) after read file scan old new
 round_broken after read file scan (dump.Journal cause) fault old new is (refuses, (more, begins, sent)) =
     (more, begins, inl (record { why = cause; named = is; refuses = refuses; went = sent }))
@@ -67,7 +67,7 @@ round_broken after read file scan (dump.Writer cause) fault old new is (device, 
 
 -- one more round behind those that were written
 module _ {D : Type 0} (holds : D → List ℕ → Type 0) (after : ℕ) (file : List ℕ) (start : Output) where
-  pub once_more : (records : List (List ℕ)) (now : List ℕ) (device : D) (scan : Place) (result : Result (Unit {0}) Fault) (mid new : Output)
+  pub once_more : (records : List (List ℕ)) (now : List ℕ) (device : D) (scan : Place) (result : Result (Unit {0}) KeepCommandFault) (mid new : Output)
       → Later file now → holds device now → Sent (entries_above after [] records) start mid → SendsRound result after records now scan mid new
       → GrowsBy holds result after file device scan start new
   once_more records now device scan (Ok done) mid new since held sent (more, whole, place, also) = record {
@@ -88,7 +88,7 @@ module _ {D : Type 0} (holds : D → List ℕ → Type 0) (after : ℕ) (file : 
   }
 
   -- no round more: the file could not be read on
-  pub no_more : (cause : journal.Fault) (fault : Fault) (device : D) (scan : Place) (mid : Output) → fault ≡ disk_fault cause → Grown holds after file device scan start mid
+  pub no_more : (cause : JournalFault) (fault : KeepCommandFault) (device : D) (scan : Place) (mid : Output) → fault ≡ disk_fault cause → Grown holds after file device scan start mid
       → Breaks fault true after file start mid
   no_more cause fault device scan mid is g = record {
     later = g.later;
@@ -104,7 +104,7 @@ module _ {D : Type 0} (holds : D → List ℕ → Type 0) (after : ℕ) (file : 
 
 -- the entries, behind what comes before them
 module _ (holds : List ℕ → Type 0) (follows : Bool) (after : Option ℕ) (rules : Rules) (file : List ℕ) (old mid new : Output) where
-  pub part_sent : (result : Result (Unit {0}) Fault) → Sent (start_of after rules) old mid → EndsRounds holds result follows (floor_of after) file mid new
+  pub part_sent : (result : Result (Unit {0}) KeepCommandFault) → Sent (start_of after rules) old mid → EndsRounds holds result follows (floor_of after) file mid new
       → WritesPart holds result follows after rules file old new
   part_sent (Ok done) one two = record {
     later = two.later;
@@ -128,7 +128,7 @@ grows_same false file = refl
 grows_same true file = later_same file
 
 -- what comes before the entries was cut off
-pub start_cut : (follows : Bool) (after : Option ℕ) (rules : Rules) (file : List ℕ) (old new : Output) (fault : Fault)
+pub start_cut : (follows : Bool) (after : Option ℕ) (rules : Rules) (file : List ℕ) (old new : Output) (fault : KeepCommandFault)
     → fault ≡ Device failed.Output → CutOff (start_of after rules) old new → BeginsWith [] file
     → StopsReading fault file (new ≡ old) ⊎ WritesSome fault follows after rules file old new
 start_cut follows after rules file old new fault is cut begins = inr (record {
@@ -159,13 +159,13 @@ one_round holds after file scan start written held (more, whole, place, sent) =
     record { later = file; since = refl; held = held; records = more; whole = whole; sent = sent }
 
 -- or a fault in it
-pub first_broken : (follows : Bool) (after : ℕ) (file : List ℕ) (scan : Place) (start written : Output) (fault : Fault)
+pub first_broken : (follows : Bool) (after : ℕ) (file : List ℕ) (scan : Place) (start written : Output) (fault : KeepCommandFault)
     → SendsRound (Err fault) after [] file scan start written → Breaks fault follows after file start written
 first_broken follows after file scan start written fault (more, begins, ends) =
     record { later = file; since = grows_same follows file; records = more; begins = begins; ends = ends }
 
 -- a file of which nothing is read
-pub unread : (follows : Bool) (after : Option ℕ) (rules : Rules) (file : List ℕ) (cause : OpenFault) (fault : Fault) (old : Output)
+pub unread : (follows : Bool) (after : Option ℕ) (rules : Rules) (file : List ℕ) (cause : OpenFault) (fault : KeepCommandFault) (old : Output)
     → fault ≡ opened_fault cause → Starts (Err cause) file
     → StopsReading fault file (old ≡ old) ⊎ WritesSome fault follows after rules file old old
 unread follows after rules file cause fault old is starts = inl (record { why = cause; named = is; refuses = refused cause starts; went = refl })

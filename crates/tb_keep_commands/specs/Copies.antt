@@ -4,12 +4,12 @@ use Rattle.std.specs.Prelude.{ℕ, Bool, true, false, ◌≡◌, ◌-◌, List, 
 use Rattle.std.specs.Fmt.{decimal, digits}
 use Rattle.tb_records.specs.Transport.{Output}
 use Rattle.tb_journal.specs.declared.devices.Device as devices
-use Rattle.tb_journal.specs.declared.faults.Fault as journal
+use Rattle.tb_journal.specs.declared.faults.JournalFault.{JournalFault}
 use Rattle.tb_journal.specs.Device.{LeavesOnly}
 use Rattle.tb_keep.specs.declared.faults.SalvageFault.{SalvageFault}
 use Rattle.tb_keep.specs.declared.faults.SalvageFault.TheVariants.{Old, New}
 use Rattle.tb_keep.specs.declared.faults.StartFault.{StartFault}
-use Rattle.tb_keep.specs.declared.restoring.Rules.{Rules}
+use Rattle.tb_keep.specs.declared.recovering.Rules.{Rules}
 use Rattle.tb_keep.specs.declared.salvaging.NotSalvaged.{NotSalvaged}
 use Rattle.tb_keep.specs.declared.salvaging.Salvaged.{Salvaged}
 use Rattle.tb_keep.specs.Keeping.{History, state_of}
@@ -20,8 +20,8 @@ use Rattle.tb_keep.specs.Salvaging.{IsTaken, IsNewKeeper, IsUnsalvaged, MayBeSal
 use Rattle.tb_keep_commands.specs.declared.copies.Copied.{Copied}
 use Rattle.tb_keep_commands.specs.declared.faults.Damage.{Damage}
 use Rattle.tb_keep_commands.specs.declared.faults.Damage.TheVariants.{Block}
-use Rattle.tb_keep_commands.specs.declared.faults.Fault.{Fault}
-use Rattle.tb_keep_commands.specs.declared.faults.Fault.TheVariants.{Damaged, Opening, Making}
+use Rattle.tb_keep_commands.specs.declared.faults.KeepCommandFault.{KeepCommandFault}
+use Rattle.tb_keep_commands.specs.declared.faults.KeepCommandFault.TheVariants.{Damaged, Opening, Making}
 use Rattle.tb_keep_commands.specs.Ends.{KnownFiles}
 use Rattle.tb_keep_commands.specs.Naming.{Names}
 use Rattle.tb_keep_commands.specs.Outcomes.{Outcome, PrintsText, IsMeasured, IsRefused, Opens}
@@ -29,7 +29,7 @@ use Rattle.tb_keep_commands.specs.Statuses.{damage_text, disk_fault, new_fault, 
 use Rattle.tb_keep_commands.specs.Summaries.{line_before, behind_text}
 
 -- what is damaged, where that is the fault
-abbrev pub damage_by : Fault → Option Damage
+abbrev pub damage_by : KeepCommandFault → Option Damage
 damage_by (Damaged damage) = Some damage
 damage_by fault = None
 
@@ -85,7 +85,7 @@ EndsCopy (Some fault) c outcome start written = (outcome ≡ Err (started_fault 
 
 module _ {E : Type 0} (its : devices.Ghosts E) where
   -- a fault of the file, with what there is to say of it; or one of the new file
-  abbrev pub NamesCopy : SalvageFault → Fault → E → E → Type 0
+  abbrev pub NamesCopy : SalvageFault → KeepCommandFault → E → E → Type 0
   NamesCopy (Old fault) named from after = Names its (started_fault fault) named from after
   NamesCopy (New fault) named from after = (named ≡ new_fault (started_fault fault)) × (after ≡ from)
 
@@ -112,7 +112,7 @@ module _ {E : Type 0} (its : devices.Ghosts E) (whole_read : E → List ℕ → 
       (c : Copied) × IsCopy new_file (its.holds from) len salvaged c
       × EndsCopy (refused_by whole salvaged.stop) c outcome start written × (after ≡ between)
   CopiesBy (Err failed) len whole outcome from between after start written =
-      (named : Fault) × (outcome ≡ Err named) × NamesCopy its failed.fault named between after × (written ≡ start)
+      (named : KeepCommandFault) × (outcome ≡ Err named) × NamesCopy its failed.fault named between after × (written ≡ start)
 
   -- a file of so many bytes was copied
   pub record CopiesLong (len : ℕ) (whole : Bool) (outcome : Outcome) (into : D) (from after : E) (start written : Output) : Type 0 where
@@ -123,7 +123,7 @@ module _ {E : Type 0} (its : devices.Ghosts E) (whole_read : E → List ℕ → 
 
   -- a file's length was asked for, and then it was copied
   pub record CopiesFile (whole : Bool) (outcome : Outcome) (into : D) (from after : E) (start written : Output) : Type 0 where
-    pub len : Result ℕ journal.Fault
+    pub len : Result ℕ JournalFault
     pub between : E
     pub asked : IsMeasured its whole_read len from between
     pub copies : MatchResult len (λ n. CopiesLong n whole outcome into between after start written)

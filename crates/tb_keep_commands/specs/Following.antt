@@ -10,11 +10,11 @@ use Rattle.tb_journal.specs.Growing.{Later}
 use Rattle.tb_journal.specs.Opening.{RefusesFile}
 use Rattle.tb_journal.specs.Scans.{BeginsWith, HasRead, Place}
 use Rattle.tb_keep.specs.declared.faults.DumpFault.{DumpFault}
-use Rattle.tb_keep.specs.declared.restoring.Rules.{Rules}
+use Rattle.tb_keep.specs.declared.recovering.Rules.{Rules}
 use Rattle.tb_keep.specs.Following.{entries_above}
 use Rattle.tb_keep.specs.Reading.{HasDumpCause}
-use Rattle.tb_keep_commands.specs.declared.faults.Fault.{Fault}
-use Rattle.tb_keep_commands.specs.declared.faults.Fault.TheVariants.{Device}
+use Rattle.tb_keep_commands.specs.declared.faults.KeepCommandFault.{KeepCommandFault}
+use Rattle.tb_keep_commands.specs.declared.faults.KeepCommandFault.TheVariants.{Device}
 use Rattle.tb_keep_commands.specs.declared.faults.Failed.TheVariants as failed
 use Rattle.tb_keep_commands.specs.Statuses.{opened_fault, dumped_fault}
 
@@ -38,14 +38,14 @@ GrowsTo false file later = later ≡ file
 GrowsTo true file later = Later file later
 
 -- the file was not read on for the reason that the fault names, and before that this went out
-pub record StopsReading (fault : Fault) (file : List ℕ) (Went : Type 0) : Type 0 where
+pub record StopsReading (fault : KeepCommandFault) (file : List ℕ) (Went : Type 0) : Type 0 where
   pub why : OpenFault
   pub named : fault ≡ opened_fault why
   pub refuses : RefusesFile why file
   pub went : Went
 
 -- the file was not read on, and these bytes went out; or standard output failed, and a prefix of them did
-abbrev pub EndsBy : Fault → List ℕ → List ℕ → Output → Output → Type 0
+abbrev pub EndsBy : KeepCommandFault → List ℕ → List ℕ → Output → Output → Type 0
 EndsBy fault file bytes start written =
     StopsReading fault file (Sent bytes start written) ⊎ ((fault ≡ Device failed.Output) × CutOff bytes start written)
 
@@ -60,24 +60,24 @@ pub record WritesRead (holds : List ℕ → Type 0) (follows : Bool) (after : Op
   pub sent : Sent (part_of after rules records) start written
 
 -- or, at a fault, that of the records that were read until then
-pub record WritesSome (fault : Fault) (follows : Bool) (after : Option ℕ) (rules : Rules) (file : List ℕ) (start written : Output) : Type 0 where
+pub record WritesSome (fault : KeepCommandFault) (follows : Bool) (after : Option ℕ) (rules : Rules) (file : List ℕ) (start written : Output) : Type 0 where
   pub later : List ℕ
   pub since : GrowsTo follows file later
   pub records : List (List ℕ)
   pub begins : BeginsWith records later
   pub ends : EndsBy fault later (part_of after rules records) start written
 
-abbrev pub WritesPart : (List ℕ → Type 0) → Result (Unit {0}) Fault → Bool → Option ℕ → Rules → List ℕ → Output → Output → Type 0
+abbrev pub WritesPart : (List ℕ → Type 0) → Result (Unit {0}) KeepCommandFault → Bool → Option ℕ → Rules → List ℕ → Output → Output → Type 0
 WritesPart holds (Ok done) follows after rules file start written = WritesRead holds follows after rules file start written
 WritesPart holds (Err fault) follows after rules file start written =
     StopsReading fault file (written ≡ start) ⊎ WritesSome fault follows after rules file start written
 
-abbrev pub dump_outcome : Result (Unit {0}) DumpFault → Result (Unit {0}) Fault
+abbrev pub dump_outcome : Result (Unit {0}) DumpFault → Result (Unit {0}) KeepCommandFault
 dump_outcome (Ok done) = Ok tt
 dump_outcome (Err fault) = Err (dumped_fault fault)
 
 -- the cause of an outcome, over a device that reports what its calls do: that of a dump
-pub record HasPartCause (outcome : Result (Unit {0}) Fault) (before after : Disk) : Type 0 where
+pub record HasPartCause (outcome : Result (Unit {0}) KeepCommandFault) (before after : Disk) : Type 0 where
   pub result : Result (Unit {0}) DumpFault
   pub outcome_is : outcome ≡ dump_outcome result
   pub cause : HasDumpCause result before after
@@ -91,12 +91,12 @@ pub record ReadsOn (before after : Disk) (scan : Place) : Type 0 where
   pub read : List (List ℕ)
   pub place : HasRead read after.seen scan
 
-abbrev pub RoundCause : Result (Unit {0}) Fault → Disk → Disk → Place → Type 0
+abbrev pub RoundCause : Result (Unit {0}) KeepCommandFault → Disk → Disk → Place → Type 0
 RoundCause (Ok done) before after scan = ReadsOn before after scan
 RoundCause (Err fault) before after scan = HasPartCause (Err fault) before after
 
 -- the entries behind the records that were read were read and written, to the end of the file; or some of them
-abbrev pub SendsRound : Result (Unit {0}) Fault → ℕ → List (List ℕ) → List ℕ → Place → Output → Output → Type 0
+abbrev pub SendsRound : Result (Unit {0}) KeepCommandFault → ℕ → List (List ℕ) → List ℕ → Place → Output → Output → Type 0
 SendsRound (Ok done) after read file scan start written =
     (more : List (List ℕ)) × (contents file ≡ Records (read ++ more)) × HasRead (read ++ more) file scan
     × Sent (entries_above after read more) start written
@@ -114,7 +114,7 @@ pub record Grown {D : Type 0} (holds : D → List ℕ → Type 0) (after : ℕ) 
   pub sent : Sent (entries_above after [] records) start written
 
 -- a fault ends the writing of the entries of a file that grows: of records that it begins with
-pub record Breaks (fault : Fault) (follows : Bool) (after : ℕ) (file : List ℕ) (start written : Output) : Type 0 where
+pub record Breaks (fault : KeepCommandFault) (follows : Bool) (after : ℕ) (file : List ℕ) (start written : Output) : Type 0 where
   pub later : List ℕ
   pub since : GrowsTo follows file later
   pub records : List (List ℕ)
@@ -122,7 +122,7 @@ pub record Breaks (fault : Fault) (follows : Bool) (after : ℕ) (file : List �
   pub ends : EndsBy fault later (entries_above after [] records) start written
 
 -- one more round
-abbrev pub GrowsBy : {D : Type 0} → (D → List ℕ → Type 0) → Result (Unit {0}) Fault → ℕ → List ℕ → D → Place → Output → Output → Type 0
+abbrev pub GrowsBy : {D : Type 0} → (D → List ℕ → Type 0) → Result (Unit {0}) KeepCommandFault → ℕ → List ℕ → D → Place → Output → Output → Type 0
 GrowsBy holds (Ok done) after file device scan start written = Grown holds after file device scan start written
 GrowsBy holds (Err fault) after file device scan start written = Breaks fault true after file start written
 
@@ -135,6 +135,6 @@ pub record Reaches (holds : List ℕ → Type 0) (follows : Bool) (after : ℕ) 
   pub whole : contents later ≡ Records records
   pub sent : Sent (entries_above after [] records) start written
 
-abbrev pub EndsRounds : (List ℕ → Type 0) → Result (Unit {0}) Fault → Bool → ℕ → List ℕ → Output → Output → Type 0
+abbrev pub EndsRounds : (List ℕ → Type 0) → Result (Unit {0}) KeepCommandFault → Bool → ℕ → List ℕ → Output → Output → Type 0
 EndsRounds holds (Ok done) follows after file start written = Reaches holds follows after file start written
 EndsRounds holds (Err fault) follows after file start written = Breaks fault follows after file start written

@@ -11,7 +11,7 @@ use Rattle.tb_records.specs.declared.devices.Sink as sinks
 use Rattle.tb_keep_commands.specs.declared.arguments.Form.{Form}
 use Rattle.tb_keep_commands.specs.declared.commands.Terminals.{Terminals}
 use Rattle.tb_keep_commands.specs.declared.arguments.Form.TheVariants as form
-use Rattle.tb_keep_commands.specs.declared.faults.Fault.TheVariants.{NoMemory}
+use Rattle.tb_keep_commands.specs.declared.faults.KeepCommandFault.TheVariants.{NoMemory}
 use Rattle.tb_keep_commands.specs.Exits.{Exits}
 use Rattle.tb_keep_commands.specs.Forms.{form_of, file_word, new_word}
 use Rattle.tb_keep_commands.specs.Ends.{KnownFiles}

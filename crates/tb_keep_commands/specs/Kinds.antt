@@ -3,7 +3,7 @@
 use Rattle.std.specs.Prelude.{ℕ, Bool, false, ◌≡◌, not, nat_le, nat_lt, nat_eq, ◌&&◌, ◌||◌, List, [], ◌∷◌, ◌++◌, length, take, drop, Result, Ok, Err, if◌then◌else◌, codes, refl}
 use Rattle.std.specs.List.{list_all}
 use Rattle.std.specs.Cmp.Lexicographic.{pointwise}
-use Rattle.tb_journal.specs.declared.faults.Fault as journal
+use Rattle.tb_journal.specs.declared.faults.JournalFault.{JournalFault}
 use Rattle.tb_keep_commands.specs.declared.kinds.Kind.{Kind}
 use Rattle.tb_keep_commands.specs.declared.kinds.TheConstants.{DUMP, REGISTER}
 use Rattle.tb_keep_commands.specs.declared.kinds.Kind.TheVariants.{Unread, Empty, Dump, Script, Text, Other}
@@ -30,7 +30,7 @@ kind_of first =
     else Other
 
 -- of a file whose first bytes were read, or not
-abbrev pub kind_by : Result ℕ journal.Fault → List ℕ → Kind
+abbrev pub kind_by : Result ℕ JournalFault → List ℕ → Kind
 kind_by (Ok count) file = kind_of (take 56 file)
 kind_by (Err fault) file = Unread
 

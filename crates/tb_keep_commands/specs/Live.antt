@@ -1,7 +1,7 @@
 -- A file that is read while another program may append to it.
 -- Cited by public contracts of: live.
 use Rattle.std.specs.Prelude.{◌≡◌, ℕ, List, length, Result, Ok, Err, IfOk}
-use Rattle.tb_journal.specs.declared.faults.Fault.{Fault}
+use Rattle.tb_journal.specs.declared.faults.JournalFault.{JournalFault}
 use Rattle.tb_journal.specs.Contents.{Contents, NotAJournal, Damaged, Records, contents}
 use Rattle.tb_journal.specs.Growing.{Extends, Grown, Later}
 
@@ -18,16 +18,16 @@ pub record LooksAgain {D : Type 0} (whole holds : D → List ℕ → Type 0) (be
   pub all : contents later ≡ contents moment
 
 -- or it failed, and holds what it held
-abbrev pub Refreshes : {D : Type 0} → (D → List ℕ → Type 0) → (D → List ℕ → Type 0) → D → D → List ℕ → Result (Unit {0}) Fault → Type 0
+abbrev pub Refreshes : {D : Type 0} → (D → List ℕ → Type 0) → (D → List ℕ → Type 0) → D → D → List ℕ → Result (Unit {0}) JournalFault → Type 0
 Refreshes whole holds before after file (Ok done) = LooksAgain whole holds before after file
 Refreshes whole holds before after file (Err fault) = holds after file
 
 -- of whatever file it held
-abbrev pub RefreshesHeld : {D : Type 0} → (D → List ℕ → Type 0) → (D → List ℕ → Type 0) → Result (Unit {0}) Fault → D → D → Type 0
+abbrev pub RefreshesHeld : {D : Type 0} → (D → List ℕ → Type 0) → (D → List ℕ → Type 0) → Result (Unit {0}) JournalFault → D → D → Type 0
 RefreshesHeld whole holds result before after = (file : List ℕ) → holds before file → Refreshes whole holds before after file result
 
 -- so many bytes had the whole file at some moment of a call
-abbrev pub MeasuresWhole : {D : Type 0} → (D → List ℕ → Type 0) → Result ℕ Fault → D → D → Type 0
+abbrev pub MeasuresWhole : {D : Type 0} → (D → List ℕ → Type 0) → Result ℕ JournalFault → D → D → Type 0
 MeasuresWhole whole len before after = (file : List ℕ) → whole before file → Grown (whole after) file (λ later. IfOk len (λ n. n ≡ length later))
 
 -- a whole file, by what the part of it represents that a device holds: it extends these records, or is refused as the part is

@@ -2,15 +2,15 @@
 -- Public contracts reach it through: Copies, Outcomes.
 use Rattle.std.specs.Prelude.{ℕ, ◌≡◌, List, Option, Some, None, Result, Ok, Err}
 use Rattle.tb_journal.specs.declared.devices.Device as devices
-use Rattle.tb_journal.specs.declared.faults.Fault as journal
+use Rattle.tb_journal.specs.declared.faults.JournalFault.{JournalFault}
 use Rattle.tb_journal.specs.Device.{Looks}
 use Rattle.tb_keep.specs.declared.faults.StartFault.{StartFault}
 use Rattle.tb_keep.specs.declared.faults.StartFault.TheVariants as start
-use Rattle.tb_keep.specs.declared.restoring.Rules.{Rules}
+use Rattle.tb_keep.specs.declared.recovering.Rules.{Rules}
 use Rattle.tb_keep.specs.Reading.{RulesAnswer}
 use Rattle.tb_keep.specs.Restoration.{HasStartCause}
-use Rattle.tb_keep_commands.specs.declared.faults.Fault.{Fault}
-use Rattle.tb_keep_commands.specs.declared.faults.Fault.TheVariants.{NotAJournal, OtherRules}
+use Rattle.tb_keep_commands.specs.declared.faults.KeepCommandFault.{KeepCommandFault}
+use Rattle.tb_keep_commands.specs.declared.faults.KeepCommandFault.TheVariants.{NotAJournal, OtherRules}
 use Rattle.tb_keep_commands.specs.declared.faults.Mismatch.{Mismatch}
 use Rattle.tb_keep_commands.specs.declared.kinds.Kind.{Kind}
 use Rattle.tb_keep_commands.specs.Kinds.{kind_by}
@@ -24,12 +24,12 @@ mismatch (Err fault) asked = None
 module _ {D : Type 0} (its : devices.Ghosts D) where
   -- the first bytes of the file of a device were read, or it failed
   pub record IsOfKind (kind : Kind) (device after : D) : Type 0 where
-    pub read : Result ℕ journal.Fault
+    pub read : Result ℕ JournalFault
     pub kind_is : (file : List ℕ) → its.holds device file → kind ≡ kind_by read file
     pub looks : its.tells → Looks read (its.disk device) (its.disk after)
 
   -- of a file that is no journal it is said what it is
-  abbrev pub Names : Fault → Fault → D → D → Type 0
+  abbrev pub Names : KeepCommandFault → KeepCommandFault → D → D → Type 0
   Names (NotAJournal kind) fault device after = (found : Kind) × (fault ≡ NotAJournal found) × IsOfKind found device after
   Names named fault device after = (fault ≡ named) × (after ≡ device)
 
@@ -41,7 +41,7 @@ module _ {D : Type 0} (its : devices.Ghosts D) where
     pub cause : its.tells → HasStartCause made (its.disk device) (its.disk after)
 
   -- of one of other rules than were asked for it is said which these are
-  abbrev pub NamesAsked : Rules → StartFault → Fault → D → D → Type 0
+  abbrev pub NamesAsked : Rules → StartFault → KeepCommandFault → D → D → Type 0
   NamesAsked asked start.OtherRules fault device after = (numbers : Option Mismatch) × (fault ≡ OtherRules numbers) × IsMadeWith asked numbers device after
   NamesAsked asked cause fault device after = Names (started_fault cause) fault device after
 

@@ -3,20 +3,20 @@
 use Rattle.std.specs.Prelude.{ℕ, Bool, true, false, Option, None, ◌≡◌, ◌-◌, List, length, Result, Ok, Err, IfOk, OnOk, MatchResult}
 use Rattle.tb_records.specs.Transport.{Input, Output, Sent, CutOff}
 use Rattle.tb_journal.specs.declared.devices.Device as devices
-use Rattle.tb_journal.specs.declared.faults.Fault as journal
+use Rattle.tb_journal.specs.declared.faults.JournalFault.{JournalFault}
 use Rattle.tb_journal.specs.Device.{Looks, LeavesOnly}
 use Rattle.tb_keep.specs.declared.faults.DumpFault.{DumpFault}
 use Rattle.tb_keep.specs.declared.faults.KeepFault.{KeepFault}
 use Rattle.tb_keep.specs.declared.faults.StartFault.{StartFault}
-use Rattle.tb_keep.specs.declared.restoring.Rules.{Rules}
-use Rattle.tb_keep.specs.declared.opening.NotKept.{NotKept}
+use Rattle.tb_keep.specs.declared.recovering.Rules.{Rules}
+use Rattle.tb_keep.specs.declared.creating.NotKept.{NotKept}
 use Rattle.tb_keep.specs.Keeping.{Keeping}
 use Rattle.tb_keep.specs.Opening.{IsStarted, StartsFile, IsStartRefused, MayBeStarted, HasEitherCause, device_left, why_left}
 use Rattle.tb_keep.specs.Reading.{Dumps, HasDumpCause}
 use Rattle.tb_keep.specs.Restoration.{HasStartCause}
 use Rattle.tb_keep.specs.Rounds.{Served}
-use Rattle.tb_keep_commands.specs.declared.faults.Fault.{Fault}
-use Rattle.tb_keep_commands.specs.declared.faults.Fault.TheVariants.{Device, NoMemory, Opening}
+use Rattle.tb_keep_commands.specs.declared.faults.KeepCommandFault.{KeepCommandFault}
+use Rattle.tb_keep_commands.specs.declared.faults.KeepCommandFault.TheVariants.{Device, NoMemory, Opening}
 use Rattle.tb_keep_commands.specs.declared.faults.Failed.{Failed}
 use Rattle.tb_keep_commands.specs.declared.faults.Failed.TheVariants as failed
 use Rattle.tb_keep_commands.specs.declared.openers.OpeningFault.{OpeningFault}
@@ -30,7 +30,7 @@ use Rattle.tb_keep_commands.specs.Summaries.{ReadsWhole, summary_of, summary_tex
 
 -- done, or not to its end
 abbrev pub Outcome : Type 0
-Outcome = Result (Unit {0}) Fault
+Outcome = Result (Unit {0}) KeepCommandFault
 
 -- a text went out whole, or a prefix of it and the writer failed
 abbrev pub Prints : List ℕ → Outcome → Output → Output → Type 0
@@ -65,7 +65,7 @@ module _ {D : Type 0} (its : devices.Ghosts D) where
 
   -- a file that was read is refused, with what there is to say of it
   pub record IsRefused (fault : StartFault) (outcome : Outcome) (device after : D) : Type 0 where
-    pub named : Fault
+    pub named : KeepCommandFault
     pub outcome_is : outcome ≡ Err named
     pub names : Names its (started_fault fault) named device after
 
@@ -112,13 +112,13 @@ module _ {D : Type 0} (its : devices.Ghosts D) where
         (λ fault. IsRefused fault outcome between after × (written ≡ start))
 
   -- a device was asked for the length of its file, which stays
-  pub record IsAsked (len : Result ℕ journal.Fault) (device after : D) : Type 0 where
+  pub record IsAsked (len : Result ℕ JournalFault) (device after : D) : Type 0 where
     pub long : OfFile device (λ file. IfOk len (λ n. n ≡ length file))
     pub same : OfFile device (its.holds after)
     pub looks : its.tells → Looks len (its.disk device) (its.disk after)
 
   -- a device was asked for the length of the whole file of which it holds a part: that at some moment of the call. What it holds stays
-  pub record IsMeasured (whole : D → List ℕ → Type 0) (len : Result ℕ journal.Fault) (device after : D) : Type 0 where
+  pub record IsMeasured (whole : D → List ℕ → Type 0) (len : Result ℕ JournalFault) (device after : D) : Type 0 where
     pub long : MeasuresWhole whole len device after
     pub extends : OfFile device (λ file. IfOk len (IsWholeLength file))
     -- nobody else appends to the file of a device that reports what its calls do
@@ -128,7 +128,7 @@ module _ {D : Type 0} (its : devices.Ghosts D) where
 
   -- a file's length was asked for, and then it was checked
   pub record ChecksFile (whole : D → List ℕ → Type 0) (outcome : Outcome) (device after : D) (start written : Output) : Type 0 where
-    pub len : Result ℕ journal.Fault
+    pub len : Result ℕ JournalFault
     pub between : D
     pub asked : IsMeasured whole len device between
     pub checks : MatchResult len (λ n. ChecksLong n outcome between after start written)
@@ -157,7 +157,7 @@ module _ {D : Type 0} (its : devices.Ghosts D) where
 
   -- a start was refused, with what there is to say of the file; nothing was read, written or reported but why
   pub record IsUnstarted (failed : NotKept D) (rules : Rules) (outcome : Outcome) (first last : Input) (start written quiet told : Output) : Type 0 where
-    pub named : Fault
+    pub named : KeepCommandFault
     pub outcome_is : outcome ≡ Err named
     pub left : D
     pub names : NamesAsked its rules failed.fault named failed.device left
@@ -177,14 +177,14 @@ module _ {D : Type 0} (its : devices.Ghosts D) where
 
   -- the length of the file of this path was asked for, and then a ledger of these rules was started over it, and kept
   pub record ServesFile (outcome : Outcome) (rules : Rules) (path : List ℕ) (reports : Bool) (device : D) (first last : Input) (start written quiet told : Output) : Type 0 where
-    pub len : Result ℕ journal.Fault
+    pub len : Result ℕ JournalFault
     pub between : D
     pub asked : IsAsked len device between
     pub serves : MatchResult len (λ n. ServesLong outcome rules path reports n between first last start written quiet told)
         (λ fault. (outcome ≡ Err (disk_fault fault)) × (last ≡ first) × (written ≡ start) × (told ≡ quiet))
 
 -- an opening may answer so, and leave what opens like this: with a device that was done; at a fault, which has this name, nothing was
-pub record Opens {D O : Type 0} (named : OpeningFault → Fault) (may : Result D OpeningFault → O → Type 0) (left : O) (outcome : Outcome) (Nothing : Type 0) (Does : D → Type 0) : Type 0 where
+pub record Opens {D O : Type 0} (named : OpeningFault → KeepCommandFault) (may : Result D OpeningFault → O → Type 0) (left : O) (outcome : Outcome) (Nothing : Type 0) (Does : D → Type 0) : Type 0 where
   pub answer : Result D OpeningFault
   pub answered : may answer left
   pub done : MatchResult answer Does (λ fault. (outcome ≡ Err (named fault)) × Nothing)

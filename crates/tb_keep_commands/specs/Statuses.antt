@@ -1,5 +1,5 @@
 -- The exit status of each fault, and the line that names it.
--- Cited by public contracts of: copies, faults, host, lines, openers, reports, serving.
+-- Cited by public contracts of: copies, faults, host, keeping, lines, openers, reports.
 use Rattle.std.specs.Prelude.{ℕ, zero, suc, Bool, true, false, ◌≡◌, ◌⊎◌, ◌==◌, ◌+◌, ◌-◌, ◌/◌, ◌^◌, ◌&&◌, min, nat_le, nat_eq, ◌++◌, List, [], ◌∷◌, Option, Some, None, Result, Ok, Err, IfOk, if◌then◌else◌, flat_map, codes, string_bytes, refl}
 use Rattle.std.specs.Fmt.{decimal, digits}
 use Rattle.std.specs.IoError.{error_kind}
@@ -14,8 +14,8 @@ use Rattle.tb_records.specs.declared.faults.FrameFault.{FrameFault}
 use Rattle.tb_records.specs.Transport.{Output, Sent, CutOff}
 use Rattle.tb_records.specs.declared.devices.Sink as sinks
 use Rattle.tb_journal.specs.declared.devices.Device as devices
-use Rattle.tb_journal.specs.declared.faults.Fault as journal
-use Rattle.tb_journal.specs.declared.faults.Fault.TheVariants as disk
+use Rattle.tb_journal.specs.declared.faults.JournalFault.{JournalFault}
+use Rattle.tb_journal.specs.declared.faults.JournalFault.TheVariants as disk
 use Rattle.tb_journal.specs.Device.{IsLookedAt}
 use Rattle.tb_journal.specs.declared.real.FileFault.{FileFault}
 use Rattle.tb_journal.specs.declared.real.FileFault.TheVariants as file
@@ -33,11 +33,11 @@ use Rattle.tb_keep.specs.declared.faults.KeepFault.{KeepFault}
 use Rattle.tb_keep.specs.declared.faults.KeepFault.TheVariants as keep
 use Rattle.tb_keep.specs.declared.faults.StartFault.{StartFault}
 use Rattle.tb_keep.specs.declared.faults.StartFault.TheVariants as start
-use Rattle.tb_keep.specs.declared.restoring.Rules.{Rules}
+use Rattle.tb_keep.specs.declared.recovering.Rules.{Rules}
 use Rattle.tb_keep_commands.specs.declared.faults.Damage.{Damage}
 use Rattle.tb_keep_commands.specs.declared.faults.Damage.TheVariants.{Block, Record, Entry, Torn}
-use Rattle.tb_keep_commands.specs.declared.faults.Fault.{Fault}
-use Rattle.tb_keep_commands.specs.declared.faults.Fault.TheVariants.{Usage, Device, Opening, Making, NoMemory, Request, NotAJournal, NoHead, Damaged, OtherRules, Full, SyncFailed}
+use Rattle.tb_keep_commands.specs.declared.faults.KeepCommandFault.{KeepCommandFault}
+use Rattle.tb_keep_commands.specs.declared.faults.KeepCommandFault.TheVariants.{Usage, Device, Opening, Making, NoMemory, Request, NotAJournal, NoHead, Damaged, OtherRules, Full, SyncFailed}
 use Rattle.tb_keep_commands.specs.declared.faults.Failed.{Failed}
 use Rattle.tb_keep_commands.specs.declared.faults.Failed.TheVariants.{Input, Output as OutputSide, File, New}
 use Rattle.tb_keep_commands.specs.declared.faults.Mismatch.{Mismatch}
@@ -61,12 +61,12 @@ opening_fault_of kinds.OutOfMemory = opening.NoMemory
 opening_fault_of kind = opening.Unopened
 
 -- a sync fails since memory ran out, or what was written may be lost
-abbrev pub sync_fault : journal.Fault → OpeningFault
+abbrev pub sync_fault : JournalFault → OpeningFault
 sync_fault disk.Memory = opening.NoMemory
 sync_fault fault = opening.SyncFailed
 
 -- a file was opened, but its length or its first bytes are not read
-abbrev pub unread_fault : journal.Fault → OpeningFault
+abbrev pub unread_fault : JournalFault → OpeningFault
 unread_fault disk.Memory = opening.NoMemory
 unread_fault fault = opening.Unread
 
@@ -78,15 +78,15 @@ opening_fault file.Dangling = opening.Dangling
 opening_fault (file.Sync fault) = sync_fault fault
 opening_fault (file.System error) = opening_fault_of (error_kind error)
 
-abbrev pub words_fault_of : ErrorKind → Fault
+abbrev pub words_fault_of : ErrorKind → KeepCommandFault
 words_fault_of kinds.OutOfMemory = NoMemory
 words_fault_of kind = Usage
 
 -- a word of the command line is no text, or there is no memory for one
-abbrev pub words_fault : Error → Fault
+abbrev pub words_fault : Error → KeepCommandFault
 words_fault error = words_fault_of (error_kind error)
 
-abbrev pub disk_fault : journal.Fault → Fault
+abbrev pub disk_fault : JournalFault → KeepCommandFault
 disk_fault disk.Memory = NoMemory
 disk_fault disk.Failed = Device File
 disk_fault disk.Full = Full
@@ -94,15 +94,15 @@ disk_fault disk.TooLong = Request run.TooLong
 disk_fault disk.NotEmpty = NotAJournal kind.Unread
 disk_fault disk.SyncFailed = SyncFailed
 
-abbrev pub refused_fault : Refusal → Fault
+abbrev pub refused_fault : Refusal → KeepCommandFault
 refused_fault refusal.NotAJournal = NotAJournal kind.Unread
 refused_fault (refusal.Damaged at) = Damaged (Block at)
 
-abbrev pub opened_fault : OpenFault → Fault
+abbrev pub opened_fault : OpenFault → KeepCommandFault
 opened_fault (opened.Refused why) = refused_fault why
 opened_fault (opened.Device fault) = disk_fault fault
 
-abbrev pub started_fault : StartFault → Fault
+abbrev pub started_fault : StartFault → KeepCommandFault
 started_fault (start.Journal fault) = opened_fault fault
 started_fault start.Head = NoHead
 started_fault start.OtherRules = OtherRules None
@@ -111,30 +111,30 @@ started_fault (start.Entry fault) = Damaged (Entry fault)
 started_fault start.NoMemory = NoMemory
 started_fault (start.TornTooLong at bytes) = Damaged (Torn at bytes)
 
-abbrev pub dumped_fault : DumpFault → Fault
+abbrev pub dumped_fault : DumpFault → KeepCommandFault
 dumped_fault (dump.Journal fault) = opened_fault fault
 dumped_fault (dump.Writer fault) = Device OutputSide
 
 -- a fault of the file, where that is the new one
-abbrev pub new_fault : Fault → Fault
+abbrev pub new_fault : KeepCommandFault → KeepCommandFault
 new_fault (Device File) = Device New
 new_fault (NotAJournal kind) = Making opening.Exists
 new_fault fault = fault
 
 -- the path that a fault is printed with
-abbrev pub fault_path : Fault → List ℕ → List ℕ → List ℕ
+abbrev pub fault_path : KeepCommandFault → List ℕ → List ℕ → List ℕ
 fault_path (Making fault) file new = new
 fault_path (Device New) file new = new
 fault_path fault file new = file
 
 -- where a pipe failed, this one
-abbrev pub read_fault : Failed → RunFault → Fault
+abbrev pub read_fault : Failed → RunFault → KeepCommandFault
 read_fault pipe (run.Frame frame.Device) = Device pipe
 read_fault pipe (run.Frame frame.NoMemory) = NoMemory
 read_fault pipe run.NoMemory = NoMemory
 read_fault pipe fault = Request fault
 
-abbrev pub kept_fault : Failed → KeepFault → Fault
+abbrev pub kept_fault : Failed → KeepFault → KeepCommandFault
 kept_fault pipe (keep.Serving fault) = read_fault pipe fault
 kept_fault pipe (keep.Journal fault) = disk_fault fault
 
@@ -154,7 +154,7 @@ opening_status opening.Exists = 2
 opening_status fault = 1
 
 -- 1 a device or memory failed, 2 the arguments are wrong or a request is none, and from 4 on why the file is not served
-abbrev pub fault_status : Fault → ℕ
+abbrev pub fault_status : KeepCommandFault → ℕ
 fault_status (Device which) = 1
 fault_status NoMemory = 1
 fault_status (Opening fault) = opening_status fault
@@ -235,7 +235,7 @@ mismatch_text None path = codes "OtherRules: tbd check shows those that the file
 mismatch_text (Some both) path = (codes "OtherRules: " ++ (path ++ codes " was made with ")) ++ both_text both (codes ", not with ")
 
 -- the fault's name, and words behind it where there is more to say, of a file with this path
-abbrev pub fault_text : Fault → List ℕ → List ℕ
+abbrev pub fault_text : KeepCommandFault → List ℕ → List ℕ
 fault_text Usage path = codes "Usage"
 fault_text (Device which) path = failed_text which path
 fault_text (Opening fault) path = opening_text fault path
@@ -257,7 +257,7 @@ SaysLine line before after = (Sent line before after × (after.held ≡ false)) 
 abbrev pub Says : {E : Type 0} → sinks.Ghosts E → List ℕ → E → E → Type 0
 Says lines line before after = SaysLine line (lines.output before) (lines.output after)
 
-abbrev pub fault_line : Fault → List ℕ → List ℕ
+abbrev pub fault_line : KeepCommandFault → List ℕ → List ℕ
 fault_line fault path = codes "tbd: " ++ (fault_text fault path ++ codes "\n")
 
 -- what a start says that made a file of this path

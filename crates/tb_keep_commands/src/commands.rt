@@ -8,14 +8,14 @@ ghost use Rattle.tb_keep_commands.specs.Outcomes.{Prints};
 use crate::arguments::{Form, file_word, new_word, read_form};
 use crate::copying::copy_over;
 use crate::ends::{Ends, Files};
-use crate::faults::{Failed, Fault};
+use crate::faults::{Failed, KeepCommandFault};
 use crate::files::{check, dump};
 use crate::following::{Part, follow};
 use crate::help::{USAGE, VERSION};
+use crate::keeping::{Told, run};
 use crate::lines::{tell, tell_frames, tell_usage};
 use crate::openers::Opener;
 use crate::outlets::Outlet;
-use crate::serving::{Told, run};
 use std::alloc::Global;
 use tb_keep::Rules;
 use tb_records::{Sink, Source, put_all};
@@ -40,13 +40,13 @@ fn run_over<O: Opener, R: Source, W: Outlet, E: Sink>(
     reader: &mut R,
     writer: &mut W,
     faults: &mut E,
-) -> Result<(), Fault>
+) -> Result<(), KeepCommandFault>
     ensures { Runs ⟦<O as Ends<R, W, E>>⟧.its rules told.now talks opener result reader writer faults }
 {
     tell_frames(talks, faults);
     match opener.make(told.path) {
         Ok(device) => run(alloc, device, rules, told, reader, writer, faults),
-        Err(fault) => Err(Fault::Opening(fault)),
+        Err(fault) => Err(KeepCommandFault::Opening(fault)),
     }
 }
 
@@ -57,7 +57,7 @@ fn dump_part<O: Opener, W: Outlet>(
     device: &mut O::Reading,
     writer: &mut W,
     part: Part,
-) -> Result<(), Fault>
+) -> Result<(), KeepCommandFault>
     ensures { DumpsAsked O.Reading.Device W.Sink (O.ended opener.now) part result device writer }
 {
     match (part.after, part.follows) {
@@ -73,7 +73,7 @@ fn dump_over<O: Opener, W: Outlet>(
     name: &str,
     writer: &mut W,
     part: Part,
-) -> Result<(), Fault>
+) -> Result<(), KeepCommandFault>
     ensures { DumpsOn ⟦<O as Files>⟧.its W.Sink name.now part result opener writer }
 {
     let opened = opener.open(name);
@@ -84,7 +84,7 @@ fn dump_over<O: Opener, W: Outlet>(
             drop(device);
             dumped
         }
-        Err(fault) => Err(Fault::Opening(fault)),
+        Err(fault) => Err(KeepCommandFault::Opening(fault)),
     }
 }
 
@@ -94,7 +94,7 @@ fn check_over<O: Opener, W: Sink>(
     opener: &mut O,
     name: &str,
     writer: &mut W,
-) -> Result<(), Fault>
+) -> Result<(), KeepCommandFault>
     ensures { ChecksOn ⟦<O as Files>⟧.its W.Sink name.now result opener writer }
 {
     let found = opener.open(name);
@@ -105,17 +105,17 @@ fn check_over<O: Opener, W: Sink>(
             drop(device);
             checked
         }
-        Err(fault) => Err(Fault::Opening(fault)),
+        Err(fault) => Err(KeepCommandFault::Opening(fault)),
     }
 }
 
 /// Prints a text.
-fn print<W: Sink>(writer: &mut W, text: &str) -> Result<(), Fault>
+fn print<W: Sink>(writer: &mut W, text: &str) -> Result<(), KeepCommandFault>
     ensures { Prints text.now result (W.output writer.old) (W.output writer.new) }
 {
     match put_all(writer, text.as_bytes()) {
         Ok(()) => Ok(()),
-        Err(_) => Err(Fault::Device(Failed::Output)),
+        Err(_) => Err(KeepCommandFault::Device(Failed::Output)),
     }
 }
 
@@ -143,7 +143,7 @@ fn perform<O: Opener, R: Source, W: Outlet, E: Sink>(
     reader: &mut R,
     writer: &mut W,
     faults: &mut E,
-) -> Result<(), Fault>
+) -> Result<(), KeepCommandFault>
     ensures { PerformsOn ⟦<O as Ends<R, W, E>>⟧.its asked.now opener result reader writer faults }
 {
     let name = asked.file;
@@ -172,13 +172,16 @@ fn perform<O: Opener, R: Source, W: Outlet, E: Sink>(
 }
 
 /// Sends what a writer holds back where all was done.
-fn finish<W: Outlet>(done: Result<(), Fault>, writer: &mut W) -> Result<(), Fault>
+fn finish<W: Outlet>(
+    done: Result<(), KeepCommandFault>,
+    writer: &mut W,
+) -> Result<(), KeepCommandFault>
     ensures { Finishes (W.gone writer.new) done result (W.output writer.old) (W.output writer.new) }
 {
     match done {
         Ok(()) => match writer.finish() {
             Ok(()) => Ok(()),
-            Err(_) => Err(Fault::Device(Failed::Output)),
+            Err(_) => Err(KeepCommandFault::Device(Failed::Output)),
         },
         Err(fault) => Err(fault),
     }
@@ -237,7 +240,7 @@ pub fn command<O: Opener, R: Source, W: Outlet, E: Sink>(
         }
         None => {
             tell_usage(words, faults);
-            Fault::Usage.status()
+            KeepCommandFault::Usage.status()
         }
     }
 }

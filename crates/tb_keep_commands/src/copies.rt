@@ -2,7 +2,7 @@
 ghost use Rattle.std.specs.Prelude.{◌≡◌};
 ghost use Rattle.tb_keep_commands.specs.Copies.{damage_of};
 
-use crate::faults::{Damage, Fault, started_fault};
+use crate::faults::{Damage, KeepCommandFault, started_fault};
 use crate::summaries::behind_text;
 use std::fmt;
 use tb_keep::StartFault;
@@ -27,7 +27,7 @@ pub(crate) fn damage_of(stop: Option<StartFault>) -> Option<Damage>
     ensures { result ≡ damage_of stop }
 {
     match started_fault(stop?) {
-        Fault::Damaged(damage) => Some(damage),
+        KeepCommandFault::Damaged(damage) => Some(damage),
         _ => None,
     }
 }

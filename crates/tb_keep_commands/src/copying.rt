@@ -7,7 +7,7 @@ ghost use Rattle.tb_keep_commands.specs.private.Stages.{CopiesHeadedOn, CopiesOn
 
 use crate::copies::{Copied, damage_of};
 use crate::ends::Files;
-use crate::faults::{Failed, Fault, disk_fault, new_fault, started_fault};
+use crate::faults::{Failed, KeepCommandFault, disk_fault, new_fault, started_fault};
 use crate::live::Live;
 use crate::naming::named;
 use crate::openers::Opener;
@@ -32,15 +32,15 @@ fn copied_of<N: Device>(salvaged: &Salvaged<N>, len: usize) -> Copied
 }
 
 /// Writes what was copied.
-fn report<W: Sink>(alloc: Global, copied: Copied, writer: &mut W) -> Result<(), Fault>
+fn report<W: Sink>(alloc: Global, copied: Copied, writer: &mut W) -> Result<(), KeepCommandFault>
     ensures { PrintsText (copied_text copied) result (W.output writer.old) (W.output writer.new) }
 {
     match format!(in alloc; "{copied}") {
         Ok(text) => match put_all(writer, text.as_bytes()) {
             Ok(()) => Ok(()),
-            Err(_) => Err(Fault::Device(Failed::Output)),
+            Err(_) => Err(KeepCommandFault::Device(Failed::Output)),
         },
-        Err(_) => Err(Fault::NoMemory),
+        Err(_) => Err(KeepCommandFault::NoMemory),
     }
 }
 
@@ -58,7 +58,7 @@ fn end_copy<N: Device + Drop, W: Sink>(
     len: usize,
     whole: bool,
     writer: &mut W,
-) -> Result<(), Fault>
+) -> Result<(), KeepCommandFault>
     ensures { OnWriter W.Sink (EndsSalvage len whole salvaged result) writer }
 {
     let copied = copied_of(&salvaged, len);
@@ -71,7 +71,7 @@ fn end_copy<N: Device + Drop, W: Sink>(
 }
 
 /// The fault of a file that was not copied, with what there is to say of it.
-fn named_copy<D: Device>(from: &mut D, fault: SalvageFault) -> Fault
+fn named_copy<D: Device>(from: &mut D, fault: SalvageFault) -> KeepCommandFault
     ensures { NamesCopy D.Device fault result from.old from.new }
 {
     match fault {
@@ -81,7 +81,7 @@ fn named_copy<D: Device>(from: &mut D, fault: SalvageFault) -> Fault
 }
 
 /// The same, of a new file that was not made to its end.
-fn uncopied<D: Device, N: Device + Drop>(from: &mut D, failed: NotSalvaged<N>) -> Fault
+fn uncopied<D: Device, N: Device + Drop>(from: &mut D, failed: NotSalvaged<N>) -> KeepCommandFault
     ensures { NamesCopy D.Device failed.fault result from.old from.new }
 {
     let NotSalvaged { device, fault } = failed;
@@ -97,7 +97,7 @@ fn copy_long<D: Live, N: Device + Drop, W: Sink>(
     into: N,
     whole: bool,
     writer: &mut W,
-) -> Result<(), Fault>
+) -> Result<(), KeepCommandFault>
     requires { N.tells → (N.disk into).sound ≡ true }
     ensures { OnDevice W.Sink (CopiesLong D.Device D.whole N.Device len whole result into) from writer }
 {
@@ -115,7 +115,7 @@ pub(crate) fn copy<D: Live, N: Device + Drop, W: Sink>(
     into: N,
     whole: bool,
     writer: &mut W,
-) -> Result<(), Fault>
+) -> Result<(), KeepCommandFault>
     requires { N.tells → (N.disk into).sound ≡ true }
     ensures { OnDevice W.Sink (CopiesFile D.Device D.whole N.Device whole result into) from writer }
 {
@@ -136,13 +136,13 @@ fn copy_made<O: Opener, W: Sink>(
     from: &mut O::Reading,
     whole: bool,
     writer: &mut W,
-) -> Result<(), Fault>
+) -> Result<(), KeepCommandFault>
     ensures { MakesCopyOn ⟦<O as Files>⟧.its W.Sink new.now whole result opener from writer }
 {
     let made = opener.make_new(new);
     match made {
         Ok(into) => copy(alloc, from, into, whole, writer),
-        Err(fault) => Err(Fault::Making(fault)),
+        Err(fault) => Err(KeepCommandFault::Making(fault)),
     }
 }
 
@@ -154,7 +154,7 @@ fn copy_headed<O: Opener, W: Sink>(
     new: &str,
     whole: bool,
     writer: &mut W,
-) -> Result<(), Fault>
+) -> Result<(), KeepCommandFault>
     ensures { CopiesHeadedOn ⟦<O as Files>⟧.its W.Sink new.now whole result opener from writer }
 {
     match read_rules(alloc, from) {
@@ -171,7 +171,7 @@ pub(crate) fn copy_over<O: Opener, W: Sink>(
     new: &str,
     whole: bool,
     writer: &mut W,
-) -> Result<(), Fault>
+) -> Result<(), KeepCommandFault>
     ensures { CopiesOn ⟦<O as Files>⟧.its W.Sink new.now name.now whole result opener writer }
 {
     let opened = opener.open(name);
@@ -182,6 +182,6 @@ pub(crate) fn copy_over<O: Opener, W: Sink>(
             drop(device);
             copied
         }
-        Err(fault) => Err(Fault::Opening(fault)),
+        Err(fault) => Err(KeepCommandFault::Opening(fault)),
     }
 }

@@ -66,7 +66,7 @@ pub enum Damage {
 
 /// Why a command ends with a status other than 0.
 #[derive(Clone, Copy, Debug, PartialEq, Eq)]
-pub enum Fault {
+pub enum KeepCommandFault {
     /// The arguments are none of the program's forms.
     Usage,
     /// A pipe, or a read or write of the file failed.
@@ -94,31 +94,31 @@ pub enum Fault {
 }
 
 /// The fault of a call on a journal or its file.
-pub fn disk_fault(fault: tb_journal::Fault) -> Fault
+pub fn disk_fault(fault: tb_journal::JournalFault) -> KeepCommandFault
     ensures { result ≡ disk_fault fault }
 {
     match fault {
-        tb_journal::Fault::Memory => Fault::NoMemory,
-        tb_journal::Fault::Failed => Fault::Device(Failed::File),
-        tb_journal::Fault::Full => Fault::Full,
-        tb_journal::Fault::TooLong => Fault::Request(RunFault::TooLong),
-        tb_journal::Fault::NotEmpty => Fault::NotAJournal(Kind::Unread),
-        tb_journal::Fault::SyncFailed => Fault::SyncFailed,
+        tb_journal::JournalFault::Memory => KeepCommandFault::NoMemory,
+        tb_journal::JournalFault::Failed => KeepCommandFault::Device(Failed::File),
+        tb_journal::JournalFault::Full => KeepCommandFault::Full,
+        tb_journal::JournalFault::TooLong => KeepCommandFault::Request(RunFault::TooLong),
+        tb_journal::JournalFault::NotEmpty => KeepCommandFault::NotAJournal(Kind::Unread),
+        tb_journal::JournalFault::SyncFailed => KeepCommandFault::SyncFailed,
     }
 }
 
 /// The fault of a file that is refused.
-fn refused_fault(why: Refusal) -> Fault
+fn refused_fault(why: Refusal) -> KeepCommandFault
     ensures { result ≡ refused_fault why }
 {
     match why {
-        Refusal::NotAJournal => Fault::NotAJournal(Kind::Unread),
-        Refusal::Damaged { at } => Fault::Damaged(Damage::Block { at }),
+        Refusal::NotAJournal => KeepCommandFault::NotAJournal(Kind::Unread),
+        Refusal::Damaged { at } => KeepCommandFault::Damaged(Damage::Block { at }),
     }
 }
 
 /// The fault of a journal that is not read or opened.
-pub fn opened_fault(fault: OpenFault) -> Fault
+pub fn opened_fault(fault: OpenFault) -> KeepCommandFault
     ensures { result ≡ opened_fault fault }
 {
     match fault {
@@ -128,55 +128,61 @@ pub fn opened_fault(fault: OpenFault) -> Fault
 }
 
 /// The fault of a ledger that is not opened, before the file is looked at for what else there is to say of it.
-pub fn started_fault(fault: StartFault) -> Fault
+pub fn started_fault(fault: StartFault) -> KeepCommandFault
     ensures { result ≡ started_fault fault }
 {
     match fault {
         StartFault::Journal(fault) => opened_fault(fault),
-        StartFault::Head => Fault::NoHead,
-        StartFault::OtherRules => Fault::OtherRules(None),
-        StartFault::Record { place, fault } => Fault::Damaged(Damage::Record { place, fault }),
-        StartFault::Entry(fault) => Fault::Damaged(Damage::Entry(fault)),
-        StartFault::NoMemory => Fault::NoMemory,
-        StartFault::TornTooLong { at, bytes } => Fault::Damaged(Damage::Torn { at, bytes }),
+        StartFault::Head => KeepCommandFault::NoHead,
+        StartFault::OtherRules => KeepCommandFault::OtherRules(None),
+        StartFault::Record { place, fault } => KeepCommandFault::Damaged(Damage::Record {
+            place,
+            fault,
+        }),
+        StartFault::Entry(fault) => KeepCommandFault::Damaged(Damage::Entry(fault)),
+        StartFault::NoMemory => KeepCommandFault::NoMemory,
+        StartFault::TornTooLong { at, bytes } => KeepCommandFault::Damaged(Damage::Torn {
+            at,
+            bytes,
+        }),
     }
 }
 
 /// The fault of a dump that is not written.
-pub fn dumped_fault(fault: DumpFault) -> Fault
+pub fn dumped_fault(fault: DumpFault) -> KeepCommandFault
     ensures { result ≡ dumped_fault fault }
 {
     match fault {
         DumpFault::Journal(fault) => opened_fault(fault),
-        DumpFault::Writer(_) => Fault::Device(Failed::Output),
+        DumpFault::Writer(_) => KeepCommandFault::Device(Failed::Output),
     }
 }
 
 /// A fault of the file, where that is the new one.
-pub(crate) fn new_fault(fault: Fault) -> Fault
+pub(crate) fn new_fault(fault: KeepCommandFault) -> KeepCommandFault
     ensures { result ≡ new_fault fault }
 {
     match fault {
-        Fault::Device(Failed::File) => Fault::Device(Failed::New),
-        Fault::NotAJournal(_) => Fault::Making(OpeningFault::Exists),
+        KeepCommandFault::Device(Failed::File) => KeepCommandFault::Device(Failed::New),
+        KeepCommandFault::NotAJournal(_) => KeepCommandFault::Making(OpeningFault::Exists),
         fault => fault,
     }
 }
 
 /// The fault of reading a request, or of writing replies, where this pipe failed if one did.
-fn read_fault(fault: RunFault, pipe: Failed) -> Fault
+fn read_fault(fault: RunFault, pipe: Failed) -> KeepCommandFault
     ensures { result ≡ read_fault pipe fault }
 {
     match fault {
-        RunFault::Frame(FrameFault::Device) => Fault::Device(pipe),
-        RunFault::Frame(FrameFault::NoMemory) => Fault::NoMemory,
-        RunFault::NoMemory => Fault::NoMemory,
-        fault => Fault::Request(fault),
+        RunFault::Frame(FrameFault::Device) => KeepCommandFault::Device(pipe),
+        RunFault::Frame(FrameFault::NoMemory) => KeepCommandFault::NoMemory,
+        RunFault::NoMemory => KeepCommandFault::NoMemory,
+        fault => KeepCommandFault::Request(fault),
     }
 }
 
 /// The fault that serving ends with, where this pipe failed if one did.
-pub fn kept_fault(fault: KeepFault, pipe: Failed) -> Fault
+pub fn kept_fault(fault: KeepFault, pipe: Failed) -> KeepCommandFault
     ensures { result ≡ kept_fault pipe fault }
 {
     match fault {
@@ -186,12 +192,12 @@ pub fn kept_fault(fault: KeepFault, pipe: Failed) -> Fault
 }
 
 /// The fault where the words cannot be had: there is no memory for them, or a word is no text.
-pub fn words_fault(error: &io::Error) -> Fault
+pub fn words_fault(error: &io::Error) -> KeepCommandFault
     ensures { result ≡ words_fault error.now }
 {
     match error.kind() {
-        ErrorKind::OutOfMemory => Fault::NoMemory,
-        _ => Fault::Usage,
+        ErrorKind::OutOfMemory => KeepCommandFault::NoMemory,
+        _ => KeepCommandFault::Usage,
     }
 }
 
@@ -210,13 +216,13 @@ impl OpeningFault {
     }
 }
 
-impl Fault {
+impl KeepCommandFault {
     /// The path that is printed with it: that of the file, or of the new one.
     pub(crate) fn path<'a>(self, file: &'a str, new: &'a str) -> &'a str
         ensures { result.now ≡ fault_path self file.now new.now }
     {
         match self {
-            Fault::Making(_) | Fault::Device(Failed::New) => new,
+            KeepCommandFault::Making(_) | KeepCommandFault::Device(Failed::New) => new,
             _ => file,
         }
     }
@@ -227,14 +233,14 @@ impl Fault {
         ensures value { result ≡ fault_status self }
     {
         match self {
-            Fault::Opening(fault) | Fault::Making(fault) => fault.status(),
-            Fault::SyncFailed => 9,
-            Fault::Usage | Fault::Request(_) => 2,
-            Fault::Device(_) | Fault::NoMemory => 1,
-            Fault::NotAJournal(_) | Fault::NoHead => 5,
-            Fault::Damaged(_) => 6,
-            Fault::OtherRules(_) => 7,
-            Fault::Full => 8,
+            KeepCommandFault::Opening(fault) | KeepCommandFault::Making(fault) => fault.status(),
+            KeepCommandFault::SyncFailed => 9,
+            KeepCommandFault::Usage | KeepCommandFault::Request(_) => 2,
+            KeepCommandFault::Device(_) | KeepCommandFault::NoMemory => 1,
+            KeepCommandFault::NotAJournal(_) | KeepCommandFault::NoHead => 5,
+            KeepCommandFault::Damaged(_) => 6,
+            KeepCommandFault::OtherRules(_) => 7,
+            KeepCommandFault::Full => 8,
         }
     }
 }

@@ -6,7 +6,7 @@ ghost use Rattle.tb_keep_commands.specs.Summaries.{ReadsWhole, summary_text};
 ghost use Rattle.tb_keep_commands.specs.Outcomes.{DumpsFound, DumpsFile, ChecksLong, ChecksFile, PrintsText};
 ghost use Rattle.tb_keep_commands.specs.private.Changes.{OnDevice};
 
-use crate::faults::{Failed, Fault, disk_fault, dumped_fault};
+use crate::faults::{Failed, KeepCommandFault, disk_fault, dumped_fault};
 use crate::live::Live;
 use crate::naming::named;
 use crate::summaries::{Found, Summary};
@@ -46,7 +46,7 @@ fn dump_found<D: Device, W: Sink>(
     device: &mut D,
     found: Found,
     writer: &mut W,
-) -> Result<(), Fault>
+) -> Result<(), KeepCommandFault>
     ensures { OnDevice W.Sink (DumpsFound D.Device (Ok found) result) device writer }
 {
     match write_dump(alloc, device, found.rules, writer) {
@@ -60,7 +60,7 @@ pub(crate) fn dump<D: Device, W: Sink>(
     alloc: Global,
     device: &mut D,
     writer: &mut W,
-) -> Result<(), Fault>
+) -> Result<(), KeepCommandFault>
     ensures { OnDevice W.Sink (DumpsFile D.Device result) device writer }
 {
     match read_whole(alloc, device) {
@@ -70,15 +70,15 @@ pub(crate) fn dump<D: Device, W: Sink>(
 }
 
 /// Writes what is in a file.
-fn report<W: Sink>(alloc: Global, summary: Summary, writer: &mut W) -> Result<(), Fault>
+fn report<W: Sink>(alloc: Global, summary: Summary, writer: &mut W) -> Result<(), KeepCommandFault>
     ensures { PrintsText (summary_text summary) result (W.output writer.old) (W.output writer.new) }
 {
     match format!(in alloc; "{summary}") {
         Ok(text) => match put_all(writer, text.as_bytes()) {
             Ok(()) => Ok(()),
-            Err(_) => Err(Fault::Device(Failed::Output)),
+            Err(_) => Err(KeepCommandFault::Device(Failed::Output)),
         },
-        Err(_) => Err(Fault::NoMemory),
+        Err(_) => Err(KeepCommandFault::NoMemory),
     }
 }
 
@@ -88,7 +88,7 @@ fn check_long<D: Device, W: Sink>(
     device: &mut D,
     len: usize,
     writer: &mut W,
-) -> Result<(), Fault>
+) -> Result<(), KeepCommandFault>
     ensures { OnDevice W.Sink (ChecksLong D.Device len result) device writer }
 {
     match read_whole(alloc, device) {
@@ -102,7 +102,7 @@ pub(crate) fn check<D: Live, W: Sink>(
     alloc: Global,
     device: &mut D,
     writer: &mut W,
-) -> Result<(), Fault>
+) -> Result<(), KeepCommandFault>
     ensures { OnDevice W.Sink (ChecksFile D.Device D.whole result) device writer }
 {
     match device.file_len() {

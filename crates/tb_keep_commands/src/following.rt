@@ -4,7 +4,7 @@ ghost use Rattle.tb_keep_commands.specs.Following.{floor_of, start_of};
 ghost use Rattle.tb_keep_commands.specs.Outcomes.{Prints};
 ghost use Rattle.tb_keep_commands.specs.private.Stages.{FollowsAsked, HasHeldCause, HasRestCause, HasRoundCause, HasWholeCause, LooksOnOk, SendsMore, SendsOn, SendsRest, SendsUnread, WritesHeld, WritesUnread};
 
-use crate::faults::{Failed, Fault, disk_fault, dumped_fault, opened_fault};
+use crate::faults::{Failed, KeepCommandFault, disk_fault, dumped_fault, opened_fault};
 use crate::files::read_whole;
 use crate::live::Live;
 use crate::naming::named;
@@ -31,7 +31,7 @@ fn send_round<D: Device, W: Outlet>(
     device: &mut D,
     writer: &mut W,
     after: u64,
-) -> Result<(), Fault>
+) -> Result<(), KeepCommandFault>
     ensures sends { SendsRest D.holds W.Sink result after scan device writer }
     ensures gone { IfOk result (λ _. W.gone writer.new) }
     ensures same { (file : List ℕ) → D.holds device.old file → D.holds device.new file }
@@ -40,7 +40,7 @@ fn send_round<D: Device, W: Outlet>(
     match write_entries(scan, device, writer, after) {
         Ok(_) => match writer.finish() {
             Ok(()) => Ok(()),
-            Err(_) => Err(Fault::Device(Failed::Output)),
+            Err(_) => Err(KeepCommandFault::Device(Failed::Output)),
         },
         Err(fault) => Err(dumped_fault(fault)),
     }
@@ -52,7 +52,7 @@ fn send_more<D: Live, W: Outlet>(
     device: &mut D,
     writer: &mut W,
     after: u64,
-) -> Result<(), Fault>
+) -> Result<(), KeepCommandFault>
     ensures sends { SendsMore D.holds W.Sink result after scan device writer }
     ensures gone { IfOk result (λ _. W.gone writer.new) }
     ensures looks { LooksOnOk D.whole D.holds result device }
@@ -74,7 +74,7 @@ fn send_on<O: Opener, W: Outlet>(
     device: &mut O::Reading,
     writer: &mut W,
     after: u64,
-) -> Result<(), Fault>
+) -> Result<(), KeepCommandFault>
     ensures sends { SendsOn O.Reading.holds W.Sink result after scan device writer }
     ensures ends { OnOk result (O.ended opener.now) }
     ensures cause { HasRestCause O.Reading.Device result scan device }
@@ -89,7 +89,7 @@ fn send_on<O: Opener, W: Outlet>(
         }
     }
     // So many rounds do not come to an end on any machine.
-    Err(Fault::NoMemory)
+    Err(KeepCommandFault::NoMemory)
 }
 
 /// Writes the entries of a file of which nothing was read, and those that are committed meanwhile where more are waited for.
@@ -100,7 +100,7 @@ fn send_entries<O: Opener, W: Outlet>(
     writer: &mut W,
     after: u64,
     follows: bool,
-) -> Result<(), Fault>
+) -> Result<(), KeepCommandFault>
     ensures sends { SendsUnread O.Reading.holds W.Sink result follows after scan device writer }
     ensures ends { follows ≡ true → OnOk result (O.ended opener.now) }
     ensures cause { HasWholeCause O.Reading.Device result scan device }
@@ -118,7 +118,11 @@ fn send_entries<O: Opener, W: Outlet>(
 }
 
 /// Writes the head of a dump of these rules, where all entries are written.
-fn send_start<W: Sink>(writer: &mut W, rules: Rules, after: Option<u64>) -> Result<(), Fault>
+fn send_start<W: Sink>(
+    writer: &mut W,
+    rules: Rules,
+    after: Option<u64>,
+) -> Result<(), KeepCommandFault>
     ensures { Prints (start_of after rules) result (W.output writer.old) (W.output writer.new) }
 {
     if after.is_some() {
@@ -130,7 +134,7 @@ fn send_start<W: Sink>(writer: &mut W, rules: Rules, after: Option<u64>) -> Resu
     };
     match send_head(writer, head) {
         Ok(()) => Ok(()),
-        Err(_) => Err(Fault::Device(Failed::Output)),
+        Err(_) => Err(KeepCommandFault::Device(Failed::Output)),
     }
 }
 
@@ -149,7 +153,7 @@ fn send_part<O: Opener, W: Outlet>(
     rules: Rules,
     writer: &mut W,
     part: Part,
-) -> Result<(), Fault>
+) -> Result<(), KeepCommandFault>
     ensures writes { WritesUnread O.Reading.holds W.Sink result part rules scan device writer }
     ensures ends { part.follows ≡ true → OnOk result (O.ended opener.now) }
     ensures cause { HasWholeCause O.Reading.Device result scan device }
@@ -171,7 +175,7 @@ fn part_found<O: Opener, W: Outlet>(
     rules: Rules,
     writer: &mut W,
     part: Part,
-) -> Result<(), Fault>
+) -> Result<(), KeepCommandFault>
     ensures writes { WritesHeld O.Reading.holds W.Sink result part rules device writer }
     ensures ends { part.follows ≡ true → OnOk result (O.ended opener.now) }
     ensures cause { HasHeldCause O.Reading.Device result device }
@@ -195,7 +199,7 @@ pub(crate) fn follow<O: Opener, W: Outlet>(
     device: &mut O::Reading,
     writer: &mut W,
     part: Part,
-) -> Result<(), Fault>
+) -> Result<(), KeepCommandFault>
     ensures { FollowsAsked O.Reading.Device W.Sink (O.ended opener.now) part result device writer }
 {
     match read_whole(alloc, device) {

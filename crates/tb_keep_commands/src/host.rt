@@ -6,7 +6,7 @@ ghost use Rattle.tb_keep_commands.specs.Statuses.{SaysLine, fault_status, fault_
 use crate::arguments::{Form, read_form};
 use crate::commands::{Terminals, command};
 use crate::ends::Files;
-use crate::faults::Fault;
+use crate::faults::KeepCommandFault;
 use crate::lines::tell;
 use crate::openers::Opener;
 use crate::outlets::Outgoing;
@@ -74,16 +74,16 @@ pub fn serve<O: Opener, R: Read + Drop, W: Write + Drop, E: Sink>(
 {
     let (held_in, held_out) = capacities(read_form(words));
     let Ok(input) = BufReader::with_capacity(alloc, held_in, input) else {
-        return refuse(Fault::NoMemory, faults);
+        return refuse(KeepCommandFault::NoMemory, faults);
     };
     let Ok(output) = BufWriter::with_capacity(alloc, held_out, output) else {
-        return refuse(Fault::NoMemory, faults);
+        return refuse(KeepCommandFault::NoMemory, faults);
     };
     between(alloc, opener, words, terminals, input, output, faults)
 }
 
 /// Prints a fault of no file, and answers its status.
-pub fn refuse<E: Sink>(fault: Fault, faults: &mut E) -> u8
+pub fn refuse<E: Sink>(fault: KeepCommandFault, faults: &mut E) -> u8
     ensures value { result ≡ fault_status fault }
     ensures told { SaysLine (fault_line fault []) (E.output faults.old) (E.output faults.new) }
 {

@@ -19,7 +19,7 @@
 //! - `copies`: what is reported of a file that was copied.
 //! - `copying`: `salvage` and `backup`, a file copied into a new one.
 //! - `following`: the entries of a file above a commit number, as it grows.
-//! - `serving`: `run`, a ledger over a file served.
+//! - `keeping`: `run`, a ledger over a file served.
 //! - `commands`: `command`, each form, and the exit status of each outcome.
 //! - `host`: `serve`, from a program's arguments, input and output to `command`.
 //!
@@ -37,6 +37,7 @@ mod files;
 mod following;
 mod help;
 mod host;
+mod keeping;
 mod kinds;
 pub mod laws;
 mod lines;
@@ -45,16 +46,18 @@ mod naming;
 mod openers;
 mod outlets;
 mod reports;
-mod serving;
 mod summaries;
 
 pub use arguments::{Form, file_word, is_no_file, new_word, read_form, wrong};
 pub use commands::{Terminals, command};
 pub use copies::Copied;
 pub use ends::{Ends, Files};
-pub use faults::{Damage, Failed, Fault, Mismatch, Numbers, disk_fault, opened_fault, words_fault};
+pub use faults::{
+    Damage, Failed, KeepCommandFault, Mismatch, Numbers, disk_fault, opened_fault, words_fault,
+};
 pub use help::{USAGE, VERSION};
 pub use host::{refuse, serve};
+pub use keeping::failed_pipe;
 pub use kinds::Kind;
 pub use lines::{
     tell, tell_cut, tell_made, tell_named, tell_number, tell_place, tell_text, tell_usage,
@@ -63,5 +66,4 @@ pub use live::Live;
 pub use openers::{Opener, OpeningFault, opening_fault, unread_fault};
 pub use outlets::{Outgoing, Outlet};
 pub use reports::Reported;
-pub use serving::failed_pipe;
 pub use summaries::Summary;

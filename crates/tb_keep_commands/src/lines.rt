@@ -5,7 +5,7 @@ ghost use Rattle.tb_keep_commands.specs.Forms.{wrong};
 ghost use Rattle.tb_keep_commands.specs.private.Changes.{Puts};
 
 use crate::arguments::wrong;
-use crate::faults::{Damage, Failed, Fault, Mismatch, Numbers};
+use crate::faults::{Damage, Failed, KeepCommandFault, Mismatch, Numbers};
 use crate::help::USAGE;
 use crate::kinds::Kind;
 use crate::openers::OpeningFault;
@@ -275,24 +275,26 @@ fn put_mismatch<E: Sink>(
 }
 
 /// Writes a fault's name, and what there is to say of it, over a file of this path.
-fn put_fault<E: Sink>(faults: &mut E, fault: Fault, path: &str) -> Result<(), FrameFault>
+fn put_fault<E: Sink>(faults: &mut E, fault: KeepCommandFault, path: &str) -> Result<(), FrameFault>
     ensures { Puts E.Sink result (fault_text fault path.now) faults }
 {
     match fault {
-        Fault::Usage => put_all(faults, b"Usage"),
-        Fault::Device(which) => put_failed(faults, which, path),
-        Fault::Opening(fault) | Fault::Making(fault) => put_opening(faults, fault, path),
-        Fault::NoMemory => put_all(faults, b"NoMemory"),
-        Fault::Request(fault) => put_all(faults, fault.name().as_bytes()),
-        Fault::NotAJournal(kind) => put_kind(faults, kind, path),
-        Fault::NoHead => put_all(
+        KeepCommandFault::Usage => put_all(faults, b"Usage"),
+        KeepCommandFault::Device(which) => put_failed(faults, which, path),
+        KeepCommandFault::Opening(fault) | KeepCommandFault::Making(fault) => put_opening(
+            faults, fault, path,
+        ),
+        KeepCommandFault::NoMemory => put_all(faults, b"NoMemory"),
+        KeepCommandFault::Request(fault) => put_all(faults, fault.name().as_bytes()),
+        KeepCommandFault::NotAJournal(kind) => put_kind(faults, kind, path),
+        KeepCommandFault::NoHead => put_all(
             faults,
             b"NotAJournal: the first record is no ledger's head; tbd follow serves a log",
         ),
-        Fault::Damaged(damage) => put_damaged(faults, "Damaged: ", damage),
-        Fault::OtherRules(numbers) => put_mismatch(faults, numbers, path),
-        Fault::Full => put_all(faults, b"Full"),
-        Fault::SyncFailed => put_all(
+        KeepCommandFault::Damaged(damage) => put_damaged(faults, "Damaged: ", damage),
+        KeepCommandFault::OtherRules(numbers) => put_mismatch(faults, numbers, path),
+        KeepCommandFault::Full => put_all(faults, b"Full"),
+        KeepCommandFault::SyncFailed => put_all(
             faults,
             b"SyncFailed: restart the machine or copy the file before the next start",
         ),
@@ -309,7 +311,7 @@ fn pass<E: Sink>(sent: Result<(), FrameFault>, faults: &mut E)
 }
 
 /// Writes a fault and the end of its line.
-fn put_rest<E: Sink>(faults: &mut E, fault: Fault, path: &str) -> Result<(), FrameFault>
+fn put_rest<E: Sink>(faults: &mut E, fault: KeepCommandFault, path: &str) -> Result<(), FrameFault>
     ensures { Puts E.Sink result (line_of (fault_text fault path.now)) faults }
 {
     match put_fault(faults, fault, path) {
@@ -322,7 +324,7 @@ fn put_rest<E: Sink>(faults: &mut E, fault: Fault, path: &str) -> Result<(), Fra
 fn put_line<E: Sink>(
     faults: &mut E,
     first: &str,
-    fault: Fault,
+    fault: KeepCommandFault,
     path: &str,
 ) -> Result<(), FrameFault>
     ensures { Puts E.Sink result (first.now ++ line_of (fault_text fault path.now)) faults }
@@ -334,7 +336,7 @@ fn put_line<E: Sink>(
 }
 
 /// Prints a fault over a file of this path, in one line. A failure to write it changes no status.
-pub fn tell<E: Sink>(fault: Fault, path: &str, faults: &mut E)
+pub fn tell<E: Sink>(fault: KeepCommandFault, path: &str, faults: &mut E)
     ensures { Says E.Sink (fault_line fault path.now) faults.old faults.new }
 {
     pass(put_line(faults, "tbd: ", fault, path), faults);

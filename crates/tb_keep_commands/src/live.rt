@@ -3,7 +3,7 @@ ghost use Rattle.std.specs.Prelude.{◌≡◌, ℕ, List, length, IfOk, IfErr};
 ghost use Rattle.tb_journal.specs.Device.{Looks, IsOfCall};
 ghost use Rattle.tb_keep_commands.specs.Live.{IsWholeLength, MeasuresWhole, RefreshesHeld};
 
-use tb_journal::{Device, Fault, Growing, Memory, Snapshot};
+use tb_journal::{Device, Growing, JournalFault, Memory, Snapshot};
 
 /// A file that is read as it was at some moment, while another program may append to it. What it holds begins each later moment of
 /// the file, unless the machine lost power meanwhile (`tb_journal::laws`).
@@ -12,7 +12,7 @@ pub trait Live: Device {
     ghost whole: { Self → List ℕ → Type 0 };
 
     /// The number of bytes of the whole file now.
-    fn file_len(&mut self) -> Result<usize, Fault>
+    fn file_len(&mut self) -> Result<usize, JournalFault>
         ensures long { MeasuresWhole whole result self.old self.new }
         // Of any device: what it holds begins the file whose length that is.
         ensures extends { (file : List ℕ) → Self.holds self.old file → IfOk result (IsWholeLength file) }
@@ -24,7 +24,7 @@ pub trait Live: Device {
 
     /// Goes on to what has been committed by now: to all that the whole file represented at some moment of the call. On a fault it
     /// holds what it held.
-    fn refresh(&mut self) -> Result<(), Fault>
+    fn refresh(&mut self) -> Result<(), JournalFault>
         ensures later { RefreshesHeld whole Self.holds result self.old self.new }
         ensures looks { Self.tells → Looks result (Self.disk self.old) (Self.disk self.new) };
 }
@@ -33,12 +33,12 @@ pub trait Live: Device {
 impl<G: Growing + Drop> Live for Snapshot<G> {
     ghost whole = { λ snapshot. G.grows snapshot.file };
 
-    fn file_len(&mut self) -> Result<usize, Fault> {
+    fn file_len(&mut self) -> Result<usize, JournalFault> {
         Snapshot::file_len(self)
     }
 
     #[tactic(auto, using(crate::proofs::Lives::refreshed))]
-    fn refresh(&mut self) -> Result<(), Fault> {
+    fn refresh(&mut self) -> Result<(), JournalFault> {
         Snapshot::refresh(self)
     }
 }
@@ -50,11 +50,11 @@ impl Live for Memory {
     ghost whole = { memory_holds };
 
     #[tactic(auto, using(tb_journal::proofs::Growths::same_grown))]
-    fn file_len(&mut self) -> Result<usize, Fault> {
+    fn file_len(&mut self) -> Result<usize, JournalFault> {
         Device::len(self)
     }
 
-    fn refresh(&mut self) -> Result<(), Fault> {
+    fn refresh(&mut self) -> Result<(), JournalFault> {
         Ok(())
     }
 }

@@ -3,7 +3,7 @@ ghost use Rattle.std.specs.Prelude.{◌≡◌, ℕ, List};
 ghost use Rattle.tb_keep_commands.specs.Naming.{IsOfKind, IsMadeWith, Names, NamesAsked};
 ghost use Rattle.tb_keep_commands.specs.Statuses.{started_fault};
 
-use crate::faults::{Fault, Mismatch, numbers_of, started_fault};
+use crate::faults::{KeepCommandFault, Mismatch, numbers_of, started_fault};
 use crate::kinds::{FIRST_BYTES, Kind, kind_of};
 use std::alloc::Global;
 use tb_journal::Device;
@@ -22,11 +22,11 @@ fn kind_in<D: Device>(device: &mut D) -> Kind
 }
 
 /// The fault of a file that is refused, with what there is to say of it.
-pub(crate) fn named<D: Device>(device: &mut D, fault: StartFault) -> Fault
+pub(crate) fn named<D: Device>(device: &mut D, fault: StartFault) -> KeepCommandFault
     ensures { Names D.Device (started_fault fault) result device.old device.new }
 {
     match started_fault(fault) {
-        Fault::NotAJournal(_) => Fault::NotAJournal(kind_in(device)),
+        KeepCommandFault::NotAJournal(_) => KeepCommandFault::NotAJournal(kind_in(device)),
         fault => fault,
     }
 }
@@ -50,11 +50,11 @@ pub(crate) fn named_asked<D: Device>(
     device: &mut D,
     asked: Rules,
     fault: StartFault,
-) -> Fault
+) -> KeepCommandFault
     ensures { NamesAsked D.Device asked fault result device.old device.new }
 {
     match fault {
-        StartFault::OtherRules => Fault::OtherRules(made_with(alloc, device, asked)),
+        StartFault::OtherRules => KeepCommandFault::OtherRules(made_with(alloc, device, asked)),
         fault => named(device, fault),
     }
 }

@@ -5,7 +5,7 @@ ghost use Rattle.tb_keep_commands.specs.Statuses.{opening_fault, unread_fault};
 
 use crate::live::Live;
 use std::io::ErrorKind;
-use tb_journal::{Device, Fault, FileFault};
+use tb_journal::{Device, FileFault, JournalFault};
 
 /// Why a device was not opened.
 #[derive(Clone, Copy, Debug, PartialEq, Eq)]
@@ -41,7 +41,7 @@ pub fn opening_fault(fault: &FileFault) -> OpeningFault
         FileFault::NotAFile => OpeningFault::NotAFile,
         FileFault::Exists => OpeningFault::Exists,
         FileFault::Dangling => OpeningFault::Dangling,
-        FileFault::Sync(Fault::Memory) => OpeningFault::NoMemory,
+        FileFault::Sync(JournalFault::Memory) => OpeningFault::NoMemory,
         FileFault::Sync(_) => OpeningFault::SyncFailed,
         FileFault::System(error) => match error.kind() {
             ErrorKind::NotFound => OpeningFault::Missing,
@@ -54,11 +54,11 @@ pub fn opening_fault(fault: &FileFault) -> OpeningFault
 }
 
 /// The fault of a file that was opened, where its length or its first bytes are not read.
-pub fn unread_fault(fault: Fault) -> OpeningFault
+pub fn unread_fault(fault: JournalFault) -> OpeningFault
     ensures { result ≡ unread_fault fault }
 {
     match fault {
-        Fault::Memory => OpeningFault::NoMemory,
+        JournalFault::Memory => OpeningFault::NoMemory,
         _ => OpeningFault::Unread,
     }
 }

@@ -5,7 +5,7 @@ ghost use Rattle.tb_keep_commands.specs.Statuses.{first_due, IfHeld, IsMadeLooki
 
 use crate::lines::{MEGABYTE, tell_read};
 use std::alloc::Global;
-use tb_journal::{Device, Fault};
+use tb_journal::{Device, JournalFault};
 use tb_records::Sink;
 
 /// The bytes between two reports.
@@ -31,7 +31,7 @@ impl<D: Device + Drop, E: Sink + Drop> Reported<D, E> {
         path: &str,
         lines: E,
         reports: bool,
-    ) -> Result<Reported<D, E>, Fault>
+    ) -> Result<Reported<D, E>, JournalFault>
         ensures same { IfHeld D.holds device result ⟦<Reported<D, E> as Device>⟧.holds }
         ensures looks { IsMadeLooking D.Device ⟦<Reported<D, E> as Device>⟧ device result }
         ensures named { IfErr result IsOfCall }
@@ -80,7 +80,7 @@ impl<D: Device + Drop, E: Sink + Drop> Device for Reported<D, E> {
 
     ghost only_now = { λ s. D.only_now s.device };
 
-    fn read_at(&mut self, at: usize, into: &mut [u8]) -> Result<usize, Fault>
+    fn read_at(&mut self, at: usize, into: &mut [u8]) -> Result<usize, JournalFault>
         ensures within { IfOk result (λ count. count ≤ length into.new) }
         ensures bytes { IfHeld D.holds self.old.device result (λ n file. ReadsAt n at file into.new) }
         ensures same { (file : List ℕ) → D.holds self.old.device file → D.holds self.new.device file }
@@ -92,19 +92,19 @@ impl<D: Device + Drop, E: Sink + Drop> Device for Reported<D, E> {
         self.device.read_at(at, into)
     }
 
-    fn len(&mut self) -> Result<usize, Fault> {
+    fn len(&mut self) -> Result<usize, JournalFault> {
         self.device.len()
     }
 
-    fn write_at(&mut self, at: usize, bytes: &[u8]) -> Result<(), Fault> {
+    fn write_at(&mut self, at: usize, bytes: &[u8]) -> Result<(), JournalFault> {
         self.device.write_at(at, bytes)
     }
 
-    fn cut(&mut self, len: usize) -> Result<(), Fault> {
+    fn cut(&mut self, len: usize) -> Result<(), JournalFault> {
         self.device.cut(len)
     }
 
-    fn sync(&mut self) -> Result<(), Fault> {
+    fn sync(&mut self) -> Result<(), JournalFault> {
         self.device.sync()
     }
 }

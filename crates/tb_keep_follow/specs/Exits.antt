@@ -4,7 +4,7 @@ use Rattle.std.specs.Prelude.{ℕ, ◌≡◌, List, [], Ok, Err}
 use Rattle.tb_records.specs.Transport.{Input, Output, Sent, CutOff}
 use Rattle.tb_keep.specs.Reading.{rules_of}
 use Rattle.tb_keep_commands.specs.declared.faults.Failed.TheVariants as failed
-use Rattle.tb_keep_commands.specs.declared.faults.Fault.TheVariants.{Device}
+use Rattle.tb_keep_commands.specs.declared.faults.KeepCommandFault.TheVariants.{Device}
 use Rattle.tb_keep_commands.specs.Ends.{KnownEnds, KnownFiles, On}
 use Rattle.tb_keep_commands.specs.Statuses.{SaysLine}
 use Rattle.tb_keep_follow.specs.declared.arguments.Form.{Form}

@@ -19,15 +19,15 @@ use Rattle.tb_keep_log.specs.declared.faults.LogStartFault.TheVariants as start
 use Rattle.tb_keep_commands.specs.declared.faults.Damage.TheVariants.{Torn}
 use Rattle.tb_keep_commands.specs.declared.faults.Failed.{Failed}
 use Rattle.tb_keep_commands.specs.declared.faults.Failed.TheVariants.{Output}
-use Rattle.tb_keep_commands.specs.declared.faults.Fault.{Fault}
-use Rattle.tb_keep_commands.specs.declared.faults.Fault.TheVariants.{Device, NoMemory, NotAJournal, Damaged, Full}
+use Rattle.tb_keep_commands.specs.declared.faults.KeepCommandFault.{KeepCommandFault}
+use Rattle.tb_keep_commands.specs.declared.faults.KeepCommandFault.TheVariants.{Device, NoMemory, NotAJournal, Damaged, Full}
 use Rattle.tb_keep_commands.specs.declared.kinds.Kind.TheVariants as kind
 use Rattle.tb_keep_commands.specs.Statuses.{disk_fault, opened_fault, fault_status, fault_line}
 use Rattle.tb_keep_follow.specs.declared.faults.FollowFault.{FollowFault}
 use Rattle.tb_keep_follow.specs.declared.faults.FollowFault.TheVariants.{Kept, Plain, OtherRules, NoEntry, Entry, OtherHashes, Unwritten, Item}
 
 -- of a file that is no journal it is told that it does not begin as one
-abbrev pub journal_fault : OpenFault → Fault
+abbrev pub journal_fault : OpenFault → KeepCommandFault
 journal_fault (opened.Refused refusal.NotAJournal) = NotAJournal kind.Other
 journal_fault fault = opened_fault fault
 

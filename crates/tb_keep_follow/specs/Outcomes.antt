@@ -3,23 +3,23 @@
 use Rattle.std.specs.Prelude.{ℕ, true, ◌≡◌, ◌-◌, List, Result, Ok, Err, MatchResult}
 use Rattle.tb_records.specs.Transport.{Input, Output}
 use Rattle.tb_journal.specs.declared.devices.Device as devices
-use Rattle.tb_journal.specs.declared.faults.Fault as journal
+use Rattle.tb_journal.specs.declared.faults.JournalFault.{JournalFault}
 use Rattle.tb_journal.specs.declared.reading.Extent.{Extent}
 use Rattle.tb_journal.specs.Device.{LeavesOnly}
 use Rattle.tb_log.specs.Following.{Following}
-use Rattle.tb_keep.specs.declared.restoring.Rules.{Rules}
+use Rattle.tb_keep.specs.declared.recovering.Rules.{Rules}
 use Rattle.tb_keep.specs.Opening.{IsUntouched}
 use Rattle.tb_keep_log.specs.declared.faults.DumpLogFault.{DumpLogFault}
 use Rattle.tb_keep_log.specs.declared.faults.KeepLogFault.{KeepLogFault}
 use Rattle.tb_keep_log.specs.declared.faults.LogStartFault.{LogStartFault}
-use Rattle.tb_keep_log.specs.declared.opening.NotStarted.{NotStarted}
+use Rattle.tb_keep_log.specs.declared.beginning.NotStarted.{NotStarted}
 use Rattle.tb_keep_log.specs.Dumping.{DumpsLog, HasDumpCause}
 use Rattle.tb_keep_log.specs.Keeping.{Keeping}
 use Rattle.tb_keep_log.specs.Opening.{HasStartCause, IsStartRefused, IsStarted, MayBeStarted, StartsFile, device_left, why_left}
 use Rattle.tb_keep_log.specs.Restoring.{HasLogCause, IsRestored, StopsReading}
 use Rattle.tb_keep_log.specs.Serving.{Served, point}
 use Rattle.tb_keep_commands.specs.declared.faults.Failed.{Failed}
-use Rattle.tb_keep_commands.specs.declared.faults.Fault.TheVariants.{Opening}
+use Rattle.tb_keep_commands.specs.declared.faults.KeepCommandFault.TheVariants.{Opening}
 use Rattle.tb_keep_commands.specs.declared.openers.OpeningFault.{OpeningFault}
 use Rattle.tb_keep_commands.specs.Ends.{KnownEnds, On}
 use Rattle.tb_keep_commands.specs.Outcomes.{IsAsked}
@@ -122,7 +122,7 @@ module _ {D : Type 0} (its : devices.Ghosts D) where
   -- the length of the file of this path was asked for, and then a log of these rules was started over it, and kept
   pub record FollowsFile (outcome : Outcome) (rules : Rules) (path : List ℕ) (device : D) (first last : Input)
       (start written quiet told : Output) : Type 0 where
-    pub len : Result ℕ journal.Fault
+    pub len : Result ℕ JournalFault
     pub between : D
     pub asked : IsAsked its len device between
     pub follows : MatchResult len (λ n. FollowsLong outcome rules path n between first last start written quiet told)

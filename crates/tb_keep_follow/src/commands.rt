@@ -9,7 +9,7 @@ use crate::following::follow;
 use crate::lines::tell_fault;
 use std::alloc::Global;
 use tb_keep::Rules;
-use tb_keep_commands::{Ends, Failed, Fault, Opener, Outlet};
+use tb_keep_commands::{Ends, Failed, KeepCommandFault, Opener, Outlet};
 use tb_records::{Sink, Source};
 
 /// Follows a log over the device of a path, which is made where there is none.
@@ -27,7 +27,7 @@ fn follow_over<O: Opener, R: Source, W: Outlet, E: Sink>(
 {
     match opener.make(path) {
         Ok(device) => follow(alloc, rules, device, path, reader, writer, faults),
-        Err(fault) => Err(FollowFault::Kept(Fault::Opening(fault))),
+        Err(fault) => Err(FollowFault::Kept(KeepCommandFault::Opening(fault))),
     }
 }
 
@@ -49,7 +49,7 @@ fn dump_over<O: Opener, W: Sink>(
             drop(device);
             dumped
         }
-        Err(fault) => Err(FollowFault::Kept(Fault::Opening(fault))),
+        Err(fault) => Err(FollowFault::Kept(KeepCommandFault::Opening(fault))),
     }
 }
 
@@ -91,7 +91,7 @@ fn finish<W: Outlet>(done: Result<(), FollowFault>, writer: &mut W) -> Result<()
     match done {
         Ok(()) => match writer.finish() {
             Ok(()) => Ok(()),
-            Err(_) => Err(FollowFault::Kept(Fault::Device(Failed::Output))),
+            Err(_) => Err(FollowFault::Kept(KeepCommandFault::Device(Failed::Output))),
         },
         Err(fault) => Err(fault),
     }

@@ -3,7 +3,7 @@ ghost use Rattle.std.specs.Prelude.{◌≡◌, ◌<◌};
 ghost use Rattle.tb_keep_follow.specs.Faults.{journal_fault, started_fault, item_fault, kept_fault, dumped_fault, follow_status};
 
 use tb_journal::{OpenFault, Refusal};
-use tb_keep_commands::{Damage, Failed, Fault, Kind, disk_fault, opened_fault};
+use tb_keep_commands::{Damage, Failed, KeepCommandFault, Kind, disk_fault, opened_fault};
 use tb_keep_log::{DumpLogFault, KeepLogFault, LogStartFault};
 use tb_log::LogFault;
 
@@ -11,7 +11,7 @@ use tb_log::LogFault;
 #[derive(Clone, Copy, Debug, PartialEq, Eq)]
 pub enum FollowFault {
     /// A fault that the forms over a ledger have too.
-    Kept(Fault),
+    Kept(KeepCommandFault),
     /// The file is a ledger without positions.
     Plain,
     /// The file was made with another profile, or for another number of clients.
@@ -29,11 +29,11 @@ pub enum FollowFault {
 }
 
 /// The fault of a journal that is not read or opened.
-fn journal_fault(fault: OpenFault) -> Fault
+fn journal_fault(fault: OpenFault) -> KeepCommandFault
     ensures { result ≡ journal_fault fault }
 {
     match fault {
-        OpenFault::Refused(Refusal::NotAJournal) => Fault::NotAJournal(Kind::Other),
+        OpenFault::Refused(Refusal::NotAJournal) => KeepCommandFault::NotAJournal(Kind::Other),
         fault => opened_fault(fault),
     }
 }
@@ -49,9 +49,9 @@ pub(crate) fn started_fault(fault: LogStartFault) -> FollowFault
         LogStartFault::NoEntry(last) => FollowFault::NoEntry(last),
         LogStartFault::Entry(fault) => FollowFault::Entry(fault),
         LogStartFault::OtherHashes(position) => FollowFault::OtherHashes(position),
-        LogStartFault::NoMemory => FollowFault::Kept(Fault::NoMemory),
+        LogStartFault::NoMemory => FollowFault::Kept(KeepCommandFault::NoMemory),
         LogStartFault::TornTooLong { at, bytes } => {
-            FollowFault::Kept(Fault::Damaged(Damage::Torn { at, bytes }))
+            FollowFault::Kept(KeepCommandFault::Damaged(Damage::Torn { at, bytes }))
         }
     }
 }
@@ -61,8 +61,8 @@ fn item_fault(fault: LogFault, pipe: Failed) -> FollowFault
     ensures { result ≡ item_fault pipe fault }
 {
     match fault {
-        LogFault::Device => FollowFault::Kept(Fault::Device(pipe)),
-        LogFault::NoMemory => FollowFault::Kept(Fault::NoMemory),
+        LogFault::Device => FollowFault::Kept(KeepCommandFault::Device(pipe)),
+        LogFault::NoMemory => FollowFault::Kept(KeepCommandFault::NoMemory),
         fault => FollowFault::Item(fault),
     }
 }
@@ -83,8 +83,8 @@ pub(crate) fn dumped_fault(fault: DumpLogFault) -> FollowFault
 {
     match fault {
         DumpLogFault::Start(fault) => started_fault(fault),
-        DumpLogFault::NoMemory => FollowFault::Kept(Fault::NoMemory),
-        DumpLogFault::Writer => FollowFault::Kept(Fault::Device(Failed::Output)),
+        DumpLogFault::NoMemory => FollowFault::Kept(KeepCommandFault::NoMemory),
+        DumpLogFault::Writer => FollowFault::Kept(KeepCommandFault::Device(Failed::Output)),
         fault => FollowFault::Unwritten(fault),
     }
 }

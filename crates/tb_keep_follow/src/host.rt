@@ -6,7 +6,7 @@ use crate::arguments::{Form, read_form};
 use crate::commands::command;
 use std::alloc::Global;
 use std::io::{BufReader, BufWriter, Read, Write};
-use tb_keep_commands::{Fault, Files, Opener, Outgoing, Terminals, file_word, refuse};
+use tb_keep_commands::{Files, KeepCommandFault, Opener, Outgoing, Terminals, file_word, refuse};
 use tb_records::{Buffered, Sink};
 
 /// The bytes of input that `follow` holds at a time.
@@ -59,10 +59,10 @@ pub fn serve<O: Opener, R: Read + Drop, W: Write + Drop, E: Sink>(
 {
     let (held_in, held_out) = capacities(&form);
     let Ok(input) = BufReader::with_capacity(alloc, held_in, input) else {
-        return refuse(Fault::NoMemory, faults);
+        return refuse(KeepCommandFault::NoMemory, faults);
     };
     let Ok(output) = BufWriter::with_capacity(alloc, held_out, output) else {
-        return refuse(Fault::NoMemory, faults);
+        return refuse(KeepCommandFault::NoMemory, faults);
     };
     between(alloc, opener, form, path, input, output, faults)
 }

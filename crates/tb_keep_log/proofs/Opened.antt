@@ -2,7 +2,7 @@
 use Rattle.std.proofs.Common.{arith, ◌≡◌, ◌⊎◌, inl, inr, ℕ, ◌<◌, ◌≤◌, ◌^◌, ◌+◌, false, List, Result, Ok, Err, IfOk, IfErr, sym, ap, ◌∙◌, subst}
 use Rattle.std.proofs.lemmas.Grind.{common_steps}
 use Rattle.tb_records.specs.declared.limits.Profile.{Profile}
-use Rattle.tb_journal.specs.declared.faults.Fault.TheVariants as faults
+use Rattle.tb_journal.specs.declared.faults.JournalFault.TheVariants as faults
 use Rattle.tb_journal.specs.declared.opening.OpenFault.TheVariants as open_faults
 use Rattle.tb_journal.specs.declared.reading.Extent.{Extent}
 use Rattle.tb_journal.specs.Device.{Disk, FailsNone, IsOfCall, IsOfSync, LeavesOnly}
@@ -14,13 +14,13 @@ use Rattle.tb_journal.specs.Ready.{Kept, IsReady}
 use Rattle.tb_journal.proofs.Moments.{then, weaker}
 use Rattle.tb_journal.proofs.Opened.{is_told}
 use Rattle.tb_log.specs.Following.{Following}
-use Rattle.tb_keep.specs.declared.restoring.Rules.{Rules}
+use Rattle.tb_keep.specs.declared.recovering.Rules.{Rules}
 use Rattle.tb_keep.specs.Opening.{IsUntouched}
 use Rattle.tb_keep.specs.Restoration.{torn_bytes}
 use Rattle.tb_keep.proofs.Opened.{Counts, untouched_then}
 use Rattle.tb_keep_log.specs.declared.faults.LogStartFault.{LogStartFault}
 use Rattle.tb_keep_log.specs.declared.faults.LogStartFault.TheVariants as start
-use Rattle.tb_keep_log.specs.declared.opening.NotStarted.{NotStarted}
+use Rattle.tb_keep_log.specs.declared.beginning.NotStarted.{NotStarted}
 use Rattle.tb_keep_log.specs.Keeping.{Keeping, IsKept}
 use Rattle.tb_keep_log.specs.Restoring.{HasLogCause, IsLogCause, IsRestored, IsTornTooLong, StopsReading, StopsOpening}
 use Rattle.tb_keep_log.specs.Opening.{HasStartCause, IsCreatedCause, IsOpened, IsStartCause, IsStarted, IsStartRefused, IsRefused, MayBeOpened, MayBeStarted, OpensFile, StartsFile}

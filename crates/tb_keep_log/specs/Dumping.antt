@@ -18,7 +18,7 @@ use Rattle.tb_machine.specs.Runs.{IsTimely}
 use Rattle.tb_machine.specs.Scripts.{Pair, after_pair}
 use Rattle.tb_log.specs.Following.{Following, script_of}
 use Rattle.tb_log.specs.Format.{content_of}
-use Rattle.tb_keep.specs.declared.restoring.Rules.{Rules}
+use Rattle.tb_keep.specs.declared.recovering.Rules.{Rules}
 use Rattle.tb_keep.specs.Rounds.{entries_from, state_from, IsUntimely}
 use Rattle.tb_keep_log.specs.declared.faults.DumpLogFault.{DumpLogFault}
 use Rattle.tb_keep_log.specs.declared.faults.DumpLogFault.TheVariants as dump

@@ -1,5 +1,5 @@
 -- What the file of a kept log represents, and what a keeper is that keeps it.
--- Cited by public contracts of: dumps, keepers, opening, restoring, serving.
+-- Cited by public contracts of: beginning, dumps, items, keepers, rereading.
 use Rattle.std.specs.Prelude.{ℕ, ◌≡◌, Bool, true, List, [], ◌∷◌, ◌++◌, codes, refl}
 use Rattle.tb_records.specs.declared.limits.Profile.{Profile}
 use Rattle.tb_records.specs.declared.limits.Profile.TheVariants.{Two}
@@ -12,7 +12,7 @@ use Rattle.tb_journal.specs.Ready.{Kept, IsReady}
 use Rattle.tb_log.specs.Format.{content_of, standing_item}
 use Rattle.tb_log.specs.Following.{Following, begun, Item, Entry, Question, with_item, after_items, AllAnswered}
 use Rattle.tb_log.specs.Follows.{ItemFits}
-use Rattle.tb_keep.specs.declared.restoring.Rules.{Rules}
+use Rattle.tb_keep.specs.declared.recovering.Rules.{Rules}
 use Rattle.tb_journal.specs.Scans.{HasRead, Place}
 
 -- the first bytes of each record: the text TBF1, the profile's number, and the number of clients that can have a session at one time

@@ -1,8 +1,8 @@
 -- How the file of a kept log is created and opened, and what a crash may leave of it meanwhile.
--- Cited by public contracts of: opening.
+-- Cited by public contracts of: beginning.
 use Rattle.std.specs.Prelude.{ℕ, true, false, ◌≡◌, ◌⊎◌, ◌+◌, ◌≤◌, ◌^◌, List, [], Result, Ok, Err, OnOk, IfErr}
 use Rattle.tb_records.specs.declared.limits.Profile.{Profile}
-use Rattle.tb_journal.specs.declared.faults.Fault.TheVariants.{NotEmpty}
+use Rattle.tb_journal.specs.declared.faults.JournalFault.TheVariants.{NotEmpty}
 use Rattle.tb_journal.specs.declared.opening.OpenFault.TheVariants as open_faults
 use Rattle.tb_journal.specs.Device.{Disk, FailsNone, LeavesOnly}
 use Rattle.tb_journal.specs.Contents.{Records, contents, recorded}
@@ -13,7 +13,7 @@ use Rattle.tb_keep.specs.Opening.{IsUntouched}
 use Rattle.tb_keep.specs.Restoration.{torn_bytes}
 use Rattle.tb_keep_log.specs.declared.faults.LogStartFault.{LogStartFault}
 use Rattle.tb_keep_log.specs.declared.faults.LogStartFault.TheVariants as start
-use Rattle.tb_keep_log.specs.declared.opening.NotStarted.{NotStarted}
+use Rattle.tb_keep_log.specs.declared.beginning.NotStarted.{NotStarted}
 use Rattle.tb_keep_log.specs.Keeping.{Keeping, Keeps, IsKept}
 use Rattle.tb_keep_log.specs.Restoring.{IsLogCause, StopsOpening}
 

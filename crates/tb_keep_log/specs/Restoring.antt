@@ -1,5 +1,5 @@
 -- What is read of the records of a kept log, and why one is refused.
--- Cited by public contracts of: opening, restoring.
+-- Cited by public contracts of: beginning, rereading.
 use Rattle.std.specs.Prelude.{ℕ, true, false, ◌≡◌, ◌≢◌, ◌⊎◌, ◌+◌, ◌^◌, ◌<◌, ◌≤◌, nat_eq, List, [], ◌∷◌, ◌++◌, length, drop, codes, Result, Ok, Err, OnOk, IfErr}
 use Rattle.std.specs.List.{starts_with}
 use Rattle.tb_records.specs.declared.limits.Profile.{Profile}
@@ -21,7 +21,7 @@ use Rattle.tb_keep.specs.Restoration.{torn_bytes}
 use Rattle.tb_keep_log.specs.declared.faults.LogStartFault.{LogStartFault}
 use Rattle.tb_keep_log.specs.declared.faults.LogStartFault.TheVariants as start
 use Rattle.tb_keep_log.specs.Keeping.{By, mark, record_bytes, IsKept}
-use Rattle.tb_keep.specs.declared.restoring.Rules.{Rules}
+use Rattle.tb_keep.specs.declared.recovering.Rules.{Rules}
 
 -- the record of an entry that comes next behind a follower, which it leads on
 pub record EntersRecord (profile : Profile) (clients_max : ℕ) (bytes : List ℕ) (F G : Following) : Type 0 where

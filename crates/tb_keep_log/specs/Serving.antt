@@ -1,10 +1,10 @@
 -- How the items of a log are served over a file: an item is read, its record is committed, and then it is answered.
--- Cited by public contracts of: serving.
+-- Cited by public contracts of: items.
 use Rattle.std.specs.Prelude.{ℕ, false, ◌≡◌, ◌⊎◌, ◌+◌, ◌-◌, ◌^◌, ◌≤◌, List, [], ◌∷◌, length, Result, Ok, Err}
 use Rattle.std.specs.Io.KnownBytes.{IsAtEnd}
 use Rattle.tb_records.specs.declared.limits.Profile.{Profile}
 use Rattle.tb_records.specs.Transport.{Input, Output, Sent, CutOff}
-use Rattle.tb_journal.specs.declared.faults.Fault.{Fault}
+use Rattle.tb_journal.specs.declared.faults.JournalFault.{JournalFault}
 use Rattle.tb_journal.specs.Device.{Disk, LeavesOnly, HasFailed}
 use Rattle.tb_journal.specs.Contents.{recorded}
 use Rattle.tb_journal.specs.Steps.{IsBeforeOrAfter}
@@ -78,14 +78,14 @@ module _ (tells : Type 0) {D : Type 0} (disk : D → Disk) (profile : Profile) (
     pub silent : after.output ≡ before.output
 
   -- why the record of an item is not committed: the journal let it not wait; or its commit failed, and a crash leaves all of it or nothing
-  abbrev pub IsUncommitted : Fault → Item → Point D → Point D → Type 0
+  abbrev pub IsUncommitted : JournalFault → Item → Point D → Point D → Type 0
   IsUncommitted fault item before after =
       ((after.journal ≡ before.journal) × ((bytes : List ℕ) × (record_of profile clients_max before.now item ≡ bytes ∷ []) × RefusesRecord fault before.journal bytes))
       ⊎ (tells → HasFailed (disk before.journal.device) (disk after.journal.device) fault
       × LeavesOnly (disk before.journal.device) (disk after.journal.device) (IsBeforeOrAfter (recorded (disk before.journal.device).seen) (record_of profile clients_max before.now item)))
 
   -- an item was read, and its record not committed: nothing of it was sent
-  pub record IsLost (fault : Fault) (before after : Point D) : Type 0 where
+  pub record IsLost (fault : JournalFault) (before after : Point D) : Type 0 where
     pub item : Item
     pub read : IsRead item before after.input
     pub silent : after.output ≡ before.output

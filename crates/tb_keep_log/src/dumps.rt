@@ -11,7 +11,7 @@ ghost use Rattle.tb_keep_log.specs.Keeping.{By, OfEachRead, OfHeld, OfUnread};
 
 use crate::faults::{DumpLogFault, LogStartFault};
 use crate::marks::{FIXED_BYTES, check_mark};
-use crate::restoring::read_record;
+use crate::rereading::read_record;
 use std::alloc::Global;
 use tb_journal::{Device, Scan};
 use tb_keep::Rules;

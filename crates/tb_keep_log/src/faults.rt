@@ -3,7 +3,7 @@ ghost use Rattle.std.specs.Prelude.{◌≡◌};
 ghost use Rattle.tb_keep_log.specs.Faults.{dump_fault_name, keep_fault_name, start_fault_name};
 
 use std::fmt;
-use tb_journal::{Fault, OpenFault};
+use tb_journal::{JournalFault, OpenFault};
 use tb_log::LogFault;
 use thiserror::Error;
 
@@ -65,7 +65,7 @@ pub enum KeepLogFault {
     /// A fault that following without a file has too.
     Log(LogFault),
     /// The journal failed.
-    Journal(Fault),
+    Journal(JournalFault),
 }
 
 impl KeepLogFault {

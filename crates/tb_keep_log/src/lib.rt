@@ -7,26 +7,26 @@
 //! - `marks`: the record of an entry: the rules, the position, both hashes, and the pairs.
 //! - `keepers`: `LogKeeper`, a follower, and the journal that its entries are in.
 //! - `entries`: an entry served in memory; the entry of a record entered again, and compared with it.
-//! - `restoring`: `read_log`, a follower behind all records of a file.
-//! - `opening`: `LogKeeper::open` and `LogKeeper::start`.
-//! - `serving`: `keep_log`, items read, entries committed, and then answers sent.
+//! - `rereading`: `read_log`, a follower behind all records of a file.
+//! - `beginning`: `LogKeeper::open` and `LogKeeper::start`.
+//! - `items`: `keep_log`, items read, entries committed, and then answers sent.
 //! - `dumps`: `write_log_dump`, the history of a kept log without positions.
 //! - `laws`: what holds of every kept log: functions that do nothing.
 #![tactic(auto)]
 
+mod beginning;
 mod dumps;
 mod entries;
 mod faults;
+mod items;
 mod keepers;
 pub mod laws;
 mod marks;
-mod opening;
-mod restoring;
-mod serving;
+mod rereading;
 
+pub use beginning::NotStarted;
 pub use dumps::write_log_dump;
 pub use faults::{DumpLogFault, KeepLogFault, LogStartFault};
+pub use items::keep_log;
 pub use keepers::LogKeeper;
-pub use opening::NotStarted;
-pub use restoring::read_log;
-pub use serving::keep_log;
+pub use rereading::read_log;

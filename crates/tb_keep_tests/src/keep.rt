@@ -7,7 +7,7 @@
 //! - `dumps`: the history of a file, read without a write.
 //! - `entries`: the entries of a file above a commit number.
 //! - `crashes`: crashes at each moment, and each call that fails.
-//! - `serving`: what is served over a file.
+//! - `rounds`: what is served over a file.
 //! - `pieces`: files longer than a piece.
 //! - `torn`: torn bytes that are cut off, or refused.
 //! - `salvaging`: files that are salvaged or backed up.
@@ -18,7 +18,7 @@ mod dumps;
 mod entries;
 pub mod openings;
 mod pieces;
+mod rounds;
 mod salvaging;
 pub mod scripts;
-mod serving;
 mod torn;

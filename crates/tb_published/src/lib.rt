@@ -18,7 +18,7 @@
 //! - `told`: `Told`, what the publisher tells seats.
 //! - `publisher`: `Publisher`, the one writer.
 //! - `holder`: `HeldPublisher`, a publisher that closes when it is dropped.
-//! - `opening`: `Opening`, by which rules a publisher begins; `open`, a publisher and its seats.
+//! - `publishing`: `Opening`, by which rules a publisher begins; `open`, a publisher and its seats.
 //! - `laws`: what follows of what seats have seen: functions that do nothing.
 #![tactic(auto)]
 
@@ -32,8 +32,8 @@ pub mod laws;
 mod limits;
 mod naming;
 mod offering;
-mod opening;
 mod publisher;
+mod publishing;
 mod replica;
 mod rule;
 mod seat;
@@ -43,7 +43,7 @@ pub use faults::{OpenFault, SeatFault, TakeFault, Taken};
 pub use holder::HeldPublisher;
 pub use limits::SeatCount;
 pub use naming::Naming;
-pub use opening::{Opening, open};
 pub use publisher::Publisher;
+pub use publishing::{Opening, open};
 pub use seat::Seat;
 pub use told::Told;

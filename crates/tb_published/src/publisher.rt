@@ -12,7 +12,7 @@ use crate::front::HistoryHead;
 use crate::limits::SeatCount;
 use crate::naming::Naming;
 use crate::offering::{look_ahead, next_posted};
-use crate::opening::Opening;
+use crate::publishing::Opening;
 use crate::replica::{Posted, Replica};
 use crate::seat::Seat;
 use crate::told::Told;

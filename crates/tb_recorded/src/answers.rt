@@ -1,6 +1,6 @@
 //! Answers, checked against a machine of one thread.
 use crate::asked::{Asked, account_ids, transfer_ids};
-use crate::faults::Fault;
+use crate::faults::RecordedFault;
 use crate::records::{Answer, Log};
 use crate::rules::Rules;
 use std::alloc::{AllocError, Global};
@@ -70,7 +70,7 @@ fn is_same(one: &Reply, other: &Reply) -> bool {
 fn is_found<T: PartialEq + Drop>(
     found: Result<Vec<T>, AllocError>,
     told: &[T],
-) -> Result<bool, Fault> {
+) -> Result<bool, RecordedFault> {
     let found = found?;
     let same = found.as_slice() == told;
     drop(found);
@@ -87,7 +87,7 @@ struct Checker {
 
 impl Checker {
     /// Says that the machine gives this reply to what was asked.
-    fn gives(&self, asked: Asked, reply: &Reply) -> Result<bool, Fault> {
+    fn gives(&self, asked: Asked, reply: &Reply) -> Result<bool, RecordedFault> {
         let request = asked.request(self.alloc)?;
         let right = answer_of(self.alloc, &self.machine, &request);
         drop(request);
@@ -98,7 +98,7 @@ impl Checker {
     }
 
     /// Says that the machine gives this answer.
-    fn is_right(&self, answer: &Answer) -> Result<bool, Fault> {
+    fn is_right(&self, answer: &Answer) -> Result<bool, RecordedFault> {
         match answer {
             Answer::Reply(asked, reply) => self.gives(*asked, reply),
             Answer::Status(asked, status) => {
@@ -120,7 +120,7 @@ impl Checker {
 
     /// Checks a log's records, as far as their commit is not above the machine's. A record whose commit is below is
     /// behind one of a later commit: that is wrong.
-    fn check(&mut self, log: &mut Log) -> Result<(), Fault> {
+    fn check(&mut self, log: &mut Log) -> Result<(), RecordedFault> {
         for record in log.records.iter().skip(log.checked) {
             if record.commit > self.machine.commit() {
                 break;
@@ -133,7 +133,7 @@ impl Checker {
     }
 
     /// Checks the answers of all logs at the machine's commit.
-    fn check_all(&mut self, logs: &mut [Log]) -> Result<(), Fault> {
+    fn check_all(&mut self, logs: &mut [Log]) -> Result<(), RecordedFault> {
         for log in logs {
             self.check(log)?;
         }
@@ -142,7 +142,7 @@ impl Checker {
 
     /// Applies the history entry by entry, up to one that may not come next, and checks each answer where the machine has
     /// the commit at which its seat was.
-    fn replay(&mut self, history: &[Entry], logs: &mut [Log]) -> Result<(), Fault> {
+    fn replay(&mut self, history: &[Entry], logs: &mut [Log]) -> Result<(), RecordedFault> {
         self.check_all(logs)?;
         for entry in history {
             if !self.machine.fits(entry) {
@@ -161,7 +161,7 @@ pub fn check_answers(
     rules: Rules,
     history: &[Entry],
     logs: &mut [Log],
-) -> Result<Tally, Fault> {
+) -> Result<Tally, RecordedFault> {
     let mut checker = Checker {
         alloc,
         machine: rules.machine(alloc)?,

@@ -2,7 +2,7 @@
 ghost use Rattle.std.specs.Prelude.{◌<◌};
 
 use crate::chances::Chances;
-use crate::faults::{Fault, add};
+use crate::faults::{RecordedFault, add};
 use std::alloc::Global;
 use tb_fixtures::whole;
 use tb_records::{Account, Body, Items, Request, Transfer};
@@ -84,7 +84,7 @@ fn drawn<T: Drop, F: Fn(&mut Chances) -> T>(
     chances: &mut Chances,
     count: u64,
     draw: F,
-) -> Result<Items<T>, Fault>
+) -> Result<Items<T>, RecordedFault>
     requires { F.IsAlwaysCallable draw }
 {
     let mut events = Vec::new(alloc);
@@ -117,7 +117,7 @@ pub fn transfer_ids(lookup: u64) -> [u128; 5] {
 }
 
 /// Items in memory of their own.
-fn items(alloc: Global, ids: &[u128]) -> Result<Items<u128>, Fault> {
+fn items(alloc: Global, ids: &[u128]) -> Result<Items<u128>, RecordedFault> {
     Ok(Items::new(Vec::from_slice(alloc, ids)?))
 }
 
@@ -133,7 +133,7 @@ impl Asked {
     }
 
     /// The body that belongs to client, number and variant.
-    fn body(self, alloc: Global) -> Result<Body, Fault> {
+    fn body(self, alloc: Global) -> Result<Body, RecordedFault> {
         let own = self.client.wrapping_mul(1 << 40) ^ u64::from(self.number);
         let mut chances = Chances::new(own ^ self.variant.wrapping_mul(1 << 60));
         let count = 1 + chances.below(4);
@@ -146,13 +146,13 @@ impl Asked {
     }
 
     /// The request.
-    pub fn request(self, alloc: Global) -> Result<Request, Fault> {
+    pub fn request(self, alloc: Global) -> Result<Request, RecordedFault> {
         let (session, body) = if self.number == 0 {
             (0, Body::Register)
         } else {
             (self.session, self.body(alloc)?)
         };
         let request = Request::new(u128::from(self.client), session, self.number, body);
-        request.map_err(|_| Fault::Frame)
+        request.map_err(|_| RecordedFault::Frame)
     }
 }

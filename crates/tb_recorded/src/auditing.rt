@@ -4,7 +4,7 @@ ghost use Rattle.std.specs.Prelude.{◌≡◌, Some, All};
 use crate::answers::{Tally, check_answers};
 use crate::clients::Left;
 use crate::doors::Serving;
-use crate::faults::{Fault, add};
+use crate::faults::{RecordedFault, add};
 use crate::keys::count_twice;
 use crate::places::{PlacedRequests, rebuild};
 use crate::records::Log;
@@ -20,7 +20,7 @@ fn take_in<J: Naming, S: Serving>(
     one: Left<S>,
     placed: &mut PlacedRequests,
     logs: &mut Vec<Log>,
-) -> Result<(), Fault>
+) -> Result<(), RecordedFault>
     requires { S.service ≡ Some finished.old.service }
     ensures { finished.new.service ≡ finished.old.service }
 {
@@ -34,7 +34,7 @@ fn take_in<J: Naming, S: Serving>(
         Ok(places) => placed.add(places.as_slice(), log.offered.as_slice()),
         Err(closed) => {
             drop(closed);
-            Err(Fault::NoMemory)
+            Err(RecordedFault::NoMemory)
         }
     };
     outcome.and(added).and(add(logs, log))
@@ -46,7 +46,7 @@ fn gather<J: Naming, S: Serving>(
     left: Vec<Left<S>>,
     placed: &mut PlacedRequests,
     logs: &mut Vec<Log>,
-) -> Result<(), Fault>
+) -> Result<(), RecordedFault>
     requires { S.service ≡ Some finished.old.service }
 {
     let mut taken = Ok(());
@@ -64,7 +64,7 @@ fn check(
     history: &[Entry],
     placed: &PlacedRequests,
     logs: &mut [Log],
-) -> Result<Tally, Fault> {
+) -> Result<Tally, RecordedFault> {
     let mut tally = check_answers(alloc, rules, history, logs)?;
     tally.offered = placed.len();
     tally.count_wrong(placed.misplaced());
@@ -81,12 +81,12 @@ pub fn audit<J: Naming, S: Serving>(
     rules: Rules,
     finished: &mut Finished<J>,
     left: Vec<Left<S>>,
-) -> Result<Tally, Fault>
+) -> Result<Tally, RecordedFault>
     requires { S.service ≡ Some finished.old.service }
 {
     if finished.ended != Ended::Closed || !finished.refused.is_empty() {
         drop(left);
-        return Err(Fault::Unserved);
+        return Err(RecordedFault::Unserved);
     }
     let mut placed = PlacedRequests::new(alloc);
     let mut logs = Vec::new(alloc);

@@ -3,7 +3,7 @@ ghost use Rattle.std.specs.Prelude.{◌≡◌, Some};
 
 use crate::asked::{Asked, account_ids, transfer_ids};
 use crate::doors::{Door, REQUESTS_MAX, Serving};
-use crate::faults::{Fault, add};
+use crate::faults::{RecordedFault, add};
 use crate::notes::Note;
 use crate::players::Player;
 use crate::records::{Answer, Log, Record};
@@ -23,7 +23,7 @@ pub struct Client<J: Naming, S: Serving> {
     seat: Seat<J>,
     player: Player,
     log: Log,
-    outcome: Result<(), Fault>,
+    outcome: Result<(), RecordedFault>,
     alloc: Global,
 }
 
@@ -32,7 +32,7 @@ pub struct Client<J: Naming, S: Serving> {
 pub struct Left<S: Serving> {
     pub closed: Closed,
     pub log: Log,
-    pub outcome: Result<(), Fault>,
+    pub outcome: Result<(), RecordedFault>,
     of: PhantomData<S>,
     pub ghost served: { S.service ≡ Some closed.service },
 }
@@ -81,13 +81,13 @@ impl<J: Naming, S: Serving> Client<J, S> {
     }
 
     /// Writes an answer down, with what the seat has seen by then.
-    fn write(&mut self, answer: Answer) -> Result<(), Fault> {
+    fn write(&mut self, answer: Answer) -> Result<(), RecordedFault> {
         let commit = self.seat.seen();
         add(&mut self.log.records, Record { answer, commit })
     }
 
     /// Asks the seat by turns until the request is answered; an impatient client asks twice at the most.
-    fn poll(&mut self, request: &Request) -> Result<Reply, Fault> {
+    fn poll(&mut self, request: &Request) -> Result<Reply, RecordedFault> {
         for _ in 0..self.player.turns() {
             if let Some(reply) = settled(self.seat.answer(request)?) {
                 return Ok(reply);
@@ -98,7 +98,12 @@ impl<J: Naming, S: Serving> Client<J, S> {
     }
 
     /// A call without turns sends the request exactly where it answers NotYet. Then the seat is asked.
-    fn call<R: Wait>(&mut self, rt: &R, asked: Asked, request: &Request) -> Result<Reply, Fault> {
+    fn call<R: Wait>(
+        &mut self,
+        rt: &R,
+        asked: Asked,
+        request: &Request,
+    ) -> Result<Reply, RecordedFault> {
         if let Some(reply) = settled(self.door.call(rt, &mut self.seat, request)?) {
             return Ok(reply);
         }
@@ -107,14 +112,23 @@ impl<J: Naming, S: Serving> Client<J, S> {
     }
 
     /// Hands one request over without a look, and then asks the seat.
-    fn offer<R: Wait>(&mut self, rt: &R, asked: Asked, request: &Request) -> Result<Reply, Fault> {
+    fn offer<R: Wait>(
+        &mut self,
+        rt: &R,
+        asked: Asked,
+        request: &Request,
+    ) -> Result<Reply, RecordedFault> {
         add(&mut self.log.offered, asked)?;
         self.door.offer(rt, asked.request(self.alloc)?)?;
         self.poll(request)
     }
 
     /// Appends the requests that follow one another from this one on, now and then one of them twice.
-    fn put_several(&mut self, requests: &mut Vec<Request>, first: Asked) -> Result<(), Fault> {
+    fn put_several(
+        &mut self,
+        requests: &mut Vec<Request>,
+        first: Asked,
+    ) -> Result<(), RecordedFault> {
         let mut asked = first;
         for _ in 0..=self.player.chances.below(REQUESTS_MAX) {
             add(requests, asked.request(self.alloc)?)?;
@@ -130,7 +144,7 @@ impl<J: Naming, S: Serving> Client<J, S> {
         rt: &R,
         asked: Asked,
         request: &Request,
-    ) -> Result<Reply, Fault> {
+    ) -> Result<Reply, RecordedFault> {
         let mut requests = Vec::new(self.alloc);
         let put = self.put_several(&mut requests, asked);
         self.door.offer_many(rt, whole(requests, put)?)?;
@@ -138,7 +152,7 @@ impl<J: Naming, S: Serving> Client<J, S> {
     }
 
     /// Looks records up through the seat.
-    fn look_up(&mut self) -> Result<(), Fault> {
+    fn look_up(&mut self) -> Result<(), RecordedFault> {
         let lookup = self.player.chances.draw();
         let (answer, commit) = if self.player.chances.below(2) == 0 {
             let (commit, accounts) = self.seat.lookup_accounts(&account_ids(lookup))?;
@@ -151,7 +165,7 @@ impl<J: Naming, S: Serving> Client<J, S> {
     }
 
     /// Asks only how a request fares.
-    fn look(&mut self, asked: Asked) -> Result<(), Fault> {
+    fn look(&mut self, asked: Asked) -> Result<(), RecordedFault> {
         let request = asked.request(self.alloc)?;
         let status = self.seat.status(&request);
         drop(request);
@@ -165,10 +179,10 @@ impl<J: Naming, S: Serving> Client<J, S> {
         notes: &[Note],
         asked: Asked,
         way: u64,
-    ) -> Result<(), Fault> {
+    ) -> Result<(), RecordedFault> {
         let request = asked.request(self.alloc)?;
         let answered = match way {
-            3 => self.seat.answer(&request).map_err(Fault::from),
+            3 => self.seat.answer(&request).map_err(RecordedFault::from),
             4 => self.offer(rt, asked, &request),
             5 => self.offer_several(rt, asked, &request),
             _ => self.call(rt, asked, &request),
@@ -180,7 +194,7 @@ impl<J: Naming, S: Serving> Client<J, S> {
     }
 
     /// One step, of which one answer is written down.
-    fn step<R: Wait>(&mut self, rt: &R, notes: &[Note]) -> Result<(), Fault> {
+    fn step<R: Wait>(&mut self, rt: &R, notes: &[Note]) -> Result<(), RecordedFault> {
         let asked = self.player.pick(notes);
         match self.player.chances.below(16) {
             0 | 1 => self.look_up(),
@@ -190,7 +204,12 @@ impl<J: Naming, S: Serving> Client<J, S> {
     }
 
     /// So many steps, until one fails.
-    fn take_steps<R: Wait>(&mut self, rt: &R, notes: &[Note], steps: u32) -> Result<(), Fault> {
+    fn take_steps<R: Wait>(
+        &mut self,
+        rt: &R,
+        notes: &[Note],
+        steps: u32,
+    ) -> Result<(), RecordedFault> {
         for _ in 0..steps {
             self.step(rt, notes)?;
         }

@@ -1,7 +1,7 @@
 //! Ports of one service, which the type names.
 ghost use Rattle.std.specs.Prelude.{◌≡◌, Some};
 
-use crate::faults::{Fault, taken};
+use crate::faults::{RecordedFault, taken};
 use std::marker::PhantomData;
 use std::sync::Wait;
 use tb_published::{Naming, Seat};
@@ -51,21 +51,25 @@ impl<S: Serving> Door<S> {
         rt: &R,
         seat: &mut Seat<J>,
         request: &Request,
-    ) -> Result<Reply, Fault> {
+    ) -> Result<Reply, RecordedFault> {
         Ok(self.port.call(rt, seat, request, 0)?)
     }
 
     /// Hands one request over.
-    pub fn offer<R: Wait>(&mut self, rt: &R, request: Request) -> Result<(), Fault> {
-        taken(self.port.offer(rt, request), Fault::Gone)
+    pub fn offer<R: Wait>(&mut self, rt: &R, request: Request) -> Result<(), RecordedFault> {
+        taken(self.port.offer(rt, request), RecordedFault::Gone)
     }
 
     /// Hands an order over, which has 1 to 8 requests.
-    pub fn offer_many<R: Wait>(&mut self, rt: &R, requests: Vec<Request>) -> Result<(), Fault> {
+    pub fn offer_many<R: Wait>(
+        &mut self,
+        rt: &R,
+        requests: Vec<Request>,
+    ) -> Result<(), RecordedFault> {
         if requests.is_empty() || requests.len() > REQUESTS_MAX as usize {
             drop(requests);
-            return Err(Fault::Gone);
+            return Err(RecordedFault::Gone);
         }
-        taken(self.port.offer_many(rt, requests), Fault::Gone)
+        taken(self.port.offer_many(rt, requests), RecordedFault::Gone)
     }
 }

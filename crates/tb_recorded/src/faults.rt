@@ -5,7 +5,7 @@ use tb_published::{OpenFault, SeatFault};
 
 /// Why a recorded run does not come to its audit's end.
 #[derive(Clone, Copy, Debug, thiserror::Error)]
-pub enum Fault {
+pub enum RecordedFault {
     #[error("no memory")]
     NoMemory,
     #[error("no opening: {0}")]
@@ -24,18 +24,18 @@ pub enum Fault {
     NoThread,
 }
 
-impl From<AllocError> for Fault {
-    fn from(_: AllocError) -> Fault {
-        Fault::NoMemory
+impl From<AllocError> for RecordedFault {
+    fn from(_: AllocError) -> RecordedFault {
+        RecordedFault::NoMemory
     }
 }
 
 /// What was sent was taken, or it comes back for this reason, and is freed.
-pub fn taken<T: Drop>(handed: Result<(), T>, fault: Fault) -> Result<(), Fault> {
+pub fn taken<T: Drop>(handed: Result<(), T>, fault: RecordedFault) -> Result<(), RecordedFault> {
     if is_taken(handed) { Ok(()) } else { Err(fault) }
 }
 
 /// Appends an item.
-pub fn add<T: Drop>(all: &mut Vec<T>, item: T) -> Result<(), Fault> {
-    taken(all.push(item), Fault::NoMemory)
+pub fn add<T: Drop>(all: &mut Vec<T>, item: T) -> Result<(), RecordedFault> {
+    taken(all.push(item), RecordedFault::NoMemory)
 }

@@ -1,5 +1,5 @@
 //! Keys of entries: client, session and number.
-use crate::faults::{Fault, add};
+use crate::faults::{RecordedFault, add};
 use std::alloc::Global;
 use tb_machine::Entry;
 
@@ -24,7 +24,7 @@ fn count_same(keys: &[Key]) -> u64 {
 }
 
 /// Appends the keys of entries, and sorts all.
-fn put_sorted(keys: &mut Vec<Key>, history: &[Entry]) -> Result<(), Fault> {
+fn put_sorted(keys: &mut Vec<Key>, history: &[Entry]) -> Result<(), RecordedFault> {
     for entry in history {
         add(keys, key_of(entry))?;
     }
@@ -32,7 +32,7 @@ fn put_sorted(keys: &mut Vec<Key>, history: &[Entry]) -> Result<(), Fault> {
 }
 
 /// How many entries have the key of another.
-pub fn count_twice(alloc: Global, history: &[Entry]) -> Result<u64, Fault> {
+pub fn count_twice(alloc: Global, history: &[Entry]) -> Result<u64, RecordedFault> {
     let mut keys = Vec::new(alloc);
     let sorted = put_sorted(&mut keys, history);
     let twice = count_same(keys.as_slice());

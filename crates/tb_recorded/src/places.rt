@@ -1,6 +1,6 @@
 //! What was offered, by place.
 use crate::asked::Asked;
-use crate::faults::{Fault, add, taken};
+use crate::faults::{RecordedFault, add, taken};
 use crate::rules::Rules;
 use std::alloc::Global;
 use tb_machine::{Entry, Machine};
@@ -33,7 +33,7 @@ impl PlacedRequests {
     }
 
     /// Puts a request at its place, which is to be free.
-    fn put(&mut self, place: u64, asked: Asked) -> Result<(), Fault> {
+    fn put(&mut self, place: u64, asked: Asked) -> Result<(), RecordedFault> {
         for _ in self.requests.len()..place as usize {
             add(&mut self.requests, None)?;
         }
@@ -45,7 +45,7 @@ impl PlacedRequests {
     }
 
     /// One port's requests, in order, at its places, which are to be as many and to rise.
-    pub fn add(&mut self, places: &[u64], offered: &[Asked]) -> Result<(), Fault> {
+    pub fn add(&mut self, places: &[u64], offered: &[Asked]) -> Result<(), RecordedFault> {
         if !do_rise(places) || places.len() != offered.len() {
             self.misplaced = self.misplaced.saturating_add(1);
         }
@@ -74,14 +74,18 @@ fn is_same(one: &Entry, other: &Entry) -> bool {
 }
 
 /// Enters an entry, where it may come next; it is to be the next one of the history.
-fn enter(machine: &mut Machine<Global>, entry: Entry, history: &[Entry]) -> Result<u64, Fault> {
+fn enter(
+    machine: &mut Machine<Global>,
+    entry: Entry,
+    history: &[Entry],
+) -> Result<u64, RecordedFault> {
     let next = history.get(machine.commit() as usize);
     let wrong = u64::from(!next.is_some_and(|kept| is_same(&entry, kept)));
     if !machine.fits(&entry) {
         drop(entry);
         return Ok(wrong);
     }
-    taken(machine.enter(entry), Fault::NoMemory).and(Ok(wrong))
+    taken(machine.enter(entry), RecordedFault::NoMemory).and(Ok(wrong))
 }
 
 /// The request at a place has its turn, as the rules say: where it is new it is to be the next entry of the history.
@@ -91,7 +95,7 @@ fn take_turn(
     place: u64,
     asked: Asked,
     history: &[Entry],
-) -> Result<u64, Fault> {
+) -> Result<u64, RecordedFault> {
     let request = asked.request(alloc)?;
     if machine.class(&request) != Class::New {
         drop(request);
@@ -117,7 +121,7 @@ fn serve(
     machine: &mut Machine<Global>,
     placed: &PlacedRequests,
     history: &[Entry],
-) -> Result<u64, Fault> {
+) -> Result<u64, RecordedFault> {
     let mut wrong = 0u64;
     for (at, asked) in placed.requests.iter().enumerate() {
         if let Some(asked) = asked {
@@ -135,7 +139,7 @@ pub fn rebuild(
     rules: Rules,
     placed: &PlacedRequests,
     history: &[Entry],
-) -> Result<u64, Fault> {
+) -> Result<u64, RecordedFault> {
     let mut machine = rules.machine(alloc)?;
     let wrong = serve(alloc, &mut machine, placed, history);
     drop(machine);

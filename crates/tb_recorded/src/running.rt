@@ -7,7 +7,7 @@ use crate::answers::Tally;
 use crate::auditing::audit;
 use crate::clients::{Client, Left};
 use crate::doors::Serving;
-use crate::faults::{Fault, add};
+use crate::faults::{RecordedFault, add};
 use crate::notes::Note;
 use crate::rules::Rules;
 use std::alloc::{AllocError, Global};
@@ -60,7 +60,7 @@ fn make_clients<J: Naming, S: Serving>(
     mut ports: Vec<Port>,
     seats: Vec<Seat<J>>,
     seed: u64,
-) -> Result<Vec<Client<J, S>>, Fault>
+) -> Result<Vec<Client<J, S>>, RecordedFault>
     requires { All (λ port. S.service ≡ Some port.service) ports.items }
 {
     let mut clients = Vec::new(alloc);
@@ -91,8 +91,8 @@ fn take_part<J: Naming + Send + Sync, S: Serving + Send + Sync, R: Threads + Wai
     mut clients: Vec<Client<J, S>>,
     notes: &[Note],
     steps: u32,
-) -> Result<Vec<Left<S>>, Fault> {
-    let mut fared = Err(Fault::NoThread);
+) -> Result<Vec<Left<S>>, RecordedFault> {
+    let mut fared = Err(RecordedFault::NoThread);
     if has_begun(begun) {
         let threads = clients.len().max(1);
         thread::for_each_mut(
@@ -120,7 +120,7 @@ fn run_over<J: Naming + Send + Sync, S: Serving + Send + Sync, R: Threads + Wait
     notes: &[Note],
     rules: Rules,
     scale: Scale,
-) -> Result<Tally, Fault>
+) -> Result<Tally, RecordedFault>
     requires server { S.service ≡ Some server.service }
     requires ports { AreNumbered server.service 0 ports.items }
 {
@@ -158,12 +158,12 @@ fn run_noted<J: Naming + Send + Sync, R: Threads + Wait + Sync>(
     notes: &[Note],
     rules: Rules,
     scale: Scale,
-) -> Result<Tally, Fault>
+) -> Result<Tally, RecordedFault>
     requires { opening ≡ J.opening }
 {
     let (Some(seats), Some(ports)) = (SeatCount::new(scale.clients), PortCount::new(scale.clients))
     else {
-        return Err(Fault::TooMany);
+        return Err(RecordedFault::TooMany);
     };
     let (publisher, seats) = open::<J, R>(alloc, rt, opening, seats)?;
     match service(alloc, publisher, rt, ports, Ticks(0), Open) {
@@ -172,7 +172,7 @@ fn run_noted<J: Naming + Send + Sync, R: Threads + Wait + Sync>(
         }
         Err(AllocError) => {
             drop(seats);
-            Err(Fault::NoMemory)
+            Err(RecordedFault::NoMemory)
         }
     }
 }
@@ -184,7 +184,7 @@ pub fn run_in<J: Naming + Send + Sync, R: Threads + Wait + Sync>(
     opening: Opening,
     rules: Rules,
     scale: Scale,
-) -> Result<Tally, Fault>
+) -> Result<Tally, RecordedFault>
     requires { opening ≡ J.opening }
 {
     let mut notes = Vec::new(alloc);

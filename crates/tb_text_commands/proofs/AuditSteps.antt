@@ -14,8 +14,8 @@ use Rattle.tb_machine.specs.declared.entries.Entry.{Entry}
 use Rattle.tb_machine.specs.Histories.{State, fits, step}
 use Rattle.tb_machine.proofs.Rows.{each_snoc}
 use Rattle.tb_machine.proofs.Running.{sends_none, sends_then}
-use Rattle.tb_text_commands.specs.declared.faults.Fault.{Fault}
-use Rattle.tb_text_commands.specs.declared.faults.Fault.TheVariants.{Usage, Device, Reader, Writer, NoMemory, TimeExhausted, TooLong, Frame, Dump, Arguments, Text, Late}
+use Rattle.tb_text_commands.specs.declared.faults.TextCommandFault.{TextCommandFault}
+use Rattle.tb_text_commands.specs.declared.faults.TextCommandFault.TheVariants.{Usage, Device, Reader, Writer, NoMemory, TimeExhausted, TooLong, Frame, Dump, Arguments, Text, Late}
 use Rattle.tb_text_commands.specs.AuditLines.{IsJsonLine}
 use Rattle.tb_text_commands.specs.Audits.{NoneIsDue, TakesDue, Waiting, waits_behind}
 use Rattle.tb_text_commands.specs.AuditRuns.{AreLines, Audited, AuditsAll, AuditsEntry, AuditsItems, AuditsNext, AuditsOne, Finds, GivesUp, Goes, IsCut, PutsAll, PutsNothing, RefusesEntry, ShowsAccount, StopsTelling, Telling, Tells, TellsAccount, TellsDue, account_of, entry_told, events_told, expiry_of, next_told}
@@ -25,7 +25,7 @@ use Rattle.tb_text_commands.specs.Whole.{IsDump, IsItem, Parts, WasWhole}
 
 -- lines
 
-gives_up : (f : Fault) (xs ys : List Told) → GivesUp f ys → GivesUp f (xs ++ ys)
+gives_up : (f : TextCommandFault) (xs ys : List Told) → GivesUp f ys → GivesUp f (xs ++ ys)
 gives_up f xs ys (inl memory) = inl memory
 gives_up f xs ys (inr (is, many)) = inr (is, omega (arith, many, length-append xs ys))
 
@@ -46,7 +46,7 @@ module _ (IsLine : Told → List ℕ → Type 0) (wants : Told → Bool) where
     sent = sends_then one.bytes two.bytes a b d one.sent two.sent;
   }
 
-  pub stops_join : (f : Fault) (xs ys : List Told) (a b d : Output) → Tells IsLine wants xs a b → StopsTelling IsLine wants f ys b d → StopsTelling IsLine wants f (xs ++ ys) a d
+  pub stops_join : (f : TextCommandFault) (xs ys : List Told) (a b d : Output) → Tells IsLine wants xs a b → StopsTelling IsLine wants f ys b d → StopsTelling IsLine wants f (xs ++ ys) a d
   stops_join f xs ys a b d one two = record {
     front = xs ++ two.front;
     rest = two.rest;
@@ -56,10 +56,10 @@ module _ (IsLine : Told → List ℕ → Type 0) (wants : Told → Bool) where
     stops = ⊎_elim (λ (q : GivesUp f two.front × (d ≡ two.made)). inl (gives_up f xs two.front q.0, q.1)) (λ q. inr q) two.stops;
   }
 
-  pub stops_here : (f : Fault) (xs : List Told) (a b : Output) → GivesUp f xs → Tells IsLine wants xs a b → StopsTelling IsLine wants f xs a b
+  pub stops_here : (f : TextCommandFault) (xs : List Told) (a b : Output) → GivesUp f xs → Tells IsLine wants xs a b → StopsTelling IsLine wants f xs a b
   stops_here f xs a b why one = record { front = xs; rest = []; told_is = sym (append-nil xs); made = b; tells = one; stops = inl (why, refl) }
 
-  cut_longer : (f : Fault) (xs ys : List Told) (a b : Output) → IsCut IsLine wants f xs a b → IsCut IsLine wants f (xs ++ ys) a b
+  cut_longer : (f : TextCommandFault) (xs ys : List Told) (a b : Output) → IsCut IsLine wants f xs a b → IsCut IsLine wants f (xs ++ ys) a b
   cut_longer f xs ys a b q = record {
     next = q.next;
     behind = q.behind ++ ys;
@@ -72,7 +72,7 @@ module _ (IsLine : Told → List ℕ → Type 0) (wants : Told → Bool) where
   }
 
   -- more was to be reported
-  pub stops_longer : (f : Fault) (xs ys : List Told) (a b : Output) → StopsTelling IsLine wants f xs a b → StopsTelling IsLine wants f (xs ++ ys) a b
+  pub stops_longer : (f : TextCommandFault) (xs ys : List Told) (a b : Output) → StopsTelling IsLine wants f xs a b → StopsTelling IsLine wants f (xs ++ ys) a b
   stops_longer f xs ys a b one = record {
     front = one.front;
     rest = one.rest ++ ys;
@@ -82,20 +82,20 @@ module _ (IsLine : Told → List ℕ → Type 0) (wants : Told → Bool) where
     stops = ⊎_elim (λ (q : GivesUp f one.front × (b ≡ one.made)). inl q) (λ (q : IsCut IsLine wants f one.rest one.made b). inr (cut_longer f one.rest ys one.made b q)) one.stops;
   }
 
-  pub stops_within : (f : Fault) (xs ys all : List Told) (a b : Output) → xs ++ ys ≡ all → StopsTelling IsLine wants f xs a b → StopsTelling IsLine wants f all a b
+  pub stops_within : (f : TextCommandFault) (xs ys all : List Told) (a b : Output) → xs ++ ys ≡ all → StopsTelling IsLine wants f xs a b → StopsTelling IsLine wants f all a b
   stops_within f xs ys all a b is one = subst (λ (l : List Told). StopsTelling IsLine wants f l a b) is (stops_longer f xs ys a b one)
 
   -- there was no memory before the first of it
-  pub stops_first : (f : Fault) (told : List Told) (o : Output) → f ≡ NoMemory → StopsTelling IsLine wants f told o o
+  pub stops_first : (f : TextCommandFault) (told : List Told) (o : Output) → f ≡ NoMemory → StopsTelling IsLine wants f told o o
   stops_first f told o memory = record { front = []; rest = told; told_is = refl; made = o; tells = tells_none o; stops = inl (inl memory, refl) }
 
   -- what is to be reported goes on
-  pub telling_join : (r : Result (Unit {0}) Fault) (xs ys : List Told) (a b d : Output) → Tells IsLine wants xs a b → Telling IsLine wants r ys b d → Telling IsLine wants r (xs ++ ys) a d
+  pub telling_join : (r : Result (Unit {0}) TextCommandFault) (xs ys : List Told) (a b d : Output) → Tells IsLine wants xs a b → Telling IsLine wants r ys b d → Telling IsLine wants r (xs ++ ys) a d
   telling_join (Ok done) xs ys a b d one two = tells_join xs ys a b d one two
   telling_join (Err f) xs ys a b d one two = stops_join f xs ys a b d one two
 
 -- no other fault comes of writing
-by_device : (f : Fault) (bytes : List ℕ) (a b : Output) → PutsAll (Err f) bytes a b → (f ≡ Device) × CutOff bytes a b
+by_device : (f : TextCommandFault) (bytes : List ℕ) (a b : Output) → PutsAll (Err f) bytes a b → (f ≡ Device) × CutOff bytes a b
 by_device Device bytes a b cut = (refl, cut)
 by_device Usage bytes a b none = absurd none
 by_device Reader bytes a b none = absurd none
@@ -113,7 +113,7 @@ module _ (wants : Told → Bool) where
   pub told_unwanted : (t : Told) (o : Output) → wants t ≡ false → Tells IsJsonLine wants (t ∷ []) o o
   told_unwanted t o left_out = record { bytes = []; lines = rw left_out refl; sent = sends_none o }
 
-  told_line : (r : Result (Unit {0}) Fault) (t : Told) (line : List ℕ) (a b : Output) → wants t ≡ true → IsJsonLine t line → PutsAll r line a b → Telling IsJsonLine wants r (t ∷ []) a b
+  told_line : (r : Result (Unit {0}) TextCommandFault) (t : Told) (line : List ℕ) (a b : Output) → wants t ≡ true → IsJsonLine t line → PutsAll r line a b → Telling IsJsonLine wants r (t ∷ []) a b
   told_line (Ok done) t line a b wanted is sent = record { bytes = line; lines = rw wanted (line, [], is, refl, sym (append-nil line)); sent = sent }
   told_line (Err f) t line a b wanted is put = record {
     front = [];
@@ -124,12 +124,12 @@ module _ (wants : Told → Bool) where
     stops = inr (record { next = t; behind = []; rest_is = refl; wanted = wanted; line = line; is_line = is; device = (by_device f line a b put).0; cut = (by_device f line a b put).1 });
   }
 
-  told_nothing : (r : Result (Unit {0}) Fault) (t : Told) (a b : Output) → PutsNothing r a b → Telling IsJsonLine wants r (t ∷ []) a b
+  told_nothing : (r : Result (Unit {0}) TextCommandFault) (t : Told) (a b : Output) → PutsNothing r a b → Telling IsJsonLine wants r (t ∷ []) a b
   told_nothing (Ok done) t a b nothing = absurd nothing
   told_nothing (Err f) t a b (memory, same) = record { front = []; rest = t ∷ []; told_is = refl; made = a; tells = tells_none IsJsonLine wants a; stops = inl (inl memory, same) }
 
   -- a line was made, or there was no memory for it
-  pub told_one : {L E : Type 0} (bytes : L → List ℕ) (made : Result L E) (r : Result (Unit {0}) Fault) (t : Told) (a b : Output) → wants t ≡ true
+  pub told_one : {L E : Type 0} (bytes : L → List ℕ) (made : Result L E) (r : Result (Unit {0}) TextCommandFault) (t : Told) (a b : Output) → wants t ≡ true
       → IfOk made (λ line. IsJsonLine t (bytes line)) → IfOk made (λ line. PutsAll r (bytes line) a b) → IfErr made (λ refused. PutsNothing r a b) → Telling IsJsonLine wants r (t ∷ []) a b
   told_one bytes (Ok line) r t a b wanted is put none = told_line r t (bytes line) a b wanted is put
   told_one bytes (Err refused) r t a b wanted is put none = told_nothing r t a b none
@@ -174,7 +174,7 @@ shows_as e S T account shown later told stepped same as_shown h =
     (subst (λ (x : Option ℕ). ShowsAccount e (account_of x T) shown told later) same h))
 
 module _ (IsLine : Told → List ℕ → Type 0) (wants : Told → Bool) where
-  pub not_entered : (f : Fault) (S U : Audited) (e : Entry) (o : Output) → RefusesEntry f S.machine e → AuditsEntry IsLine wants (Err f) S U e o o
+  pub not_entered : (f : TextCommandFault) (S U : Audited) (e : Entry) (o : Output) → RefusesEntry f S.machine e → AuditsEntry IsLine wants (Err f) S U e o o
   not_entered f S U e o (inl (illegal, is)) = inl (illegal, is, refl)
   not_entered f S U e o (inr (legal, is)) =
       inr (
@@ -184,7 +184,7 @@ module _ (IsLine : Told → List ℕ → Type 0) (wants : Told → Bool) where
         stops_here IsLine wants f [] o o (inl is) (tells_none IsLine wants o),
       )
 
-  pub due_stops : (f : Fault) (S U : Audited) (e : Entry) (w v : Waiting) (a b : Output) → IsTrue (fits S.machine e) → w ≡ waits_behind S.machine e S.waiting
+  pub due_stops : (f : TextCommandFault) (S U : Audited) (e : Entry) (w v : Waiting) (a b : Output) → IsTrue (fits S.machine e) → w ≡ waits_behind S.machine e S.waiting
       → TellsDue IsLine wants (Err f) e w v a b → AuditsEntry IsLine wants (Err f) S U e a b
   due_stops f S U e w v a b legal behind (due, gone, stops) =
       inr (
@@ -197,7 +197,7 @@ module _ (IsLine : Told → List ℕ → Type 0) (wants : Told → Bool) where
   module _ (S U : Audited) (e : Entry) (T : State) (results : List EventResult) (w v : Waiting) (a b d : Output)
       (legal : IsTrue (fits S.machine e)) (stepped : T ≡ step S.machine e) (judged : entry_told T results e ≡ next_told S.machine e)
       (behind : w ≡ waits_behind S.machine e S.waiting) (due : TellsDue IsLine wants (Ok tt) e w v a b) (none : NoneIsDue e.time v) where
-    pub entry_stops : (f : Fault) → StopsTelling IsLine wants f (entry_told T results e) b d → AuditsEntry IsLine wants (Err f) S U e a d
+    pub entry_stops : (f : TextCommandFault) → StopsTelling IsLine wants f (entry_told T results e) b d → AuditsEntry IsLine wants (Err f) S U e a d
     entry_stops f stops =
         inr (
           legal,
@@ -214,7 +214,7 @@ module _ (IsLine : Told → List ℕ → Type 0) (wants : Told → Bool) where
               (stops_longer IsLine wants f (next_told S.machine e) [] b d (subst (λ (l : List Told). StopsTelling IsLine wants f l b d) judged stops)),
         )
 
-    pub entry_goes_on : (r : Result (Unit {0}) Fault) (account : Option ℕ) (shown : Option Account) (k : Output) → account ≡ S.account → shown ≡ S.shown
+    pub entry_goes_on : (r : Result (Unit {0}) TextCommandFault) (account : Option ℕ) (shown : Option Account) (k : Output) → account ≡ S.account → shown ≡ S.shown
         → U.machine ≡ T → U.account ≡ account → U.waiting ≡ v
         → Tells IsLine wants (entry_told T results e) b d → TellsAccount IsLine wants r e (account_of account T) shown U.shown d k
         → AuditsEntry IsLine wants r S U e a k
@@ -256,7 +256,7 @@ module _ (IsLine : Told → List ℕ → Type 0) (wants : Told → Bool) where
   audits_on true S T i j a b is h = h
   audits_on false S T i j a b is h = absurd (false≢true is)
 
-  pub items_end : (more : Bool) (r : Result (Unit {0}) Fault) (n : ℕ) (S U T : Audited) (i j k : Input) (a b d : Output) → more ≡ false
+  pub items_end : (more : Bool) (r : Result (Unit {0}) TextCommandFault) (n : ℕ) (S U T : Audited) (i j k : Input) (a b d : Output) → more ≡ false
       → AuditsAll IsLine wants n S U i j a b → AuditsNext IsLine wants (Ok more) U T j k b d → Finds r T → AuditsItems IsLine wants r S i k a d
   items_end true r n S U T i j k a b d is all next found = absurd (false≢true (sym is))
   items_end false (Ok done) n S U T i j k a b d is all next found = record {
@@ -276,7 +276,7 @@ module _ (IsLine : Told → List ℕ → Type 0) (wants : Told → Bool) where
     ends = inr (inl (next.1, next.2, subst (λ (x : Audited). Finds (Err f) x) next.0 found));
   }
 
-  pub items_fail : (f : Fault) (n : ℕ) (S U T : Audited) (i j k : Input) (a b d : Output) → AuditsAll IsLine wants n S U i j a b → AuditsNext IsLine wants (Err f) U T j k b d → AuditsItems IsLine wants (Err f) S i k a d
+  pub items_fail : (f : TextCommandFault) (n : ℕ) (S U T : Audited) (i j k : Input) (a b d : Output) → AuditsAll IsLine wants n S U i j a b → AuditsNext IsLine wants (Err f) U T j k b d → AuditsItems IsLine wants (Err f) S i k a d
   items_fail f n S U T i j k a b d all next = record { count = n; standing = U; middle = j; made = b; audits = all; ends = inl (T, next) }
 
 -- a whole dump

@@ -8,8 +8,8 @@ use Rattle.tb_text.specs.Steps.{Stops}
 use Rattle.tb_text.proofs.Faults.{no_meaning}
 use Rattle.tb_text_commands.specs.declared.completing.Standing.{Standing}
 use Rattle.tb_text_commands.specs.declared.asking.Ask.TheVariants.{Leave}
-use Rattle.tb_text_commands.specs.declared.faults.Fault.{Fault}
-use Rattle.tb_text_commands.specs.declared.faults.Fault.TheVariants as fault
+use Rattle.tb_text_commands.specs.declared.faults.TextCommandFault.{TextCommandFault}
+use Rattle.tb_text_commands.specs.declared.faults.TextCommandFault.TheVariants as fault
 use Rattle.tb_text_commands.specs.declared.intake.Intake.{Intake}
 use Rattle.tb_text_commands.specs.declared.typing.Typed.{Typed}
 use Rattle.tb_text_commands.specs.declared.typing.Typed.TheVariants as typed
@@ -42,7 +42,7 @@ goes_wrong clock last standing text pairs place stops = record {
 }
 
 -- a text that goes wrong, where the fault is that of one
-pub wrong_taken : (f : Fault) (i j : Intake) → TakesIfWrong f i j → TakenIfPassing (is_passing f) i j
+pub wrong_taken : (f : TextCommandFault) (i j : Intake) → TakesIfWrong f i j → TakenIfPassing (is_passing f) i j
 wrong_taken (fault.Text lines) i j t = part_of IsWrong IsTypedPart (λ bytes is. inr (inr (inl is))) i j t
 wrong_taken (fault.Late lines) i j t = absurd (false≢true (sym t))
 wrong_taken fault.Usage i j t = tt
@@ -97,7 +97,7 @@ passes true a i j input h t = stays_then_one IsTypedPart a (waiting i input) (wa
 passes false a i j input h t = tt
 
 -- a mistake
-pub mistake_next : (f : Fault) (a : Option (List ℕ)) (i j : Intake) (input : Input) → Stays a (waiting i input) → TakenIfPassing (is_passing f) i j → TakesIfPassing (is_passing f) a (waiting j input)
+pub mistake_next : (f : TextCommandFault) (a : Option (List ℕ)) (i j : Intake) (input : Input) → Stays a (waiting i input) → TakenIfPassing (is_passing f) i j → TakesIfPassing (is_passing f) a (waiting j input)
 mistake_next f a i j input h t = passes (is_passing f) a i j input h t
 
 -- the end of the input
@@ -128,7 +128,7 @@ passing_on true a b is t = t
 passing_on false a b is t = absurd (false≢true is)
 
 -- what was taken of what waits
-pub typed_rest : (r : Result Typed Fault) (a : Option (List ℕ)) (i j : Intake) (input : Input) → Stays a (waiting i input) → TypedOfRest r i j → TakesTyped r a (waiting j input)
+pub typed_rest : (r : Result Typed TextCommandFault) (a : Option (List ℕ)) (i j : Intake) (input : Input) → Stays a (waiting i input) → TypedOfRest r i j → TakesTyped r a (waiting j input)
 typed_rest (Ok t) a i j input h taken = typed_next t a i j input h taken
 typed_rest (Err f) a i j input h taken = mistake_next f a i j input h taken
 

@@ -25,8 +25,8 @@ use Rattle.tb_machine.specs.Histories.{State, body_at, fits, step, to_two}
 use Rattle.tb_machine.specs.Replays.{ReadsNext}
 use Rattle.tb_text_commands.specs.declared.arguments.Form.{Form}
 use Rattle.tb_text_commands.specs.declared.arguments.Form.TheVariants as form
-use Rattle.tb_text_commands.specs.declared.faults.Fault.{Fault}
-use Rattle.tb_text_commands.specs.declared.faults.Fault.TheVariants.{Arguments, Device, Dump, NoMemory, TooLong}
+use Rattle.tb_text_commands.specs.declared.faults.TextCommandFault.{TextCommandFault}
+use Rattle.tb_text_commands.specs.declared.faults.TextCommandFault.TheVariants.{Arguments, Device, Dump, NoMemory, TooLong}
 use Rattle.tb_text_commands.specs.AuditLines.{IsJsonLine}
 use Rattle.tb_text_commands.specs.Audits.{NoneIsDue, Waiting, waits_behind}
 use Rattle.tb_text_commands.specs.Ends.{outcome_status}
@@ -39,18 +39,18 @@ use Rattle.tb_text_commands.specs.declared.wanted.Wanted.{Wanted}
 -- lines
 
 -- bytes were written, or the device cut them off
-abbrev pub PutsAll : Result (Unit {0}) Fault → List ℕ → Output → Output → Type 0
+abbrev pub PutsAll : Result (Unit {0}) TextCommandFault → List ℕ → Output → Output → Type 0
 PutsAll (Ok done) bytes before after = Sent bytes before after
 PutsAll (Err Device) bytes before after = CutOff bytes before after
 PutsAll (Err fault) bytes before after = ⊥
 
 -- nothing was, since there was no memory for a line
-abbrev pub PutsNothing : Result (Unit {0}) Fault → Output → Output → Type 0
+abbrev pub PutsNothing : Result (Unit {0}) TextCommandFault → Output → Output → Type 0
 PutsNothing (Ok done) before after = ⊥
 PutsNothing (Err fault) before after = (fault ≡ NoMemory) × (after ≡ before)
 
 -- there was no memory for the next line, or there are too many
-abbrev pub GivesUp : Fault → List Told → Type 0
+abbrev pub GivesUp : TextCommandFault → List Told → Type 0
 GivesUp fault front = (fault ≡ NoMemory) ⊎ ((fault ≡ TooLong) × (2 ^ 64 - 1 ≤ length front))
 
 -- by what is a line of what is reported, and what of it is wanted
@@ -67,7 +67,7 @@ module _ (IsLine : Told → List ℕ → Type 0) (wants : Told → Bool) where
     pub sent : Sent bytes start written
 
   -- the device cut the next line off
-  pub record IsCut (fault : Fault) (rest : List Told) (made written : Output) : Type 0 where
+  pub record IsCut (fault : TextCommandFault) (rest : List Told) (made written : Output) : Type 0 where
     pub next : Told
     pub behind : List Told
     pub rest_is : rest ≡ next ∷ behind
@@ -78,7 +78,7 @@ module _ (IsLine : Told → List ℕ → Type 0) (wants : Told → Bool) where
     pub cut : CutOff line made written
 
   -- the first of what is to be reported was written, and then a fault came
-  pub record StopsTelling (fault : Fault) (told : List Told) (start written : Output) : Type 0 where
+  pub record StopsTelling (fault : TextCommandFault) (told : List Told) (start written : Output) : Type 0 where
     pub front : List Told
     pub rest : List Told
     pub told_is : told ≡ front ++ rest
@@ -86,18 +86,18 @@ module _ (IsLine : Told → List ℕ → Type 0) (wants : Told → Bool) where
     pub tells : Tells front start made
     pub stops : (GivesUp fault front × (written ≡ made)) ⊎ IsCut fault rest made written
 
-  abbrev pub Telling : Result (Unit {0}) Fault → List Told → Output → Output → Type 0
+  abbrev pub Telling : Result (Unit {0}) TextCommandFault → List Told → Output → Output → Type 0
   Telling (Ok done) told start written = Tells told start written
   Telling (Err fault) told start written = StopsTelling fault told start written
 
   -- the same by a writer's states
-  abbrev pub Prints : {W : Type 0} → Result (Unit {0}) Fault → List Told → (W → Output) → W → W → Type 0
+  abbrev pub Prints : {W : Type 0} → Result (Unit {0}) TextCommandFault → List Told → (W → Output) → W → W → Type 0
   Prints result told output start written = Telling result told (output start) (output written)
 
 -- items
 
 -- an entry is not entered, since it may not come next, or since memory ran out
-abbrev pub RefusesEntry : Fault → State → Entry → Type 0
+abbrev pub RefusesEntry : TextCommandFault → State → Entry → Type 0
 RefusesEntry fault S e = ((fits S e ≡ false) × (fault ≡ Dump dump.NotLegal)) ⊎ (IsTrue (fits S e) × (fault ≡ NoMemory))
 
 -- what an audit has come to: its machine, the pending transfers whose timeouts run, the account that is reported, and how it was
@@ -191,7 +191,7 @@ pub record MayTell (S : Audited) (e : Entry) (told : List Told) : Type 0 where
       × ((standing ≡ []) ⊎ ((later : Option Account) × ShowsAccount e (account_of S.account (step S.machine e)) S.shown standing later)))
 
 -- an account whose lines are wanted is there, or a fault says that there is none
-abbrev pub Finds : Result (Unit {0}) Fault → Audited → Type 0
+abbrev pub Finds : Result (Unit {0}) TextCommandFault → Audited → Type 0
 Finds (Ok done) S = (id : ℕ) → S.account ≡ Some id → IsSome (account_now S.machine.books id)
 Finds (Err (Arguments line)) S = (id : ℕ) × (S.account ≡ Some id) × (account_now S.machine.books id ≡ None)
 Finds (Err NoMemory) S = (id : ℕ) × (S.account ≡ Some id) × (account_now S.machine.books id ≡ None)
@@ -199,39 +199,39 @@ Finds (Err fault) S = ⊥
 
 module _ (IsLine : Told → List ℕ → Type 0) (wants : Told → Bool) where
   -- those that have expired are reported, up to a fault
-  abbrev pub TellsDue : Result (Unit {0}) Fault → Entry → Waiting → Waiting → Output → Output → Type 0
+  abbrev pub TellsDue : Result (Unit {0}) TextCommandFault → Entry → Waiting → Waiting → Output → Output → Type 0
   TellsDue result e before after start written = (told : List Told) × Goes e before told after × Telling IsLine wants result told start written
 
   -- so is the account
-  abbrev pub TellsAccount : Result (Unit {0}) Fault → Entry → Option Account → Option Account → Option Account → Output → Output → Type 0
+  abbrev pub TellsAccount : Result (Unit {0}) TextCommandFault → Entry → Option Account → Option Account → Option Account → Output → Output → Type 0
   TellsAccount result e is shown later start written = (told : List Told) × ShowsAccount e is shown told later × Telling IsLine wants result told start written
 
-  abbrev pub AuditsEntry : Result (Unit {0}) Fault → Audited → Audited → Entry → Output → Output → Type 0
+  abbrev pub AuditsEntry : Result (Unit {0}) TextCommandFault → Audited → Audited → Entry → Output → Output → Type 0
   AuditsEntry (Ok done) S T e start written = (told : List Told) × TakesEntry S T e told × Tells IsLine wants told start written
   AuditsEntry (Err fault) S T e start written =
       ((fits S.machine e ≡ false) × (fault ≡ Dump dump.NotLegal) × (written ≡ start))
       ⊎ (IsTrue (fits S.machine e) × (told : List Told) × MayTell S e told × StopsTelling IsLine wants fault told start written)
 
   -- a mark leads to profile 2, where that does not serve yet
-  abbrev pub AuditsMark : Result (Unit {0}) Fault → Audited → Audited → Output → Output → Type 0
+  abbrev pub AuditsMark : Result (Unit {0}) TextCommandFault → Audited → Audited → Output → Output → Type 0
   AuditsMark (Ok done) S T start written =
       (profile_of S.machine.books ≡ One) × (T ≡ record S { machine = to_two S.machine }) × Tells IsLine wants (moves ∷ []) start written
   AuditsMark (Err fault) S T start written =
       ((profile_of S.machine.books ≡ Two) × (fault ≡ Dump dump.Mark) × (written ≡ start))
       ⊎ ((profile_of S.machine.books ≡ One) × StopsTelling IsLine wants fault (moves ∷ []) start written)
 
-  abbrev pub AuditsItem : Result (Unit {0}) Fault → Audited → Audited → DumpItem → Output → Output → Type 0
+  abbrev pub AuditsItem : Result (Unit {0}) TextCommandFault → Audited → Audited → DumpItem → Output → Output → Type 0
   AuditsItem result S T (item.Entry commit time request) start written = AuditsEntry result S T (record { commit = commit; time = time; request = request }) start written
   AuditsItem result S T item.Mark start written = AuditsMark result S T start written
 
 -- what was answered of the next item
-abbrev pub ReadsItem : Result (Option DumpItem) Fault → Input → Input → Type 0
+abbrev pub ReadsItem : Result (Option DumpItem) TextCommandFault → Input → Input → Type 0
 ReadsItem (Ok next) before after = ReadsNext (Ok next) before after
 ReadsItem (Err fault) before after = (g : DumpFault) × (fault ≡ dump_fault_of g) × ReadsNext (Err g) before after
 
 module _ (IsLine : Told → List ℕ → Type 0) (wants : Told → Bool) where
   -- the next item was read, and taken
-  pub record AuditsOne (result : Result (Unit {0}) Fault) (S T : Audited) (before after : Input) (start written : Output) : Type 0 where
+  pub record AuditsOne (result : Result (Unit {0}) TextCommandFault) (S T : Audited) (before after : Input) (start written : Output) : Type 0 where
     pub item : DumpItem
     pub read : ReadsNext (Ok (Some item)) before after
     pub passed : Output
@@ -239,7 +239,7 @@ module _ (IsLine : Told → List ℕ → Type 0) (wants : Told → Bool) where
     pub act : AuditsItem IsLine wants result S T item passed written
 
   -- it was, or there is none, or a fault came in reading it or in taking it
-  abbrev pub AuditsNext : Result Bool Fault → Audited → Audited → Input → Input → Output → Output → Type 0
+  abbrev pub AuditsNext : Result Bool TextCommandFault → Audited → Audited → Input → Input → Output → Output → Type 0
   AuditsNext (Ok true) S T before after start written = AuditsOne (Ok tt) S T before after start written
   AuditsNext (Ok false) S T before after start written = (T ≡ S) × ReadsItem (Ok None) before after × Sent [] start written
   AuditsNext (Err fault) S T before after start written = (ReadsItem (Err fault) before after × Sent [] start written) ⊎ AuditsOne (Err fault) S T before after start written
@@ -252,7 +252,7 @@ module _ (IsLine : Told → List ℕ → Type 0) (wants : Told → Bool) where
 
   -- what ended it: the end of the input, where an account whose lines are wanted was looked for; a fault of the next item, no
   -- memory for the machine, or too many items
-  abbrev pub AuditEnds : Result (Unit {0}) Fault → ℕ → Audited → Input → Input → Output → Output → Type 0
+  abbrev pub AuditEnds : Result (Unit {0}) TextCommandFault → ℕ → Audited → Input → Input → Output → Output → Type 0
   AuditEnds (Ok done) n S before after start written = ReadsItem (Ok None) before after × Sent [] start written × Finds (Ok tt) S
   AuditEnds (Err fault) n S before after start written =
       ((T : Audited) × AuditsNext (Err fault) S T before after start written)
@@ -260,7 +260,7 @@ module _ (IsLine : Told → List ℕ → Type 0) (wants : Told → Bool) where
       ⊎ ((((fault ≡ NoMemory) × (n ≡ 0)) ⊎ ((fault ≡ TooLong) × (n ≡ 2 ^ 64 - 1))) × (after ≡ before) × (written ≡ start)))
 
   -- items were audited, and then the input was at its end, or a fault came
-  pub record AuditsItems (result : Result (Unit {0}) Fault) (S : Audited) (before after : Input) (start written : Output) : Type 0 where
+  pub record AuditsItems (result : Result (Unit {0}) TextCommandFault) (S : Audited) (before after : Input) (start written : Output) : Type 0 where
     pub count : ℕ
     pub standing : Audited
     pub middle : Input
@@ -271,13 +271,13 @@ module _ (IsLine : Told → List ℕ → Type 0) (wants : Told → Bool) where
   -- a whole dump
 
   -- the head was read, and its line written
-  pub record HeadTold (result : Result (Unit {0}) Fault) (head : DumpHead) (before after : Input) (start written : Output) : Type 0 where
+  pub record HeadTold (result : Result (Unit {0}) TextCommandFault) (head : DumpHead) (before after : Input) (start written : Output) : Type 0 where
     pub read : HeadAnswers (Ok head) before.left after.left
     pub counted : after.failed ≡ before.failed
     pub told : Telling IsLine wants result (begins head ∷ []) start written
 
   -- and then the items behind it were audited
-  pub record Audits (result : Result (Unit {0}) Fault) (account : Option ℕ) (before after : Input) (start written : Output) : Type 0 where
+  pub record Audits (result : Result (Unit {0}) TextCommandFault) (account : Option ℕ) (before after : Input) (start written : Output) : Type 0 where
     pub head : DumpHead
     pub begun : Input
     pub first : Output
@@ -285,33 +285,33 @@ module _ (IsLine : Told → List ℕ → Type 0) (wants : Told → Bool) where
     pub items : AuditsItems result (audited_from account head) begun after first written
 
   -- no head was read
-  abbrev pub Headless : Fault → Input → Input → Output → Output → Type 0
+  abbrev pub Headless : TextCommandFault → Input → Input → Output → Output → Type 0
   Headless fault before after start written =
       (g : DumpFault) × (fault ≡ dump_fault_of g) × HeadAnswers (Err g) before.left after.left × HeadCounts (Err g) before after × (written ≡ start)
 
-  abbrev pub HeadFails : Fault → Input → Input → Output → Output → Type 0
+  abbrev pub HeadFails : TextCommandFault → Input → Input → Output → Output → Type 0
   HeadFails fault before after start written = Headless fault before after start written ⊎ ((head : DumpHead) × HeadTold (Err fault) head before after start written)
 
-  abbrev pub ReadsHead : Result DumpHead Fault → Input → Input → Output → Output → Type 0
+  abbrev pub ReadsHead : Result DumpHead TextCommandFault → Input → Input → Output → Output → Type 0
   ReadsHead (Ok head) before after start written = HeadTold (Ok tt) head before after start written
   ReadsHead (Err fault) before after start written = HeadFails fault before after start written
 
-  abbrev pub AuditRan : Result (Unit {0}) Fault → Option ℕ → Input → Input → Output → Output → Type 0
+  abbrev pub AuditRan : Result (Unit {0}) TextCommandFault → Option ℕ → Input → Input → Output → Output → Type 0
   AuditRan (Ok done) account before after start written = Audits (Ok done) account before after start written
   AuditRan (Err fault) account before after start written = HeadFails fault before after start written ⊎ Audits (Err fault) account before after start written
 
 -- an audit of what is wanted
-abbrev pub AuditRanFor : Wanted → Result (Unit {0}) Fault → Input → Input → Output → Output → Type 0
+abbrev pub AuditRanFor : Wanted → Result (Unit {0}) TextCommandFault → Input → Input → Output → Output → Type 0
 AuditRanFor wanted result before after start written = AuditRan IsJsonLine (is_wanted wanted) result wanted.account before after start written
 
 -- it ended with the status of its outcome
 pub record AuditedBy (wanted : Wanted) (status : ℕ) (before after : Input) (start written : Output) : Type 0 where
-  pub outcome : Result (Unit {0}) Fault
+  pub outcome : Result (Unit {0}) TextCommandFault
   pub status_is : status ≡ outcome_status outcome
   pub ran : AuditRanFor wanted outcome before after start written
 
 -- a form that is an audit ran as one
-abbrev pub AuditsBy : Form → Result (Unit {0}) Fault → Input → Input → Output → Output → Type 0
+abbrev pub AuditsBy : Form → Result (Unit {0}) TextCommandFault → Input → Input → Output → Output → Type 0
 AuditsBy asked result before after start written = (wanted : Wanted) → asked ≡ form.Audit wanted → AuditRanFor wanted result before after start written
 
 -- words that ask for an audit: it ended with a status

@@ -16,8 +16,8 @@ use Rattle.tb_ledger.specs.Books.{Books, expires_at, pending, profile_of, resolv
 use Rattle.tb_machine.specs.declared.entries.Entry.{Entry}
 use Rattle.tb_machine.specs.Histories.{State, body_at, fits, step, to_two}
 use Rattle.tb_text_commands.specs.Results.{is_accepted, results_in}
-use Rattle.tb_text_commands.specs.declared.faults.Fault.{Fault}
-use Rattle.tb_text_commands.specs.declared.faults.Fault.TheVariants.{Dump, NoMemory}
+use Rattle.tb_text_commands.specs.declared.faults.TextCommandFault.{TextCommandFault}
+use Rattle.tb_text_commands.specs.declared.faults.TextCommandFault.TheVariants.{Dump, NoMemory}
 
 -- pending transfers whose timeouts run
 
@@ -79,14 +79,14 @@ TakesDue time w (Some (end, p)) later = (id : ℕ) × (w ≡ ((end, id), p) ∷ 
 -- items
 
 -- an entry is entered where it may come next, by the machine's profile
-abbrev pub Enters : Result (Unit {0}) Fault → State → State → Entry → Type 0
+abbrev pub Enters : Result (Unit {0}) TextCommandFault → State → State → Entry → Type 0
 Enters (Ok done) S T e = IsTrue (fits S e) × (T ≡ step S e)
 Enters (Err (Dump dump.NotLegal)) S T e = (fits S e ≡ false) × (T ≡ S)
 Enters (Err NoMemory) S T e = IsTrue (fits S e)
 Enters (Err fault) S T e = ⊥
 
 -- a mark leads to profile 2, where that does not serve yet
-abbrev pub GoesOver : Result (Unit {0}) Fault → State → State → Type 0
+abbrev pub GoesOver : Result (Unit {0}) TextCommandFault → State → State → Type 0
 GoesOver (Ok done) S T = (profile_of S.books ≡ One) × (T ≡ to_two S)
 GoesOver (Err (Dump dump.Mark)) S T = (profile_of S.books ≡ Two) × (T ≡ S)
 GoesOver (Err fault) S T = ⊥

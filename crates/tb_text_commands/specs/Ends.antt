@@ -3,8 +3,8 @@
 use Rattle.std.specs.Prelude.{ℕ, Bool, true, false, ◌≡◌, ◌⊎◌, List, IfSome, OnOk, Option, Some, None, Result, Ok, Err, String, map, string_bytes}
 use Rattle.tb_records.specs.Transport.{Input, Output, risen, Refuses}
 use Rattle.tb_commands.specs.Statuses.{TellsLine}
-use Rattle.tb_text_commands.specs.declared.faults.Fault.{Fault}
-use Rattle.tb_text_commands.specs.declared.faults.Fault.TheVariants.{Device, Text, Late}
+use Rattle.tb_text_commands.specs.declared.faults.TextCommandFault.{TextCommandFault}
+use Rattle.tb_text_commands.specs.declared.faults.TextCommandFault.TheVariants.{Device, Text, Late}
 use Rattle.tb_text_commands.specs.declared.arguments.Form.{Form}
 use Rattle.tb_text_commands.specs.declared.arguments.Form.TheVariants as forms
 use Rattle.tb_text_commands.specs.declared.kinds.Awaited.{Awaited}
@@ -34,19 +34,19 @@ pub record WriterFailed (before after : Input) (start written : Output) : Type 0
   pub refused : Refuses start written
 
 -- a device failed exactly where the fault says so
-abbrev pub StopsBy : Fault → Input → Input → Output → Output → Type 0
+abbrev pub StopsBy : TextCommandFault → Input → Input → Output → Output → Type 0
 StopsBy Device before after start written = ReaderFailed before after start written ⊎ WriterFailed before after start written
 StopsBy fault before after start written = IsWhole before after start written
 
-pub record Stops (fault : Fault) (before after : Input) (start written : Output) : Type 0 where
+pub record Stops (fault : TextCommandFault) (before after : Input) (start written : Output) : Type 0 where
   pub how : StopsBy fault before after start written
 
-abbrev pub Ended : {X : Type 0} → Result X Fault → Input → Input → Output → Output → Type 0
+abbrev pub Ended : {X : Type 0} → Result X TextCommandFault → Input → Input → Output → Output → Type 0
 Ended (Ok x) before after start written = IsWhole before after start written
 Ended (Err fault) before after start written = Stops fault before after start written
 
 -- a whole input was read, or a fault ended it
-pub record Converts (Is : List ℕ → Type 0) (result : Result (Unit {0}) Fault) (before after : Input) (start written : Output) : Type 0 where
+pub record Converts (Is : List ℕ → Type 0) (result : Result (Unit {0}) TextCommandFault) (before after : Input) (start written : Output) : Type 0 where
   pub ended : Ended result before after start written
   pub whole : OnOk result (WasWhole Is before.left)
 
@@ -57,55 +57,55 @@ pub record Passed (start written : Output) : Type 0 where
   pub wrote : written.failed ≡ start.failed
   pub flowed : written.stalled ≡ start.stalled
 
-abbrev pub BreaksBy : Fault → Output → Output → Type 0
+abbrev pub BreaksBy : TextCommandFault → Output → Output → Type 0
 BreaksBy Device start written = Refuses start written
 BreaksBy fault start written = Passed start written
 
-pub record Breaks (fault : Fault) (start written : Output) : Type 0 where
+pub record Breaks (fault : TextCommandFault) (start written : Output) : Type 0 where
   pub how : BreaksBy fault start written
 
-abbrev pub Written : {X : Type 0} → Result X Fault → Output → Output → Type 0
+abbrev pub Written : {X : Type 0} → Result X TextCommandFault → Output → Output → Type 0
 Written (Ok x) start written = Passed start written
 Written (Err fault) start written = Breaks fault start written
 
 -- a fault of the input or of memory: no device failed
-abbrev pub IsOfInput : Fault → Type 0
+abbrev pub IsOfInput : TextCommandFault → Type 0
 IsOfInput Device = ⊥
 IsOfInput fault = Unit {0}
 
 -- a fault behind which a conversation goes on
-abbrev pub is_passing : Fault → Bool
+abbrev pub is_passing : TextCommandFault → Bool
 is_passing (Text line) = true
 is_passing (Late line) = true
 is_passing fault = false
 
 -- the exit status of an outcome
-abbrev pub outcome_status : Result (Unit {0}) Fault → ℕ
+abbrev pub outcome_status : Result (Unit {0}) TextCommandFault → ℕ
 outcome_status (Ok done) = 0
 outcome_status (Err fault) = fault_status fault
 
 -- a fault of what was read
-abbrev pub IsOfRead : Result (Unit {0}) Fault → Type 0
+abbrev pub IsOfRead : Result (Unit {0}) TextCommandFault → Type 0
 IsOfRead (Ok done) = ⊥
 IsOfRead (Err fault) = is_of_bytes fault ≡ true
 
 -- the outcome as it is reported: of a device that failed, which one, by the reader's errors
-abbrev pub named : Result (Unit {0}) Fault → ℕ → ℕ → Result (Unit {0}) Fault
+abbrev pub named : Result (Unit {0}) TextCommandFault → ℕ → ℕ → Result (Unit {0}) TextCommandFault
 named (Ok done) before after = Ok done
 named (Err fault) before after = Err (device_named fault before after)
 
 -- what is reported of a fault, where the input is of another kind than the form reads: if it is one of what was read, what the
 -- input is
-abbrev pub TellsWhere : Bool → Awaited × Kind → Fault → Output → Output → Type 0
+abbrev pub TellsWhere : Bool → Awaited × Kind → TextCommandFault → Output → Output → Type 0
 TellsWhere true it fault quiet told = TellsLine (foreign_line it.0 it.1) quiet told
 TellsWhere false it fault quiet told = TellsOf fault quiet told
 
-abbrev pub TellsAs : Option (Awaited × Kind) → Fault → Output → Output → Type 0
+abbrev pub TellsAs : Option (Awaited × Kind) → TextCommandFault → Output → Output → Type 0
 TellsAs None fault quiet told = TellsOf fault quiet told
 TellsAs (Some it) fault quiet told = TellsWhere (is_of_bytes fault) it fault quiet told
 
 -- what is reported of an outcome: nothing of one that was done, and of a fault its line
-abbrev pub Tells : Option (Awaited × Kind) → Result (Unit {0}) Fault → Output → Output → Type 0
+abbrev pub Tells : Option (Awaited × Kind) → Result (Unit {0}) TextCommandFault → Output → Output → Type 0
 Tells foreign (Ok done) quiet told = told ≡ quiet
 Tells foreign (Err fault) quiet told = TellsAs foreign fault quiet told
 
@@ -114,7 +114,7 @@ Tells foreign (Err fault) quiet told = TellsAs foreign fault quiet told
 -- nothing but its line is reported, and the input is of another kind than the form reads where that line says so; `own` says
 -- little, since bytes may be of several kinds by how many of them are looked at
 pub record Exits (form : Form) (talks : Bool) (status : ℕ) (before after : Input) (start written quiet told : Output) : Type 0 where
-  pub outcome : Result (Unit {0}) Fault
+  pub outcome : Result (Unit {0}) TextCommandFault
   pub ended : Ended outcome before after start written
   pub status_is : status ≡ outcome_status outcome
   pub whole : status ≡ 0 → WasWhole (IsReadBy form talks) before.left

@@ -8,8 +8,8 @@ use Rattle.std.specs.List.{list_all}
 use Rattle.tb_records.specs.Transport.{Fails, Input}
 use Rattle.tb_text_commands.specs.declared.arguments.Form.{Form}
 use Rattle.tb_text_commands.specs.declared.arguments.Form.TheVariants as form
-use Rattle.tb_text_commands.specs.declared.faults.Fault.{Fault}
-use Rattle.tb_text_commands.specs.declared.faults.Fault.TheVariants as fault
+use Rattle.tb_text_commands.specs.declared.faults.TextCommandFault.{TextCommandFault}
+use Rattle.tb_text_commands.specs.declared.faults.TextCommandFault.TheVariants as fault
 use Rattle.tb_text_commands.specs.declared.kinds.Awaited.{Awaited}
 use Rattle.tb_text_commands.specs.declared.kinds.Awaited.TheVariants.{Statements, Frames, Entries}
 use Rattle.tb_text_commands.specs.declared.kinds.Kind.{Kind}
@@ -108,7 +108,7 @@ abbrev pub foreign_line : Awaited → Kind → List ℕ
 foreign_line awaited kind = blame_text awaited ++ kind_text kind
 
 -- a fault of what was read
-abbrev pub is_of_bytes : Fault → Bool
+abbrev pub is_of_bytes : TextCommandFault → Bool
 is_of_bytes (fault.Frame f) = true
 is_of_bytes (fault.Dump f) = true
 is_of_bytes (fault.Text lines) = true
@@ -121,16 +121,16 @@ pub record Waits (before after : Input) : Type 0 where
   pub left : Keeps before.left after.left
   pub failed : after.failed ≡ before.failed
 
-pub record Lacks (f : Fault) (before after : Input) : Type 0 where
+pub record Lacks (f : TextCommandFault) (before after : Input) : Type 0 where
   pub device : f ≡ fault.Device
   pub left : Keeps before.left after.left
   pub failed : Fails before after
 
-abbrev pub LooksAt : Result Kind Fault → Input → Input → Type 0
+abbrev pub LooksAt : Result Kind TextCommandFault → Input → Input → Type 0
 LooksAt (Ok kind) before after = Waits before after × (kind ≡ kind_at_hand after) × WasWhole (BeginsAs kind) before.left
 LooksAt (Err f) before after = Lacks f before after
 
-abbrev pub Begins : Form → Bool → Result (Option (Awaited × Kind)) Fault → Input → Input → Type 0
+abbrev pub Begins : Form → Bool → Result (Option (Awaited × Kind)) TextCommandFault → Input → Input → Type 0
 Begins form talks (Ok found) before after =
     Waits before after × (found ≡ foreign_of (awaited_by form talks) (kind_at_hand after)) × Finds form talks found before.left
 Begins form talks (Err f) before after = Lacks f before after

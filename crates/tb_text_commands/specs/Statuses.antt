@@ -10,24 +10,24 @@ use Rattle.tb_records.specs.DumpFaults.{dump_fault_name}
 use Rattle.tb_records.specs.Faults.{fault_name}
 use Rattle.tb_records.specs.Transport.{Output}
 use Rattle.tb_commands.specs.Statuses.{frame_status, dump_status, TellsLine}
-use Rattle.tb_text_commands.specs.declared.faults.Fault.{Fault}
-use Rattle.tb_text_commands.specs.declared.faults.Fault.TheVariants.{Usage, Device, NoMemory, Reader, Writer, TimeExhausted, TooLong, Frame, Dump, Arguments, Text, Late}
+use Rattle.tb_text_commands.specs.declared.faults.TextCommandFault.{TextCommandFault}
+use Rattle.tb_text_commands.specs.declared.faults.TextCommandFault.TheVariants.{Usage, Device, NoMemory, Reader, Writer, TimeExhausted, TooLong, Frame, Dump, Arguments, Text, Late}
 
 -- the faults of a frame and of a dump: a device that failed and out of memory are the program's own
 
-abbrev pub frame_fault_of : FrameFault → Fault
+abbrev pub frame_fault_of : FrameFault → TextCommandFault
 frame_fault_of frame.Device = Device
 frame_fault_of frame.NoMemory = NoMemory
 frame_fault_of fault = Frame fault
 
-abbrev pub dump_fault_of : DumpFault → Fault
+abbrev pub dump_fault_of : DumpFault → TextCommandFault
 dump_fault_of (dump.Frame fault) = frame_fault_of fault
 dump_fault_of dump.NoMemory = NoMemory
 dump_fault_of fault = Dump fault
 
 -- a device that failed, by the reader's errors before and behind: at their greatest they say nothing
 
-abbrev pub device_named : Fault → ℕ → ℕ → Fault
+abbrev pub device_named : TextCommandFault → ℕ → ℕ → TextCommandFault
 device_named Device before after =
     if not (before == after) then Reader
     else if nat_lt before (2 ^ 64 - 1) then Writer
@@ -36,7 +36,7 @@ device_named fault before after = fault
 
 -- statuses
 
-abbrev pub fault_status : Fault → ℕ
+abbrev pub fault_status : TextCommandFault → ℕ
 fault_status Device = 1
 fault_status Reader = 1
 fault_status Writer = 1
@@ -51,7 +51,7 @@ abbrev pub line_named : List ℕ → List ℕ
 line_named name = codes "tbt: " ++ name ++ codes "\n"
 
 -- the line of a fault; without arguments there is none, but the page of usage
-abbrev pub fault_line : Fault → List ℕ
+abbrev pub fault_line : TextCommandFault → List ℕ
 fault_line Usage = []
 fault_line Device = line_named (codes "Device")
 fault_line Reader = line_named (codes "Device: standard input")
@@ -66,7 +66,7 @@ fault_line (Text line) = line.bytes.items
 fault_line (Late line) = line.bytes.items
 
 -- what is written of a fault: its line, or the page of usage
-abbrev pub TellsOf : Fault → Output → Output → Type 0
+abbrev pub TellsOf : TextCommandFault → Output → Output → Type 0
 TellsOf Usage before after = (page : List ℕ) × TellsLine page before after
 TellsOf fault before after = TellsLine (fault_line fault) before after
 

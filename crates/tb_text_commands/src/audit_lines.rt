@@ -6,7 +6,7 @@ ghost use Rattle.tb_text_commands.specs.Ends.{Written};
 ghost use Rattle.tb_text_commands.specs.Wanted.{Told, begins, enters, expires, is_wanted, moves, opens, settling_by, stands};
 
 use crate::audit_json::{Times, head_line, mark_line};
-use crate::faults::Fault;
+use crate::faults::TextCommandFault;
 use crate::scripts::put_line;
 use crate::wanted::Wanted;
 use std::alloc::Global;
@@ -22,7 +22,7 @@ pub trait Teller {
     ghost wants: { Self → Told → Bool };
 
     /// Prints the head of a dump.
-    fn tell_head<W: Sink>(&self, writer: &mut W, head: &DumpHead) -> Result<(), Fault>
+    fn tell_head<W: Sink>(&self, writer: &mut W, head: &DumpHead) -> Result<(), TextCommandFault>
         ensures written { Written result (W.output writer.old) (W.output writer.new) }
         ensures told { Prints IsLine (wants self.now) result (begins head.now ∷ []) W.output writer.old writer.new };
 
@@ -33,12 +33,12 @@ pub trait Teller {
         entry: &Entry,
         end: u128,
         transfer: &Transfer,
-    ) -> Result<(), Fault>
+    ) -> Result<(), TextCommandFault>
         ensures written { Written result (W.output writer.old) (W.output writer.new) }
         ensures told { Prints IsLine (wants self.now) result (expires entry.now end transfer.now ∷ []) W.output writer.old writer.new };
 
     /// Prints an entry: who asked for it.
-    fn tell_entry<W: Sink>(&self, writer: &mut W, entry: &Entry) -> Result<(), Fault>
+    fn tell_entry<W: Sink>(&self, writer: &mut W, entry: &Entry) -> Result<(), TextCommandFault>
         ensures written { Written result (W.output writer.old) (W.output writer.new) }
         ensures told { Prints IsLine (wants self.now) result (enters entry.now ∷ []) W.output writer.old writer.new };
 
@@ -50,7 +50,7 @@ pub trait Teller {
         place: usize,
         outcome: Option<EventResult>,
         account: &Account,
-    ) -> Result<(), Fault>
+    ) -> Result<(), TextCommandFault>
         ensures written { Written result (W.output writer.old) (W.output writer.new) }
         ensures told { Prints IsLine (wants self.now) result
             (opens entry.now place outcome account.now ∷ []) W.output writer.old writer.new };
@@ -64,14 +64,14 @@ pub trait Teller {
         place: usize,
         outcome: Option<EventResult>,
         transfer: &Transfer,
-    ) -> Result<(), Fault>
+    ) -> Result<(), TextCommandFault>
         ensures written { Written result (W.output writer.old) (W.output writer.new) }
         ensures told { Prints IsLine (wants self.now) result
             (settling_by machine.now.books entry.now place outcome transfer.now ∷ [])
             W.output writer.old writer.new };
 
     /// Prints a mark.
-    fn tell_mark<W: Sink>(&self, writer: &mut W) -> Result<(), Fault>
+    fn tell_mark<W: Sink>(&self, writer: &mut W) -> Result<(), TextCommandFault>
         ensures written { Written result (W.output writer.old) (W.output writer.new) }
         ensures told { Prints IsLine (wants self.now) result (moves ∷ []) W.output writer.old writer.new };
 
@@ -81,7 +81,7 @@ pub trait Teller {
         writer: &mut W,
         entry: &Entry,
         account: &Account,
-    ) -> Result<(), Fault>
+    ) -> Result<(), TextCommandFault>
         ensures written { Written result (W.output writer.old) (W.output writer.new) }
         ensures told { Prints IsLine (wants self.now) result (stands entry.now account.now ∷ []) W.output writer.old writer.new };
 }
@@ -108,7 +108,7 @@ impl Teller for JsonLines {
 
     ghost wants = { λ lines told. is_wanted lines.wanted told };
 
-    fn tell_head<W: Sink>(&self, writer: &mut W, head: &DumpHead) -> Result<(), Fault> {
+    fn tell_head<W: Sink>(&self, writer: &mut W, head: &DumpHead) -> Result<(), TextCommandFault> {
         if !self.wanted.takes_heads() {
             return Ok(());
         }
@@ -121,14 +121,14 @@ impl Teller for JsonLines {
         entry: &Entry,
         end: u128,
         transfer: &Transfer,
-    ) -> Result<(), Fault> {
+    ) -> Result<(), TextCommandFault> {
         if !self.wanted.takes_expiry(entry, transfer) {
             return Ok(());
         }
         put_line(writer, self.times().expiry_line(end, transfer))
     }
 
-    fn tell_entry<W: Sink>(&self, writer: &mut W, entry: &Entry) -> Result<(), Fault> {
+    fn tell_entry<W: Sink>(&self, writer: &mut W, entry: &Entry) -> Result<(), TextCommandFault> {
         if !self.wanted.takes_entry(entry) {
             return Ok(());
         }
@@ -142,7 +142,7 @@ impl Teller for JsonLines {
         place: usize,
         outcome: Option<EventResult>,
         account: &Account,
-    ) -> Result<(), Fault> {
+    ) -> Result<(), TextCommandFault> {
         if !self.wanted.takes_account(entry, account) {
             return Ok(());
         }
@@ -160,7 +160,7 @@ impl Teller for JsonLines {
         place: usize,
         outcome: Option<EventResult>,
         transfer: &Transfer,
-    ) -> Result<(), Fault> {
+    ) -> Result<(), TextCommandFault> {
         if !self.wanted.takes_transfer(machine, entry, transfer) {
             return Ok(());
         }
@@ -170,7 +170,7 @@ impl Teller for JsonLines {
         )
     }
 
-    fn tell_mark<W: Sink>(&self, writer: &mut W) -> Result<(), Fault> {
+    fn tell_mark<W: Sink>(&self, writer: &mut W) -> Result<(), TextCommandFault> {
         if !self.wanted.takes_heads() {
             return Ok(());
         }
@@ -182,7 +182,7 @@ impl Teller for JsonLines {
         writer: &mut W,
         entry: &Entry,
         account: &Account,
-    ) -> Result<(), Fault> {
+    ) -> Result<(), TextCommandFault> {
         if !self.wanted.takes_account(entry, account) {
             return Ok(());
         }

@@ -10,7 +10,7 @@ ghost use Rattle.tb_text_commands.specs.Whole.{WasWhole};
 
 use crate::audit_lines::{JsonLines, Teller};
 use crate::dumps::next_item;
-use crate::faults::Fault;
+use crate::faults::TextCommandFault;
 use crate::judged::Judged;
 use crate::results::{Outcomes, results_of};
 use crate::told_lines::Lines;
@@ -73,7 +73,7 @@ impl Replay {
     }
 
     /// Enters an entry that may come next, by the machine's profile, and watches the transfers of it that were accepted.
-    fn enter(&mut self, entry: &Entry) -> Result<(), Fault>
+    fn enter(&mut self, entry: &Entry) -> Result<(), TextCommandFault>
         ensures fault { IfErr result IsOfInput }
         ensures entered { Enters result self.old.machine self.new.machine entry.now }
         ensures refused { IfErr result (λ fault. RefusesEntry fault self.old.machine entry.now) }
@@ -82,7 +82,7 @@ impl Replay {
         ensures waits { OnOk result (Watches waits_behind entry.now self.old self.new) }
     {
         if !self.machine.fits(entry) {
-            return Err(Fault::Dump(DumpFault::NotLegal));
+            return Err(TextCommandFault::Dump(DumpFault::NotLegal));
         }
         self.machine.apply(entry)?;
         self.watch_entry(entry)?;
@@ -90,7 +90,7 @@ impl Replay {
     }
 
     /// Goes over to profile 2, where that does not serve yet.
-    fn go_over(&mut self) -> Result<(), Fault>
+    fn go_over(&mut self) -> Result<(), TextCommandFault>
         ensures machine { GoesOver result self.old.machine self.new.machine }
         ensures account { self.new.account ≡ self.old.account }
         ensures told { self.new.told ≡ self.old.told }
@@ -101,7 +101,7 @@ impl Replay {
                 self.machine.move_to_two();
                 Ok(())
             }
-            Profile::Two => Err(Fault::Dump(DumpFault::Mark)),
+            Profile::Two => Err(TextCommandFault::Dump(DumpFault::Mark)),
         }
     }
 
@@ -111,7 +111,7 @@ impl Replay {
         entry: &Entry,
         teller: &T,
         writer: &mut W,
-    ) -> Result<(), Fault>
+    ) -> Result<(), TextCommandFault>
         ensures written { Written result (W.output writer.old) (W.output writer.new) }
         ensures waits { OnOk result (NoneIsDue entry.now.time (entries self.new.waits.by_end)) }
         ensures machine { self.new.machine ≡ self.old.machine }
@@ -127,7 +127,7 @@ impl Replay {
             };
             teller.tell_expiry(writer, entry, end, &transfer)?;
         }
-        Err(Fault::TooLong)
+        Err(TextCommandFault::TooLong)
     }
 
     /// Prints what became of the events of the machine's last entry, one by one.
@@ -137,7 +137,7 @@ impl Replay {
         events: &[E],
         teller: &T,
         writer: &mut W,
-    ) -> Result<(), Fault>
+    ) -> Result<(), TextCommandFault>
         ensures written { Written result (W.output writer.old) (W.output writer.new) }
         ensures told { Prints T.IsLine (T.wants teller.now) result
             (events_of E.told self.now.machine entry.now events.now) W.output writer.old writer.new }
@@ -157,7 +157,7 @@ impl Replay {
         entry: &Entry,
         teller: &T,
         writer: &mut W,
-    ) -> Result<(), Fault>
+    ) -> Result<(), TextCommandFault>
         ensures written { Written result (W.output writer.old) (W.output writer.new) }
         ensures told { Prints T.IsLine (T.wants teller.now) result (batch_of self.now.machine entry.now) W.output writer.old writer.new }
     {
@@ -180,7 +180,7 @@ impl Replay {
         entry: &Entry,
         teller: &T,
         writer: &mut W,
-    ) -> Result<(), Fault>
+    ) -> Result<(), TextCommandFault>
         ensures written { Written result (W.output writer.old) (W.output writer.new) }
         ensures told { Prints T.IsLine (T.wants teller.now) result (told_of self.now.machine entry.now) W.output writer.old writer.new }
     {
@@ -206,7 +206,7 @@ impl Replay {
         entry: &Entry,
         teller: &T,
         writer: &mut W,
-    ) -> Result<(), Fault>
+    ) -> Result<(), TextCommandFault>
         ensures written { Written result (W.output writer.old) (W.output writer.new) }
         ensures machine { self.new.machine ≡ self.old.machine }
         ensures account { self.new.account ≡ self.old.account }
@@ -227,7 +227,7 @@ impl Replay {
         teller: &T,
         writer: &mut W,
         entry: &Entry,
-    ) -> Result<(), Fault>
+    ) -> Result<(), TextCommandFault>
         ensures written { Written result (W.output writer.old) (W.output writer.new) }
         ensures told { AuditsEntry T.IsLine (T.wants teller.now) result (audited self.old) (audited self.new) entry.now
             (W.output writer.old) (W.output writer.new) }
@@ -239,7 +239,11 @@ impl Replay {
     }
 
     /// Goes over to profile 2, and reports so.
-    fn put_mark<T: Teller, W: Sink>(&mut self, teller: &T, writer: &mut W) -> Result<(), Fault>
+    fn put_mark<T: Teller, W: Sink>(
+        &mut self,
+        teller: &T,
+        writer: &mut W,
+    ) -> Result<(), TextCommandFault>
         ensures written { Written result (W.output writer.old) (W.output writer.new) }
         ensures told { AuditsMark T.IsLine (T.wants teller.now) result (audited self.old) (audited self.new)
             (W.output writer.old) (W.output writer.new) }
@@ -254,7 +258,7 @@ impl Replay {
         teller: &T,
         writer: &mut W,
         item: DumpItem,
-    ) -> Result<(), Fault>
+    ) -> Result<(), TextCommandFault>
         ensures written { Written result (W.output writer.old) (W.output writer.new) }
         ensures told { AuditsItem T.IsLine (T.wants teller.now) result (audited self.old) (audited self.new) item
             (W.output writer.old) (W.output writer.new) }
@@ -285,7 +289,7 @@ impl Replay {
         teller: &T,
         reader: &mut R,
         writer: &mut W,
-    ) -> Result<bool, Fault>
+    ) -> Result<bool, TextCommandFault>
         ensures ended { EndedOver R.input W.output result reader.old reader.new writer.old writer.new }
         ensures taken { TakesItemIf result (R.input reader.old) (R.input reader.new) }
         ensures audits { PutsNext T.IsLine (T.wants teller.now) result self.old self.new
@@ -305,7 +309,7 @@ impl Replay {
         teller: &T,
         reader: &mut R,
         writer: &mut W,
-    ) -> Result<(), Fault>
+    ) -> Result<(), TextCommandFault>
         ensures ended { EndedOver R.input W.output result reader.old reader.new writer.old writer.new }
         ensures whole { OnOk result (WasWhole AreItems (R.input reader.old).left) }
         ensures audits { PutsItems T.IsLine (T.wants teller.now) result self.old
@@ -316,10 +320,10 @@ impl Replay {
                 return self.find_account();
             }
         }
-        Err(Fault::TooLong)
+        Err(TextCommandFault::TooLong)
     }
     /// The fault where there is no account of the id whose lines are wanted.
-    fn find_account(&self) -> Result<(), Fault>
+    fn find_account(&self) -> Result<(), TextCommandFault>
         ensures fault { IfErr result IsOfInput }
         ensures found { Finds result (audited self.now) }
     {
@@ -329,7 +333,7 @@ impl Replay {
         if self.machine.account(id).is_some() {
             Ok(())
         } else {
-            Err(Fault::Arguments(no_account(self.alloc, id)?))
+            Err(TextCommandFault::Arguments(no_account(self.alloc, id)?))
         }
     }
 }
@@ -347,7 +351,7 @@ fn put_head<T: Teller, R: Source, W: Sink>(
     teller: &T,
     reader: &mut R,
     writer: &mut W,
-) -> Result<DumpHead, Fault>
+) -> Result<DumpHead, TextCommandFault>
     ensures ended { EndedOver R.input W.output result reader.old reader.new writer.old writer.new }
     ensures told { ReadsHead T.IsLine (T.wants teller.now) result (R.input reader.old) (R.input reader.new)
         (W.output writer.old) (W.output writer.new) }
@@ -365,7 +369,7 @@ fn audit_by<T: Teller, R: Source, W: Sink>(
     teller: &T,
     reader: &mut R,
     writer: &mut W,
-) -> Result<(), Fault>
+) -> Result<(), TextCommandFault>
     ensures ran { AuditRan T.IsLine (T.wants teller.now) result account (R.input reader.old) (R.input reader.new) (W.output writer.old) (W.output writer.new) }
     ensures converts { ReadsDump R.input W.output result reader.old reader.new writer.old writer.new }
 {
@@ -383,7 +387,7 @@ pub fn audit<R: Source, W: Sink>(
     wanted: Wanted,
     reader: &mut R,
     writer: &mut W,
-) -> Result<(), Fault>
+) -> Result<(), TextCommandFault>
     ensures converts { ReadsDump R.input W.output result reader.old reader.new writer.old writer.new }
     ensures ran { RanOver R.input W.output wanted result reader.old reader.new writer.old writer.new }
 {

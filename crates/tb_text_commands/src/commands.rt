@@ -12,7 +12,7 @@ use crate::auditing::audit;
 use crate::converting::convert;
 use crate::dumps::{dump, pairs};
 use crate::explaining::explain;
-use crate::faults::Fault;
+use crate::faults::TextCommandFault;
 use crate::help::{USAGE, VERSION};
 use crate::intake::Intake;
 use crate::kinds::{Awaited, Kind, foreign_in, tell_foreign};
@@ -33,7 +33,7 @@ fn perform<C: Clock, R: Source, W: Sink, E: Sink>(
     reader: &mut R,
     writer: &mut W,
     faults: &mut E,
-) -> Result<(), Fault>
+) -> Result<(), TextCommandFault>
     ensures done { ReadsOver R.input W.output (IsReadBy form talks) result reader.old reader.new writer.old writer.new }
     ensures silent { is_typed form talks ≡ false → faults.new ≡ faults.old }
     ensures audited { AuditsOver R.input W.output form result reader.old reader.new writer.old writer.new }
@@ -74,12 +74,12 @@ fn usage_line(alloc: Global, word: &str, rest: &[String]) -> Result<Lines, Alloc
 
 /// The fault of words that are none of the program's forms. Where there is no memory to name one, it is reported as no
 /// words are, by the page of usage, which needs none.
-fn usage_fault(alloc: Global, words: &[String]) -> Fault {
+fn usage_fault(alloc: Global, words: &[String]) -> TextCommandFault {
     match words {
-        [] => Fault::Usage,
+        [] => TextCommandFault::Usage,
         [word, rest @ ..] => match usage_line(alloc, word.as_str(), rest) {
-            Ok(line) => Fault::Arguments(line),
-            Err(_) => Fault::Usage,
+            Ok(line) => TextCommandFault::Arguments(line),
+            Err(_) => TextCommandFault::Usage,
         },
     }
 }
@@ -87,7 +87,7 @@ fn usage_fault(alloc: Global, words: &[String]) -> Fault {
 /// Why a form ended; where its input is of another kind than it reads, also what it reads and what the input is.
 #[derive(Drop)]
 struct Refused {
-    fault: Fault,
+    fault: TextCommandFault,
     foreign: Option<(Awaited, Kind)>,
 }
 
@@ -125,7 +125,7 @@ fn perform_known<C: Clock, R: Source, W: Sink, E: Sink>(
 }
 
 /// Prints why a form ended: where the fault is one of what was read and the input is of another kind, what it is.
-fn tell<E: Sink>(fault: &Fault, foreign: Option<(Awaited, Kind)>, faults: &mut E)
+fn tell<E: Sink>(fault: &TextCommandFault, foreign: Option<(Awaited, Kind)>, faults: &mut E)
     ensures { TellsAs foreign fault.now (E.output faults.old) (E.output faults.new) }
 {
     match foreign {

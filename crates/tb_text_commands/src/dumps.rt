@@ -3,7 +3,7 @@ ghost use Rattle.std.specs.Prelude.{◌≡◌, [], IfOk, Result};
 ghost use Rattle.tb_records.specs.Inputs.{timed_bytes};
 ghost use Rattle.tb_records.specs.Transport.{Output, Sent};
 ghost use Rattle.tb_machine.specs.declared.entries.Entry.{Entry};
-ghost use Rattle.tb_text_commands.specs.declared.faults.Fault.{Fault};
+ghost use Rattle.tb_text_commands.specs.declared.faults.TextCommandFault.{TextCommandFault};
 ghost use Rattle.tb_text_commands.specs.AuditLines.{IsJsonLine};
 ghost use Rattle.tb_text_commands.specs.AuditRuns.{ReadsItem};
 ghost use Rattle.tb_text_commands.specs.Ends.{Written};
@@ -14,7 +14,7 @@ ghost use Rattle.tb_text_commands.specs.Whole.{IsItem};
 
 use crate::audit_json::{head_line, mark_line};
 use crate::converting::{Converter, Next, convert};
-use crate::faults::Fault;
+use crate::faults::TextCommandFault;
 use crate::lines::entry_line;
 use crate::scripts::{put_line, put_pair};
 use std::alloc::Global;
@@ -45,7 +45,7 @@ pub fn tell_head<R: Source, W: Sink>(
     alloc: Global,
     reader: &mut R,
     writer: &mut W,
-) -> Result<DumpHead, Fault>
+) -> Result<DumpHead, TextCommandFault>
     ensures ended { EndedOver R.input W.output result reader.old reader.new writer.old writer.new }
     ensures answer { IfOk result (HeadRead (R.input reader.old) (R.input reader.new)) }
 {
@@ -74,17 +74,17 @@ pub fn next_item<R: Source, W: Sink>(
 /// What writes for each item of a dump: an entry, or a mark.
 pub trait ItemWriter {
     // How an entry is written, and a mark.
-    ghost PutsEntry: { Self → Entry → Result (Unit {0}) Fault → Output → Output → Type 0 };
+    ghost PutsEntry: { Self → Entry → Result (Unit {0}) TextCommandFault → Output → Output → Type 0 };
 
-    ghost PutsMark: { Self → Result (Unit {0}) Fault → Output → Output → Type 0 };
+    ghost PutsMark: { Self → Result (Unit {0}) TextCommandFault → Output → Output → Type 0 };
 
     /// Writes what an entry represents.
-    fn put_entry<W: Sink>(&mut self, writer: &mut W, entry: &Entry) -> Result<(), Fault>
+    fn put_entry<W: Sink>(&mut self, writer: &mut W, entry: &Entry) -> Result<(), TextCommandFault>
         ensures written { Written result (W.output writer.old) (W.output writer.new) }
         ensures put { PutsEntry self.old entry.now result (W.output writer.old) (W.output writer.new) };
 
     /// Writes what a mark represents.
-    fn put_mark<W: Sink>(&mut self, writer: &mut W) -> Result<(), Fault>
+    fn put_mark<W: Sink>(&mut self, writer: &mut W) -> Result<(), TextCommandFault>
         ensures written { Written result (W.output writer.old) (W.output writer.new) }
         ensures put { PutsMark self.old result (W.output writer.old) (W.output writer.new) };
 }
@@ -111,7 +111,7 @@ impl<T: ItemWriter> Converter for DumpItems<T> {
         next_item(self.alloc, reader, writer)
     }
 
-    fn put<W: Sink>(&mut self, writer: &mut W, item: DumpItem) -> Result<(), Fault> {
+    fn put<W: Sink>(&mut self, writer: &mut W, item: DumpItem) -> Result<(), TextCommandFault> {
         match entry_of(item) {
             Some(entry) => {
                 let done = self.item_writer.put_entry(writer, &entry);
@@ -129,7 +129,7 @@ pub fn convert_items<T: ItemWriter + Drop, R: Source, W: Sink>(
     item_writer: T,
     reader: &mut R,
     writer: &mut W,
-) -> Result<(), Fault>
+) -> Result<(), TextCommandFault>
     ensures { ReadsOver R.input W.output AreItems result reader.old reader.new writer.old writer.new }
 {
     convert(DumpItems { alloc, item_writer }, reader, writer)
@@ -146,17 +146,25 @@ impl ItemWriter for ItemLines {
 
     ghost PutsMark = { λ lines. PutsSome (IsJsonLine moves) };
 
-    fn put_entry<W: Sink>(&mut self, writer: &mut W, entry: &Entry) -> Result<(), Fault> {
+    fn put_entry<W: Sink>(
+        &mut self,
+        writer: &mut W,
+        entry: &Entry,
+    ) -> Result<(), TextCommandFault> {
         put_line(writer, entry_line(self.alloc, entry))
     }
 
-    fn put_mark<W: Sink>(&mut self, writer: &mut W) -> Result<(), Fault> {
+    fn put_mark<W: Sink>(&mut self, writer: &mut W) -> Result<(), TextCommandFault> {
         put_line(writer, mark_line(self.alloc))
     }
 }
 
 /// Writes a line for the head, each entry and the mark of a dump.
-pub fn dump<R: Source, W: Sink>(alloc: Global, reader: &mut R, writer: &mut W) -> Result<(), Fault>
+pub fn dump<R: Source, W: Sink>(
+    alloc: Global,
+    reader: &mut R,
+    writer: &mut W,
+) -> Result<(), TextCommandFault>
     ensures { ReadsDump R.input W.output result reader.old reader.new writer.old writer.new }
 {
     tell_head(alloc, reader, writer)?;
@@ -172,17 +180,25 @@ impl ItemWriter for EntryPairs {
 
     ghost PutsMark = { λ pairs. PutsSome (λ bytes. bytes ≡ []) };
 
-    fn put_entry<W: Sink>(&mut self, writer: &mut W, entry: &Entry) -> Result<(), Fault> {
+    fn put_entry<W: Sink>(
+        &mut self,
+        writer: &mut W,
+        entry: &Entry,
+    ) -> Result<(), TextCommandFault> {
         put_pair(writer, entry.time, &entry.request)
     }
 
-    fn put_mark<W: Sink>(&mut self, _writer: &mut W) -> Result<(), Fault> {
+    fn put_mark<W: Sink>(&mut self, _writer: &mut W) -> Result<(), TextCommandFault> {
         Ok(())
     }
 }
 
 /// Writes the script that makes a dump's history.
-pub fn pairs<R: Source, W: Sink>(alloc: Global, reader: &mut R, writer: &mut W) -> Result<(), Fault>
+pub fn pairs<R: Source, W: Sink>(
+    alloc: Global,
+    reader: &mut R,
+    writer: &mut W,
+) -> Result<(), TextCommandFault>
     ensures { ReadsDump R.input W.output result reader.old reader.new writer.old writer.new }
 {
     read_head_from(reader)?;

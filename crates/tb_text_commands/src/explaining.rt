@@ -3,7 +3,7 @@ ghost use Rattle.std.specs.Prelude.{◌≡◌, IfOk, OnOk, length, string_bytes}
 ghost use Rattle.tb_text_commands.specs.Ends.{Ended};
 ghost use Rattle.tb_text_commands.specs.Explanations.{Explained, Explains, NamesHead, NamesStop, SaysDump, SaysRefused, SaysScript, TellsDump, TellsScript, head_text, stop_text};
 
-use crate::faults::Fault;
+use crate::faults::TextCommandFault;
 use crate::intake::Intake;
 use crate::kinds::{DUMP, Kind, LEDGER, begins_with, kind_words};
 use crate::scripts::put;
@@ -214,7 +214,7 @@ pub fn explain<R: Source, W: Sink>(
     alloc: Global,
     reader: &mut R,
     writer: &mut W,
-) -> Result<(), Fault>
+) -> Result<(), TextCommandFault>
     ensures ended { Ended result (R.input reader.old) (R.input reader.new) (W.output writer.old)
         (W.output writer.new) }
     ensures told { OnOk result

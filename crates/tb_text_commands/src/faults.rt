@@ -1,7 +1,7 @@
 //! Why the program ends with a status other than 0, and the line that says so.
 ghost use Rattle.std.specs.Prelude.{◌≡◌, ◌<◌, ◌≤◌, length};
 ghost use Rattle.tb_commands.specs.Statuses.{TellsLine};
-ghost use Rattle.tb_text_commands.specs.declared.faults.Fault.TheVariants.{NoMemory};
+ghost use Rattle.tb_text_commands.specs.declared.faults.TextCommandFault.TheVariants.{NoMemory};
 ghost use Rattle.tb_text_commands.specs.Kinds.{is_of_bytes};
 ghost use Rattle.tb_text_commands.specs.Statuses.{device_named, dump_fault_of, fault_status, frame_fault_of, line_named, TellsOf};
 
@@ -15,7 +15,7 @@ use tb_text::{TextFault, Word, explain_fault};
 
 /// Why the program ends with a status other than 0.
 #[derive(Drop)]
-pub enum Fault {
+pub enum TextCommandFault {
     /// There are no arguments.
     Usage,
     /// The reader or the writer failed.
@@ -42,44 +42,44 @@ pub enum Fault {
     Late(Lines),
 }
 
-impl From<AllocError> for Fault {
+impl From<AllocError> for TextCommandFault {
     ghost from_gives = { λ _ fault. fault ≡ NoMemory };
 
-    fn from(_: AllocError) -> Fault {
-        Fault::NoMemory
+    fn from(_: AllocError) -> TextCommandFault {
+        TextCommandFault::NoMemory
     }
 }
 
-impl<T: Drop> From<AllocFailed<T>> for Fault {
+impl<T: Drop> From<AllocFailed<T>> for TextCommandFault {
     ghost from_gives = { λ _ fault. fault ≡ NoMemory };
 
-    fn from(_: AllocFailed<T>) -> Fault {
-        Fault::NoMemory
+    fn from(_: AllocFailed<T>) -> TextCommandFault {
+        TextCommandFault::NoMemory
     }
 }
 
 /// The fault of a frame that cannot be read.
-impl From<FrameFault> for Fault {
+impl From<FrameFault> for TextCommandFault {
     ghost from_gives = { λ frame fault. fault ≡ frame_fault_of frame };
 
-    fn from(fault: FrameFault) -> Fault {
+    fn from(fault: FrameFault) -> TextCommandFault {
         match fault {
-            FrameFault::Device => Fault::Device,
-            FrameFault::NoMemory => Fault::NoMemory,
-            fault => Fault::Frame(fault),
+            FrameFault::Device => TextCommandFault::Device,
+            FrameFault::NoMemory => TextCommandFault::NoMemory,
+            fault => TextCommandFault::Frame(fault),
         }
     }
 }
 
 /// The fault of a dump that cannot be read or replayed.
-impl From<DumpFault> for Fault {
+impl From<DumpFault> for TextCommandFault {
     ghost from_gives = { λ dump fault. fault ≡ dump_fault_of dump };
 
-    fn from(fault: DumpFault) -> Fault {
+    fn from(fault: DumpFault) -> TextCommandFault {
         match fault {
-            DumpFault::Frame(fault) => Fault::from(fault),
-            DumpFault::NoMemory => Fault::NoMemory,
-            fault => Fault::Dump(fault),
+            DumpFault::Frame(fault) => TextCommandFault::from(fault),
+            DumpFault::NoMemory => TextCommandFault::NoMemory,
+            fault => TextCommandFault::Dump(fault),
         }
     }
 }
@@ -132,15 +132,15 @@ pub fn late_line(alloc: Global, (line, column): (usize, usize)) -> Result<Lines,
     Lines::new(alloc, said.as_bytes())
 }
 
-impl Fault {
+impl TextCommandFault {
     /// The fault by the reader's errors before it and behind it: of a device that failed, which one. A count of errors that
     /// is at its greatest says nothing.
-    pub fn of_device(self, before: u64, after: u64) -> Fault
+    pub fn of_device(self, before: u64, after: u64) -> TextCommandFault
         ensures { result ≡ device_named self before after }
     {
         match self {
-            Fault::Device if before != after => Fault::Reader,
-            Fault::Device if before < u64::MAX => Fault::Writer,
+            TextCommandFault::Device if before != after => TextCommandFault::Reader,
+            TextCommandFault::Device if before < u64::MAX => TextCommandFault::Writer,
             fault => fault,
         }
     }
@@ -149,7 +149,10 @@ impl Fault {
     pub fn is_of_bytes(&self) -> bool
         ensures { result ≡ is_of_bytes self.now }
     {
-        matches!(self, Fault::Frame(_) | Fault::Dump(_) | Fault::Text(_))
+        matches!(
+            self,
+            TextCommandFault::Frame(_) | TextCommandFault::Dump(_) | TextCommandFault::Text(_)
+        )
     }
 
     /// 1 where a device or memory failed, 2 where the input or the arguments are wrong.
@@ -159,11 +162,12 @@ impl Fault {
         ensures known { result < 3 }
     {
         match self {
-            Fault::Device | Fault::Reader | Fault::Writer => 1,
-            Fault::NoMemory => 1,
-            Fault::Dump(DumpFault::NoMemory) => 1,
-            Fault::Dump(DumpFault::Frame(FrameFault::Device | FrameFault::NoMemory)) => 1,
-            Fault::Frame(FrameFault::Device | FrameFault::NoMemory) => 1,
+            TextCommandFault::Device | TextCommandFault::Reader | TextCommandFault::Writer => 1,
+            TextCommandFault::NoMemory => 1,
+            TextCommandFault::Dump(DumpFault::NoMemory) => 1,
+            TextCommandFault::Dump(DumpFault::Frame(FrameFault::Device | FrameFault::NoMemory)) =>
+                1,
+            TextCommandFault::Frame(FrameFault::Device | FrameFault::NoMemory) => 1,
             _ => 2,
         }
     }
@@ -174,18 +178,18 @@ impl Fault {
         ensures { TellsOf self.now (E.output faults.old) (E.output faults.new) }
     {
         match self {
-            Fault::Usage => put_line(USAGE.as_bytes(), faults),
-            Fault::Device => put_name("Device", faults),
-            Fault::Reader => put_name("Device: standard input", faults),
-            Fault::Writer => put_name("Device: standard output", faults),
-            Fault::NoMemory => put_name("NoMemory", faults),
-            Fault::TimeExhausted => put_name("TimeExhausted", faults),
-            Fault::TooLong => put_name("TooLong", faults),
-            Fault::Frame(fault) => put_name(fault.name(), faults),
-            Fault::Dump(fault) => put_name(fault.name(), faults),
-            Fault::Arguments(line) => put_line(line.as_slice(), faults),
-            Fault::Text(line) => put_line(line.as_slice(), faults),
-            Fault::Late(line) => put_line(line.as_slice(), faults),
+            TextCommandFault::Usage => put_line(USAGE.as_bytes(), faults),
+            TextCommandFault::Device => put_name("Device", faults),
+            TextCommandFault::Reader => put_name("Device: standard input", faults),
+            TextCommandFault::Writer => put_name("Device: standard output", faults),
+            TextCommandFault::NoMemory => put_name("NoMemory", faults),
+            TextCommandFault::TimeExhausted => put_name("TimeExhausted", faults),
+            TextCommandFault::TooLong => put_name("TooLong", faults),
+            TextCommandFault::Frame(fault) => put_name(fault.name(), faults),
+            TextCommandFault::Dump(fault) => put_name(fault.name(), faults),
+            TextCommandFault::Arguments(line) => put_line(line.as_slice(), faults),
+            TextCommandFault::Text(line) => put_line(line.as_slice(), faults),
+            TextCommandFault::Late(line) => put_line(line.as_slice(), faults),
         }
     }
 }

@@ -4,26 +4,23 @@ ghost use Rattle.tb_text_commands.specs.Forms.{form_of};
 ghost use Rattle.tb_text_commands.specs.Statuses.{Finishes, TellsOf, fault_status};
 
 use crate::commands::command;
-use crate::faults::Fault;
+use crate::faults::TextCommandFault;
 use std::alloc::Global;
 use std::io::{self, BufReader, BufWriter, Read, Write};
 use std::time::Clock;
-use tb_commands::put_line;
+use tb_commands::{BUFFER_BYTES, put_line};
 use tb_records::{Buffered, Counting, Sink};
 
-/// The bytes of input and of output that are held at a time.
-const BUFFER_BYTES: usize = 65536;
-
 /// The fault where the words cannot be had: a word is no text, or there is no memory for them.
-pub fn fault_of(error: &io::Error) -> Fault {
+pub fn fault_of(error: &io::Error) -> TextCommandFault {
     match error.kind() {
-        io::ErrorKind::OutOfMemory => Fault::NoMemory,
-        _ => Fault::Usage,
+        io::ErrorKind::OutOfMemory => TextCommandFault::NoMemory,
+        _ => TextCommandFault::Usage,
     }
 }
 
 /// Prints a fault, and answers its status.
-pub fn refuse<E: Sink>(fault: &Fault, faults: &mut E) -> u8
+pub fn refuse<E: Sink>(fault: &TextCommandFault, faults: &mut E) -> u8
     ensures value { result ≡ fault_status fault.now }
     ensures known { result < 3 }
     ensures told { TellsOf fault.now (E.output faults.old) (E.output faults.new) }
@@ -39,7 +36,7 @@ fn finish<W: Write + Drop, E: Sink>(mut output: W, status: u8, line: &[u8], faul
     ensures told { Finishes status line.now result (E.output faults.old) (E.output faults.new) }
 {
     if output.flush().is_err() {
-        return refuse(&Fault::Writer, faults);
+        return refuse(&TextCommandFault::Writer, faults);
     }
     put_line(line, faults);
     status
@@ -62,7 +59,7 @@ pub fn serve<C: Clock, R: Read + Drop, W: Write + Drop, E: Sink>(
     let input = BufReader::with_capacity(alloc, BUFFER_BYTES, input);
     let output = BufWriter::with_capacity(alloc, BUFFER_BYTES, output);
     let (Ok(input), Ok(output)) = (input, output) else {
-        return refuse(&Fault::NoMemory, faults);
+        return refuse(&TextCommandFault::NoMemory, faults);
     };
     let mut reader = Buffered::new(input);
     let mut writer = Counting::new(output);

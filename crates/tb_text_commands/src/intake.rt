@@ -6,7 +6,7 @@ ghost use Rattle.tb_text_commands.specs.Ends.{is_passing};
 ghost use Rattle.tb_text_commands.specs.private.Taken.{EndedOver, HoldsAll, HoldsAsBefore, IsOfReading, IsSearched, OnRest, Stays, rest_of, statement_in, waiting};
 ghost use Rattle.tb_text_commands.specs.Typed.{ends_with_cut_line, is_longest_line};
 
-use crate::faults::Fault;
+use crate::faults::TextCommandFault;
 use crate::heads::gap_length;
 use crate::kinds::{behind, first_of};
 use std::alloc::Global;
@@ -195,7 +195,7 @@ impl Intake {
         &mut self,
         reader: &mut R,
         writer: &mut W,
-    ) -> Result<bool, Fault>
+    ) -> Result<bool, TextCommandFault>
         ensures ended { EndedOver R.input W.output result reader.old reader.new writer.old writer.new }
         ensures kept { OnOk result (OnRest R.input Stays self.old reader.old self.new reader.new) }
         ensures end { IfOk result (λ more. more ≡ false → self.new.ended ≡ true) }
@@ -212,7 +212,7 @@ impl Intake {
         }
         let mut buffer = [0; CHUNK_BYTES];
         let Ok(read) = reader.pull(&mut buffer) else {
-            return Err(Fault::Device);
+            return Err(TextCommandFault::Device);
         };
         self.make_room();
         self.bytes.extend_from_slice(&buffer[..read])?;
@@ -224,7 +224,7 @@ impl Intake {
         &mut self,
         reader: &mut R,
         writer: &mut W,
-    ) -> Result<(), Fault>
+    ) -> Result<(), TextCommandFault>
         ensures ended { EndedOver R.input W.output result reader.old reader.new writer.old writer.new }
         ensures all { OnOk result (HoldsAll self.new (waiting self.old (R.input reader.old))) }
         ensures silent { Sent [] (W.output writer.old) (W.output writer.new) }
@@ -234,6 +234,6 @@ impl Intake {
                 return Ok(());
             }
         }
-        Err(Fault::TooLong)
+        Err(TextCommandFault::TooLong)
     }
 }

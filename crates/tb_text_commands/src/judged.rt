@@ -8,7 +8,7 @@ ghost use Rattle.tb_text_commands.specs.Ends.{Written};
 ghost use Rattle.tb_text_commands.specs.Wanted.{Told, opening_of, recorded, settling_of};
 
 use crate::audit_lines::Teller;
-use crate::faults::Fault;
+use crate::faults::TextCommandFault;
 use crate::objects::Record;
 use std::alloc::Global;
 use tb_machine::{Entry, Machine};
@@ -38,7 +38,7 @@ pub trait Judged: Record {
         entry: &Entry,
         place: usize,
         outcome: Option<EventResult>,
-    ) -> Result<(), Fault>
+    ) -> Result<(), TextCommandFault>
         ensures written { Written result (W.output writer.old) (W.output writer.new) }
         ensures told { Prints T.IsLine (T.wants teller.now) result
             (told machine.now entry.now place outcome self.now ∷ []) W.output writer.old writer.new };
@@ -55,7 +55,7 @@ impl Judged for Account {
         entry: &Entry,
         place: usize,
         outcome: Option<EventResult>,
-    ) -> Result<(), Fault> {
+    ) -> Result<(), TextCommandFault> {
         let account = recorded(machine, outcome, self);
         teller.tell_opening(writer, entry, place, outcome, &account)
     }
@@ -72,7 +72,7 @@ impl Judged for Transfer {
         entry: &Entry,
         place: usize,
         outcome: Option<EventResult>,
-    ) -> Result<(), Fault> {
+    ) -> Result<(), TextCommandFault> {
         let transfer = recorded(machine, outcome, self);
         teller.tell_transfer(writer, machine, entry, place, outcome, &transfer)
     }

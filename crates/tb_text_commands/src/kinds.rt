@@ -6,7 +6,7 @@ ghost use Rattle.tb_records.specs.Transport.{IsSent};
 ghost use Rattle.tb_text_commands.specs.Kinds.{Begins, LooksAt, awaited_by, begins_with, blame_text, foreign_line, is_foreign, is_text, kind_of, kind_text, register};
 
 use crate::arguments::Form;
-use crate::faults::Fault;
+use crate::faults::TextCommandFault;
 use tb_records::{FrameFault, Sink, Source, put_all};
 
 /// What a form reads.
@@ -134,11 +134,11 @@ fn is_foreign(awaited: Awaited, kind: Kind) -> bool
 
 /// What an input is, by the bytes that are buffered once they were asked for. None is taken. They are waited for, as the
 /// form would.
-fn look_at<R: Source>(reader: &mut R) -> Result<Kind, Fault>
+fn look_at<R: Source>(reader: &mut R) -> Result<Kind, TextCommandFault>
     ensures { LooksAt result (R.input reader.old) (R.input reader.new) }
 {
     let Ok(_) = reader.pull(&mut []) else {
-        return Err(Fault::Device);
+        return Err(TextCommandFault::Device);
     };
     Ok(kind_of(first_of(reader.at_hand(), FIRST_BYTES)))
 }
@@ -148,7 +148,7 @@ pub fn foreign_in<R: Source>(
     form: &Form,
     talks: bool,
     reader: &mut R,
-) -> Result<Option<(Awaited, Kind)>, Fault>
+) -> Result<Option<(Awaited, Kind)>, TextCommandFault>
     ensures { Begins form.now talks result (R.input reader.old) (R.input reader.new) }
 {
     let Some(awaited) = awaited_by(form, talks) else {

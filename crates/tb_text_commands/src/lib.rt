@@ -78,7 +78,7 @@ pub mod whole_laws;
 
 pub use arguments::{Form, read_form};
 pub use commands::command;
-pub use faults::Fault;
+pub use faults::TextCommandFault;
 pub use host::{fault_of, refuse, serve};
 pub use told_lines::Lines;
 pub use wanted::Wanted;

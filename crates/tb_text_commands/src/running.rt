@@ -10,7 +10,7 @@ ghost use Rattle.tb_text_commands.specs.Whole.{IsStatement};
 
 use crate::completing::{Standing, Standings};
 use crate::converting::{Converter, Next};
-use crate::faults::{Fault, late_line};
+use crate::faults::{TextCommandFault, late_line};
 use crate::help::{GREETING, STATEMENTS};
 use crate::intake::Intake;
 use crate::lines::reply_line;
@@ -63,21 +63,23 @@ impl<C: Clock> Standings for Server<'_, C> {
 
 impl<C: Clock> Server<'_, C> {
     /// Enters a new request that comes at a moment, where there is a time for it.
-    fn enter(&mut self, moment: u64, request: Request) -> Result<(), Fault>
+    fn enter(&mut self, moment: u64, request: Request) -> Result<(), TextCommandFault>
         requires { class_of self.old.machine.rows request ≡ Class.New }
         ensures fault { IfErr result IsOfServing }
         ensures entered { Enters result self.old.machine self.new.machine (moment, request) }
         ensures last { self.new.last ≡ self.old.last }
     {
         let Some(entry) = self.machine.next_entry(request, moment) else {
-            return Err(Fault::TimeExhausted);
+            return Err(TextCommandFault::TimeExhausted);
         };
-        self.machine.enter(entry).map_err(|_| Fault::NoMemory)
+        self.machine
+            .enter(entry)
+            .map_err(|_| TextCommandFault::NoMemory)
     }
 
     /// Answers a request that comes at a moment: the refusal, or None where it gets the reply that its client's row keeps. A
     /// new one is entered first.
-    fn answer(&mut self, moment: u64, request: Request) -> Result<Option<Reply>, Fault>
+    fn answer(&mut self, moment: u64, request: Request) -> Result<Option<Reply>, TextCommandFault>
         ensures fault { IfErr result IsOfServing }
         ensures answers { AnswersByClass result self.old.machine self.new.machine (moment, request) }
         ensures last { self.new.last ≡ self.old.last }
@@ -108,7 +110,7 @@ impl<C: Clock> Server<'_, C> {
     }
 
     /// Serves a request that comes at a moment, and answers the line of its reply.
-    fn reply_to(&mut self, moment: u64, request: Request) -> Result<Vec<u8>, Fault>
+    fn reply_to(&mut self, moment: u64, request: Request) -> Result<Vec<u8>, TextCommandFault>
         ensures fault { IfErr result IsOfServing }
         ensures last { self.new.last ≡ self.old.last }
     {
@@ -121,7 +123,12 @@ impl<C: Clock> Server<'_, C> {
     }
 
     /// Serves a request that comes at a moment, and writes the line of its reply. Its client is the one named last.
-    fn serve<W: Sink>(&mut self, moment: u64, request: Request, writer: &mut W) -> Result<(), Fault>
+    fn serve<W: Sink>(
+        &mut self,
+        moment: u64,
+        request: Request,
+        writer: &mut W,
+    ) -> Result<(), TextCommandFault>
         ensures written { Written result (W.output writer.old) (W.output writer.new) }
         ensures fault { IfErr result IsOfReply }
         ensures last { self.new.last ≡ request.client }
@@ -162,13 +169,13 @@ impl<'a, C: Clock> Conversation<'a, C> {
     }
 
     /// The fault of a statement that was served, of which the place is reported where no time is left.
-    fn placed(&self, fault: Fault) -> Fault
+    fn placed(&self, fault: TextCommandFault) -> TextCommandFault
         ensures { IsPlaced fault result }
     {
         match fault {
-            Fault::TimeExhausted => {
+            TextCommandFault::TimeExhausted => {
                 let line = late_line(self.intake.alloc, self.intake.taken_at());
-                line.map_or_else(Fault::from, Fault::Late)
+                line.map_or_else(TextCommandFault::from, TextCommandFault::Late)
             }
             fault => fault,
         }
@@ -190,7 +197,11 @@ impl<C: Clock> Converter for Conversation<'_, C> {
         next_statement(&mut self.intake, &self.server, reader, writer)
     }
 
-    fn put<W: Sink>(&mut self, writer: &mut W, pairs: Items<(u64, Request)>) -> Result<(), Fault> {
+    fn put<W: Sink>(
+        &mut self,
+        writer: &mut W,
+        pairs: Items<(u64, Request)>,
+    ) -> Result<(), TextCommandFault> {
         for (moment, request) in pairs.into_vec() {
             if let Err(fault) = self.server.serve(moment, request, writer) {
                 return Err(self.placed(fault));
@@ -201,10 +212,10 @@ impl<C: Clock> Converter for Conversation<'_, C> {
 }
 
 /// Says that the next statement may be read behind a fault.
-fn is_passing(fault: &Fault) -> bool
+fn is_passing(fault: &TextCommandFault) -> bool
     ensures { result ≡ is_passing fault.now }
 {
-    matches!(fault, Fault::Text(_) | Fault::Late(_))
+    matches!(fault, TextCommandFault::Text(_) | TextCommandFault::Late(_))
 }
 
 /// Serves what is typed next: false at the end.
@@ -213,7 +224,7 @@ fn turn<C: Clock, R: Source, W: Sink, E: Sink>(
     reader: &mut R,
     writer: &mut W,
     faults: &mut E,
-) -> Result<bool, Fault>
+) -> Result<bool, TextCommandFault>
     ensures ended { EndedOver R.input W.output result reader.old reader.new writer.old writer.new }
     ensures taken { TurnOver R.input result conversation.old reader.old conversation.new reader.new }
 {
@@ -232,7 +243,7 @@ fn serve_turn<C: Clock, R: Source, W: Sink, E: Sink>(
     reader: &mut R,
     writer: &mut W,
     faults: &mut E,
-) -> Result<bool, Fault>
+) -> Result<bool, TextCommandFault>
     ensures ended { EndedOver R.input W.output result reader.old reader.new writer.old writer.new }
     ensures taken { ServedOver R.input result conversation.old reader.old conversation.new reader.new }
 {
@@ -252,7 +263,7 @@ fn serve_turns<C: Clock, R: Source, W: Sink, E: Sink>(
     reader: &mut R,
     writer: &mut W,
     faults: &mut E,
-) -> Result<(), Fault>
+) -> Result<(), TextCommandFault>
     ensures whole { OnOk result
         (WasTyped (waiting conversation.old.intake (R.input reader.old))) }
     ensures ended { EndedOver R.input W.output result reader.old reader.new writer.old writer.new }
@@ -262,7 +273,7 @@ fn serve_turns<C: Clock, R: Source, W: Sink, E: Sink>(
             return Ok(());
         }
     }
-    Err(Fault::TooLong)
+    Err(TextCommandFault::TooLong)
 }
 
 /// Serves statements that are typed on a terminal, to the end of the input or a word that ends the conversation. A wrong one is
@@ -272,7 +283,7 @@ pub fn converse<C: Clock, R: Source, W: Sink, E: Sink>(
     reader: &mut R,
     writer: &mut W,
     faults: &mut E,
-) -> Result<(), Fault>
+) -> Result<(), TextCommandFault>
     ensures ended { EndedOver R.input W.output result reader.old reader.new writer.old writer.new }
     ensures whole { OnOk result
         (WasTyped (waiting conversation.entry.intake (R.input reader.old))) }

@@ -3,11 +3,11 @@ ghost use Rattle.std.specs.BTreeMap.{get};
 ghost use Rattle.std.specs.Ordering.{nat_cmp};
 ghost use Rattle.std.specs.Prelude.{◌≡◌, IfErr, OnOk, unwrap_or};
 ghost use Rattle.tb_text_commands.specs.declared.completing.Standing.TheVariants.{Unknown};
-ghost use Rattle.tb_text_commands.specs.declared.faults.Fault.TheVariants.{NoMemory};
+ghost use Rattle.tb_text_commands.specs.declared.faults.TextCommandFault.TheVariants.{NoMemory};
 ghost use Rattle.tb_text_commands.specs.private.Noted.{Notes, NotesAll};
 
 use crate::completing::{Standing, Standings};
-use crate::faults::Fault;
+use crate::faults::TextCommandFault;
 use std::alloc::Global;
 use std::collections::BTreeMap;
 use tb_records::Request;
@@ -51,7 +51,7 @@ impl ScriptStandings {
     }
 
     /// Notes a request: its client is the one named last, and has its session, but for a register, whose reply gives that.
-    fn note_one(&mut self, request: &Request) -> Result<(), Fault>
+    fn note_one(&mut self, request: &Request) -> Result<(), TextCommandFault>
         ensures fault { IfErr result (λ fault. fault ≡ NoMemory) }
         ensures noted { OnOk result (Notes request.now self.old self.new) }
     {
@@ -65,7 +65,7 @@ impl ScriptStandings {
     }
 
     /// Notes requests.
-    pub fn note(&mut self, pairs: &[(u64, Request)]) -> Result<(), Fault>
+    pub fn note(&mut self, pairs: &[(u64, Request)]) -> Result<(), TextCommandFault>
         ensures fault { IfErr result (λ fault. fault ≡ NoMemory) }
         ensures noted { OnOk result (NotesAll pairs.now self.old self.new) }
     {

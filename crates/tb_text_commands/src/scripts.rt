@@ -9,7 +9,7 @@ ghost use Rattle.tb_text_commands.specs.private.Taken.{IsOfFrame, IsOfStatement,
 ghost use Rattle.tb_text_commands.specs.Whole.{IsPair, IsReplyFrame, IsStatement};
 
 use crate::converting::{Converter, Next};
-use crate::faults::Fault;
+use crate::faults::TextCommandFault;
 use crate::intake::Intake;
 use crate::lines::reply_line;
 use crate::script_standings::ScriptStandings;
@@ -22,7 +22,7 @@ use tb_records::{
 use tb_text::print_request;
 
 /// Writes bytes.
-pub fn put<W: Sink>(writer: &mut W, bytes: &[u8]) -> Result<(), Fault>
+pub fn put<W: Sink>(writer: &mut W, bytes: &[u8]) -> Result<(), TextCommandFault>
     ensures written { Written result (W.output writer.old) (W.output writer.new) }
     ensures put { PutsOver W.output result bytes.now writer.old writer.new }
 {
@@ -30,7 +30,10 @@ pub fn put<W: Sink>(writer: &mut W, bytes: &[u8]) -> Result<(), Fault>
 }
 
 /// Writes a line, where there was memory for it.
-pub fn put_line<W: Sink>(writer: &mut W, line: Result<Vec<u8>, AllocError>) -> Result<(), Fault>
+pub fn put_line<W: Sink>(
+    writer: &mut W,
+    line: Result<Vec<u8>, AllocError>,
+) -> Result<(), TextCommandFault>
     ensures written { Written result (W.output writer.old) (W.output writer.new) }
     ensures put { IfOk line
         (λ line. PutsOver W.output result line.items writer.old writer.new) }
@@ -48,7 +51,11 @@ fn send_timed<W: Sink>(writer: &mut W, moment: u64, request: &Request) -> Result
 }
 
 /// Writes a pair of a script.
-pub fn put_pair<W: Sink>(writer: &mut W, moment: u64, request: &Request) -> Result<(), Fault>
+pub fn put_pair<W: Sink>(
+    writer: &mut W,
+    moment: u64,
+    request: &Request,
+) -> Result<(), TextCommandFault>
     ensures written { Written result (W.output writer.old) (W.output writer.new) }
     ensures put { PutsOver W.output result (timed_bytes (moment, request.now)) writer.old writer.new }
 {
@@ -56,7 +63,7 @@ pub fn put_pair<W: Sink>(writer: &mut W, moment: u64, request: &Request) -> Resu
 }
 
 /// Writes pairs of a script.
-fn put_pairs<W: Sink>(writer: &mut W, pairs: &[(u64, Request)]) -> Result<(), Fault>
+fn put_pairs<W: Sink>(writer: &mut W, pairs: &[(u64, Request)]) -> Result<(), TextCommandFault>
     ensures written { Written result (W.output writer.old) (W.output writer.new) }
     ensures put { PutsOver W.output result (flat_map timed_bytes pairs.now) writer.old writer.new }
 {
@@ -89,7 +96,11 @@ impl Converter for Script {
         next_statement(&mut self.intake, &self.told, reader, writer)
     }
 
-    fn put<W: Sink>(&mut self, writer: &mut W, pairs: Items<(u64, Request)>) -> Result<(), Fault> {
+    fn put<W: Sink>(
+        &mut self,
+        writer: &mut W,
+        pairs: Items<(u64, Request)>,
+    ) -> Result<(), TextCommandFault> {
         self.told.note(pairs.as_slice())?;
         put_pairs(writer, pairs.as_slice())
     }
@@ -128,7 +139,11 @@ impl Converter for Statements {
         Ok(read_timed_from(self.alloc, reader)?)
     }
 
-    fn put<W: Sink>(&mut self, writer: &mut W, pair: (u64, Request)) -> Result<(), Fault> {
+    fn put<W: Sink>(
+        &mut self,
+        writer: &mut W,
+        pair: (u64, Request),
+    ) -> Result<(), TextCommandFault> {
         let (moment, request) = pair;
         let text = statement_of(self.alloc, moment, &request);
         drop(request);
@@ -161,21 +176,21 @@ impl Converter for Replies {
                     return Ok(Some(reply));
                 }
                 Err(FrameFault::Short) => {}
-                Err(FrameFault::NoMemory) => return Err(Fault::NoMemory),
-                Err(fault) => return Err(Fault::Frame(fault)),
+                Err(FrameFault::NoMemory) => return Err(TextCommandFault::NoMemory),
+                Err(fault) => return Err(TextCommandFault::Frame(fault)),
             }
             if !self.intake.read_more(reader, writer)? {
                 return if self.intake.rest().is_empty() {
                     Ok(None)
                 } else {
-                    Err(Fault::Frame(FrameFault::Short))
+                    Err(TextCommandFault::Frame(FrameFault::Short))
                 };
             }
         }
-        Err(Fault::TooLong)
+        Err(TextCommandFault::TooLong)
     }
 
-    fn put<W: Sink>(&mut self, writer: &mut W, reply: Reply) -> Result<(), Fault> {
+    fn put<W: Sink>(&mut self, writer: &mut W, reply: Reply) -> Result<(), TextCommandFault> {
         let line = reply_line(self.intake.alloc, &reply);
         drop(reply);
         put_line(writer, line)

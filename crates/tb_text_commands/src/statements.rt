@@ -5,7 +5,7 @@ ghost use Rattle.tb_text_commands.specs.Whole.{IsStatement};
 
 use crate::completing::{Standings, completed, untold_at, words_to_fill};
 use crate::converting::Next;
-use crate::faults::{Fault, fault_lines};
+use crate::faults::{TextCommandFault, fault_lines};
 use crate::intake::Intake;
 use crate::told_lines::Lines;
 use std::alloc::{AllocError, Global};
@@ -54,7 +54,7 @@ pub fn take_text<S: Standings>(
     standings: &S,
     length: usize,
     typed: bool,
-) -> Result<Items<(u64, Request)>, Fault>
+) -> Result<Items<(u64, Request)>, TextCommandFault>
     ensures fault { IfErr result IsOfText }
     ensures taken { OnOk result (TakesPart IsStatement intake.old intake.new) }
     ensures wrong { IfErr result (λ fault. TakesIfWrong fault intake.old intake.new) }
@@ -70,7 +70,7 @@ pub fn take_text<S: Standings>(
     drop(pairs);
     let lines = lines_of(intake, standings, text, whole.as_slice(), fault, typed);
     intake.take(length);
-    Err(Fault::Text(lines?))
+    Err(TextCommandFault::Text(lines?))
 }
 
 /// Says that the lines of the rest begin no statement, whatever follows. That needs no clock: any moment fits.
@@ -109,5 +109,5 @@ pub fn next_statement<R: Source, W: Sink, S: Standings>(
             return Ok(Some(take_text(intake, standings, length, false)?));
         }
     }
-    Err(Fault::TooLong)
+    Err(TextCommandFault::TooLong)
 }

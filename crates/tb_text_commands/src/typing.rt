@@ -5,7 +5,7 @@ ghost use Rattle.tb_text_commands.specs.private.Taken.{CutRefused, EndedOver, Ho
 
 use crate::asking::{Ask, ask_in};
 use crate::completing::Standings;
-use crate::faults::Fault;
+use crate::faults::TextCommandFault;
 use crate::heads::past_gap;
 use crate::intake::Intake;
 use crate::statements::{goes_wrong, take_text};
@@ -37,7 +37,7 @@ fn take_typed<S: Standings>(
     intake: &mut Intake,
     standings: &S,
     length: usize,
-) -> Result<Typed, Fault>
+) -> Result<Typed, TextCommandFault>
     ensures fault { IfErr result IsOfText }
     ensures taken { TypedOfRest result intake.old intake.new }
 {
@@ -95,7 +95,7 @@ fn read_line<R: Source, W: Sink, E: Sink>(
     reader: &mut R,
     writer: &mut W,
     faults: &mut E,
-) -> Result<bool, Fault>
+) -> Result<bool, TextCommandFault>
     ensures ended { EndedOver R.input W.output result reader.old reader.new writer.old writer.new }
     ensures kept { OnOk result (OnRest R.input Stays intake.old reader.old intake.new reader.new) }
     ensures end { IfOk result (λ more. more ≡ false → intake.new.ended ≡ true) }
@@ -121,7 +121,7 @@ fn cut_lines(alloc: Global, line: usize) -> Result<Lines, AllocError> {
 }
 
 /// Refuses a line that a terminal may have cut, with what was typed before it.
-fn refuse_cut_line(intake: &mut Intake) -> Result<(), Fault>
+fn refuse_cut_line(intake: &mut Intake) -> Result<(), TextCommandFault>
     ensures fault { IfErr result IsOfInput }
     ensures taken { CutRefused result intake.old intake.new }
 {
@@ -132,7 +132,7 @@ fn refuse_cut_line(intake: &mut Intake) -> Result<(), Fault>
     let (line, _) = intake.position_at(length.saturating_sub(1));
     let lines = cut_lines(intake.alloc, line);
     intake.take(length);
-    Err(Fault::Text(lines?))
+    Err(TextCommandFault::Text(lines?))
 }
 
 /// What is typed next. A statement that goes wrong is refused with its line, before its `;` is there.
@@ -142,7 +142,7 @@ pub fn next_typed<R: Source, W: Sink, E: Sink, S: Standings>(
     reader: &mut R,
     writer: &mut W,
     faults: &mut E,
-) -> Result<Typed, Fault>
+) -> Result<Typed, TextCommandFault>
     ensures ended { EndedOver R.input W.output result reader.old reader.new writer.old writer.new }
     ensures taken { OnRest R.input (TakesTyped result) intake.old reader.old intake.new reader.new }
 {
@@ -163,5 +163,5 @@ pub fn next_typed<R: Source, W: Sink, E: Sink, S: Standings>(
         }
         refuse_cut_line(intake)?;
     }
-    Err(Fault::TooLong)
+    Err(TextCommandFault::TooLong)
 }

@@ -2,8 +2,8 @@
 -- Cited by private contracts alone, of: batches.
 use Rattle.std.specs.Prelude.{◌≡◌, ℕ, ◌+◌, ◌<◌, ◌≤◌, ◌^◌, List, [], ◌∷◌, ◌++◌, length, drop, replicate}
 use Rattle.std.specs.List.{AllByRecursion}
-use Rattle.tb_journal.specs.declared.faults.Fault.{Fault}
-use Rattle.tb_journal.specs.declared.faults.Fault.TheVariants.{Memory, Full, TooLong}
+use Rattle.tb_journal.specs.declared.faults.JournalFault.{JournalFault}
+use Rattle.tb_journal.specs.declared.faults.JournalFault.TheVariants.{Memory, Full, TooLong}
 use Rattle.tb_journal.specs.Contents.{Fits, at_rest, block, walk, records_of}
 
 -- the records of these blocks
@@ -29,7 +29,7 @@ abbrev pub block_tail : List ℕ → List ℕ
 block_tail content = drop 1 (block content) ++ 0 ∷ []
 
 -- why a record of so many bytes is not written where its block has so much space
-abbrev pub IsUnwritten : Fault → ℕ → ℕ → Type 0
+abbrev pub IsUnwritten : JournalFault → ℕ → ℕ → Type 0
 IsUnwritten Memory room count = Unit {0}
 IsUnwritten TooLong room count = 2 ^ 24 ≤ count
 IsUnwritten Full room count = room < 8 + count

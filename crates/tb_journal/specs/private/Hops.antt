@@ -1,7 +1,7 @@
 -- How the blocks of a file are followed by their lengths.
 -- Cited by private contracts alone, of: hops, snapshots.
 use Rattle.std.specs.Prelude.{◌≡◌, ◌≢◌, ◌⊎◌, ℕ, ◌+◌, ◌^◌, ◌≤◌, ◌<◌, Bool, true, false, List, [], ◌∷◌, ◌++◌, length, take, drop, set, Result, IfOk}
-use Rattle.tb_journal.specs.declared.faults.Fault.{Fault}
+use Rattle.tb_journal.specs.declared.faults.JournalFault.{JournalFault}
 use Rattle.tb_journal.specs.declared.hops.Hop.{Hop}
 use Rattle.tb_journal.specs.declared.hops.Hop.TheVariants as hops
 use Rattle.tb_journal.specs.declared.snapshots.Found.{Found}
@@ -68,15 +68,15 @@ abbrev pub FollowsPiece : Hop → ℕ → List ℕ → ℕ → Type 0
 FollowsPiece hop at piece len = (file later : List ℕ) → HasPiece at file later piece len → LeadsTo at file → LeadsFrom hop file later
 
 -- where those of a growing file do
-abbrev pub HopsFrom : (List ℕ → Type 0) → (List ℕ → Type 0) → ℕ → Result Hop Fault → Type 0
+abbrev pub HopsFrom : (List ℕ → Type 0) → (List ℕ → Type 0) → ℕ → Result Hop JournalFault → Type 0
 HopsFrom before after at result = (bytes : List ℕ) → before bytes → LeadsTo at bytes → IfOk result (HopsOn after bytes)
 
 -- where it ends whose blocks lead to an offset
-abbrev pub Finds : (List ℕ → Type 0) → (List ℕ → Type 0) → ℕ → Result Found Fault → Type 0
+abbrev pub Finds : (List ℕ → Type 0) → (List ℕ → Type 0) → ℕ → Result Found JournalFault → Type 0
 Finds before after from result = (bytes : List ℕ) → before bytes → LeadsTo from bytes → IfOk result (IsFound after bytes)
 
 -- where it ends now that a closed latch was met at an offset
-abbrev pub FindsMore : (List ℕ → Type 0) → (List ℕ → Type 0) → ℕ → Result Found Fault → Type 0
+abbrev pub FindsMore : (List ℕ → Type 0) → (List ℕ → Type 0) → ℕ → Result Found JournalFault → Type 0
 FindsMore before after end result = (bytes shown met : List ℕ) → before bytes → Later met bytes → ShowsBlocks end met shown → IfOk result (GoesOn after bytes shown)
 
 -- whether nothing follows a latch, or one does
@@ -85,15 +85,15 @@ TellsLatch end file true = front (drop end file) ≡ Ends
 TellsLatch end file false = front (drop end file) ≢ Ends
 
 -- whether nothing is at an offset
-abbrev pub TellsEnd : (List ℕ → Type 0) → (List ℕ → Type 0) → ℕ → Result Bool Fault → Type 0
+abbrev pub TellsEnd : (List ℕ → Type 0) → (List ℕ → Type 0) → ℕ → Result Bool JournalFault → Type 0
 TellsEnd before after end result = (bytes : List ℕ) → before bytes → Grown after bytes (λ later. IfOk result (TellsLatch end later))
 
 -- whether it begins as a journal
-abbrev pub TellsStart : (List ℕ → Type 0) → (List ℕ → Type 0) → Result Bool Fault → Type 0
+abbrev pub TellsStart : (List ℕ → Type 0) → (List ℕ → Type 0) → Result Bool JournalFault → Type 0
 TellsStart before after result = (bytes : List ℕ) → before bytes → Grown after bytes (λ later. IfOk result (λ begins. StartsAs begins later))
 
 -- what is read of blocks and a closed latch
-abbrev pub ReadsBlocks : (List ℕ → Type 0) → (List ℕ → Type 0) → ℕ → ℕ → List ℕ → Result ℕ Fault → Type 0
+abbrev pub ReadsBlocks : (List ℕ → Type 0) → (List ℕ → Type 0) → ℕ → ℕ → List ℕ → Result ℕ JournalFault → Type 0
 ReadsBlocks before after end at into result = (bytes : List ℕ) → before bytes
     → Grown after bytes (λ later. end ≤ length later → IfOk result (λ count. ReadsAt count at (take end later ++ 0 ∷ []) into))
 

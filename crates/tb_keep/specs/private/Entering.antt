@@ -1,5 +1,5 @@
 -- The records of a file as they are read and entered: for private functions alone.
--- Cited by private contracts alone, of: dumps, opening, restoring, salvaging.
+-- Cited by private contracts alone, of: creating, dumps, recovering, salvaging.
 use Rattle.std.specs.Prelude.{ℕ, Bool, true, false, ◌≡◌, List, [], ◌∷◌, ◌++◌, Result, Ok, Err}
 use Rattle.tb_journal.specs.declared.reading.Extent.{Extent}
 use Rattle.tb_journal.specs.Device.{Disk, IsOnDisk}
@@ -9,7 +9,7 @@ use Rattle.tb_journal.specs.Scans.{BeginsWith, HasRead, Place}
 use Rattle.tb_machine.specs.Histories.{State}
 use Rattle.tb_keep.specs.declared.faults.StartFault.{StartFault}
 use Rattle.tb_keep.specs.declared.faults.StartFault.TheVariants as start
-use Rattle.tb_keep.specs.declared.restoring.Rules.{Rules}
+use Rattle.tb_keep.specs.declared.recovering.Rules.{Rules}
 use Rattle.tb_keep.specs.Keeping.{head_record}
 use Rattle.tb_keep.specs.Restoration.{RecordsLead, StopsAt, RestoresRecord, RestoresAll, StopsReading, HasStartCause, Restores}
 use Rattle.tb_keep.specs.Opening.{IsUntouched}

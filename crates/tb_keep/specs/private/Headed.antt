@@ -1,8 +1,8 @@
 -- Journals that have a head: for private functions alone.
--- Cited by private contracts alone, of: opening.
+-- Cited by private contracts alone, of: creating.
 use Rattle.std.specs.Prelude.{ℕ, ◌≡◌, ◌⊎◌, List, [], ◌∷◌, Result, Ok, Err, OnOk, IfOk, IfErr, true}
 use Rattle.tb_records.specs.declared.limits.Profile.{Profile}
-use Rattle.tb_journal.specs.declared.faults.Fault.TheVariants.{NotEmpty}
+use Rattle.tb_journal.specs.declared.faults.JournalFault.TheVariants.{NotEmpty}
 use Rattle.tb_journal.specs.declared.opening.OpenFault.TheVariants as open_faults
 use Rattle.tb_journal.specs.Device.{Disk, IsOnDisk, IsCause, FailsNone, LeavesOnly}
 use Rattle.tb_journal.specs.Contents.{Records, contents, recorded}
@@ -10,11 +10,11 @@ use Rattle.tb_journal.specs.Reading.{extent_of}
 use Rattle.tb_journal.specs.Ready.{Kept, IsReady, IsOver}
 use Rattle.tb_keep.specs.declared.faults.StartFault.{StartFault}
 use Rattle.tb_keep.specs.declared.faults.StartFault.TheVariants as start
-use Rattle.tb_keep.specs.declared.opening.NotKept.{NotKept}
+use Rattle.tb_keep.specs.declared.creating.NotKept.{NotKept}
 use Rattle.tb_keep.specs.Keeping.{head_record, Keeping, IsFresh, IsUsable}
 use Rattle.tb_keep.specs.Opening.{HasNoEntry, OpensFile}
 use Rattle.tb_keep.specs.Restoration.{IsRestoredFrom}
-use Rattle.tb_keep.specs.declared.restoring.Rules.{Rules}
+use Rattle.tb_keep.specs.declared.recovering.Rules.{Rules}
 use Rattle.tb_machine.specs.Histories.{State}
 use Rattle.tb_journal.specs.declared.reading.Extent.{Extent}
 

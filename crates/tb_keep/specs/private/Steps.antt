@@ -1,5 +1,5 @@
 -- What the steps of serving do: for private functions alone.
--- Cited by private contracts alone, of: serving.
+-- Cited by private contracts alone, of: rounds.
 use Rattle.std.specs.Prelude.{ℕ, Bool, true, false, ◌≡◌, ◌⊎◌, ◌+◌, ◌<◌, ◌≤◌, ◌^◌, List, [], ◌∷◌, ◌++◌, length, Result, Ok, Err, Option, None, IsTrue}
 use Rattle.tb_records.specs.declared.faults.FrameFault.{FrameFault}
 use Rattle.tb_records.specs.declared.faults.FrameFault.TheVariants.{Device}
@@ -7,7 +7,7 @@ use Rattle.tb_records.specs.Messages.{Message}
 use Rattle.tb_records.specs.ReplyFrames.{IsReply}
 use Rattle.tb_records.specs.AtHand.{holds_pair}
 use Rattle.tb_records.specs.Transport.{Input, Output, Sent, CutOff}
-use Rattle.tb_journal.specs.declared.faults.Fault.{Fault}
+use Rattle.tb_journal.specs.declared.faults.JournalFault.{JournalFault}
 use Rattle.tb_journal.specs.Device.{Disk, LeavesOnly, HasFailed}
 use Rattle.tb_journal.specs.Contents.{at_rest, recorded}
 use Rattle.tb_journal.specs.Steps.{IsBeforeOrAfter}
@@ -116,7 +116,7 @@ module _ (tells : Type 0) {D : Type 0} (disk : D → Disk) where
     pub commits : tells → Commits before.journal.waiting (disk before.journal.device) (disk after.journal.device)
 
   -- the commit of what waits, which is some, failed for a cause
-  pub record IsUncommitted (fault : Fault) (before after : Keeping D) : Type 0 where
+  pub record IsUncommitted (fault : JournalFault) (before after : Keeping D) : Type 0 where
     pub some : before.journal.waiting ≡ [] → ⊥
     pub cause : tells → HasFailed (disk before.journal.device) (disk after.journal.device) fault
     pub any_moment : tells → LeavesOnly (disk before.journal.device) (disk after.journal.device) (IsBeforeOrAfter (recorded (disk before.journal.device).seen) before.journal.waiting)

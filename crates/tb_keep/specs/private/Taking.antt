@@ -1,7 +1,7 @@
 -- The steps by which records are taken over: for private functions alone.
 -- Cited by private contracts alone, of: dumps, salvaging.
 use Rattle.std.specs.Prelude.{ℕ, Bool, true, false, ◌≡◌, ◌≤◌, ◌^◌, List, [], ◌∷◌, ◌++◌, Option, None, Some, Result, Ok, Err, IfErr}
-use Rattle.tb_journal.specs.declared.faults.Fault.{Fault}
+use Rattle.tb_journal.specs.declared.faults.JournalFault.{JournalFault}
 use Rattle.tb_journal.specs.declared.opening.OpenFault.TheVariants as open_faults
 use Rattle.tb_journal.specs.declared.reading.Extent.{Extent}
 use Rattle.tb_journal.specs.Device.{Disk, LeavesOnly, FailsNone}
@@ -14,7 +14,7 @@ use Rattle.tb_keep.specs.declared.faults.SalvageFault.{SalvageFault}
 use Rattle.tb_keep.specs.declared.faults.SalvageFault.TheVariants.{Old, New}
 use Rattle.tb_keep.specs.declared.faults.StartFault.{StartFault}
 use Rattle.tb_keep.specs.declared.faults.StartFault.TheVariants as start
-use Rattle.tb_keep.specs.declared.restoring.Rules.{Rules}
+use Rattle.tb_keep.specs.declared.recovering.Rules.{Rules}
 use Rattle.tb_keep.specs.Keeping.{Keeping}
 use Rattle.tb_keep.specs.Restoration.{RecordsLead, RestoresRecord, IsTornTooLong, torn_bytes}
 use Rattle.tb_keep.specs.Salvaging.{StopsBehind, IsUnsalvaged, IsWriteCause, old_part, new_part}
@@ -30,7 +30,7 @@ of_new (Ok value) = Ok tt
 of_new (Err fault) = new_part fault
 
 -- a fault of the new file's device
-abbrev pub by_device : Fault → SalvageFault
+abbrev pub by_device : JournalFault → SalvageFault
 by_device fault = New (start.Journal (open_faults.Device fault))
 
 -- a file that the reads are of, and of which these records were read
@@ -102,13 +102,13 @@ module _ {N : Type 0} (disk : N → Disk) where
     pub any_moment : LeavesOnly (disk before.device) (disk after.device) (IsBetween (recorded (disk before.device).seen) (line before ++ records))
 
   -- or a call has failed meanwhile, or there is no memory
-  pub record Breaks (fault : Fault) (records : List (List ℕ)) (before after : Kept N) : Type 0 where
+  pub record Breaks (fault : JournalFault) (records : List (List ℕ)) (before after : Kept N) : Type 0 where
     pub cause : IsWriteCause (disk before.device) (disk after.device) fault
     pub any_moment : LeavesOnly (disk before.device) (disk after.device) (IsBetween (recorded (disk before.device).seen) (line before ++ records))
 
   module _ (tells : Type 0) where
     -- these records wait, or were committed; or the journal was not written to
-    abbrev pub Puts : Result (Unit {0}) Fault → List (List ℕ) → Kept N → Kept N → Type 0
+    abbrev pub Puts : Result (Unit {0}) JournalFault → List (List ℕ) → Kept N → Kept N → Type 0
     Puts (Ok done) records before after = (after.usable ≡ true) × (tells → Queues records before after)
     Puts (Err fault) records before after = tells → Breaks fault [] before after
 
@@ -118,18 +118,18 @@ module _ {N : Type 0} (disk : N → Disk) where
         RestoresRecord (Ok tt) before.state bytes after.state × (after.journal.usable ≡ true) × (tells → Queues (bytes ∷ []) before.journal after.journal)
     TakesRecord (Err (Old fault)) bytes before after = RestoresRecord (Err fault) before.state bytes after.state × (after.journal ≡ before.journal)
     TakesRecord (Err (New fault)) bytes before after =
-        (f : Fault) × (fault ≡ start.Journal (open_faults.Device f)) × (tells → Breaks f [] before.journal after.journal)
+        (f : JournalFault) × (fault ≡ start.Journal (open_faults.Device f)) × (tells → Breaks f [] before.journal after.journal)
 
     -- what waited was committed
     abbrev pub CommitsTaken : Result (Unit {0}) SalvageFault → Keeping N → Keeping N → Type 0
     CommitsTaken (Ok done) before after =
         (after.state ≡ before.state) × (after.journal.usable ≡ true) × (after.journal.waiting ≡ []) × (tells → Queues [] before.journal after.journal)
-    CommitsTaken (Err fault) before after = (f : Fault) × (fault ≡ by_device f) × (tells → Breaks f [] before.journal after.journal)
+    CommitsTaken (Err fault) before after = (f : JournalFault) × (fault ≡ by_device f) × (tells → Breaks f [] before.journal after.journal)
 
     -- no more is written, or the new file is the reason
     abbrev pub IsUntaken : SalvageFault → Keeping N → Keeping N → Type 0
     IsUntaken (Old fault) before after = after.journal ≡ before.journal
-    IsUntaken (New fault) before after = (f : Fault) × (fault ≡ start.Journal (open_faults.Device f)) × (tells → Breaks f [] before.journal after.journal)
+    IsUntaken (New fault) before after = (f : JournalFault) × (fault ≡ start.Journal (open_faults.Device f)) × (tells → Breaks f [] before.journal after.journal)
 
     module _ (holds : List ℕ → Type 0) where
       -- these records were taken over, and a scan is behind them that was at a place before
@@ -148,7 +148,7 @@ module _ {N : Type 0} (disk : N → Disk) where
           (after.state ≡ before.state) × (after.journal ≡ before.journal)
           × ((file : List ℕ) (read : List (List ℕ)) → holds file → HasRead read file here → StopsAfter fault read before.state file)
       Ends (Err (New fault)) here before after =
-          (f : Fault) × (fault ≡ start.Journal (open_faults.Device f)) × (tells → Breaks f [] before.journal after.journal)
+          (f : JournalFault) × (fault ≡ start.Journal (open_faults.Device f)) × (tells → Breaks f [] before.journal after.journal)
 
       abbrev pub TakesNext : Result Bool SalvageFault → Place → Place → Keeping N → Keeping N → Type 0
       TakesNext (Ok true) first last before after = (bytes : List ℕ) × Taken (bytes ∷ []) first last before after

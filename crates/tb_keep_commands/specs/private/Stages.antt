@@ -1,16 +1,16 @@
 -- What the private functions behind a command do, as they have its parts.
--- Cited by private contracts alone, of: commands, copying, following, serving.
+-- Cited by private contracts alone, of: commands, copying, following, keeping.
 use Rattle.std.specs.Prelude.{ℕ, Bool, true, List, [], OnOk}
 use Rattle.tb_records.specs.Transport.{Input, Output}
 use Rattle.tb_records.specs.declared.devices.Sink as sinks
 use Rattle.tb_journal.specs.declared.devices.Device as devices
 use Rattle.tb_journal.specs.Scans.{HasRead, Place}
-use Rattle.tb_keep.specs.declared.restoring.Rules.{Rules}
+use Rattle.tb_keep.specs.declared.recovering.Rules.{Rules}
 use Rattle.tb_keep.specs.declared.salvaging.Salvaged.{Salvaged}
 use Rattle.tb_keep.specs.Keeping.{Keeping}
 use Rattle.tb_keep_commands.specs.declared.commands.Asked.{Asked}
 use Rattle.tb_keep_commands.specs.declared.following.Part.{Part}
-use Rattle.tb_keep_commands.specs.declared.serving.Told.{Told}
+use Rattle.tb_keep_commands.specs.declared.keeping.Told.{Told}
 use Rattle.tb_keep_commands.specs.Copies.{CopiesHeaded, CopiesOver, EndsCopy, MakesCopy, copied_of, refused_by}
 use Rattle.tb_keep_commands.specs.Ends.{KnownEnds, KnownFiles, On}
 use Rattle.tb_keep_commands.specs.Exits.{Exits, Performs}

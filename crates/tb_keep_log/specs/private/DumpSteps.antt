@@ -18,7 +18,7 @@ use Rattle.tb_keep_log.specs.declared.faults.DumpLogFault.{DumpLogFault}
 use Rattle.tb_keep_log.specs.declared.faults.DumpLogFault.TheVariants as dump
 use Rattle.tb_keep_log.specs.Dumping.{AreTimely, HasDumpCause, HasNoPair, StopsRecord, StopsDump}
 use Rattle.tb_keep_log.specs.Restoring.{fixed_bytes, HasMark}
-use Rattle.tb_keep.specs.declared.restoring.Rules.{Rules}
+use Rattle.tb_keep.specs.declared.recovering.Rules.{Rules}
 
 -- the entry of a pair went out, if it makes one; or not
 abbrev pub DumpsPair : Result (Unit {0}) DumpLogFault → State → State → Pair → Output → Output → Type 0

@@ -1,12 +1,12 @@
 -- The steps of reading and of serving: for private functions alone.
--- Cited by private contracts alone, of: entries, opening, restoring, serving.
+-- Cited by private contracts alone, of: beginning, entries, items, rereading.
 use Rattle.std.specs.Prelude.{ℕ, Bool, true, false, ◌≡◌, ◌⊎◌, List, [], ◌∷◌, ◌++◌, Result, Ok, Err, OnOk, IfErr, Vec}
 use Rattle.std.specs.declared.alloc.Global.{Global}
 use Rattle.tb_records.specs.declared.limits.Profile.{Profile}
 use Rattle.tb_records.specs.Transport.{Input, Output, Sent, CutOff}
 use Rattle.tb_journal.specs.declared.devices.Device as devices
-use Rattle.tb_journal.specs.declared.faults.Fault.{Fault}
-use Rattle.tb_journal.specs.declared.faults.Fault.TheVariants.{NotEmpty}
+use Rattle.tb_journal.specs.declared.faults.JournalFault.{JournalFault}
+use Rattle.tb_journal.specs.declared.faults.JournalFault.TheVariants.{NotEmpty}
 use Rattle.tb_journal.specs.declared.opening.OpenFault.TheVariants as open_faults
 use Rattle.tb_journal.specs.declared.reading.Extent.{Extent}
 use Rattle.tb_journal.specs.Creating.{is_blank}
@@ -24,14 +24,14 @@ use Rattle.tb_log.specs.Following.{Following, begun, Item, Entry, with_item, giv
 use Rattle.tb_log.specs.Entries.{IsPairs, ReadsEntry, RefusesEntry}
 use Rattle.tb_log.specs.Follows.{ItemFits}
 use Rattle.tb_log.specs.Steps.{TellsStanding}
-use Rattle.tb_keep.specs.declared.restoring.Rules.{Rules}
+use Rattle.tb_keep.specs.declared.recovering.Rules.{Rules}
 use Rattle.tb_keep.specs.Opening.{IsUntouched}
 use Rattle.tb_keep.specs.Rounds.{Commits, RefusesRecord}
 use Rattle.tb_keep_log.specs.declared.faults.KeepLogFault.{KeepLogFault}
 use Rattle.tb_keep_log.specs.declared.faults.KeepLogFault.TheVariants as keep
 use Rattle.tb_keep_log.specs.declared.faults.LogStartFault.{LogStartFault}
 use Rattle.tb_keep_log.specs.declared.faults.LogStartFault.TheVariants as start
-use Rattle.tb_keep_log.specs.declared.opening.NotStarted.{NotStarted}
+use Rattle.tb_keep_log.specs.declared.beginning.NotStarted.{NotStarted}
 use Rattle.tb_keep_log.specs.Keeping.{By, IsUsable, Keeping, Keeps, Leads, record_bytes, record_of}
 use Rattle.tb_keep_log.specs.Restoring.{EntersRecord, HasLogCause, IsHaltedContent, IsRestored, StopsAt}
 use Rattle.tb_keep_log.specs.Opening.{IsCreatedCause, IsNotOfFile}
@@ -138,13 +138,13 @@ module _ (tells : Type 0) {D : Type 0} (disk : D → Disk) where
     pub commits : tells → Commits records (disk before.device) (disk after.device)
 
   -- or a record was refused, or its commit failed
-  abbrev pub IsUnput : Fault → List ℕ → Kept D → Kept D → Type 0
+  abbrev pub IsUnput : JournalFault → List ℕ → Kept D → Kept D → Type 0
   IsUnput fault bytes before after =
       ((after ≡ before) × RefusesRecord fault before bytes)
       ⊎ (tells → HasFailed (disk before.device) (disk after.device) fault
       × LeavesOnly (disk before.device) (disk after.device) (IsBeforeOrAfter (recorded (disk before.device).seen) (bytes ∷ [])))
 
-  abbrev pub Puts : Result (Unit {0}) Fault → List ℕ → Kept D → Kept D → Type 0
+  abbrev pub Puts : Result (Unit {0}) JournalFault → List ℕ → Kept D → Kept D → Type 0
   Puts (Ok done) bytes before after = IsPut (bytes ∷ []) before after
   Puts (Err fault) bytes before after = IsUnput fault bytes before after
 

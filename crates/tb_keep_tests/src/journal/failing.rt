@@ -4,13 +4,13 @@ use crate::journal::steps::{ONE_RECORD, commit_two, expect_at};
 use crate::steps::{expect, file_of};
 use std::alloc::Global;
 use std::process::Abort;
-use tb_journal::{Fault, Memory, OpenFault, recover};
+use tb_journal::{JournalFault, Memory, OpenFault, recover};
 
 /// How a small run ends: the step that failed, and with what fault.
 #[derive(Clone, Copy, PartialEq, Eq)]
 enum End {
-    Opening(Fault),
-    Committing(Fault),
+    Opening(JournalFault),
+    Committing(JournalFault),
     Nowhere,
 }
 
@@ -37,7 +37,7 @@ fn opening(rt: &impl Abort, fault: OpenFault) -> End {
 }
 
 /// Opens a journal of one record and commits two more, over a device whose call of this number fails so.
-fn end_at(rt: &impl Abort, alloc: Global, number: u64, why: Fault) -> (End, Memory) {
+fn end_at(rt: &impl Abort, alloc: Global, number: u64, why: JournalFault) -> (End, Memory) {
     let mut file = file_of(rt, alloc, &ONE_RECORD);
     file.fail_with(number, why);
     match recover(alloc, file) {
@@ -54,14 +54,14 @@ fn end_at(rt: &impl Abort, alloc: Global, number: u64, why: Fault) -> (End, Memo
 }
 
 /// How the run ends whose call of this number fails.
-fn want_at(number: u64, why: Fault) -> End {
+fn want_at(number: u64, why: JournalFault) -> End {
     match number {
         // To open a journal takes a sync, two looks, a cut, a sync, a write and a sync.
-        1 | 5 | 7 => End::Opening(Fault::SyncFailed),
+        1 | 5 | 7 => End::Opening(JournalFault::SyncFailed),
         2..=4 | 6 => End::Opening(why),
         // A commit takes a write, a sync, a write and a sync.
         8 | 10 => End::Committing(why),
-        9 | 11 => End::Committing(Fault::SyncFailed),
+        9 | 11 => End::Committing(JournalFault::SyncFailed),
         _ => End::Nowhere,
     }
 }
@@ -70,8 +70,8 @@ fn want_at(number: u64, why: Fault) -> End {
 fn each_call_of_a_small_run_fails_once(rt: HostRuntime) {
     let alloc = rt.alloc();
     for number in 0..=12u64 {
-        let (end, file) = end_at(&rt, alloc, number, Fault::Failed);
-        expect_at(&rt, number, end == want_at(number, Fault::Failed));
+        let (end, file) = end_at(&rt, alloc, number, JournalFault::Failed);
+        expect_at(&rt, number, end == want_at(number, JournalFault::Failed));
         let (least, most) = end.records();
         expect_records(&rt, alloc, &file, file.moments(), least, most);
         drop(file);
@@ -81,7 +81,7 @@ fn each_call_of_a_small_run_fails_once(rt: HostRuntime) {
 #[test]
 fn each_failure_keeps_its_name(rt: HostRuntime) {
     let alloc = rt.alloc();
-    for why in [Fault::Full, Fault::Memory] {
+    for why in [JournalFault::Full, JournalFault::Memory] {
         for number in 0..=12u64 {
             let (end, file) = end_at(&rt, alloc, number, why);
             drop(file);

@@ -3,7 +3,7 @@ use crate::journal::crashes::left_after;
 use crate::steps::{expect, expect_bytes, expect_given, expect_same, file_of};
 use std::alloc::Global;
 use std::process::Abort;
-use tb_journal::{Device, Fault, Memory};
+use tb_journal::{Device, JournalFault, Memory};
 
 /// A file `abcdef`.
 const SIX: [u8; 6] = [97, 98, 99, 100, 101, 102];
@@ -34,11 +34,11 @@ enum Call {
     Len,
     /// The call of a number from here on fails, or fails so.
     FailAt(u64),
-    FailWith(u64, Fault),
+    FailWith(u64, JournalFault),
 }
 
 /// An answer without a number, as 0.
-fn numbered(answer: Result<(), Fault>) -> Result<usize, Fault> {
+fn numbered(answer: Result<(), JournalFault>) -> Result<usize, JournalFault> {
     match answer {
         Ok(()) => Ok(0),
         Err(fault) => Err(fault),
@@ -46,7 +46,7 @@ fn numbered(answer: Result<(), Fault>) -> Result<usize, Fault> {
 }
 
 /// What a call answers.
-fn answer(rt: &impl Abort, file: &mut Memory, call: Call) -> Result<usize, Fault> {
+fn answer(rt: &impl Abort, file: &mut Memory, call: Call) -> Result<usize, JournalFault> {
     match call {
         Call::Write(at, bytes) => {
             expect(rt, file.bytes().len() >= at);
@@ -70,7 +70,11 @@ fn answer(rt: &impl Abort, file: &mut Memory, call: Call) -> Result<usize, Fault
 }
 
 /// The file `abcdef` behind these calls, each of which gives this answer.
-fn after_calls(rt: &impl Abort, alloc: Global, calls: &[(Call, Result<usize, Fault>)]) -> Memory {
+fn after_calls(
+    rt: &impl Abort,
+    alloc: Global,
+    calls: &[(Call, Result<usize, JournalFault>)],
+) -> Memory {
     let mut file = file_of(rt, alloc, &SIX);
     for (call, want) in calls {
         expect_same(rt, answer(rt, &mut file, *call), *want);
@@ -80,7 +84,7 @@ fn after_calls(rt: &impl Abort, alloc: Global, calls: &[(Call, Result<usize, Fau
 
 /// Calls on the file `abcdef`, and what they leave: so many moments, these bytes, and rows of what crashes leave.
 struct Case {
-    calls: &'static [(Call, Result<usize, Fault>)],
+    calls: &'static [(Call, Result<usize, JournalFault>)],
     moments: usize,
     bytes: &'static [u8],
     left: &'static [(usize, &'static [u8], &'static [u8])],
@@ -136,7 +140,7 @@ const UNSYNCED: Case = Case {
     calls: &[
         (Call::Write(1, &[66]), Ok(0)),
         (Call::FailAt(1), Ok(0)),
-        (Call::Sync, Err(Fault::SyncFailed)),
+        (Call::Sync, Err(JournalFault::SyncFailed)),
         (Call::Sync, Ok(0)),
     ],
     moments: 1,
@@ -149,15 +153,15 @@ fn nothing_is_kept_behind_a_sync_that_failed(rt: HostRuntime) {
     expect_case(&rt, rt.alloc(), &UNSYNCED);
 }
 
-const NAMED: &[(Call, Result<usize, Fault>)] = &[
-    (Call::FailWith(1, Fault::Full), Ok(0)),
-    (Call::Write(1, &[66]), Err(Fault::Full)),
-    (Call::FailWith(1, Fault::Memory), Ok(0)),
-    (Call::Len, Err(Fault::Memory)),
-    (Call::FailWith(1, Fault::NotEmpty), Ok(0)),
-    (Call::Len, Err(Fault::Failed)),
-    (Call::FailWith(1, Fault::Memory), Ok(0)),
-    (Call::Sync, Err(Fault::SyncFailed)),
+const NAMED: &[(Call, Result<usize, JournalFault>)] = &[
+    (Call::FailWith(1, JournalFault::Full), Ok(0)),
+    (Call::Write(1, &[66]), Err(JournalFault::Full)),
+    (Call::FailWith(1, JournalFault::Memory), Ok(0)),
+    (Call::Len, Err(JournalFault::Memory)),
+    (Call::FailWith(1, JournalFault::NotEmpty), Ok(0)),
+    (Call::Len, Err(JournalFault::Failed)),
+    (Call::FailWith(1, JournalFault::Memory), Ok(0)),
+    (Call::Sync, Err(JournalFault::SyncFailed)),
 ];
 
 #[test]
@@ -167,10 +171,10 @@ fn a_call_fails_with_the_fault_that_is_named(rt: HostRuntime) {
     drop(file);
 }
 
-const SECOND: &[(Call, Result<usize, Fault>)] = &[
+const SECOND: &[(Call, Result<usize, JournalFault>)] = &[
     (Call::FailAt(2), Ok(0)),
     (Call::Sync, Ok(0)),
-    (Call::Len, Err(Fault::Failed)),
+    (Call::Len, Err(JournalFault::Failed)),
     (Call::Len, Ok(6)),
 ];
 

@@ -9,7 +9,7 @@ use std::os::unix::fs::symlink;
 use std::path::PathBuf;
 use std::process::Abort;
 use std::{fs, io};
-use tb_journal::{Fault, FileFault, Real, sync_folder};
+use tb_journal::{FileFault, JournalFault, Real, sync_folder};
 
 /// A folder whose sync is counted, and fails where it is to.
 #[derive(Drop)]
@@ -190,7 +190,7 @@ impl<'a, R: Files, O: Opens> Files for System<'a, R, O> {
 enum Came {
     Synced,
     /// The sync failed so.
-    Failed(Fault),
+    Failed(JournalFault),
     /// No folder was opened.
     Unopened,
 }
@@ -232,7 +232,7 @@ const FOLDERS: [(&str, &str); 4] = [
 
 #[test]
 fn folders_are_synced(rt: HostRuntime) {
-    let failed = Came::Failed(Fault::SyncFailed);
+    let failed = Came::Failed(JournalFault::SyncFailed);
     for (path, folder) in FOLDERS {
         expect(
             &rt,

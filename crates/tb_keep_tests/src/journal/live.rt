@@ -1,6 +1,6 @@
 //! A file that goes through a few moments while it is read.
 use std::cell::Cell;
-use tb_journal::{Fault, Growing};
+use tb_journal::{Growing, JournalFault};
 
 /// The bytes of each moment. At each call the file goes on to the next one, or stays, by a bit of `moves`, the lowest first.
 #[derive(Drop)]
@@ -23,7 +23,7 @@ impl<'a> Live<'a> {
 }
 
 impl<'a> Growing for Live<'a> {
-    fn read_at(&mut self, at: usize, into: &mut [u8]) -> Result<usize, Fault> {
+    fn read_at(&mut self, at: usize, into: &mut [u8]) -> Result<usize, JournalFault> {
         let bytes = self.go_on();
         if at >= bytes.len() {
             return Ok(0);
@@ -34,7 +34,7 @@ impl<'a> Growing for Live<'a> {
         Ok(count)
     }
 
-    fn len(&mut self) -> Result<usize, Fault> {
+    fn len(&mut self) -> Result<usize, JournalFault> {
         Ok(self.go_on().len())
     }
 }

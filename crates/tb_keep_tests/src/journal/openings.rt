@@ -4,7 +4,7 @@ use crate::journal::steps::{created, expect_last, opened};
 use crate::steps::{expect, expect_bytes, file_of};
 use std::alloc::Global;
 use std::process::Abort;
-use tb_journal::{Fault, Memory, OpenFault, Refusal, create, recover};
+use tb_journal::{JournalFault, Memory, OpenFault, Refusal, create, recover};
 
 /// The file of a record without bytes, whose checksum is that of three bytes of 0.
 const EMPTY_RECORD: [u8; 17] = [
@@ -48,7 +48,10 @@ fn another_file_is_left_alone(rt: HostRuntime) {
     let alloc = rt.alloc();
     let file = refused(&rt, alloc, b"hello", Refusal::NotAJournal);
     let again = create(alloc, file).err().expect(&rt, "a fault");
-    expect(&rt, again.fault == OpenFault::Device(Fault::NotEmpty));
+    expect(
+        &rt,
+        again.fault == OpenFault::Device(JournalFault::NotEmpty),
+    );
     expect_bytes(&rt, again.device.bytes(), b"hello");
     drop(again);
 }

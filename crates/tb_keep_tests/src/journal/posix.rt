@@ -7,7 +7,7 @@ use crate::steps::{expect, expect_bytes, expect_same, sure};
 use std::alloc::Global;
 use std::io::ErrorKind;
 use std::process::Abort;
-use tb_journal::{Device, Fault, Journal, OpenFault, Posix, create, recover};
+use tb_journal::{Device, Journal, JournalFault, OpenFault, Posix, create, recover};
 
 /// What is written, read, cut and synced, whatever the calls take at a time.
 fn goes_round(rt: &(impl Abort + AllocGlobal), number: u64, odd: Odd) {
@@ -44,7 +44,7 @@ fn calls_that_are_interrupted(rt: HostRuntime) {
 }
 
 /// The answers of a write, a cut, a sync, a read and a look at the length.
-fn answers(odd: Odd) -> [Result<(), Fault>; 5] {
+fn answers(odd: Odd) -> [Result<(), JournalFault>; 5] {
     let mut device = Posix::new(odd);
     let mut into = [0u8; 3];
     let answers = [
@@ -59,7 +59,7 @@ fn answers(odd: Odd) -> [Result<(), Fault>; 5] {
 }
 
 /// A kind of call fails so: it alone answers with this fault.
-fn expect_fault(rt: &impl Abort, alloc: Global, place: usize, kind: ErrorKind, want: Fault) {
+fn expect_fault(rt: &impl Abort, alloc: Global, place: usize, kind: ErrorKind, want: JournalFault) {
     let calls = [Call::Write, Call::Cut, Call::Sync, Call::Read, Call::Length];
     let call = calls.get(place).copied().expect(rt, "a call");
     let mut odd = Odd::empty(alloc);
@@ -71,13 +71,13 @@ fn expect_fault(rt: &impl Abort, alloc: Global, place: usize, kind: ErrorKind, w
 }
 
 /// What a call other than a sync answers where it fails in each way.
-const FAULTS: [(ErrorKind, Fault); 6] = [
-    (ErrorKind::OutOfMemory, Fault::Memory),
-    (ErrorKind::StorageFull, Fault::Full),
-    (ErrorKind::QuotaExceeded, Fault::Full),
-    (ErrorKind::FileTooLarge, Fault::Full),
-    (ErrorKind::PermissionDenied, Fault::Failed),
-    (ErrorKind::Uncategorized, Fault::Failed),
+const FAULTS: [(ErrorKind, JournalFault); 6] = [
+    (ErrorKind::OutOfMemory, JournalFault::Memory),
+    (ErrorKind::StorageFull, JournalFault::Full),
+    (ErrorKind::QuotaExceeded, JournalFault::Full),
+    (ErrorKind::FileTooLarge, JournalFault::Full),
+    (ErrorKind::PermissionDenied, JournalFault::Failed),
+    (ErrorKind::Uncategorized, JournalFault::Failed),
 ];
 
 #[test]
@@ -97,12 +97,12 @@ fn syncs_that_fail(rt: HostRuntime) {
         ErrorKind::StorageFull,
         ErrorKind::QuotaExceeded,
     ] {
-        expect_fault(&rt, rt.alloc(), 2, kind, Fault::SyncFailed);
+        expect_fault(&rt, rt.alloc(), 2, kind, JournalFault::SyncFailed);
     }
 }
 
 /// How a call failed. What it gave is dropped here alone.
-fn fault_of<T: Drop>(answer: Result<T, Fault>) -> Option<Fault> {
+fn fault_of<T: Drop>(answer: Result<T, JournalFault>) -> Option<JournalFault> {
     answer.err()
 }
 
@@ -115,7 +115,11 @@ fn a_sync_that_fails_at_the_opening(rt: HostRuntime) {
     ] {
         let mut odd = Odd::empty(rt.alloc());
         odd.fails = Some((Call::Sync, kind));
-        expect_same(&rt, fault_of(Posix::synced(odd)), Some(Fault::SyncFailed));
+        expect_same(
+            &rt,
+            fault_of(Posix::synced(odd)),
+            Some(JournalFault::SyncFailed),
+        );
     }
     let mut odd = odd_of(&rt, rt.alloc(), b"abc", 5, 2);
     odd.fails = Some((Call::Write, ErrorKind::StorageFull));
@@ -134,7 +138,7 @@ fn a_disk_that_is_full(rt: HostRuntime) {
         expect_at(
             &rt,
             space as u64,
-            device.write_at(0, b"twelve bytes") == Err(Fault::Full),
+            device.write_at(0, b"twelve bytes") == Err(JournalFault::Full),
         );
         expect_bytes(&rt, &device.system().bytes, &b"twelve bytes"[..space]);
         drop(device);
@@ -146,13 +150,17 @@ fn a_write_that_takes_none(rt: HostRuntime) {
     let mut odd = Odd::empty(rt.alloc());
     odd.part = 0;
     let mut device = Posix::new(odd);
-    expect_at(&rt, 0, device.write_at(0, b"abc") == Err(Fault::Failed));
+    expect_at(
+        &rt,
+        0,
+        device.write_at(0, b"abc") == Err(JournalFault::Failed),
+    );
     expect_at(&rt, 1, device.write_at(0, b"") == Ok(()));
     drop(device);
 }
 
 /// Commits `ab`, and then an empty record and `second`.
-fn add(journal: &mut Journal<Posix<Odd>>) -> Result<(), Fault>
+fn add(journal: &mut Journal<Posix<Odd>>) -> Result<(), JournalFault>
     requires { journal.old.usable ≡ true }
 {
     journal.append(b"ab")?;
@@ -199,7 +207,7 @@ fn left_on(rt: &impl Abort, alloc: Global, space: usize) -> Option<usize> {
     match create(alloc, Posix::new(odd)) {
         Ok(journal) => {
             let mut journal = journal;
-            expect_failed(rt, add(&mut journal), Fault::Full);
+            expect_failed(rt, add(&mut journal), JournalFault::Full);
             let odd = odd_of(rt, alloc, &journal.device().system().bytes, 64, 0);
             drop(journal);
             Some(count_of(rt, alloc, odd))
@@ -207,7 +215,7 @@ fn left_on(rt: &impl Abort, alloc: Global, space: usize) -> Option<usize> {
         Err(failed) => {
             let fault = failed.fault;
             drop(failed);
-            expect_same(rt, fault, OpenFault::Device(Fault::Full));
+            expect_same(rt, fault, OpenFault::Device(JournalFault::Full));
             None
         }
     }

@@ -6,7 +6,8 @@ use std::fs::{File, Files, Permissions};
 use std::os::unix::fs::{MetadataExt, PermissionsExt};
 use std::process::Abort;
 use tb_journal::{
-    Device, Fault, FileFault, OpenFault, Real, Refusal, Snapshot, create, read_journal, recover,
+    Device, FileFault, JournalFault, OpenFault, Real, Refusal, Snapshot, create, read_journal,
+    recover,
 };
 
 /// The journal of one record, and what a crash left behind its closed latch.
@@ -162,7 +163,11 @@ fn mode_of<R: Abort + Files<File = File>>(rt: &R, path: &str) -> u32 {
 /// A file can be looked at, and not written.
 fn expect_not_written<R: Abort + Files<File = File>>(rt: &R, path: &str) {
     let mut looked = sure(rt, Real::look(rt, path));
-    expect_failed(rt, Device::write_at(&mut looked, 0, b"x"), Fault::Failed);
+    expect_failed(
+        rt,
+        Device::write_at(&mut looked, 0, b"x"),
+        JournalFault::Failed,
+    );
     drop(looked);
 }
 

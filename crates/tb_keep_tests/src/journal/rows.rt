@@ -5,7 +5,7 @@ use crate::journal::steps::{
 };
 use crate::steps::{expect, sure};
 use std::alloc::AllocError;
-use tb_journal::{Fault, RECORD_BYTES_MAX, Written};
+use tb_journal::{JournalFault, RECORD_BYTES_MAX, Written};
 
 /// Bytes that are written where they wait.
 #[derive(Clone, Copy)]
@@ -60,7 +60,7 @@ fn a_record_of_2_to_the_24_bytes_is_too_long(rt: HostRuntime) {
     let alloc = rt.alloc();
     let long = sevens(&rt, alloc, RECORD_BYTES_MAX);
     let mut journal = opened(&rt, alloc, &ONE_RECORD);
-    expect_failed(&rt, journal.append(&long), Fault::TooLong);
+    expect_failed(&rt, journal.append(&long), JournalFault::TooLong);
     expect(&rt, journal.waiting() == 0);
     expect(&rt, journal.waiting_bytes() == 1);
     drop(journal);
@@ -75,7 +75,7 @@ fn a_record_is_written_where_it_waits(rt: HostRuntime) {
     expect_journal(&rt, &journal, &NO_RECORDS, 0, 11);
     let long = sevens(&rt, alloc, RECORD_BYTES_MAX);
     let refused = journal.append_written(&Bytes { bytes: &long });
-    expect_failed(&rt, refused, Fault::TooLong);
+    expect_failed(&rt, refused, JournalFault::TooLong);
     expect_journal(&rt, &journal, &NO_RECORDS, 0, 11);
     sure(&rt, journal.commit());
     expect_journal(&rt, &journal, &ONE_RECORD, 1, 1);

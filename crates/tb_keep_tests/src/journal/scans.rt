@@ -10,7 +10,7 @@ use crate::steps::{expect, expect_bytes, expect_same, file_of, sure};
 use std::alloc::Global;
 use std::process::Abort;
 use tb_journal::{
-    Device, Extent, Fault, Journal, Memory, OpenFault, Refusal, Scan, create, read_journal,
+    Device, Extent, Journal, JournalFault, Memory, OpenFault, Refusal, Scan, create, read_journal,
 };
 
 /// A file is read in pieces of so many bytes.
@@ -136,8 +136,8 @@ const CALLS: u64 = 4;
 /// What a count answers whose call of this number fails.
 fn want_at(number: u64) -> Result<usize, OpenFault> {
     match number {
-        1 => Err(OpenFault::Device(Fault::SyncFailed)),
-        2..=CALLS => Err(OpenFault::Device(Fault::Failed)),
+        1 => Err(OpenFault::Device(JournalFault::SyncFailed)),
+        2..=CALLS => Err(OpenFault::Device(JournalFault::Failed)),
         _ => Ok(2),
     }
 }
@@ -208,7 +208,7 @@ fn count_long(alloc: Global) -> Option<Result<usize, OpenFault>> {
 fn a_growth_may_be_refused(rt: HostRuntime) {
     match count_long(rt.alloc()) {
         Some(Ok(count)) => expect(&rt, count == 2),
-        Some(Err(fault)) => expect(&rt, fault == OpenFault::Device(Fault::Memory)),
+        Some(Err(fault)) => expect(&rt, fault == OpenFault::Device(JournalFault::Memory)),
         None => {}
     }
 }

@@ -9,7 +9,7 @@ use crate::steps::{expect, expect_bytes, expect_same, file_of, sure};
 use std::alloc::Global;
 use std::cell::Cell;
 use std::process::Abort;
-use tb_journal::{Device, Fault, Growing, OpenFault, Refusal, Scan, Snapshot};
+use tb_journal::{Device, Growing, JournalFault, OpenFault, Refusal, Scan, Snapshot};
 
 /// A file is read in pieces of so many bytes.
 const PIECE_BYTES: usize = 65_536;
@@ -193,8 +193,8 @@ fn a_file_gets_shorter(rt: HostRuntime) {
     let mut snapshot = sure(&rt, Snapshot::new(alloc, live));
     now.set(1);
     let failed = fault_of(Scan::start(alloc, &mut snapshot));
-    expect_same(&rt, failed, Some(OpenFault::Device(Fault::Failed)));
-    expect_failed(&rt, snapshot.refresh(), Fault::Failed);
+    expect_same(&rt, failed, Some(OpenFault::Device(JournalFault::Failed)));
+    expect_failed(&rt, snapshot.refresh(), JournalFault::Failed);
     now.set(0);
     expect_same(&rt, fault_of(Scan::start(alloc, &mut snapshot)), None);
     drop(snapshot);
@@ -204,8 +204,8 @@ fn a_file_gets_shorter(rt: HostRuntime) {
 fn a_snapshot_is_not_written(rt: HostRuntime) {
     let alloc = rt.alloc();
     let mut snapshot = sure(&rt, Snapshot::new(alloc, file_of(&rt, alloc, &ONE_RECORD)));
-    expect_failed(&rt, snapshot.write_at(18, &[255]), Fault::Failed);
-    expect_failed(&rt, snapshot.cut(8), Fault::Failed);
+    expect_failed(&rt, snapshot.write_at(18, &[255]), JournalFault::Failed);
+    expect_failed(&rt, snapshot.cut(8), JournalFault::Failed);
     expect_same(&rt, snapshot.sync(), Ok(()));
     let mut found = [7; 5];
     expect_same(&rt, Device::read_at(&mut snapshot, 16, &mut found), Ok(3));

@@ -6,7 +6,7 @@ use crate::steps::{expect, sure};
 use std::fs;
 use std::fs::{File, Files};
 use std::process::Abort;
-use tb_journal::{Device, Fault, Real, create, recover};
+use tb_journal::{Device, JournalFault, Real, create, recover};
 
 /// Where the file goes on behind a hole.
 const FAR_BYTES: usize = 5 << 30;
@@ -49,26 +49,26 @@ impl Device for Behind {
 
     ghost only_now = { λ _ c left. left };
 
-    fn read_at(&mut self, at: usize, into: &mut [u8]) -> Result<usize, Fault> {
+    fn read_at(&mut self, at: usize, into: &mut [u8]) -> Result<usize, JournalFault> {
         self.real.read_at(FAR_BYTES.saturating_add(at), into)
     }
 
-    fn len(&mut self) -> Result<usize, Fault> {
+    fn len(&mut self) -> Result<usize, JournalFault> {
         match self.real.len() {
             Ok(len) => Ok(len.saturating_sub(FAR_BYTES)),
             Err(fault) => Err(fault),
         }
     }
 
-    fn write_at(&mut self, at: usize, bytes: &[u8]) -> Result<(), Fault> {
+    fn write_at(&mut self, at: usize, bytes: &[u8]) -> Result<(), JournalFault> {
         self.real.write_at(FAR_BYTES.saturating_add(at), bytes)
     }
 
-    fn cut(&mut self, len: usize) -> Result<(), Fault> {
+    fn cut(&mut self, len: usize) -> Result<(), JournalFault> {
         self.real.cut(FAR_BYTES.saturating_add(len))
     }
 
-    fn sync(&mut self) -> Result<(), Fault> {
+    fn sync(&mut self) -> Result<(), JournalFault> {
         self.real.sync()
     }
 }

@@ -6,7 +6,7 @@ ghost use Rattle.tb_journal.specs.Ready.{IsReady};
 use crate::steps::{expect, expect_bytes, expect_given, expect_same, file_of, sure};
 use std::alloc::Global;
 use std::process::Abort;
-use tb_journal::{Device, Fault, Journal, Memory, create, recover};
+use tb_journal::{Device, Journal, JournalFault, Memory, create, recover};
 
 /// The file of a journal without records: `TBJRNL01`, and a closed latch.
 pub(crate) const NO_RECORDS: [u8; 9] = [84, 66, 74, 82, 78, 76, 48, 49, 0];
@@ -98,17 +98,17 @@ pub(crate) fn expect_last(
 }
 
 /// The number that a call gave.
-pub(crate) fn expect_number(rt: &impl Abort, answer: Result<usize, Fault>, want: usize) {
+pub(crate) fn expect_number(rt: &impl Abort, answer: Result<usize, JournalFault>, want: usize) {
     expect_same(rt, answer, Ok(want));
 }
 
 /// A call failed so.
-pub(crate) fn expect_failed(rt: &impl Abort, answer: Result<(), Fault>, want: Fault) {
+pub(crate) fn expect_failed(rt: &impl Abort, answer: Result<(), JournalFault>, want: JournalFault) {
     expect_same(rt, answer, Err(want));
 }
 
 /// Commits an empty record, and `second`, as one batch.
-pub(crate) fn commit_two(journal: &mut Journal<Memory>) -> Result<(), Fault>
+pub(crate) fn commit_two(journal: &mut Journal<Memory>) -> Result<(), JournalFault>
     requires ready { IsReady memory_disk journal.old }
     requires usable { journal.old.usable ≡ true }
     ensures ready { OnOk result (IsReady memory_disk journal.new) }
@@ -122,7 +122,7 @@ pub(crate) fn commit_both(
     journal: &mut Journal<Memory>,
     first: &[u8],
     second: &[u8],
-) -> Result<(), Fault>
+) -> Result<(), JournalFault>
     requires ready { IsReady memory_disk journal.old }
     requires usable { journal.old.usable ≡ true }
     ensures ready { OnOk result (IsReady memory_disk journal.new) }

@@ -9,7 +9,7 @@ use crate::keep::scripts::{
 use crate::steps::{expect, expect_end, expect_same, file_of, rules, sure};
 use std::alloc::Global;
 use std::process::Abort;
-use tb_journal::{Fault, Memory, OpenFault};
+use tb_journal::{JournalFault, Memory, OpenFault};
 use tb_keep::{KeepFault, Keeper, StartFault, create};
 
 /// What a torn write leaves in its range.
@@ -179,15 +179,15 @@ fn each_call_fails_once(rt: HostRuntime) {
 
 /// What is reported where each call of an opening fails, one after another: a sync, the file and its end, its length, and the
 /// repair with two syncs.
-const OPENING: &[Fault] = &[
-    Fault::SyncFailed,
-    Fault::Failed,
-    Fault::Failed,
-    Fault::Failed,
-    Fault::Failed,
-    Fault::SyncFailed,
-    Fault::Failed,
-    Fault::SyncFailed,
+const OPENING: &[JournalFault] = &[
+    JournalFault::SyncFailed,
+    JournalFault::Failed,
+    JournalFault::Failed,
+    JournalFault::Failed,
+    JournalFault::Failed,
+    JournalFault::SyncFailed,
+    JournalFault::Failed,
+    JournalFault::SyncFailed,
 ];
 
 /// A call of a number fails: that is reported, and the next opening finds all entries.
@@ -245,7 +245,7 @@ fn ended_by(rt: &impl Abort, alloc: Global, number: u64) -> (Result<u64, KeepFau
 #[test]
 fn a_failed_sync_ends_serving(rt: HostRuntime) {
     let alloc = rt.alloc();
-    let failed = Err(KeepFault::Journal(Fault::SyncFailed));
+    let failed = Err(KeepFault::Journal(JournalFault::SyncFailed));
     for (number, told) in SYNCS {
         let ended = ended_by(&rt, alloc, CREATING.saturating_add(*number));
         expect_same(&rt, ended, (failed, *told));

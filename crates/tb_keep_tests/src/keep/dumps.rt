@@ -3,7 +3,7 @@ use crate::keep::scripts::{kept_bytes, script};
 use crate::steps::{expect, expect_begin, expect_equal, expect_same, file_of, rules, sure};
 use std::alloc::Global;
 use std::process::Abort;
-use tb_journal::{Fault, Memory, OpenFault};
+use tb_journal::{JournalFault, Memory, OpenFault};
 use tb_keep::{DumpFault, StartFault, read_history, read_rules, write_dump};
 use tb_machine::dump;
 use tb_records::{Counting, Profile};
@@ -53,9 +53,9 @@ fn expect_failing(rt: &impl Abort, alloc: Global, file: &mut Memory, number: u64
     file.fail_at(number);
     let (result, written) = dumped(rt, alloc, file);
     let fault = if number == 1 {
-        Fault::SyncFailed
+        JournalFault::SyncFailed
     } else {
-        Fault::Failed
+        JournalFault::Failed
     };
     let failed = DumpFault::Journal(OpenFault::Device(fault));
     let wanted = if number <= CALLS { Err(failed) } else { Ok(()) };

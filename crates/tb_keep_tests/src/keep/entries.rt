@@ -4,7 +4,7 @@ use crate::keep::scripts::kept_bytes;
 use crate::steps::{copy_of, expect, expect_equal, expect_same, sure};
 use std::alloc::Global;
 use std::process::Abort;
-use tb_journal::{Fault, Memory, OpenFault, Scan};
+use tb_journal::{JournalFault, Memory, OpenFault, Scan};
 use tb_keep::{DumpFault, write_entries};
 use tb_records::Counting;
 
@@ -86,6 +86,6 @@ fn a_device_that_fails(rt: HostRuntime) {
     drop(scan);
     drop(file);
     drop(writer);
-    let failed = DumpFault::Journal(OpenFault::Device(Fault::Failed));
+    let failed = DumpFault::Journal(OpenFault::Device(JournalFault::Failed));
     expect(&rt, result == Ok(4) || result == Err(failed));
 }

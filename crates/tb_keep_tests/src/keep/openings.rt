@@ -9,7 +9,7 @@ use crate::steps::{
 };
 use std::alloc::Global;
 use std::process::Abort;
-use tb_journal::{Device, Fault, Journal, Memory, OpenFault, Refusal};
+use tb_journal::{Device, Journal, JournalFault, Memory, OpenFault, Refusal};
 use tb_keep::{Keeper, Rules, StartFault, create};
 use tb_machine::{RestoreFault, Unfit};
 use tb_records::{ClientsMax, FrameFault, Profile};
@@ -283,7 +283,7 @@ fn is_kept_or_new(left: Vec<u8>, bytes: &[u8], opened: bool) -> bool {
 fn unsynced(rt: &impl Abort, alloc: Global, bytes: &[u8]) -> Memory {
     let mut file = file_of(rt, alloc, bytes);
     file.fail_at(1);
-    expect_same(rt, file.sync(), Err(Fault::SyncFailed));
+    expect_same(rt, file.sync(), Err(JournalFault::SyncFailed));
     file
 }
 
@@ -327,7 +327,7 @@ fn starts(rt: HostRuntime) {
 fn expect_not_created(rt: &impl Abort, alloc: Global, bytes: &[u8]) {
     let file = file_of(rt, alloc, bytes);
     let (found, left) = outcome(rt, alloc, create(alloc, alloc, file, rules(rt)));
-    let not_empty = StartFault::Journal(OpenFault::Device(Fault::NotEmpty));
+    let not_empty = StartFault::Journal(OpenFault::Device(JournalFault::NotEmpty));
     expect_same(rt, found, Some(not_empty));
     expect_given(rt, left, bytes);
 }

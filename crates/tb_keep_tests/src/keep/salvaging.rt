@@ -9,7 +9,7 @@ use crate::steps::{
 };
 use std::alloc::Global;
 use std::process::Abort;
-use tb_journal::{Fault, Memory, OpenFault, Refusal};
+use tb_journal::{JournalFault, Memory, OpenFault, Refusal};
 use tb_keep::{BATCH_BYTES_MAX, NotSalvaged, SalvageFault, Salvaged, StartFault, backup, salvage};
 use tb_machine::{RestoreFault, Unfit};
 use tb_records::FrameFault;
@@ -190,7 +190,7 @@ fn nothing_is_made_of_what_is_no_ledger(rt: HostRuntime) {
 fn what_is_there_is_left_alone(rt: HostRuntime) {
     let alloc = rt.alloc();
     let bytes = kept_bytes(&rt, alloc);
-    let there = StartFault::Journal(OpenFault::Device(Fault::NotEmpty));
+    let there = StartFault::Journal(OpenFault::Device(JournalFault::NotEmpty));
     let new = Err(SalvageFault::New(there));
     expect_salvaged(&rt, alloc, &bytes, b"TBX", new, b"TBX");
     drop(bytes);

@@ -2,7 +2,7 @@
 use crate::keep_commands::files::Has;
 use crate::keep_commands::news::{Disk, WELL_MADE};
 use crate::keep_commands::rows::{New, Out, Row, WELL, run_all};
-use tb_journal::Fault;
+use tb_journal::JournalFault;
 use tb_keep_commands::OpeningFault;
 
 type Words = &'static [&'static str];
@@ -172,14 +172,14 @@ const SYNC: Line = "tbd: SyncFailed: restart the machine or copy the file before
 /// The calls on the new file: its length and a sync, a read, the first 9 bytes and a sync; then for the head, and for both entries, the
 /// batch, a sync, its latch and a sync.
 const CALLS: &[Row] = both!(broken:
-    (1, Fault::Failed, 1, FAILED, New::Empty),
-    (1, Fault::Full, 8, FULL, New::Empty),
-    (2, Fault::Failed, 9, SYNC, New::Empty),
-    (4, Fault::Full, 8, FULL, New::Empty),
-    (6, Fault::Full, 8, FULL, New::NoRecord),
-    (10, Fault::Full, 8, FULL, New::UpTo(22)),
-    (10, Fault::Failed, 1, FAILED, New::UpTo(22)),
-    (10, Fault::Memory, 1, "tbd: NoMemory\n", New::UpTo(22)),
+    (1, JournalFault::Failed, 1, FAILED, New::Empty),
+    (1, JournalFault::Full, 8, FULL, New::Empty),
+    (2, JournalFault::Failed, 9, SYNC, New::Empty),
+    (4, JournalFault::Full, 8, FULL, New::Empty),
+    (6, JournalFault::Full, 8, FULL, New::NoRecord),
+    (10, JournalFault::Full, 8, FULL, New::UpTo(22)),
+    (10, JournalFault::Failed, 1, FAILED, New::UpTo(22)),
+    (10, JournalFault::Memory, 1, "tbd: NoMemory\n", New::UpTo(22)),
 );
 
 #[test]

@@ -7,7 +7,7 @@ use crate::steps::{copy_of, expect, expect_begin, expect_given, sure};
 use std::alloc::Global;
 use std::cell::Cell;
 use std::process::Abort;
-use tb_journal::{Fault, Growing, Memory, Snapshot};
+use tb_journal::{Growing, JournalFault, Memory, Snapshot};
 use tb_keep_commands::{Opener, OpeningFault, serve};
 use tb_records::Counting;
 
@@ -21,11 +21,11 @@ pub struct Growth<G> {
 }
 
 impl<G: Growing + Drop> Growing for Growth<G> {
-    fn read_at(&mut self, at: usize, into: &mut [u8]) -> Result<usize, Fault> {
+    fn read_at(&mut self, at: usize, into: &mut [u8]) -> Result<usize, JournalFault> {
         Growing::read_at(&mut self.shown, at, into)
     }
 
-    fn len(&mut self) -> Result<usize, Fault> {
+    fn len(&mut self) -> Result<usize, JournalFault> {
         self.asked = self.asked.wrapping_add(1);
         if self.asked % 3 == 0 {
             if let Some(next) = self.stages.pop() {

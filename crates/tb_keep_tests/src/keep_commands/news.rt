@@ -6,7 +6,7 @@ use std::alloc::Global;
 use std::cell::Cell;
 use std::process::Abort;
 use std::rc::Rc;
-use tb_journal::{Device, Fault, Memory};
+use tb_journal::{Device, JournalFault, Memory};
 use tb_keep_commands::OpeningFault;
 
 /// How a new file is made.
@@ -16,14 +16,14 @@ pub struct Disk {
     pub fault: Option<OpeningFault>,
     /// The call on it that fails, the first one at 1, and what with; none at 0.
     pub fails_at: u64,
-    pub why: Fault,
+    pub why: JournalFault,
 }
 
 /// A disk on which a new file is made, and no call fails.
 pub const WELL_MADE: Disk = Disk {
     fault: None,
     fails_at: 0,
-    why: Fault::Full,
+    why: JournalFault::Full,
 };
 
 /// The bytes of a file, as they are seen from outside.
@@ -63,27 +63,27 @@ impl Device for Noted {
 
     ghost only_now = { λ s. memory_only_now s.memory };
 
-    fn read_at(&mut self, at: usize, into: &mut [u8]) -> Result<usize, Fault> {
+    fn read_at(&mut self, at: usize, into: &mut [u8]) -> Result<usize, JournalFault> {
         self.memory.read_at(at, into)
     }
 
-    fn len(&mut self) -> Result<usize, Fault> {
+    fn len(&mut self) -> Result<usize, JournalFault> {
         Device::len(&mut self.memory)
     }
 
-    fn write_at(&mut self, at: usize, bytes: &[u8]) -> Result<(), Fault> {
+    fn write_at(&mut self, at: usize, bytes: &[u8]) -> Result<(), JournalFault> {
         let written = self.memory.write_at(at, bytes);
         self.note();
         written
     }
 
-    fn cut(&mut self, len: usize) -> Result<(), Fault> {
+    fn cut(&mut self, len: usize) -> Result<(), JournalFault> {
         let cut = self.memory.cut(len);
         self.note();
         cut
     }
 
-    fn sync(&mut self) -> Result<(), Fault> {
+    fn sync(&mut self) -> Result<(), JournalFault> {
         self.memory.sync()
     }
 }

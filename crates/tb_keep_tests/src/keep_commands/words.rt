@@ -3,8 +3,8 @@ use crate::keep_commands::files::Has;
 use crate::keep_commands::rows::{Out, Row, WELL, run_all, run_making};
 use crate::steps::expect_same;
 use std::io::{self, ErrorKind};
-use tb_journal::{Fault as DiskFault, FileFault};
-use tb_keep_commands::{Fault, OpeningFault, USAGE, opening_fault, words_fault};
+use tb_journal::{FileFault, JournalFault};
+use tb_keep_commands::{KeepCommandFault, OpeningFault, USAGE, opening_fault, words_fault};
 
 // Words that are no form, and what is told of them.
 macro_rules! wrong {
@@ -218,7 +218,7 @@ fn told(fault: FileFault) -> OpeningFault {
 }
 
 /// What is told of words that the system gave this error for.
-fn told_of_words(kind: ErrorKind) -> Fault {
+fn told_of_words(kind: ErrorKind) -> KeepCommandFault {
     let error = io::Error::from(kind);
     let told = words_fault(&error);
     drop(error);
@@ -237,16 +237,16 @@ const ERRORS: &[(ErrorKind, OpeningFault)] = &[
 #[test]
 fn a_fault_of_the_system_is_told_as_what_it_is(rt: HostRuntime) {
     expect_same(&rt, told(FileFault::Locked), OpeningFault::Locked);
-    let unsynced = told(FileFault::Sync(DiskFault::SyncFailed));
+    let unsynced = told(FileFault::Sync(JournalFault::SyncFailed));
     expect_same(&rt, unsynced, OpeningFault::SyncFailed);
-    let unsynced = told(FileFault::Sync(DiskFault::Memory));
+    let unsynced = told(FileFault::Sync(JournalFault::Memory));
     expect_same(&rt, unsynced, OpeningFault::NoMemory);
     for (kind, want) in ERRORS {
         let found = told(FileFault::System(io::Error::from(*kind)));
         expect_same(&rt, found, *want);
     }
     let words = told_of_words(ErrorKind::OutOfMemory);
-    expect_same(&rt, words, Fault::NoMemory);
+    expect_same(&rt, words, KeepCommandFault::NoMemory);
     let words = told_of_words(ErrorKind::InvalidData);
-    expect_same(&rt, words, Fault::Usage);
+    expect_same(&rt, words, KeepCommandFault::Usage);
 }

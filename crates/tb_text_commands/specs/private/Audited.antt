@@ -14,7 +14,7 @@ use Rattle.tb_text_commands.specs.Results.{stored_results}
 use Rattle.tb_text_commands.specs.Wanted.{Told}
 use Rattle.tb_text_commands.specs.declared.arguments.Form.{Form}
 use Rattle.tb_text_commands.specs.declared.auditing.Replay.{Replay}
-use Rattle.tb_text_commands.specs.declared.faults.Fault.{Fault}
+use Rattle.tb_text_commands.specs.declared.faults.TextCommandFault.{TextCommandFault}
 use Rattle.tb_text_commands.specs.declared.results.Outcomes.{Outcomes}
 use Rattle.tb_text_commands.specs.declared.waits.Waits.{Waits}
 use Rattle.tb_text_commands.specs.declared.wanted.Wanted.{Wanted}
@@ -63,20 +63,20 @@ told_of S e = entry_told S (results_of S e) e
 
 -- what an audit prints, by the states of a replay, of a reader and of a writer
 module _ (IsLine : Told → List ℕ → Type 0) (wants : Told → Bool) {W : Type 0} where
-  abbrev pub PrintsAccount : Result (Unit {0}) Fault → Entry → Replay → Replay → (W → Output) → W → W → Type 0
+  abbrev pub PrintsAccount : Result (Unit {0}) TextCommandFault → Entry → Replay → Replay → (W → Output) → W → W → Type 0
   PrintsAccount result e before after output start written =
       TellsAccount IsLine wants result e (account_of before.account before.machine) before.told after.told (output start) (output written)
 
-  abbrev pub PutsNext : {R : Type 0} → Result Bool Fault → Replay → Replay → (R → Input) → R → R → (W → Output) → W → W → Type 0
+  abbrev pub PutsNext : {R : Type 0} → Result Bool TextCommandFault → Replay → Replay → (R → Input) → R → R → (W → Output) → W → W → Type 0
   PutsNext result S T input before after output start written = AuditsNext IsLine wants result (audited S) (audited T) (input before) (input after) (output start) (output written)
 
-  abbrev pub PutsItems : {R : Type 0} → Result (Unit {0}) Fault → Replay → (R → Input) → R → R → (W → Output) → W → W → Type 0
+  abbrev pub PutsItems : {R : Type 0} → Result (Unit {0}) TextCommandFault → Replay → (R → Input) → R → R → (W → Output) → W → W → Type 0
   PutsItems result S input before after output start written = AuditsItems IsLine wants result (audited S) (input before) (input after) (output start) (output written)
 
 -- an audit of what is wanted
-abbrev pub RanOver : {R W : Type 0} → (R → Input) → (W → Output) → Wanted → Result (Unit {0}) Fault → R → R → W → W → Type 0
+abbrev pub RanOver : {R W : Type 0} → (R → Input) → (W → Output) → Wanted → Result (Unit {0}) TextCommandFault → R → R → W → W → Type 0
 RanOver input output wanted result before after start written = AuditRanFor wanted result (input before) (input after) (output start) (output written)
 
 -- a form that is an audit ran as one
-abbrev pub AuditsOver : {R W : Type 0} → (R → Input) → (W → Output) → Form → Result (Unit {0}) Fault → R → R → W → W → Type 0
+abbrev pub AuditsOver : {R W : Type 0} → (R → Input) → (W → Output) → Form → Result (Unit {0}) TextCommandFault → R → R → W → W → Type 0
 AuditsOver input output form result before after start written = AuditsBy form result (input before) (input after) (output start) (output written)

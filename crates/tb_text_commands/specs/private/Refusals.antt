@@ -5,12 +5,12 @@ use Rattle.tb_records.specs.Transport.{Input, Output}
 use Rattle.tb_text_commands.specs.declared.arguments.Form.{Form}
 use Rattle.tb_text_commands.specs.declared.arguments.Form.TheVariants as form
 use Rattle.tb_text_commands.specs.declared.commands.Refused.{Refused}
-use Rattle.tb_text_commands.specs.declared.faults.Fault.{Fault}
+use Rattle.tb_text_commands.specs.declared.faults.TextCommandFault.{TextCommandFault}
 use Rattle.tb_text_commands.specs.Explanations.{Explained}
 use Rattle.tb_text_commands.specs.Kinds.{IsForeign, IsNotForeign, awaited_by, is_of_bytes}
 
 -- an outcome by its fault alone
-abbrev pub fault_in : Result (Unit {0}) Refused → Result (Unit {0}) Fault
+abbrev pub fault_in : Result (Unit {0}) Refused → Result (Unit {0}) TextCommandFault
 fault_in (Ok done) = Ok done
 fault_in (Err refused) = Err refused.fault
 

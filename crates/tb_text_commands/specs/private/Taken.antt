@@ -4,8 +4,8 @@ use Rattle.std.specs.Prelude.{ℕ, Bool, true, false, not, ◌≡◌, ◌+◌, �
 use Rattle.std.specs.Io.KnownBytes.{prepend_known}
 use Rattle.tb_records.specs.Ordered.{Each}
 use Rattle.tb_records.specs.Transport.{Input, Output}
-use Rattle.tb_text_commands.specs.declared.faults.Fault.{Fault}
-use Rattle.tb_text_commands.specs.declared.faults.Fault.TheVariants as fault
+use Rattle.tb_text_commands.specs.declared.faults.TextCommandFault.{TextCommandFault}
+use Rattle.tb_text_commands.specs.declared.faults.TextCommandFault.TheVariants as fault
 use Rattle.tb_text_commands.specs.declared.intake.Intake.{Intake}
 use Rattle.tb_text_commands.specs.declared.running.Conversation.{Conversation}
 use Rattle.tb_text_commands.specs.declared.typing.Typed.{Typed}
@@ -116,25 +116,25 @@ pub record IsSearched (intake : Intake) : Type 0 where
 -- faults
 
 -- of reading: the device failed, or there is no memory
-abbrev pub IsOfReading : Fault → Type 0
+abbrev pub IsOfReading : TextCommandFault → Type 0
 IsOfReading fault.Device = Unit {0}
 IsOfReading fault.NoMemory = Unit {0}
 IsOfReading f = ⊥
 
 -- of a text that was read: it goes wrong, or there is no memory
-abbrev pub IsOfText : Fault → Type 0
+abbrev pub IsOfText : TextCommandFault → Type 0
 IsOfText (fault.Text lines) = Unit {0}
 IsOfText fault.NoMemory = Unit {0}
 IsOfText f = ⊥
 
 -- of the next statement, or of too many reads
-abbrev pub IsOfStatement : Fault → Type 0
+abbrev pub IsOfStatement : TextCommandFault → Type 0
 IsOfStatement (fault.Text lines) = Unit {0}
 IsOfStatement fault.TooLong = Unit {0}
 IsOfStatement f = IsOfReading f
 
 -- of the next frame, or of too many reads
-abbrev pub IsOfFrame : Fault → Type 0
+abbrev pub IsOfFrame : TextCommandFault → Type 0
 IsOfFrame (fault.Frame f) = Unit {0}
 IsOfFrame fault.TooLong = Unit {0}
 IsOfFrame f = IsOfReading f
@@ -156,15 +156,15 @@ TakenIfPassing true before after = TakesPart IsTypedPart before after
 TakenIfPassing false before after = Unit {0}
 
 -- a text that goes wrong was taken, where the fault is that of a text
-abbrev pub TakesIfWrong : Fault → Intake → Intake → Type 0
+abbrev pub TakesIfWrong : TextCommandFault → Intake → Intake → Type 0
 TakesIfWrong (fault.Text lines) before after = TakesPart IsWrong before after
 TakesIfWrong f before after = is_passing f ≡ false
 
-abbrev pub TypedOfRest : Result Typed Fault → Intake → Intake → Type 0
+abbrev pub TypedOfRest : Result Typed TextCommandFault → Intake → Intake → Type 0
 TypedOfRest (Ok typed) before after = TakenOf typed before after
 TypedOfRest (Err fault) before after = TakenIfPassing (is_passing fault) before after
 
-abbrev pub CutRefused : Result (Unit {0}) Fault → Intake → Intake → Type 0
+abbrev pub CutRefused : Result (Unit {0}) TextCommandFault → Intake → Intake → Type 0
 CutRefused (Ok done) before after = (after ≡ before) × (ends_with_cut_line (rest_of before) ≡ false)
 CutRefused (Err fault) before after = TakenIfPassing (is_passing fault) before after
 
@@ -192,16 +192,16 @@ abbrev pub TakesIfPassing : Bool → Option (List ℕ) → Option (List ℕ) →
 TakesIfPassing true before after = TakesOne IsTypedPart before after
 TakesIfPassing false before after = Unit {0}
 
-abbrev pub TakesTyped : Result Typed Fault → Option (List ℕ) → Option (List ℕ) → Type 0
+abbrev pub TakesTyped : Result Typed TextCommandFault → Option (List ℕ) → Option (List ℕ) → Type 0
 TakesTyped (Ok typed) before after = TakesNextTyped (goes_on typed) before after
 TakesTyped (Err fault) before after = TakesIfPassing (is_passing fault) before after
 
 -- the same, unless a fault ends the conversation
-abbrev pub TakesUnlessEnded : Result Bool Fault → Option (List ℕ) → Option (List ℕ) → Type 0
+abbrev pub TakesUnlessEnded : Result Bool TextCommandFault → Option (List ℕ) → Option (List ℕ) → Type 0
 TakesUnlessEnded (Ok more) before after = TakesNextTyped more before after
 TakesUnlessEnded (Err fault) before after = Unit {0}
 
-abbrev pub TakesTurn : Result Bool Fault → Option (List ℕ) → Option (List ℕ) → Type 0
+abbrev pub TakesTurn : Result Bool TextCommandFault → Option (List ℕ) → Option (List ℕ) → Type 0
 TakesTurn (Ok more) before after = TakesNextTyped more before after
 TakesTurn (Err fault) before after = TakesIfPassing (is_passing fault) before after
 
@@ -216,10 +216,10 @@ abbrev pub AreItems : List ℕ → Type 0
 AreItems bytes = Parts IsItem bytes
 
 -- the next item was taken, or there is none
-abbrev pub TakesItem : {X : Type 0} → Result (Option X) Fault → Input → Input → Type 0
+abbrev pub TakesItem : {X : Type 0} → Result (Option X) TextCommandFault → Input → Input → Type 0
 TakesItem result before after = IfOk result (λ next. TakesNext IsItem next before.left after.left)
 
-abbrev pub TakesItemIf : Result Bool Fault → Input → Input → Type 0
+abbrev pub TakesItemIf : Result Bool TextCommandFault → Input → Input → Type 0
 TakesItemIf result before after = IfOk result (λ more. TakesIf IsItem more before.left after.left)
 
 -- by the states of what holds bytes, and of its reader
@@ -229,19 +229,19 @@ abbrev pub OnRest : {R : Type 0} → (R → Input) → (Option (List ℕ) → Op
 OnRest input Takes before start after rest = Takes (waiting before (input start)) (waiting after (input rest))
 
 -- a turn was served, or a turn unless a fault ended the conversation
-abbrev pub TurnOver : {C R : Type 0} → (R → Input) → Result Bool Fault → Conversation C → R → Conversation C → R → Type 0
+abbrev pub TurnOver : {C R : Type 0} → (R → Input) → Result Bool TextCommandFault → Conversation C → R → Conversation C → R → Type 0
 TurnOver input result before start after rest = OnRest input (TakesTurn result) before.intake start after.intake rest
 
-abbrev pub ServedOver : {C R : Type 0} → (R → Input) → Result Bool Fault → Conversation C → R → Conversation C → R → Type 0
+abbrev pub ServedOver : {C R : Type 0} → (R → Input) → Result Bool TextCommandFault → Conversation C → R → Conversation C → R → Type 0
 ServedOver input result before start after rest = OnRest input (TakesUnlessEnded result) before.intake start after.intake rest
 
 -- the next part was taken, or there is none
-abbrev pub NextOver : {C R X : Type 0} → (C → Input → Option (List ℕ)) → (R → Input) → (List ℕ → Type 0) → Result (Option X) Fault → C → R → C → R → Type 0
+abbrev pub NextOver : {C R X : Type 0} → (C → Input → Option (List ℕ)) → (R → Input) → (List ℕ → Type 0) → Result (Option X) TextCommandFault → C → R → C → R → Type 0
 NextOver remaining input Part result before start after rest =
     IfOk result (λ next. TakesNext Part next (remaining before (input start)) (remaining after (input rest)))
 
 -- the next statement was, or what follows the last one
-abbrev pub TakesStatement : {X : Type 0} → Result (Option X) Fault → Option (List ℕ) → Option (List ℕ) → Type 0
+abbrev pub TakesStatement : {X : Type 0} → Result (Option X) TextCommandFault → Option (List ℕ) → Option (List ℕ) → Type 0
 TakesStatement result before after = IfOk result (λ next. TakesNext IsStatement next before after)
 
 -- an intake holds all that was left
@@ -250,12 +250,12 @@ HoldsAll intake left = Stays left (Some (rest_of intake))
 
 -- by the states of a reader and of a writer: a device failed exactly where the outcome says so
 
-abbrev pub EndedOver : {X R W : Type 0} → (R → Input) → (W → Output) → Result X Fault → R → R → W → W → Type 0
+abbrev pub EndedOver : {X R W : Type 0} → (R → Input) → (W → Output) → Result X TextCommandFault → R → R → W → W → Type 0
 EndedOver input output result before after start written = Ended result (input before) (input after) (output start) (output written)
 
 -- a whole input was read too, where it was done
-abbrev pub ReadsOver : {R W : Type 0} → (R → Input) → (W → Output) → (List ℕ → Type 0) → Result (Unit {0}) Fault → R → R → W → W → Type 0
+abbrev pub ReadsOver : {R W : Type 0} → (R → Input) → (W → Output) → (List ℕ → Type 0) → Result (Unit {0}) TextCommandFault → R → R → W → W → Type 0
 ReadsOver input output Is result before after start written = Converts Is result (input before) (input after) (output start) (output written)
 
-abbrev pub ReadsDump : {R W : Type 0} → (R → Input) → (W → Output) → Result (Unit {0}) Fault → R → R → W → W → Type 0
+abbrev pub ReadsDump : {R W : Type 0} → (R → Input) → (W → Output) → Result (Unit {0}) TextCommandFault → R → R → W → W → Type 0
 ReadsDump input output result before after start written = ReadsOver input output IsDump result before after start written

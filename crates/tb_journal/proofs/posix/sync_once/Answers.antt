@@ -1,5 +1,5 @@
 use Rattle.std.proofs.Common.{refl}
-use Rattle.tb_journal.specs.declared.faults.Fault.TheVariants.{SyncFailed}
+use Rattle.tb_journal.specs.declared.faults.JournalFault.TheVariants.{SyncFailed}
 use Rattle.tb_journal.specs.System.{sync_fault_of}
 use Rattle.tb_journal.proofs.Retried.{interrupted_is, waits_again, sync_done, sync_failed, partly_again}
 use Rattle.tb_journal.proofs.posix.sync_once.Goals as goal

@@ -1,6 +1,6 @@
 use Rattle.std.proofs.Common.{refl}
 use Rattle.std.proofs.Common.{inl, inr}
-use Rattle.tb_journal.specs.declared.faults.Fault.TheVariants.{Memory}
+use Rattle.tb_journal.specs.declared.faults.JournalFault.TheVariants.{Memory}
 use Rattle.tb_journal.specs.declared.opening.OpenFault.TheVariants.{Device}
 use Rattle.tb_keep_commands.proofs.PartCauses.{part_cause_then, reads_on_then, all_quiet, stopped_reading}
 use Rattle.tb_keep_commands.proofs.Rounds.{reached, no_more}

@@ -1,0 +1,16 @@
+use Rattle.std.proofs.Common.{refl, arith}
+use Rattle.tb_keep_commands.proofs.Passing.{told_cut}
+use Rattle.tb_keep_commands.proofs.keeping.serve.Goals as goal
+
+pub returns : goal.returns
+returns g c = record {
+  noted = _;
+  made = c.tell_made.ensures;
+  started = _;
+  cut = told_cut _ _ _ _ _ _ c.cut_bytes-cut.ensures (omega arith) c.tell_cut.ensures;
+  ready = c.tell_ready.ensures;
+  result = c.keep-kept.result;
+  after = c.keep-kept.new.keeper;
+  served = c.keep-kept.ensures.served;
+  outcome_is = rw (c.kept_outcome.ensures, c.failed_pipe.ensures, c.failures-failures.ensures, c.failures.ensures) refl;
+}

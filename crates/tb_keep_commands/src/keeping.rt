@@ -1,0 +1,147 @@
+//! The serving of a ledger over a device.
+ghost use Rattle.std.specs.Prelude.{◌≡◌, true};
+ghost use Rattle.tb_keep.specs.Keeping.{IsFresh, IsUsable};
+ghost use Rattle.tb_keep_commands.specs.Ends.{On};
+ghost use Rattle.tb_keep_commands.specs.Naming.{NamesAsked, Left};
+ghost use Rattle.tb_keep_commands.specs.Outcomes.{kept_outcome};
+ghost use Rattle.tb_keep_commands.specs.private.Stages.{KeepsTold, RunsTold, StartsTold};
+ghost use Rattle.tb_keep_commands.specs.Statuses.{failed_pipe};
+
+use crate::faults::{Failed, KeepCommandFault, disk_fault, kept_fault};
+use crate::lines::{tell_cut, tell_made, tell_reading, tell_ready};
+use crate::naming::named_asked;
+use bumpalo::Bump;
+use std::alloc::{Allocator, Global};
+use tb_journal::Device;
+use tb_keep::{KeepFault, Keeper, NotKept, Rules, keep};
+use tb_records::{Sink, Source};
+
+/// How a start is reported: over a file of which path, and whether that it reads, and is done, is reported.
+#[derive(Clone, Copy)]
+pub(crate) struct Told<'a> {
+    pub path: &'a str,
+    pub reports: bool,
+}
+
+/// The fault of a ledger of these rules that was not opened, with what there is to say of its file.
+fn refused<D: Device + Drop>(alloc: Global, failed: NotKept<D>, asked: Rules) -> KeepCommandFault
+    ensures { Left (NamesAsked D.Device asked failed.fault result failed.device) }
+{
+    let NotKept { device, fault } = failed;
+    let mut device = device;
+    let named = named_asked(alloc, &mut device, asked, fault);
+    drop(device);
+    named
+}
+
+/// Which pipe failed if one did, of a reader that had so many errors before, and has so many now.
+pub fn failed_pipe(before: u64, now: u64) -> Failed
+    ensures { result ≡ failed_pipe before now }
+{
+    if before == now {
+        Failed::Output
+    } else {
+        Failed::Input
+    }
+}
+
+/// What is reported of serving that ended so.
+fn kept_outcome(kept: Result<u64, KeepFault>, pipe: Failed) -> Result<(), KeepCommandFault>
+    ensures { result ≡ kept_outcome pipe kept }
+{
+    match kept {
+        Ok(_) => Ok(()),
+        Err(fault) => Err(kept_fault(fault, pipe)),
+    }
+}
+
+/// Serves pairs over a ledger until they end. What its start made of the file of this path is reported first: where it had no bytes
+/// it was made, and else what was cut off behind the records; and then that it is done, where that is reported.
+fn serve<D: Device + Drop, A: Allocator + Clone, R: Source, W: Sink, E: Sink>(
+    alloc: Global,
+    keeper: Keeper<D, A>,
+    told: &Told,
+    len: usize,
+    reader: &mut R,
+    writer: &mut W,
+    faults: &mut E,
+) -> Result<(), KeepCommandFault>
+    requires usable { IsUsable keeper }
+    requires fresh { D.tells → IsFresh D.disk keeper }
+    ensures { On R.Source W.Sink E.Sink (KeepsTold D.Device result keeper told.now len)
+        reader.old reader.new writer.old writer.new faults.old faults.new }
+{
+    let mut keeper = keeper;
+    let cut = keeper.cut_bytes();
+    let at = (len as u64).saturating_sub(cut).saturating_sub(1);
+    tell_made(len, told.path, faults);
+    tell_cut(cut, at, faults);
+    tell_ready(told.reports, faults);
+    let failures = reader.failures();
+    let kept = keep(alloc, &mut keeper, reader, writer);
+    drop(keeper);
+    kept_outcome(kept, failed_pipe(failures, reader.failures()))
+}
+
+/// Opens a ledger over a device, or creates one, and serves pairs until they end: each reply is sent when the entry that it
+/// rests on is in the file. The machine's records take their memory of the pool. So many bytes were in the file before.
+fn start<D: Device + Drop, A: Allocator + Copy, R: Source, W: Sink, E: Sink>(
+    alloc: Global,
+    pool: A,
+    device: D,
+    rules: Rules,
+    told: &Told,
+    len: usize,
+    reader: &mut R,
+    writer: &mut W,
+    faults: &mut E,
+) -> Result<(), KeepCommandFault>
+    requires { D.tells → (D.disk device).sound ≡ true }
+    ensures { On R.Source W.Sink E.Sink (StartsTold D.Device result rules told.now len device)
+        reader.old reader.new writer.old writer.new faults.old faults.new }
+{
+    tell_reading(told.reports, told.path, len, faults);
+    let asked = rules;
+    match Keeper::start(alloc, pool, device, rules) {
+        Ok(keeper) => serve(alloc, keeper, told, len, reader, writer, faults),
+        Err(failed) => Err(refused(alloc, failed, asked)),
+    }
+}
+
+/// Serves pairs over the device of a path, whose length is asked for first. The machine has its records in a pool.
+pub(crate) fn run<D: Device + Drop, R: Source, W: Sink, E: Sink>(
+    alloc: Global,
+    device: D,
+    rules: Rules,
+    told: &Told,
+    reader: &mut R,
+    writer: &mut W,
+    faults: &mut E,
+) -> Result<(), KeepCommandFault>
+    requires { D.tells → (D.disk device).sound ≡ true }
+    ensures { On R.Source W.Sink E.Sink (RunsTold D.Device result rules told.now device)
+        reader.old reader.new writer.old writer.new faults.old faults.new }
+{
+    let mut device = device;
+    match device.len() {
+        Ok(len) => {
+            // A node of a pool over three others begins at a cache line, as in `run` of tb_machine.
+            let first = Bump::new(alloc);
+            let second = Bump::new(&first);
+            let third = Bump::new(&second);
+            let pool = Bump::new(&third);
+            let served = start(
+                alloc, &pool, device, rules, told, len, reader, writer, faults,
+            );
+            drop(pool);
+            drop(third);
+            drop(second);
+            drop(first);
+            served
+        }
+        Err(fault) => {
+            drop(device);
+            Err(disk_fault(fault))
+        }
+    }
+}

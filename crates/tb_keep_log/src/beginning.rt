@@ -1,0 +1,210 @@
+//! The file of a kept log is created, or opened after a crash.
+ghost use Rattle.std.specs.Prelude.{◌≡◌, ◌≤◌, Ok, IfOk, IfErr};
+ghost use Rattle.tb_journal.specs.Device.{HasCause, IsOfCall};
+ghost use Rattle.tb_journal.specs.Contents.{contents};
+ghost use Rattle.tb_journal.specs.Creating.{MayBeCreated};
+ghost use Rattle.tb_journal.specs.Reading.{extent_of};
+ghost use Rattle.tb_journal.specs.Ready.{IsReady};
+ghost use Rattle.tb_keep.specs.private.Entering.{StaysKept};
+ghost use Rattle.tb_keep.specs.Restoration.{torn_bytes};
+ghost use Rattle.tb_keep_log.specs.Keeping.{By, IfSound, IsUsable, OfHeld};
+ghost use Rattle.tb_keep_log.specs.Restoring.{HasLogCause, IsRestored};
+ghost use Rattle.tb_keep_log.specs.Opening.{CausedBy, HasStartCause, IsOpened, IsRefused, IsStartRefused, IsStarted, LeavesIfSound, MayBeOpened, MayBeStarted, OpensFile, Refuses, StartsFile, device_left};
+ghost use Rattle.tb_keep_log.specs.private.Steps.{CreatesIn, HasCreatedCause, IsCreated, IsNotCreated, IsReadTo, IsUsableBy, OpensAs};
+ghost use Rattle.tb_journal.specs.Opening.{LeavesSameRecords};
+
+use crate::faults::LogStartFault;
+use crate::keepers::LogKeeper;
+use crate::rereading::read_log;
+use std::alloc::{Allocator, Global};
+use tb_journal::{Device, Extent, Journal, JournalFault, NotOpened, OpenFault, create};
+use tb_keep::Rules;
+use tb_log::Follower;
+
+/// A torn commit leaves at most so many bytes behind the records and the latch there: one record and its latch.
+const TORN_BYTES_MAX: u64 = (1 << 24) + 8;
+
+/// A device whose file was not opened as a kept log, and why.
+#[derive(Drop)]
+pub struct NotStarted<D: Device> {
+    pub device: D,
+    pub fault: LogStartFault,
+}
+
+/// A journal that was not opened, as a log that was not.
+fn not_started<D: Device>(failed: NotOpened<D>) -> NotStarted<D>
+    ensures device { result.device ≡ failed.device }
+    ensures fault { result.fault ≡ LogStartFault.Journal failed.fault }
+{
+    NotStarted {
+        device: failed.device,
+        fault: LogStartFault::Journal(failed.fault),
+    }
+}
+
+/// The number of torn bytes of a file that was read to this extent: those behind its records and the latch there.
+fn torn_behind<D: Device>(device: &mut D, extent: Extent) -> Result<u64, JournalFault>
+    ensures torn { OfHeld (D.holds device.old) (λ file. extent_of (contents file) ≡ Ok extent → IfOk result (λ torn. torn ≡ torn_bytes file)) }
+    ensures same { OfHeld (D.holds device.old) (D.holds device.new) }
+    ensures stays { D.tells → StaysKept (D.disk device.old) (D.disk device.new) }
+    ensures named { IfErr result IsOfCall }
+    ensures cause { D.tells → HasCause result (D.disk device.old) (D.disk device.new) }
+{
+    match device.len() {
+        Ok(len) => Ok(len.saturating_sub(extent.end).saturating_sub(1) as u64),
+        Err(fault) => Err(fault),
+    }
+}
+
+/// The keeper of a file that was read to this extent. So many torn bytes are cut off.
+fn open_read<D: Device, A: Allocator + Clone>(
+    global: Global,
+    device: D,
+    rules: Rules,
+    extent: Extent,
+    follower: Follower<A>,
+    cut: u64,
+) -> Result<LogKeeper<D, A>, NotStarted<D>>
+    requires few { extent.count ≤ extent.end }
+    requires read { D.tells → IsReadTo rules follower extent (D.disk device) }
+    requires torn { D.tells → cut ≡ torn_bytes (D.disk device).seen }
+    ensures opened { IfSound D.Device device (IfOk result (IsOpened D.disk (D.disk device).seen)) }
+    ensures any_moment { D.tells → LeavesSameRecords (D.disk device) (D.disk (device_left result)) }
+    ensures cause { D.tells → CausedBy D.disk device result HasLogCause }
+    ensures usable { IfOk result IsUsable }
+    ensures any_device { OpensAs result rules follower cut }
+{
+    match Journal::open(global, device, extent) {
+        Ok(journal) => Ok(LogKeeper::new(rules, journal, follower, cut)),
+        Err(failed) => Err(not_started(failed)),
+    }
+}
+
+/// The keeper of a file that was read to this extent. Where more torn bytes are behind its records than a commit can leave, it is
+/// refused.
+fn open_short<D: Device, A: Allocator + Clone>(
+    global: Global,
+    device: D,
+    rules: Rules,
+    extent: Extent,
+    follower: Follower<A>,
+) -> Result<LogKeeper<D, A>, NotStarted<D>>
+    requires few { extent.count ≤ extent.end }
+    requires read { D.tells → IsReadTo rules follower extent (D.disk device) }
+    ensures opened { IfSound D.Device device (IfOk result (IsOpened D.disk (D.disk device).seen)) }
+    ensures any_moment { D.tells → LeavesIfSound D.disk device (device_left result) MayBeOpened }
+    ensures refused { D.tells → Refuses D.disk device result (λ why. By rules (IsRefused why)) }
+    ensures cause { D.tells → CausedBy D.disk device result HasLogCause }
+    ensures usable { IfOk result (IsUsableBy rules) }
+    ensures handed { OfHeld (D.holds device) (λ file. By rules IsRestored file follower extent → By rules (OpensFile result) file) }
+{
+    let mut device = device;
+    match torn_behind(&mut device, extent) {
+        Ok(torn) => {
+            if torn > TORN_BYTES_MAX {
+                let fault = LogStartFault::TornTooLong {
+                    at: extent.end as u64,
+                    bytes: torn,
+                };
+                return Err(NotStarted { device, fault });
+            }
+            open_read(global, device, rules, extent, follower, torn)
+        }
+        Err(fault) => Err(NotStarted {
+            device,
+            fault: LogStartFault::Journal(OpenFault::Device(fault)),
+        }),
+    }
+}
+
+impl<D: Device, A: Allocator + Copy> LogKeeper<D, A> {
+    /// Opens the file of a kept log: the follower is behind all entries that the file has. What a crash left behind the records is cut
+    /// off, if a commit can have left it: more is damage, and the file stays as it was (TornTooLong).
+    pub fn open(
+        global: Global,
+        alloc: A,
+        device: D,
+        rules: Rules,
+    ) -> Result<LogKeeper<D, A>, NotStarted<D>>
+        // Where no sync has failed before.
+        ensures opened { IfSound D.Device device (IfOk result (IsOpened D.disk (D.disk device).seen)) }
+        // So `keep_log` may serve.
+        ensures usable { IfOk result IsUsable }
+        ensures rules { IfOk result (λ keeper. keeper.rules ≡ rules) }
+        ensures ready { IfSound D.Device device (IfOk result (λ keeper. IsReady D.disk keeper.journal)) }
+        // A crash at any moment of the call leaves the records that were there, so that the call may be made again.
+        ensures any_moment { D.tells → LeavesIfSound D.disk device (device_left result) MayBeOpened }
+        // A file that is refused stays as it was.
+        ensures refused { D.tells → Refuses D.disk device result (λ why. By rules (IsRefused why)) }
+        ensures cause { D.tells → CausedBy D.disk device result HasLogCause }
+        // Of any device, by the file that its reads are of.
+        ensures handed { OfHeld (D.holds device) (By rules (OpensFile result)) }
+    {
+        let mut device = device;
+        let same = rules;
+        match read_log(global, alloc, same, &mut device) {
+            Ok((follower, extent)) => open_short(global, device, rules, extent, follower),
+            Err(fault) => Err(NotStarted { device, fault }),
+        }
+    }
+
+    /// Creates a kept log without entries in an empty file. Where something is in the file the fault is NotEmpty, and the file is as it
+    /// was.
+    fn create(
+        global: Global,
+        alloc: A,
+        device: D,
+        rules: Rules,
+    ) -> Result<LogKeeper<D, A>, NotStarted<D>>
+        ensures created { IfSound D.Device device (IfOk result (IsCreated D.disk (D.disk device).seen)) }
+        ensures usable { IfOk result IsUsable }
+        ensures rules { IfOk result (λ keeper. keeper.rules ≡ rules) }
+        ensures ready { IfSound D.Device device (IfOk result (λ keeper. IsReady D.disk keeper.journal)) }
+        ensures any_moment { D.tells → LeavesIfSound D.disk device (device_left result) MayBeCreated }
+        ensures refused { D.tells → Refuses D.disk device result IsNotCreated }
+        ensures cause { D.tells → CausedBy D.disk device result HasCreatedCause }
+        ensures handed { OfHeld (D.holds device) (By rules (CreatesIn D.holds result)) }
+    {
+        let _clients = rules.clients_max.get();
+        let Ok(follower) = Follower::new_in(global, alloc, rules.profile, rules.clients_max) else {
+            return Err(NotStarted {
+                device,
+                fault: LogStartFault::NoMemory,
+            });
+        };
+        match create(global, device) {
+            Ok(journal) => Ok(LogKeeper::new(rules, journal, follower, 0)),
+            Err(failed) => Err(not_started(failed)),
+        }
+    }
+
+    /// Creates a kept log in an empty file, and opens that of any other one.
+    pub fn start(
+        global: Global,
+        alloc: A,
+        device: D,
+        rules: Rules,
+    ) -> Result<LogKeeper<D, A>, NotStarted<D>>
+        // Where no sync has failed before.
+        ensures started { IfSound D.Device device (IfOk result (IsStarted D.disk (D.disk device).seen)) }
+        ensures usable { IfOk result IsUsable }
+        ensures rules { IfOk result (λ keeper. keeper.rules ≡ rules) }
+        ensures ready { IfSound D.Device device (IfOk result (λ keeper. IsReady D.disk keeper.journal)) }
+        ensures any_moment { D.tells → LeavesIfSound D.disk device (device_left result) MayBeStarted }
+        ensures refused { D.tells → Refuses D.disk device result (λ why. By rules (IsStartRefused why)) }
+        ensures cause { D.tells → CausedBy D.disk device result HasStartCause }
+        // Of any device, by the file that its reads are of.
+        ensures handed { OfHeld (D.holds device) (By rules (StartsFile result)) }
+    {
+        let same = rules;
+        match LogKeeper::create(global, alloc, device, same) {
+            Ok(keeper) => Ok(keeper),
+            Err(failed) => match failed.fault {
+                LogStartFault::Journal(OpenFault::Device(JournalFault::NotEmpty)) => {
+                    LogKeeper::open(global, alloc, failed.device, rules)
+                }
+                _ => Err(failed),
+            },
+        }
+    }
+}
