@@ -49,7 +49,7 @@ COLUMNS = (
 CLAUSES_OVER_100 = 0.088  # wanted: 0.10
 # Each figure with a bound: what it has today, and what is wanted.
 BOUNDS = {
-    "lines": (118437, 74500),
+    "lines": (118571, 74500),
     "imports": (11962, 4700),
     ">160": (0, 0),
     "ghost >160": (5, 0),
