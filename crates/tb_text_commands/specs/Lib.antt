@@ -8,6 +8,7 @@ pub mod Explanations
 pub mod ExplainLaws
 pub mod Heads
 pub mod Forms
+pub mod Hosts
 pub mod Kinds
 pub mod Options
 pub mod Results

@@ -1,6 +1,7 @@
 //! The forms between a program's arguments, its input and its output.
 ghost use Rattle.std.specs.Prelude.{◌≡◌, ◌<◌, ◌⊎◌, None, map, string_bytes};
 ghost use Rattle.tb_text_commands.specs.Forms.{form_of};
+ghost use Rattle.tb_text_commands.specs.Hosts.{ReportsLast, ServesOn};
 ghost use Rattle.tb_text_commands.specs.Statuses.{Finishes, TellsOf, fault_status};
 
 use crate::commands::command;
@@ -42,6 +43,27 @@ fn finish<W: Write + Drop, E: Sink>(mut output: W, status: u8, line: &[u8], faul
     status
 }
 
+/// Serves the command that the words are: what it reports is kept until all output is out.
+fn report_last<C: Clock, R: Read, W: Write + Drop, E: Sink>(
+    alloc: Global,
+    clock: &C,
+    words: &[String],
+    reader: &mut Buffered<R>,
+    writer: Counting<BufWriter<W>>,
+    faults: &mut E,
+) -> u8
+    ensures known { result < 3 }
+    ensures wrong { form_of (map string_bytes words.now) ≡ None → (result ≡ 2) ⊎ (result ≡ 1) }
+    ensures reported { ReportsLast R.remaining W.contents (map string_bytes words.now) result reader.old writer
+        (E.output faults.old) (E.output faults.new) }
+{
+    let mut writer = writer;
+    let mut kept = Counting::new(Vec::new(alloc));
+    let status = command(alloc, clock, words, false, reader, &mut writer, &mut kept);
+    let line = kept.into_inner();
+    finish(writer.into_inner(), status, line.as_slice(), faults)
+}
+
 /// Does what the words ask for between an input and an output, both buffered, and answers the exit status. Where
 /// statements are typed, each fault is reported when it comes; else the line of a fault waits until all output is out.
 pub fn serve<C: Clock, R: Read + Drop, W: Write + Drop, E: Sink>(
@@ -55,6 +77,8 @@ pub fn serve<C: Clock, R: Read + Drop, W: Write + Drop, E: Sink>(
 ) -> u8
     ensures known { result < 3 }
     ensures wrong { form_of (map string_bytes words.now) ≡ None → (result ≡ 2) ⊎ (result ≡ 1) }
+    ensures served { ServesOn R.remaining W.contents (map string_bytes words.now) talks result input output
+        (E.output faults.old) (E.output faults.new) }
 {
     let input = BufReader::with_capacity(alloc, BUFFER_BYTES, input);
     let output = BufWriter::with_capacity(alloc, BUFFER_BYTES, output);
@@ -63,24 +87,9 @@ pub fn serve<C: Clock, R: Read + Drop, W: Write + Drop, E: Sink>(
     };
     let mut reader = Buffered::new(input);
     let mut writer = Counting::new(output);
-    if talks {
-        let status = command(alloc, clock, words, true, &mut reader, &mut writer, faults);
-        return finish(writer.into_inner(), status, &[], faults);
+    if !talks {
+        return report_last(alloc, clock, words, &mut reader, writer, faults);
     }
-    let mut line = Counting::new(Vec::new(alloc));
-    let status = command(
-        alloc,
-        clock,
-        words,
-        false,
-        &mut reader,
-        &mut writer,
-        &mut line,
-    );
-    finish(
-        writer.into_inner(),
-        status,
-        line.into_inner().as_slice(),
-        faults,
-    )
+    let status = command(alloc, clock, words, true, &mut reader, &mut writer, faults);
+    finish(writer.into_inner(), status, &[], faults)
 }
