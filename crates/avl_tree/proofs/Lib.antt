@@ -1,4 +1,4 @@
-pub mod Around
+pub mod SplitEntries
 pub mod Crosses
 pub mod Firsts
 pub mod InPlace
@@ -7,4 +7,4 @@ pub mod Ranges
 pub mod Shape
 pub mod Steps
 pub mod TwoInPlace
-pub mod Whole
+pub mod MapInvariants

@@ -13,7 +13,7 @@ use Rattle.avl_tree.specs.Visits.{between}
 use Rattle.avl_tree.specs.declared.tree.Node.{Node}
 use Rattle.avl_tree.specs.declared.tree.Tree.{Tree}
 use Rattle.avl_tree.specs.declared.tree.Tree.TheViews.{Fork}
-use Rattle.avl_tree.proofs.Around.{IsAbove, IsBelow, above_front, below_back}
+use Rattle.avl_tree.proofs.SplitEntries.{IsAbove, IsBelow, above_front, below_back}
 
 -- calls at xs and then at ys are calls at both
 pub FoldsTo-append : {P A : Type 0} (R : P → A → P → Type 0) (p : P) (xs ys : List A) (q u : P) → FoldsTo R p xs q → FoldsTo R q ys u → FoldsTo R p (xs ++ ys) u

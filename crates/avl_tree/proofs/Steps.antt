@@ -17,7 +17,7 @@ use Rattle.avl_tree.specs.declared.tree.Node.{Node}
 use Rattle.avl_tree.specs.declared.tree.Tree.{Tree}
 use Rattle.avl_tree.specs.declared.tree.Tree.TheVariants.{Fork'}
 use Rattle.avl_tree.specs.declared.tree.Tree.TheViews.{Fork}
-use Rattle.avl_tree.proofs.Around.{Passes, passes_above, passes_below, passes_both, ordered_left, ordered_right, ordered_tail, above_front, below_back}
+use Rattle.avl_tree.proofs.SplitEntries.{Passes, passes_above, passes_below, passes_both, ordered_left, ordered_right, ordered_tail, above_front, below_back}
 
 module _ {K V A : Type 0} where
   keeps : {h : ℕ} {p : _} {l l' r r' : Tree K V A} {a : K} {b b' : V} → IsAvl (Fork' h p a l r b) → KeepsLinks l l' → KeepsLinks r r' → KeepsLinks (Fork' h p a l r b) (Fork' h p a l' r' b')

@@ -15,7 +15,7 @@ use Rattle.avl_tree.specs.private.Pairs.{Taking, CalledAtBoth, ChangesBeside, Ch
 use Rattle.avl_tree.specs.declared.tree.Node.{Node}
 use Rattle.avl_tree.specs.declared.tree.Tree.{Tree}
 use Rattle.avl_tree.specs.declared.tree.Tree.TheViews.{Fork}
-use Rattle.avl_tree.proofs.Around.{reversed_Greater}
+use Rattle.avl_tree.proofs.SplitEntries.{reversed_Greater}
 use Rattle.avl_tree.proofs.Steps.{GoesTo, StandsHere, goes, stands_here, found, written, carried, keeps_both, searched_after}
 
 -- a call at y and x in the other order

@@ -1,4 +1,4 @@
-pub mod Again
+pub mod Repeats
 pub mod AsBox
 pub mod Filled
 pub mod Following

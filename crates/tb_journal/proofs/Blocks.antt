@@ -9,7 +9,7 @@ use Rattle.std.specs.Int.Bits.{bit_xor}
 use Rattle.std.specs.List.{AllByRecursion}
 use Rattle.tb_journal.specs.Checksum.{checksum, remainder, byte_on, bit_on}
 use Rattle.tb_journal.specs.Contents.{Fits, size_bytes, block, at_rest, Spoiled, Whole, behind_latch, front, Records, with_record, with_records, walk, blocks_length}
-use Rattle.tb_journal.proofs.Walks.{walk-whole, ended}
+use Rattle.tb_journal.proofs.BlockWalks.{walk-whole, ended}
 
 -- sizes and sums fit their bytes
 

@@ -5,7 +5,7 @@ use Rattle.std.proofs.lemmas.Bool.{cases_lt}
 use Rattle.tb_journal.specs.Device.{ReadsAt}
 use Rattle.tb_journal.specs.Scans.{IsAhead}
 use Rattle.tb_journal.specs.Reading.{HasAhead}
-use Rattle.tb_journal.proofs.Walks.{take_parts, drop_parts}
+use Rattle.tb_journal.proofs.BlockWalks.{take_parts, drop_parts}
 
 -- bytes that stay in front stay ahead
 pub kept_in_front : (k n : ℕ) (now was old : List ℕ) → k ≤ n → take n now ≡ was → take k was ≡ old → take k now ≡ old

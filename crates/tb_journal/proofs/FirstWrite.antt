@@ -14,7 +14,7 @@ use Rattle.tb_journal.specs.Creating.{is_torn_from, is_blank, IsUnborn, IsCreate
 use Rattle.tb_journal.specs.Opening.{device_left, fault_left}
 use Rattle.tb_journal.specs.Ready.{Kept}
 use Rattle.tb_journal.specs.declared.opening.NotOpened.{NotOpened}
-use Rattle.tb_journal.proofs.Walks.{walk-ends}
+use Rattle.tb_journal.proofs.BlockWalks.{walk-ends}
 use Rattle.tb_journal.proofs.Moments.{started, weaker}
 use Rattle.tb_journal.proofs.Steps.{short_front}
 use Rattle.tb_journal.proofs.Publishing.{wholly}

@@ -9,9 +9,9 @@ use Rattle.tb_journal.specs.declared.hops.Hop.{Hop}
 use Rattle.tb_journal.specs.declared.hops.Hop.TheVariants as hops
 use Rattle.tb_journal.specs.Growing.{Later}
 use Rattle.tb_journal.specs.Snapshots.{EndsAt, HasDamageBefore, LeadsTo, IsFinal}
-use Rattle.tb_journal.proofs.Walks.{stays_behind}
+use Rattle.tb_journal.proofs.BlockWalks.{stays_behind}
 use Rattle.tb_journal.proofs.Committing.{blocks_length-append}
-use Rattle.tb_journal.proofs.Nexts.{next_damaged, one_more, ahead_behind}
+use Rattle.tb_journal.proofs.ScanSteps.{next_damaged, one_more, ahead_behind}
 use Rattle.tb_journal.proofs.Growths.{final_later, damaged_final, damage_final, leads_within, leads_later}
 
 -- a whole block is as long as its length says

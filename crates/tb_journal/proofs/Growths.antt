@@ -5,9 +5,9 @@ use Rattle.tb_journal.specs.Contents.{Contents, NotAJournal, Damaged, Records, w
 use Rattle.tb_journal.specs.Scans.{Place, BeginsWith, IsAhead, HasRead}
 use Rattle.tb_journal.specs.Growing.{Extends, LaterThan, Later, Grown}
 use Rattle.tb_journal.specs.Snapshots.{HasDamageBefore, LeadsTo, IsFinal}
-use Rattle.tb_journal.proofs.Walks.{unjoined}
+use Rattle.tb_journal.proofs.BlockWalks.{unjoined}
 use Rattle.tb_journal.proofs.Committing.{blocks_length-append}
-use Rattle.tb_journal.proofs.Nexts.{all, end_within, next_damaged}
+use Rattle.tb_journal.proofs.ScanSteps.{all, end_within, next_damaged}
 
 -- a file that represents records
 

@@ -1,4 +1,4 @@
-pub mod Walks
+pub mod BlockWalks
 pub mod Moments
 pub mod Blocks
 pub mod Steps
@@ -6,7 +6,7 @@ pub mod Causes
 pub mod Named
 pub mod Kept
 pub mod Remainders
-pub mod Past
+pub mod CallHistory
 pub mod Publishing
 pub mod Waiting
 pub mod Sealing
@@ -16,11 +16,11 @@ pub mod Repairing
 pub mod Opened
 pub mod FirstWrite
 pub mod Blanks
-pub mod Nexts
+pub mod ScanSteps
 pub mod Filling
 pub mod Fronts
 pub mod Scanning
-pub mod Between
+pub mod SystemCalls
 pub mod Retried
 pub mod WholeCalls
 pub mod Growths

@@ -7,7 +7,7 @@ use Rattle.tb_journal.specs.declared.faults.JournalFault.{JournalFault}
 use Rattle.tb_journal.specs.Device.{Disk, Only, Torn, Cut, Elapses, FailsNone, HasFailed, HasCause, IsLookedAt, Cuts, Syncs, overwritten}
 use Rattle.tb_journal.specs.System.{Counts, Changes, Preads, Pwrites, Ftruncates, Fdatasyncs, fault_of, sync_fault_of}
 use Rattle.tb_journal.specs.private.Posix.{ReadsSome, WritesSome}
-use Rattle.tb_journal.proofs.Between.{CountsNow, none_same, none_then, failed_then, elapses_same, elapses_then, looked_then, changes_then, torn_then, cut_then}
+use Rattle.tb_journal.proofs.SystemCalls.{CountsNow, none_same, none_then, failed_then, elapses_same, elapses_then, looked_then, changes_then, torn_then, cut_then}
 
 pub interrupted_is : {T : Type 0} (kind : ErrorKind) → kind ≡ kinds.Interrupted → IsErrOf {T = T} (Err kind) kinds.Interrupted
 interrupted_is kind is = ap (λ (k : ErrorKind). Err k) is

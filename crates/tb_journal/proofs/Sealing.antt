@@ -3,7 +3,7 @@ use Rattle.std.proofs.Common.{◌≡◌, ℕ, ◌+◌, List, ◌++◌, length, t
 use Rattle.std.proofs.lemmas.List.{take_at, drop_at}
 use Rattle.tb_journal.specs.Contents.{Fits, block}
 use Rattle.tb_journal.specs.private.Batches.{blank_numbers}
-use Rattle.tb_journal.proofs.Walks.{drop_parts}
+use Rattle.tb_journal.proofs.BlockWalks.{drop_parts}
 
 module _ (old content was : List ℕ) (n : ℕ) (long : length old ≡ n) (is : was ≡ old ++ (blank_numbers ++ content)) where
   begins : take n was ≡ old

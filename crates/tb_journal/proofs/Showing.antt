@@ -9,9 +9,9 @@ use Rattle.tb_journal.specs.Scans.{BeginsWith}
 use Rattle.tb_journal.specs.Reading.{HasAhead, asked}
 use Rattle.tb_journal.specs.Growing.{Extends, Later, Grown}
 use Rattle.tb_journal.specs.Snapshots.{Snapped, EndsAt, HasDamageBefore, IsFinal, ShowsBlocks, ShowsOf, IsHeld}
-use Rattle.tb_journal.proofs.Walks.{ended}
+use Rattle.tb_journal.proofs.BlockWalks.{ended}
 use Rattle.tb_journal.proofs.Committing.{blocks_length-append}
-use Rattle.tb_journal.proofs.Nexts.{goes_on, next_none, next_damaged}
+use Rattle.tb_journal.proofs.ScanSteps.{goes_on, next_none, next_damaged}
 use Rattle.tb_journal.proofs.Fronts.{at_least, asked_told, front_told}
 use Rattle.tb_journal.proofs.Growths.{extends_later, later_extends, final_later, damage_final, later_then, leads_within, leads_kept, leads_later}
 

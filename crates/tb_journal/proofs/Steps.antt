@@ -5,7 +5,7 @@ use Rattle.std.proofs.lemmas.List.{append-nil, take_at, drop_at, take_all, drop_
 use Rattle.std.specs.List.{AllByRecursion}
 use Rattle.tb_journal.specs.Device.{Torn, Cut, overwritten}
 use Rattle.tb_journal.specs.Contents.{Fits, block, at_rest, Front, Ends, behind_latch, front, Records, joined, skipped, walk, contents, blocks_length, records_end}
-use Rattle.tb_journal.proofs.Walks.{take_parts, IsFile, is_file, with_records-Records, ended}
+use Rattle.tb_journal.proofs.BlockWalks.{take_parts, IsFile, is_file, with_records-Records, ended}
 use Rattle.tb_journal.proofs.Blocks.{walk-at_rest, length-blocks}
 
 -- latches

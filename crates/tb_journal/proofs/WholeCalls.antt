@@ -6,7 +6,7 @@ use Rattle.tb_journal.specs.declared.faults.JournalFault.{JournalFault}
 use Rattle.tb_journal.specs.Device.{Disk, Torn, FailsNone, IsLookedAt, Looks, ReadsAt, Writes, overwritten}
 use Rattle.tb_journal.specs.System.{Changes}
 use Rattle.tb_journal.specs.private.Posix.{ReadsSome, WritesSome}
-use Rattle.tb_journal.proofs.Between.{CountsNow, none_same, none_then, cause_then, looked_same, looked_then, changes_same, changes_then, changes_as, torn_none, torn_then, torn_wider}
+use Rattle.tb_journal.proofs.SystemCalls.{CountsNow, none_same, none_then, cause_then, looked_same, looked_then, changes_same, changes_then, changes_as, torn_none, torn_then, torn_wider}
 
 -- reads
 

@@ -167,7 +167,7 @@ impl Memory {
 }
 
 // What one more call may leave of a file that a crash left.
-#[tactic(auto, using(crate::proofs::Past::cut_through))]
+#[tactic(auto, using(crate::proofs::CallHistory::cut_through))]
 fn after_torn(alloc: Global, file: Vec<u8>, call: &Call, torn: &[u8]) -> Result<Vec<u8>, AllocError>
     ensures among { IfOk result (λ left. Adds file.items call.now left.items) }
     ensures exact { IfOk result (λ left. left.items ≡ torn_by torn.now call.now file.items) }
@@ -184,7 +184,7 @@ fn after_torn(alloc: Global, file: Vec<u8>, call: &Call, torn: &[u8]) -> Result<
 }
 
 // What a write of so many bytes leaves that a crash cuts short.
-#[tactic(auto, using(crate::proofs::Past::torn_within, crate::proofs::Past::torn_beyond, crate::proofs::Past::let_through))]
+#[tactic(auto, using(crate::proofs::CallHistory::torn_within, crate::proofs::CallHistory::torn_beyond, crate::proofs::CallHistory::let_through))]
 fn torn_write(
     alloc: Global,
     old: Vec<u8>,

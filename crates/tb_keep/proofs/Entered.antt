@@ -10,7 +10,7 @@ use Rattle.tb_journal.specs.Opening.{IsAsBefore}
 use Rattle.tb_journal.specs.Reading.{extent_of}
 use Rattle.tb_journal.specs.Scans.{Place, BeginsWith, HasRead}
 use Rattle.tb_journal.proofs.Moments.{started, goes_on}
-use Rattle.tb_journal.proofs.Walks.{begins_shorter}
+use Rattle.tb_journal.proofs.BlockWalks.{begins_shorter}
 use Rattle.tb_machine.specs.Histories.{State, start as start_state}
 use Rattle.tb_keep.specs.declared.faults.StartFault.{StartFault}
 use Rattle.tb_keep.specs.declared.faults.StartFault.TheVariants as start

@@ -1,6 +1,6 @@
 pub mod Pairs
 pub mod Batches
-pub mod Going
+pub mod ServedRounds
 pub mod Moments
 pub mod Lasting
 pub mod Leading
@@ -12,11 +12,11 @@ pub mod Entered
 pub mod Dumping
 pub mod Taking
 pub mod Salvages
-pub mod Behind
+pub mod TakenRecords
 pub mod Longest
-pub mod Above
+pub mod EntriesAbove
 pub mod Crashes
-pub mod Again
+pub mod OneHistory
 pub mod Spelled
 pub mod Stopping
 pub mod Unrefused

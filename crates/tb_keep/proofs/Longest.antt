@@ -5,7 +5,7 @@ use Rattle.tb_journal.specs.declared.opening.OpenFault.TheVariants as open_fault
 use Rattle.tb_journal.specs.declared.reading.Refusal.TheVariants as refusals
 use Rattle.tb_journal.specs.Contents.{Front, Ends, Spoiled, Whole, front, joined, skipped, Contents, NotAJournal, Damaged, Records, with_record, with_records, walk, contents, records_end}
 use Rattle.tb_journal.specs.Scans.{BeginsWith}
-use Rattle.tb_journal.proofs.Walks.{begins_shorter, is_file}
+use Rattle.tb_journal.proofs.BlockWalks.{begins_shorter, is_file}
 use Rattle.tb_records.specs.declared.faults.FrameFault.{FrameFault}
 use Rattle.tb_machine.specs.declared.restoring.RestoreFault.{RestoreFault}
 use Rattle.tb_keep.specs.declared.faults.StartFault.{StartFault}
@@ -13,7 +13,7 @@ use Rattle.tb_keep.specs.declared.faults.StartFault.TheVariants as start
 use Rattle.tb_keep.specs.Keeping.{History, records_of, state_of, IsKeepable}
 use Rattle.tb_keep.specs.Restoration.{StopsAt, StopsFile}
 use Rattle.tb_keep.specs.Salvaging.{IsLongest, StopsBehind}
-use Rattle.tb_keep.proofs.Again.{one_head}
+use Rattle.tb_keep.proofs.OneHistory.{one_head}
 use Rattle.tb_keep.proofs.Salvages.{stops_longer_history}
 use Rattle.tb_keep.proofs.Unrefused.{only_memory}
 use Rattle.tb_keep.proofs.WholeFiles.{begins_rest}

@@ -9,7 +9,7 @@ use Rattle.tb_journal.specs.Opening.{IsAsBefore}
 use Rattle.tb_journal.specs.declared.reading.Extent.{Extent}
 use Rattle.tb_journal.proofs.Moments.{then, weaker}
 use Rattle.tb_journal.proofs.Opened.{is_told}
-use Rattle.tb_journal.proofs.Walks.{whole_begins}
+use Rattle.tb_journal.proofs.BlockWalks.{whole_begins}
 use Rattle.tb_machine.specs.Histories.{State}
 use Rattle.tb_journal.specs.declared.opening.OpenFault.TheVariants as open_faults
 use Rattle.tb_keep.specs.declared.faults.StartFault.{StartFault}

@@ -16,7 +16,7 @@ use Rattle.tb_journal.specs.Ready.{Kept}
 use Rattle.tb_journal.specs.Scans.{HasRead, Place, BeginsWith, ReadsNext, Starts, IsAt, IsOfStart}
 use Rattle.tb_journal.proofs.Causes.{none_since}
 use Rattle.tb_journal.proofs.Moments.{started, then, weaker}
-use Rattle.tb_journal.proofs.Walks.{begins_shorter}
+use Rattle.tb_journal.proofs.BlockWalks.{begins_shorter}
 use Rattle.tb_machine.specs.Dumps.{dumped}
 use Rattle.tb_machine.specs.Histories.{State, start as start_state}
 use Rattle.tb_keep.specs.declared.faults.SalvageFault.{SalvageFault}

@@ -9,7 +9,7 @@ use Rattle.tb_journal.specs.declared.reading.Extent.{Extent}
 use Rattle.tb_journal.specs.Contents.{Contents, NotAJournal, Damaged, Records, contents, with_record, with_records, walk, records_of, recorded, records_end}
 use Rattle.tb_journal.specs.Reading.{extent_of}
 use Rattle.tb_journal.specs.Scans.{BeginsWith}
-use Rattle.tb_journal.proofs.Walks.{is_file}
+use Rattle.tb_journal.proofs.BlockWalks.{is_file}
 use Rattle.tb_machine.specs.Histories.{State}
 use Rattle.tb_keep.specs.declared.faults.StartFault.{StartFault}
 use Rattle.tb_keep.specs.declared.faults.StartFault.TheVariants as start

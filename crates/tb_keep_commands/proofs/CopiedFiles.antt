@@ -6,7 +6,7 @@ use Rattle.tb_keep.specs.declared.faults.StartFault.{StartFault}
 use Rattle.tb_keep.specs.declared.salvaging.Salvaged.{Salvaged}
 use Rattle.tb_keep.specs.Salvaging.{IsSalvaged}
 use Rattle.tb_machine.specs.Histories.{State}
-use Rattle.tb_machine.proofs.Held.{commit_is}
+use Rattle.tb_machine.proofs.RepeatLaws.{commit_is}
 use Rattle.tb_keep_commands.specs.declared.copies.Copied.{Copied}
 use Rattle.tb_keep_commands.specs.Copies.{IsCopy, EndsCopy, copied_of, copied_text}
 use Rattle.tb_keep_commands.specs.Outcomes.{Outcome, PrintsText}

@@ -3,7 +3,7 @@ pub mod FirstBytes
 pub mod Lengths
 pub mod Lives
 pub mod PartCauses
-pub mod Parts
+pub mod DumpPrefixes
 pub mod Passing
 pub mod Rounds
-pub mod Wholes
+pub mod WholeFiles

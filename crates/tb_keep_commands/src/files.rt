@@ -17,7 +17,7 @@ use tb_keep::{StartFault, read_history, write_dump};
 use tb_records::{Sink, put_all};
 
 /// Reads a whole file, whose records are those of one history.
-#[tactic(auto, using(crate::proofs::Wholes::found_is))]
+#[tactic(auto, using(crate::proofs::WholeFiles::found_is))]
 pub(crate) fn read_whole<D: Device>(alloc: Global, device: &mut D) -> Result<Found, StartFault>
     ensures found { (file : List ℕ) → D.holds device.old file → ReadsWhole result file }
     ensures same { (file : List ℕ) → D.holds device.old file → D.holds device.new file }

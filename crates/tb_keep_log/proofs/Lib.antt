@@ -1,7 +1,7 @@
 pub mod Leading
 pub mod Holding
 pub mod Turning
-pub mod Going
+pub mod ServedItems
 pub mod Entering
 pub mod Opened
 pub mod Crashes

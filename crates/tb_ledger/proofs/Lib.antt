@@ -11,10 +11,10 @@ pub mod MeaningLaws
 pub mod Entries
 pub mod Index
 pub mod UndoLogs
-pub mod Parts
+pub mod RowSums
 pub mod Pairs
 pub mod States
-pub mod Standing
+pub mod CurrentRows
 pub mod Settled
 pub mod TwoParties
 pub mod Passing
@@ -29,5 +29,5 @@ pub mod VerdictLaws
 pub mod ReadLaws
 pub mod FailedLaws
 pub mod Profiles
-pub mod Many
+pub mod FoundIds
 pub mod AbsentKeys

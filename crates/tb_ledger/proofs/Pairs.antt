@@ -1,6 +1,6 @@
 -- The sums of all accounts after a change on the debit side of one and on the credit side of one.
 use Rattle.tb_ledger.proofs.Common.{◌≡◌, ◌≢◌, ℕ, ◌<◌, ◌≤◌, Bool, true, false, not, ◌&&◌, eqb, ◌==◌, List, [], ◌∷◌, find, Some, refl, sym, subst, ◌∙◌, arith, nat_tests, Transfer, put, replaced, changed, Each, Rising, each-changed, each-both, rising-changed, State, Side, AccountRow, TransferRow, pending, is_open, closing_debit, closing_credit, debit, credit, account_row_key, transfer_row_key, row_holds, HasSide, HasBoth, HasSums, gained, released, released_and_gained, settled, CanTake, on_debits, on_credits, accounts_gained, accounts_released, accounts_released_and_gained, new_transfer_row}
-use Rattle.tb_ledger.proofs.Parts.{released_here, released_other, held_enough, gained_here, gained_other}
+use Rattle.tb_ledger.proofs.RowSums.{released_here, released_other, held_enough, gained_here, gained_other}
 
 -- each record is what is found by its key
 pub each-found : {X : Type 0} (key : X → ℕ) (xs : List X) → Rising key xs → Each (λ y. find (λ z. key z == key y) xs ≡ Some y) xs

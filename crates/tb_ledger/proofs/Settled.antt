@@ -1,10 +1,10 @@
 -- What the code of an accepted event makes of the rows.
 use Rattle.tb_ledger.proofs.Common.{◌≡◌, ◌≢◌, ℕ, ◌+◌, ◌<◌, ◌≤◌, Bool, true, false, eqb, ◌==◌, List, [], ◌∷◌, map, find, IsSome, if◌then◌else◌, Option, Some, None, option_map, refl, sym, ap, subst, ◌∙◌, arith, nat_tests, Account, Transfer, put, replaced, changed, Each, Rising, found_key, changed_found, find-changed, find-map, each-back, each-map, each-put, each-find, map-put, map-changed, map-replaced, rising-put, AccountRow, TransferRow, Timeout, Posted, Voided, Books, posts, resolves, holds, is_open, account_at, transfer_at, closing_debit, closing_credit, debit, credit, account_key, transfer_key, ledger_at, IdsRise, Sound, account_row_key, transfer_row_key, books_in, books_of, IsKept, row_holds, times_out, listed, unlisted, IsListed, IsIndex, HasSide, HasSums, HasState, IsLedger, on_debits, on_credits, gained, released_and_gained, settled, state_given_by, accounts_gained, accounts_released_and_gained, new_row, new_transfer_row, Rows, Side, account_row_at, CanSettle, IsResolution, Stored}
-use Rattle.tb_ledger.proofs.Parts.{held_enough, no_sums}
+use Rattle.tb_ledger.proofs.RowSums.{held_enough, no_sums}
 use Rattle.tb_ledger.proofs.Index.{index_added, index_closed}
 use Rattle.tb_ledger.proofs.Pairs.{sums_gained, sums_resolved}
 use Rattle.tb_ledger.proofs.States.{states_added, states_resolved}
-use Rattle.tb_ledger.proofs.Standing.{holds_stand, takes_debit, takes_credit}
+use Rattle.tb_ledger.proofs.CurrentRows.{holds_stand, takes_debit, takes_credit}
 use Rattle.tb_ledger.proofs.SoundLaws.{sound_moved, sound_resolved}
 use Rattle.tb_ledger.proofs.FoundPairs.{FoundPair}
 use Rattle.tb_ledger.proofs.Expiries.{accounts_apart, debit_party, credit_party}

@@ -1,6 +1,6 @@
 -- The states of pending transfers, as rows carry them, after a transfer is recorded.
 use Rattle.tb_ledger.proofs.Common.{◌≡◌, ◌≢◌, ℕ, ◌+◌, ◌*◌, ◌<◌, Bool, true, false, cond, not, ◌&&◌, eqb, leb, ◌==◌, List, [], ◌∷◌, map, find, Option, Some, None, is_some, IsSome, refl, sym, ap, subst, ◌∙◌, arith, nat_tests, Transfer, put, replaced, Each, Rising, each-map, each-put, each-replaced, each-through, each-find, none-found, find-put_other, find-put_here, find-put_none, map-put, map-replaced, TransferRow, pending, resolves, is_open, is_due, state_by, state_of, transfer_key, transfer_row_key, row_holds, books_at, HasState, settled, new_transfer_row, state_given_by}
-use Rattle.tb_ledger.proofs.Parts.{both_hold}
+use Rattle.tb_ledger.proofs.RowSums.{both_hold}
 use Rattle.tb_ledger.proofs.Sides.{open_parts}
 
 -- what is there stays there

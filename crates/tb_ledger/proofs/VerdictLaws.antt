@@ -1,7 +1,7 @@
 -- The verdicts, by the rows that are found.
 use Rattle.tb_ledger.proofs.Common.{◌≡◌, ◌≢◌, ℕ, suc, zero, eqb, ◌==◌, ◌||◌, ◌&&◌, Bool, true, false, List, [], ◌∷◌, find, is_some, Option, Some, None, option_map, if◌then◌else◌, refl, sym, ap, ap₂, subst, ◌∙◌, arith, Bor, not, bit_or, nat_tests, list_any, option_map_or, option_copied, Account, Transfer, CreateAccountResult, CreateTransferResult, PendingTransferNotFound, account_result_code, transfer_result_code, Books, has, closed, posts, resolves, pending, transfer_at, account_now, as_it_stands, state_of, recorded_transfer, Test, closed_tests, closed_at, named_tests, named_code, resolve_own_tests, resolve_code, transfer_verdict, first_of, first_code, account_own_tests, account_exists_tests, account_new_tests, account_verdict, transfer_own_tests, transfer_exists_tests, failed_tests, filled, filled_from, two_party_own_tests, balanced_amount, balanced_between, single_code, pair_code, id_code, Rows, books_in, IsKept, row_now, row_closed, HasSums, HasState, find-map, each-find, AccountRow, and_or_self, State, TransferRow, FoundPending, account_row_at, closed_code}
 use Rattle.tb_ledger.proofs.SoundLaws.{filled_keeps}
-use Rattle.tb_ledger.proofs.Standing.{row_stands}
+use Rattle.tb_ledger.proofs.CurrentRows.{row_stands}
 use Rattle.tb_ledger.proofs.Accepted.{fail, found_from, found_pair, found_pending, found_stamped}
 use Rattle.tb_ledger.proofs.FoundPairs.{FoundPair}
 

@@ -3,7 +3,7 @@ pub mod Legal
 pub mod Judging
 pub mod Reached
 pub mod LawProofs
-pub mod Held
+pub mod RepeatLaws
 pub mod SoundBooks
 pub mod Lawful
 pub mod SoundSteps

@@ -15,7 +15,7 @@ use Rattle.tb_machine.specs.ReplicaLaws.{FromHere, Prefix, IsIn, IsKept, SameAga
 use Rattle.tb_machine.proofs.Legal.{fold_append}
 use Rattle.tb_machine.proofs.Judging.{both_of, new_of}
 use Rattle.tb_machine.proofs.Lawful.{executed_time}
-use Rattle.tb_machine.proofs.Held.{new_again}
+use Rattle.tb_machine.proofs.RepeatLaws.{new_again}
 use Rattle.tb_machine.proofs.Accepted.{accepted_is_legal}
 use Rattle.tb_machine.proofs.Running.{after_with_pair}
 

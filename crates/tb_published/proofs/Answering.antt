@@ -11,7 +11,7 @@ use Rattle.tb_machine.specs.Histories.{answer_by, answer_to, status_of}
 use Rattle.tb_machine.proofs.Rows.{row_found}
 use Rattle.tb_machine.proofs.Judging.{repeat_by}
 use Rattle.tb_machine.proofs.Reached.{Stands, reached}
-use Rattle.tb_machine.proofs.Held.{answers, new_again}
+use Rattle.tb_machine.proofs.RepeatLaws.{answers, new_again}
 use Rattle.tb_published.specs.Openings.{Opening, LegalIn, IsAnswerIn, after_in}
 use Rattle.tb_published.specs.SeenLaws.{NeverNotYet}
 

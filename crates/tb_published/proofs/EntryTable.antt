@@ -10,7 +10,7 @@ use Rattle.tb_machine.specs.Histories.{State, least_time, fits, step}
 use Rattle.tb_machine.specs.Scripts.{entry_of, has_time}
 use Rattle.tb_machine.proofs.Judging.{comes}
 use Rattle.tb_machine.proofs.Legal.{after_snoc, legal_snoc}
-use Rattle.tb_machine.proofs.Held.{held, commit_is}
+use Rattle.tb_machine.proofs.RepeatLaws.{held, commit_is}
 use Rattle.tb_published.specs.declared.faults.Taken.{Taken}
 use Rattle.tb_published.specs.declared.faults.Taken.TheVariants as taken
 use Rattle.tb_published.specs.declared.faults.TakeFault.{TakeFault}

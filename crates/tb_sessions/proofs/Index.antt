@@ -11,7 +11,7 @@ use Rattle.std.specs.Map.{lookup, set_value, remove_entry, keys_of, values_of}
 use Rattle.std.specs.BTreeMap.{insert_entry, is_at}
 use Rattle.std.specs.Ordering.{nat_cmp}
 use Rattle.avl_tree.specs.Map.{Map, entries}
-use Rattle.avl_tree.proofs.Around.{ordered-insert_entry, ordered-remove_entry, length-insert_entry, length-remove_entry_found}
+use Rattle.avl_tree.proofs.SplitEntries.{ordered-insert_entry, ordered-remove_entry, length-insert_entry, length-remove_entry_found}
 use Rattle.tb_records.specs.Ordered.{Each}
 use Rattle.tb_records.proofs.ByKey.{each-find, found_key}
 use Rattle.tb_records.proofs.Entries.{found-row, own-replaced, own-inserted, own-removed}

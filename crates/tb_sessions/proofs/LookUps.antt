@@ -11,7 +11,7 @@ use Rattle.std.specs.Map.{lookup, set_value, remove_entry, keys_of, values_of}
 use Rattle.std.specs.BTreeMap.{insert_entry, is_at}
 use Rattle.std.proofs.lemmas.Map.{lookup-set_value, lookup-remove_entry}
 use Rattle.std.proofs.lemmas.Map.Keys.{IsDistinct-from_sorted}
-use Rattle.avl_tree.proofs.Around.{lookup-none_below}
+use Rattle.avl_tree.proofs.SplitEntries.{lookup-none_below}
 use Rattle.tb_records.specs.Ordered.{Each}
 use Rattle.tb_records.proofs.Entries.{eq-number}
 

@@ -34,7 +34,7 @@ fn add_ids(ids: &mut Vec<u128>, client: u32, transfers: u32) -> Result<(), Alloc
 
 impl Scale {
     /// How many replies the clients see.
-    #[tactic(auto, using(crate::proofs::Whole::few))]
+    #[tactic(auto, using(crate::proofs::SeatAnswers::few))]
     pub fn replies(self) -> u32
         ensures { result ≡ replies_of self.clients self.transfers }
     {

@@ -142,7 +142,7 @@ fn credited<J: Naming>(seat: &mut Seat<J>) -> Result<u128, StormFault>
 }
 
 /// What the first client's seat finds once it has learnt all. NoCopy where the copies do not show the whole history.
-#[tactic(auto, using(crate::proofs::Whole::totaled, crate::proofs::Whole::learnt))]
+#[tactic(auto, using(crate::proofs::SeatAnswers::totaled, crate::proofs::SeatAnswers::learnt))]
 fn totals_of<J: Naming>(
     alloc: Global,
     publisher: &Publisher<J>,
@@ -194,7 +194,7 @@ fn end<J: Naming, R: Wait>(
 }
 
 /// The storm over a server, whose clients these are.
-#[tactic(auto, using(crate::proofs::Whole::in_one))]
+#[tactic(auto, using(crate::proofs::SeatAnswers::in_one))]
 fn storm_with<J: Naming + Send + Sync, R: Threads + Wait + Sync>(
     rt: &R,
     alloc: Global,
@@ -273,7 +273,7 @@ fn storm_in<J: Naming + Send + Sync, R: Threads + Wait + Sync>(
 }
 
 /// The storm of profile 1 and as many clients as can have a session.
-#[tactic(auto, using(crate::proofs::Whole::are_totals))]
+#[tactic(auto, using(crate::proofs::SeatAnswers::are_totals))]
 fn play<R: Threads + Wait + Sync>(rt: &R, alloc: Global, scale: Scale) -> Result<Totals, StormFault>
     ensures { IfOk result (AreTotals scale.clients scale.transfers) }
 {

@@ -17,7 +17,7 @@ pub mod Faults
 pub mod Awaiting
 pub mod Lexing
 pub mod Feeding
-pub mod Standing
+pub mod TokenContexts
 pub mod Parsing
 pub mod Suiting
 pub mod Stating

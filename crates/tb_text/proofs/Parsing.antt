@@ -14,7 +14,7 @@ use Rattle.tb_text.specs.Grammar.{Token, Name, Mark, number_as, Values, one_valu
 use Rattle.tb_text.proofs.Lexing.{after, all_after}
 use Rattle.tb_text.proofs.Moves.{Marked, equals, bar, comma, semicolon, mark_cases}
 use Rattle.tb_text.proofs.Ongoing.{has_id}
-use Rattle.tb_text.proofs.Standing.{Context, front, event, operation_in, stand, value_after, opened_is, pushed_is, finished_is}
+use Rattle.tb_text.proofs.TokenContexts.{Context, front, event, operation_in, stand, value_after, opened_is, pushed_is, finished_is}
 
 -- WHAT REMAINS
 

@@ -14,7 +14,7 @@ use Rattle.tb_text.specs.Grammar.{Token, Name, Mark, Values, one_value, more_val
 use Rattle.tb_text.proofs.Lexing.{after, all_after, one_after}
 use Rattle.tb_text.proofs.Ongoing.{has_id}
 use Rattle.tb_text.proofs.Statements.{few}
-use Rattle.tb_text.proofs.Standing.{Context, front, event, operation_in, stand, value_after, opened_is, pushed_is, counted, body_counted, finished_is}
+use Rattle.tb_text.proofs.TokenContexts.{Context, front, event, operation_in, stand, value_after, opened_is, pushed_is, counted, body_counted, finished_is}
 use Rattle.tb_text.proofs.Suiting.{header_small, header_suits}
 use Rattle.std.proofs.lemmas.Bool.{and_from, cond-true, lt-ltb}
 

@@ -12,7 +12,7 @@ use Rattle.tb_text.proofs.Items.{low, low_32}
 use Rattle.tb_text.proofs.Ongoing.{not_valued, below_more, below_request, no_header_flags}
 use Rattle.tb_text.proofs.Statements.{numbers_of, both_not}
 use Rattle.std.proofs.lemmas.Option.{cond_some}
-use Rattle.tb_text.proofs.Standing.{only_amount}
+use Rattle.tb_text.proofs.TokenContexts.{only_amount}
 use Rattle.std.proofs.lemmas.Bool.{and_from, and_parts, eqb-true, leb-true, not-false, both_ways, false_from_ne_true}
 
 -- the numbers of a session and of a request fit

@@ -1,4 +1,4 @@
-use Rattle.tb_journal.proofs.Past.{on_ok_too}
+use Rattle.tb_journal.proofs.CallHistory.{on_ok_too}
 use Rattle.tb_journal.proofs.memory.push_sync.Goals as goal
 
 pub returns-clause-ok : goal.returns-clause-ok

@@ -1,7 +1,7 @@
 use Rattle.std.proofs.Common.{◌∙◌}
 use Rattle.tb_journal.specs.Device.{Cut}
 use Rattle.tb_journal.specs.System.{fault_of}
-use Rattle.tb_journal.proofs.Between.{changes_then, cut_then}
+use Rattle.tb_journal.proofs.SystemCalls.{changes_then, cut_then}
 use Rattle.tb_journal.proofs.Retried.{interrupted_is, waits_again, cut_done, cut_failed}
 use Rattle.tb_journal.proofs.posix.cut_once.Goals as goal
 

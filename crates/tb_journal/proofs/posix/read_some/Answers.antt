@@ -1,5 +1,5 @@
 use Rattle.tb_journal.specs.System.{fault_of}
-use Rattle.tb_journal.proofs.Between.{looked_then}
+use Rattle.tb_journal.proofs.SystemCalls.{looked_then}
 use Rattle.tb_journal.proofs.Retried.{interrupted_is, waits_again, read_done, read_failed}
 use Rattle.tb_journal.proofs.posix.read_some.Goals as goal
 

@@ -1,7 +1,7 @@
 use Rattle.std.proofs.Common.{◌∙◌, length}
 use Rattle.tb_journal.specs.Device.{Torn}
 use Rattle.tb_journal.specs.System.{fault_of}
-use Rattle.tb_journal.proofs.Between.{changes_then, torn_then}
+use Rattle.tb_journal.proofs.SystemCalls.{changes_then, torn_then}
 use Rattle.tb_journal.proofs.Retried.{interrupted_is, waits_again, write_done, write_failed}
 use Rattle.tb_journal.proofs.posix.write_some.Goals as goal
 

@@ -1,4 +1,4 @@
-use Rattle.tb_keep.proofs.Above.{entries_are_above}
+use Rattle.tb_keep.proofs.EntriesAbove.{entries_are_above}
 use Rattle.tb_keep.proofs.Dumping.{entries_once}
 use Rattle.tb_keep.proofs.laws.entries_above.Goals as goal
 

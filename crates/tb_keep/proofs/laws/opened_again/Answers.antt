@@ -1,4 +1,4 @@
-use Rattle.tb_keep.proofs.Again.{one_history, one_ledger, goes_on_after}
+use Rattle.tb_keep.proofs.OneHistory.{one_history, one_ledger, goes_on_after}
 use Rattle.tb_keep.proofs.laws.opened_again.Goals as goal
 
 pub returns-clause-one_history : goal.returns-clause-one_history

@@ -1,7 +1,7 @@
 use Rattle.std.proofs.Common.{Err, sym, subst, false}
 use Rattle.tb_keep.specs.Keeping.{Keeping}
 use Rattle.tb_keep.specs.Rounds.{Served}
-use Rattle.tb_keep.proofs.Going.{served_left}
+use Rattle.tb_keep.proofs.ServedRounds.{served_left}
 use Rattle.tb_keep.proofs.rounds.keep.Goals as goal
 
 pub returns-in-Err-clause-served : goal.returns-in-Err-clause-served

@@ -1,6 +1,6 @@
 use Rattle.std.proofs.Common.{arith, refl, ◌∙◌}
 use Rattle.std.proofs.lemmas.Result.{err_from_is_err_and}
-use Rattle.tb_keep.proofs.Going.{going_none, going_on, going_may, asking_silent, served_out, served_before, served_end, served_ends, served_too_long}
+use Rattle.tb_keep.proofs.ServedRounds.{going_none, going_on, going_may, asking_silent, served_out, served_before, served_end, served_ends, served_too_long}
 use Rattle.tb_keep.proofs.rounds.keep_all.Goals as goal
 
 pub loop-k-init : goal.loop-k-init

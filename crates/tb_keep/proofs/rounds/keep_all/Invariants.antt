@@ -1,5 +1,5 @@
 use Rattle.std.proofs.Common.{◌≡◌}
-use Rattle.tb_keep.proofs.Going.{Going}
+use Rattle.tb_keep.proofs.ServedRounds.{Going}
 use Rattle.tb_keep.proofs.rounds.keep_all.Given as goal
 
 abbrev pub invariant-loop-k : goal.invariant-loop-k

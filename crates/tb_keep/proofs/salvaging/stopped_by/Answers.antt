@@ -1,6 +1,6 @@
 use Rattle.std.proofs.Common.{sym, subst}
 use Rattle.tb_keep.specs.private.Taking.{StopsBy}
-use Rattle.tb_keep.proofs.Behind.{stops_torn}
+use Rattle.tb_keep.proofs.TakenRecords.{stops_torn}
 use Rattle.tb_keep.proofs.salvaging.stopped_by.Goals as goal
 
 pub returns-in-Ok-clause-stops : goal.returns-in-Ok-clause-stops

@@ -1,4 +1,4 @@
-use Rattle.tb_keep.proofs.Behind.{usable_at, ready_at, behind_done, behind_uncommitted, behind_not, none_behind, cause_behind_not, cause_uncommitted}
+use Rattle.tb_keep.proofs.TakenRecords.{usable_at, ready_at, behind_done, behind_uncommitted, behind_not, none_behind, cause_behind_not, cause_uncommitted}
 use Rattle.tb_keep.proofs.Entered.{stays_then}
 use Rattle.tb_keep.proofs.salvaging.take_behind.Goals as goal
 

@@ -1,5 +1,5 @@
 use Rattle.std.proofs.Common.{arith, ◌≤◌, ◌^◌, ℕ, subst}
-use Rattle.tb_keep.proofs.Behind.{torn_told}
+use Rattle.tb_keep.proofs.TakenRecords.{torn_told}
 use Rattle.tb_keep.proofs.salvaging.torn_stop.Goals as goal
 
 pub returns-then-torn-clause-torn : goal.returns-then-torn-clause-torn

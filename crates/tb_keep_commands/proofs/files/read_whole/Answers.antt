@@ -1,4 +1,4 @@
-use Rattle.tb_keep_commands.proofs.Wholes.{found_is}
+use Rattle.tb_keep_commands.proofs.WholeFiles.{found_is}
 use Rattle.tb_keep_commands.proofs.files.read_whole.Goals as goal
 
 pub returns-in-Ok-clause-found : goal.returns-in-Ok-clause-found

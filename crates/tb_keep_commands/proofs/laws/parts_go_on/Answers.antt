@@ -1,4 +1,4 @@
-use Rattle.tb_keep_commands.proofs.Parts.{parts_go_on, dumps_are_parts}
+use Rattle.tb_keep_commands.proofs.DumpPrefixes.{parts_go_on, dumps_are_parts}
 use Rattle.tb_keep_commands.proofs.laws.parts_go_on.Goals as goal
 
 pub returns-clause-parts : goal.returns-clause-parts

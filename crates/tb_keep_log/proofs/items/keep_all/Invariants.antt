@@ -1,5 +1,5 @@
 use Rattle.tb_keep_log.specs.Serving.{point}
-use Rattle.tb_keep_log.proofs.Going.{Going}
+use Rattle.tb_keep_log.proofs.ServedItems.{Going}
 use Rattle.tb_keep_log.proofs.items.keep_all.Given as goal
 
 abbrev pub invariant-loop-k : goal.invariant-loop-k

@@ -1,5 +1,5 @@
 use Rattle.tb_ledger.proofs.Common.{◌≡◌, ◌<◌, ◌==◌, not, map, length, sym, ap, subst, refl, ◌∙◌, arith, Expired, Rising, transfer_key, accounts_released, books_in, transfer_row_key, row_holds, unlisted, IsIndex, IsTimeout, KeepsRecords, timeout_key, TakesDue, each-find}
-use Rattle.tb_ledger.proofs.Parts.{both_hold}
+use Rattle.tb_ledger.proofs.RowSums.{both_hold}
 use Rattle.tb_ledger.proofs.Settled.{rising_rows, rising_transfers, refound}
 use Rattle.tb_ledger.proofs.Index.{of_due, due_lapses, unlisted_due, index_closed, none_lapses, length-taken_out}
 use Rattle.tb_ledger.proofs.Expiries.{will_be, accounts_apart, debit_party, credit_party, rising_released, sums_after, accounts_stay, transfers_stay, ahead_marked, arrived, none_of, books_then, ledger_then}

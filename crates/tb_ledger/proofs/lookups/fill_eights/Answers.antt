@@ -1,5 +1,5 @@
 use Rattle.tb_ledger.proofs.Common.{◌≡◌, ◌++◌, ◌==◌, find, append_assoc, sym, ap, ◌∙◌, arith, filter_map, filter_map-append, found_in}
-use Rattle.tb_ledger.proofs.Many.{found-many, cut, cut-length, same-length}
+use Rattle.tb_ledger.proofs.FoundIds.{found-many, cut, cut-length, same-length}
 use Rattle.tb_ledger.proofs.lookups.fill_eights.Goals as goal
 
 pub loop-eight-preserved : goal.loop-eight-preserved

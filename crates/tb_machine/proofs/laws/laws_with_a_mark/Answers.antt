@@ -1,5 +1,5 @@
 use Rattle.tb_machine.proofs.LawProofs.{one_key_with, first_reply_with, stays_out_with}
-use Rattle.tb_machine.proofs.Held.{new_again_with}
+use Rattle.tb_machine.proofs.RepeatLaws.{new_again_with}
 use Rattle.tb_machine.proofs.SoundBooks.{limits_hold_with, ledgers_balance_with}
 use Rattle.tb_machine.proofs.laws.laws_with_a_mark.Goals as goal
 

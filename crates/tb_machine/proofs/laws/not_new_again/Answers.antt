@@ -1,4 +1,4 @@
-use Rattle.tb_machine.proofs.Held.{new_again}
+use Rattle.tb_machine.proofs.RepeatLaws.{new_again}
 use Rattle.tb_machine.proofs.laws.not_new_again.Goals as goal
 
 pub returns : goal.returns

@@ -1,5 +1,5 @@
 use Rattle.std.proofs.Common.{rules}
-use Rattle.tb_storm.proofs.Whole.{totaled}
+use Rattle.tb_storm.proofs.SeatAnswers.{totaled}
 use Rattle.tb_storm.proofs.storms.totals_of.Goals as goal
 
 -- what was found is what is found after the whole history

@@ -1,6 +1,6 @@
 use Rattle.std.proofs.Common.{refl, arith}
 use Rattle.avl_tree.proofs.Shape.{entries_search_of}
-use Rattle.avl_tree.proofs.Whole.{low_height, whole_insert}
+use Rattle.avl_tree.proofs.MapInvariants.{low_height, whole_insert}
 use Rattle.avl_tree.proofs.map.AvlMap.insert_reserved.Goals as goal
 
 pub insert-requires-clause-height_fits : goal.insert-requires-clause-height_fits

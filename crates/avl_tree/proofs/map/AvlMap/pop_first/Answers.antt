@@ -1,6 +1,6 @@
 use Rattle.std.proofs.Common.{refl, arith}
 use Rattle.avl_tree.specs.Nodes.{entry}
-use Rattle.avl_tree.proofs.Whole.{low_height, whole_pop}
+use Rattle.avl_tree.proofs.MapInvariants.{low_height, whole_pop}
 use Rattle.avl_tree.proofs.map.AvlMap.pop_first.Goals as goal
 
 pub take_first-requires-clause-height_fits : goal.take_first-requires-clause-height_fits

@@ -1,6 +1,6 @@
 use Rattle.std.proofs.Common.{arith}
 use Rattle.avl_tree.proofs.Shape.{entries_search_of, path-le-height, least-le-length}
-use Rattle.avl_tree.proofs.Whole.{low_height}
+use Rattle.avl_tree.proofs.MapInvariants.{low_height}
 use Rattle.avl_tree.specs.Nodes.{stored_height}
 use Rattle.avl_tree.proofs.map.AvlMap.probe.Goals as goal
 

@@ -1,5 +1,5 @@
 use Rattle.std.proofs.Common.{refl, sym, arith}
-use Rattle.avl_tree.proofs.Whole.{low_height, whole_remove, whole_absent}
+use Rattle.avl_tree.proofs.MapInvariants.{low_height, whole_remove, whole_absent}
 use Rattle.avl_tree.proofs.map.AvlMap.remove.Goals as goal
 
 pub remove-requires-clause-height_fits : goal.remove-requires-clause-height_fits

@@ -1,5 +1,5 @@
 use Rattle.std.proofs.Common.{refl}
-use Rattle.avl_tree.proofs.Whole.{whole_exchange}
+use Rattle.avl_tree.proofs.MapInvariants.{whole_exchange}
 use Rattle.avl_tree.proofs.map.AvlMap.set.Goals as goal
 use Rattle.avl_tree.proofs.map.AvlMap.set.Goals.{then-exchange, else-exchange}
 

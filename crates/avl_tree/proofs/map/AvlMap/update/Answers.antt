@@ -1,5 +1,5 @@
 use Rattle.std.proofs.Common.{refl}
-use Rattle.avl_tree.proofs.Whole.{whole_changes}
+use Rattle.avl_tree.proofs.MapInvariants.{whole_changes}
 use Rattle.avl_tree.proofs.map.AvlMap.update.Goals as goal
 
 pub invariant_of-self : goal.invariant_of-self

@@ -1,8 +1,8 @@
 use Rattle.std.proofs.Common.{true, false, refl, sym, ◌∙◌}
-use Rattle.avl_tree.proofs.Around.{reversed_Greater}
+use Rattle.avl_tree.proofs.SplitEntries.{reversed_Greater}
 use Rattle.avl_tree.proofs.Shape.{entries_search_of}
 use Rattle.avl_tree.proofs.TwoInPlace.{changed_other_way}
-use Rattle.avl_tree.proofs.Whole.{whole_changes_two}
+use Rattle.avl_tree.proofs.MapInvariants.{whole_changes_two}
 use Rattle.avl_tree.proofs.map.AvlMap.update_two.Goals as goal
 
 pub invariant_of-self : goal.invariant_of-self

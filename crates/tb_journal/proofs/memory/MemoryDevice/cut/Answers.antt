@@ -1,5 +1,5 @@
 use Rattle.std.proofs.Common.{inl, refl, Ok, Err}
-use Rattle.tb_journal.proofs.Past.{failed_by, has_cut}
+use Rattle.tb_journal.proofs.CallHistory.{failed_by, has_cut}
 use Rattle.tb_journal.proofs.memory.MemoryDevice.cut.Goals as goal
 
 pub returns-then-not-shown-clause-cuts : goal.returns-then-not-shown-clause-cuts

@@ -1,5 +1,5 @@
 use Rattle.std.proofs.Common.{◌∙◌}
-use Rattle.tb_journal.proofs.Past.{synced}
+use Rattle.tb_journal.proofs.CallHistory.{synced}
 use Rattle.tb_journal.proofs.memory.MemoryDevice.sync.Goals as goal
 
 pub returns-in-Ok-clause-syncs : goal.returns-in-Ok-clause-syncs

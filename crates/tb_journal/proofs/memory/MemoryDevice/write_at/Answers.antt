@@ -1,6 +1,6 @@
 use Rattle.std.proofs.Common.{inl, refl, ap, ◌∙◌, List, ℕ, Ok, Err}
 use Rattle.tb_journal.specs.Device.{overwritten}
-use Rattle.tb_journal.proofs.Past.{failed_by, wrote}
+use Rattle.tb_journal.proofs.CallHistory.{failed_by, wrote}
 use Rattle.tb_journal.proofs.memory.MemoryDevice.write_at.Goals as goal
 
 pub returns-then-not-shown-clause-writes : goal.returns-then-not-shown-clause-writes

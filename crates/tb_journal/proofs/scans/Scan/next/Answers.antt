@@ -1,7 +1,7 @@
 use Rattle.std.proofs.lemmas.Grind.{common_steps}
 use Rattle.std.proofs.Common.{◌+◌, ◌∙◌, ap, arith, drop, refl, rules, subst, sym, take}
 use Rattle.tb_journal.specs.Scans.{HasRead}
-use Rattle.tb_journal.proofs.Nexts.{step_ends, step_stays, step_spoiled, step_whole, too_far}
+use Rattle.tb_journal.proofs.ScanSteps.{step_ends, step_stays, step_spoiled, step_whole, too_far}
 use Rattle.tb_journal.proofs.scans.Scan.next.Goals as goal
 
 pub returns-then-self-ge-FILE_BYTES_MAX-clause-cause : goal.returns-then-self-ge-FILE_BYTES_MAX-clause-cause

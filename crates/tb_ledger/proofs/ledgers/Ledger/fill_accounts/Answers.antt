@@ -1,5 +1,5 @@
 use Rattle.tb_ledger.proofs.Common.{◌++◌, refl, ap, ◌∙◌, account_now, row_now, found_in}
-use Rattle.tb_ledger.proofs.Many.{shown-same}
+use Rattle.tb_ledger.proofs.FoundIds.{shown-same}
 use Rattle.tb_ledger.proofs.ReadLaws.{account_of}
 use Rattle.tb_ledger.proofs.ledgers.Ledger.fill_accounts.Goals as goal
 

@@ -1,5 +1,5 @@
 use Rattle.tb_ledger.proofs.Common.{◌++◌, refl, ap, ◌∙◌, transfer_at, found_in}
-use Rattle.tb_ledger.proofs.Many.{shown-same}
+use Rattle.tb_ledger.proofs.FoundIds.{shown-same}
 use Rattle.tb_ledger.proofs.ReadLaws.{transfer_read}
 use Rattle.tb_ledger.proofs.ledgers.Ledger.fill_transfers.Goals as goal
 

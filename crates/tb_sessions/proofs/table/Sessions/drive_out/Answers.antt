@@ -3,7 +3,7 @@ use Rattle.std.proofs.lemmas.Map.Entries.{length-values_of}
 use Rattle.std.specs.Map.{values_of}
 use Rattle.std.specs.Ordering.{nat_cmp}
 use Rattle.avl_tree.specs.Map.{entries}
-use Rattle.avl_tree.proofs.Around.{length-remove_entry_found}
+use Rattle.avl_tree.proofs.SplitEntries.{length-remove_entry_found}
 use Rattle.tb_records.proofs.ByKey.{found_key}
 use Rattle.tb_records.proofs.Entries.{found-row, rows-removed, own-agrees}
 use Rattle.tb_sessions.specs.Judged.{client_of}

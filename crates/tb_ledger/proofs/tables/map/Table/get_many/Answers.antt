@@ -1,5 +1,5 @@
 use Rattle.tb_ledger.proofs.Common.{◌≡◌, [], None, replicate, ◌∙◌, ap, sym, rules, entries}
-use Rattle.tb_ledger.proofs.Many.{none-many}
+use Rattle.tb_ledger.proofs.FoundIds.{none-many}
 use Rattle.tb_ledger.proofs.Entries.{holds, found_all}
 use Rattle.tb_ledger.proofs.tables.map.Table.get_many.Goals as goal
 

@@ -12,7 +12,7 @@ use Rattle.avl_tree.specs.Nodes.{entries, stored_height, IsAvl, IsOrdered, IsWho
 use Rattle.avl_tree.specs.Changes.{Changes}
 use Rattle.avl_tree.specs.private.Pairs.{Taking, ChangesBoth}
 use Rattle.avl_tree.specs.declared.tree.Tree.{Tree}
-use Rattle.avl_tree.proofs.Around.{ordered_tail, ordered-insert_entry, ordered-remove_entry, length-insert_entry, length-remove_entry_found, remove_entry-absent}
+use Rattle.avl_tree.proofs.SplitEntries.{ordered_tail, ordered-insert_entry, ordered-remove_entry, length-insert_entry, length-remove_entry_found, remove_entry-absent}
 use Rattle.avl_tree.proofs.Shape.{low, least-le-length}
 use denote.Ref.{MutBor}
 

@@ -11,7 +11,7 @@ use Rattle.tb_journal.specs.Contents.{Front, Ends, Spoiled, Whole, front, Damage
 use Rattle.tb_journal.specs.Opening.{HasOpenCause}
 use Rattle.tb_journal.specs.Scans.{Place, BeginsWith, IsAhead, HasRead}
 use Rattle.tb_journal.specs.Reading.{head_is, FindsHead}
-use Rattle.tb_journal.proofs.Walks.{take_parts, drop_parts, walk-whole, walk-spoiled, is_whole, IsFile, is_file, ended, with_records-Records, with_records-Damaged}
+use Rattle.tb_journal.proofs.BlockWalks.{take_parts, drop_parts, walk-whole, walk-spoiled, is_whole, IsFile, is_file, ended, with_records-Records, with_records-Damaged}
 use Rattle.tb_journal.proofs.Causes.{none_at_once}
 use Rattle.tb_journal.proofs.Committing.{blocks_length-append}
 

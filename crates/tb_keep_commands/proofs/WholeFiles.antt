@@ -5,7 +5,7 @@ use Rattle.tb_journal.specs.declared.reading.Refusal.{Refusal}
 use Rattle.tb_journal.specs.Contents.{Contents, Records, contents, records_of, recorded, records_end}
 use Rattle.tb_journal.specs.Reading.{extent_of}
 use Rattle.tb_machine.specs.Histories.{State}
-use Rattle.tb_machine.proofs.Held.{commit_is}
+use Rattle.tb_machine.proofs.RepeatLaws.{commit_is}
 use Rattle.tb_keep.specs.declared.recovering.Rules.{Rules}
 use Rattle.tb_keep.specs.Reading.{IsHistory}
 use Rattle.tb_keep_commands.specs.Summaries.{IsFound}
