@@ -1,28 +1,29 @@
 //! A caller of the texts.
-ghost use Rattle.std.specs.Prelude.{ℕ, List, IfOk, MatchResult};
-ghost use Rattle.tb_records.specs.Messages.{Message};
-ghost use Rattle.tb_text.specs.Steps.{Means, Stops};
+ghost use Rattle.std.specs.Prelude.{IfOk};
+ghost use Rattle.tb_uses.specs.Texts.{IsReadOf};
 
 use std::alloc::{AllocError, Global};
 use tb_records::{Items, Request};
 use tb_text::{Reading, TextFault, read_text};
 
-/// The requests that a text means, each with its moment; or where the text goes wrong.
-pub fn requests_of(
-    alloc: Global,
-    text: &[u8],
-) -> Result<Result<Items<(u64, Request)>, TextFault>, AllocError>
-    ensures { IfOk result
-        (λ read.
-        MatchResult read (λ pairs. Means text.now pairs)
-        (λ fault. (whole : List (ℕ × Message)) × Stops text.now whole fault.place)) }
+/// What a text is read as.
+pub enum TextRead {
+    /// It means these requests, each with its moment.
+    Whole(Items<(u64, Request)>),
+    /// It goes wrong where the fault says.
+    Wrong(TextFault),
+}
+
+/// The requests that a text means, or where the text goes wrong.
+pub fn requests_of(alloc: Global, text: &[u8]) -> Result<TextRead, AllocError>
+    ensures { IfOk result (IsReadOf text.now) }
 {
     let Reading { pairs, fault } = read_text(alloc, text)?;
     match fault {
-        None => Ok(Ok(pairs)),
+        None => Ok(TextRead::Whole(pairs)),
         Some(fault) => {
             drop(pairs);
-            Ok(Err(fault))
+            Ok(TextRead::Wrong(fault))
         }
     }
 }
