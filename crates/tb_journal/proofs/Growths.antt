@@ -2,7 +2,7 @@
 use Rattle.std.proofs.Common.{◌≡◌, inl, inr, ⊎_elim, ℕ, ◌≤◌, List, [], ◌∷◌, ◌++◌, length, take, drop, refl, sym, ◌∙◌, ap, subst, arith}
 use Rattle.std.proofs.lemmas.List.{append-nil, append_assoc, take-take}
 use Rattle.tb_journal.specs.Contents.{Contents, NotAJournal, Damaged, Records, with_records, walk, contents, records_end}
-use Rattle.tb_journal.specs.Scans.{Place, BeginsWith, IsAhead, HasRead}
+use Rattle.tb_journal.specs.Scans.{ScanState, BeginsWith, IsAhead, HasRead}
 use Rattle.tb_journal.specs.Growing.{Extends, LaterThan, Later, Grown}
 use Rattle.tb_journal.specs.Snapshots.{HasDamageBefore, LeadsTo, IsFinal}
 use Rattle.tb_journal.proofs.BlockWalks.{unjoined}
@@ -125,7 +125,7 @@ leads_later end file later leads after = ⊎_elim
     (λ past. inr (subst (HasDamageBefore end) (sym (final_later file later (damage_final end file past) after)) past)) leads
 
 -- a scan that has read records goes on in a later file, with nothing ahead
-pub read_on : (records : List (List ℕ)) (file later : List ℕ) (old : Place) (last ahead : List ℕ) → Later file later → ahead ≡ [] → HasRead records file old
+pub read_on : (records : List (List ℕ)) (file later : List ℕ) (old : ScanState) (last ahead : List ℕ) → Later file later → ahead ≡ [] → HasRead records file old
     → HasRead records later (record { end = old.end; count = old.count; last = last; ahead = ahead })
 read_on records file later old last ahead after none read = record {
   begins = begins_later records file later read.begins after;

@@ -9,7 +9,7 @@ use Rattle.tb_journal.specs.declared.reading.Head.TheVariants as heads
 use Rattle.tb_journal.specs.Device.{Disk}
 use Rattle.tb_journal.specs.Contents.{Front, Ends, Spoiled, Whole, front, Damaged, Records, with_record, with_records, walk, contents, records_end}
 use Rattle.tb_journal.specs.Opening.{HasOpenCause}
-use Rattle.tb_journal.specs.Scans.{Place, BeginsWith, IsAhead, HasRead}
+use Rattle.tb_journal.specs.Scans.{ScanState, BeginsWith, IsAhead, HasRead}
 use Rattle.tb_journal.specs.Reading.{head_is, FindsHead}
 use Rattle.tb_journal.proofs.BlockWalks.{take_parts, drop_parts, walk-whole, walk-spoiled, is_whole, IsFile, is_file, ended, with_records-Records, with_records-Damaged}
 use Rattle.tb_journal.proofs.Causes.{none_at_once}
@@ -77,7 +77,7 @@ ahead_behind k at next file ahead le is same =
 
 -- the steps
 
-module _ (records : List (List ℕ)) (file : List ℕ) (old : Place) (read : HasRead records file old) (ahead : List ℕ) (found : FindsHead old.end file ahead) (head : Head) (told : head ≡ head_is (front ahead)) where
+module _ (records : List (List ℕ)) (file : List ℕ) (old : ScanState) (read : HasRead records file old) (ahead : List ℕ) (found : FindsHead old.end file ahead) (head : Head) (told : head ≡ head_is (front ahead)) where
   stands : {f : Front} → front ahead ≡ f → front (drop (records_end records) file) ≡ f
   stands is = ap (λ (e : ℕ). front (drop e file)) (sym read.end) ∙ sym found.finds ∙ is
 
@@ -106,7 +106,7 @@ module _ (records : List (List ℕ)) (file : List ℕ) (old : Place) (read : Has
 
 -- a file whose records end too far behind
 
-pub too_far : (disk : Disk) (records : List (List ℕ)) (scan : Place) → HasRead records disk.seen scan → 2 ^ 62 ≤ scan.end → HasOpenCause {T = Bool} (Err (open_faults.Device faults.Full)) disk disk
+pub too_far : (disk : Disk) (records : List (List ℕ)) (scan : ScanState) → HasRead records disk.seen scan → 2 ^ 62 ≤ scan.end → HasOpenCause {T = Bool} (Err (open_faults.Device faults.Full)) disk disk
 too_far disk records scan read long = record {
   ok = tt;
   cause = inr (refl, omega (arith, read.end, long, end_within records disk.seen read.begins), none_at_once disk);

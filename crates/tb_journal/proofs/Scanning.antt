@@ -2,7 +2,7 @@
 use Rattle.std.proofs.Common.{◌≡◌, true, List, ℕ}
 use Rattle.tb_journal.specs.Device.{Disk, IsOnDisk, LeavesOnly, FailsNone}
 use Rattle.tb_journal.specs.Opening.{IsAsBefore}
-use Rattle.tb_journal.specs.Scans.{HasRead, Place}
+use Rattle.tb_journal.specs.Scans.{HasRead, ScanState}
 
 -- the file is as it was, and no call has failed
 pub record IsScanning (before now : Disk) : Type 0 where
@@ -13,5 +13,5 @@ pub record IsScanning (before now : Disk) : Type 0 where
   pub none : FailsNone before now
 
 -- some records of the file were read that the device still holds
-abbrev pub IsReading : {D : Type 0} → (D → List ℕ → Type 0) → D → Place → List ℕ → Type 0
+abbrev pub IsReading : {D : Type 0} → (D → List ℕ → Type 0) → D → ScanState → List ℕ → Type 0
 IsReading holds now scan file = holds now file × ((records : List (List ℕ)) × HasRead records file scan)

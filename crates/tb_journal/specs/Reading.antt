@@ -13,7 +13,7 @@ use Rattle.tb_journal.specs.Contents.{Front, Ends, Spoiled, Whole, front, Conten
 use Rattle.tb_journal.specs.declared.opening.OpenFault.{OpenFault}
 use Rattle.tb_journal.specs.declared.opening.OpenFault.TheVariants as open_faults
 use Rattle.tb_journal.specs.Opening.{IsAsBefore, refused_as}
-use Rattle.tb_journal.specs.Scans.{Place, IsAhead, HasRead}
+use Rattle.tb_journal.specs.Scans.{ScanState, IsAhead, HasRead}
 
 -- what is at the head of bytes, without the record itself
 abbrev pub head_is : Front → Head
@@ -61,7 +61,7 @@ pub record LooksKept {T : Type 0} (result : Result T JournalFault) (before after
   pub any_moment : LeavesOnly before after (IsAsBefore before)
 
 -- a scan before its first record, or none of a file that is no journal
-abbrev pub StartsScan : Option Place → List ℕ → Type 0
+abbrev pub StartsScan : Option ScanState → List ℕ → Type 0
 StartsScan (Some scan) file = HasRead [] file scan
 StartsScan None file = contents file ≡ NotAJournal
 

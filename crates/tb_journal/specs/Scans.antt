@@ -11,7 +11,7 @@ use Rattle.tb_journal.specs.Device.{Disk}
 use Rattle.tb_journal.specs.Growing.{Later}
 
 -- how far a file was read: where the records end, how many they are, the last of them, and the bytes read ahead
-pub record Place : Type 0 where
+pub record ScanState : Type 0 where
   pub end : ℕ
   pub count : ℕ
   pub last : List ℕ
@@ -26,39 +26,39 @@ abbrev pub IsAhead : ℕ → List ℕ → List ℕ → Type 0
 IsAhead at file ahead = ahead ≡ take (length ahead) (drop at file)
 
 -- what a scan has read of a file
-pub record HasRead (records : List (List ℕ)) (file : List ℕ) (scan : Place) : Type 0 where
+pub record HasRead (records : List (List ℕ)) (file : List ℕ) (scan : ScanState) : Type 0 where
   pub begins : BeginsWith records file
   pub end : scan.end ≡ records_end records
   pub count : scan.count ≡ length records
   pub ahead : IsAhead scan.end file scan.ahead
 
 -- a scan before the first record of a file, or why the file is refused
-abbrev pub Starts : Result Place OpenFault → List ℕ → Type 0
+abbrev pub Starts : Result ScanState OpenFault → List ℕ → Type 0
 Starts (Ok scan) file = HasRead [] file scan
 Starts (Err (open_faults.Refused why)) file = contents file ≡ refused_as why
 Starts (Err (open_faults.Device fault)) file = Unit {0}
 
 -- the next step behind these records: one record more, the end, or why the file is refused
-abbrev pub ReadsNext : Result Bool OpenFault → List (List ℕ) → List ℕ → Place → Type 0
+abbrev pub ReadsNext : Result Bool OpenFault → List (List ℕ) → List ℕ → ScanState → Type 0
 ReadsNext (Ok true) records file scan = HasRead (records ++ scan.last ∷ []) file scan
 ReadsNext (Ok false) records file scan = (contents file ≡ Records records) × HasRead records file scan
 ReadsNext (Err (open_faults.Refused why)) records file scan = contents file ≡ refused_as why
 ReadsNext (Err (open_faults.Device fault)) records file scan = Unit {0}
 
 -- the same behind whatever records were read of a file
-abbrev pub ReadsOn : Result Bool OpenFault → Place → Place → List ℕ → Type 0
+abbrev pub ReadsOn : Result Bool OpenFault → ScanState → ScanState → List ℕ → Type 0
 ReadsOn result before after file = (records : List (List ℕ)) → HasRead records file before → ReadsNext result records file after
 
 -- what was read of a file was read of the same file at a later moment
-abbrev pub StaysRead : Place → Place → Type 0
+abbrev pub StaysRead : ScanState → ScanState → Type 0
 StaysRead before after = (records : List (List ℕ)) (file later : List ℕ) → Later file later → HasRead records file before → HasRead records later after
 
 -- the cause of a fault, where some records were read before
-abbrev pub ScanCause : Result Bool OpenFault → Place → Disk → Disk → Type 0
+abbrev pub ScanCause : Result Bool OpenFault → ScanState → Disk → Disk → Type 0
 ScanCause result scan before after = (records : List (List ℕ)) → HasRead records before.seen scan → HasOpenCause result before after
 
 -- a record was read behind a place, and there is no end to this but the greatest length of a file
-abbrev pub GoesFurther : Place → Place → Type 0
+abbrev pub GoesFurther : ScanState → ScanState → Type 0
 GoesFurther old new = (old.end < 2 ^ 62) × (old.end < new.end)
 
 -- a refusal behind records that end there: damage at that place

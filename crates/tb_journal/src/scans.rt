@@ -3,7 +3,7 @@ ghost use Rattle.std.specs.Prelude.{◌≡◌, ◌≤◌, ◌<◌, ◌+◌, ◌^
 ghost use Rattle.tb_journal.specs.Device.{IsLookedAt, HasOwnCause, Looks, ReadsAt, KeepsRead, OfHeld};
 ghost use Rattle.tb_journal.specs.Contents.{front};
 ghost use Rattle.tb_journal.specs.Opening.{HasOpenCause, LeavesAsBefore};
-ghost use Rattle.tb_journal.specs.Scans.{Place, IsAhead, Starts, GoesFurther, IsAt, IsOfStart, ScanCause, ReadsOn, StaysRead};
+ghost use Rattle.tb_journal.specs.Scans.{ScanState, IsAhead, Starts, GoesFurther, IsAt, IsOfStart, ScanCause, ReadsOn, StaysRead};
 ghost use Rattle.tb_journal.specs.Reading.{HasAhead, FindsHead, LooksKept, StartsScan, TellsExtent, head_is, ReadAhead};
 
 use crate::devices::Device;
@@ -27,7 +27,7 @@ pub struct Scan {
 }
 
 impl Model for Scan {
-    ghost Value = { Place };
+    ghost Value = { ScanState };
 
     ghost view = { λ s. record { end = s.end; count = s.count; last = s.window.taken; ahead = s.window.ahead } };
 

@@ -6,7 +6,7 @@ use Rattle.tb_records.specs.DumpBytes.{head_bytes}
 use Rattle.tb_records.specs.Transport.{Output, Sent, IsSent}
 use Rattle.tb_records.proofs.Sendings.{sent_rest}
 use Rattle.tb_journal.specs.Contents.{Records, records_of}
-use Rattle.tb_journal.specs.Scans.{Place, BeginsWith, HasRead}
+use Rattle.tb_journal.specs.Scans.{ScanState, BeginsWith, HasRead}
 use Rattle.tb_machine.proofs.Running.{sends_none}
 use Rattle.tb_keep.specs.declared.faults.DumpFault.{DumpFault}
 use Rattle.tb_keep.specs.declared.faults.DumpFault.TheVariants as dump
@@ -18,7 +18,7 @@ use Rattle.tb_keep.specs.private.Entering.{FindsRules}
 use Rattle.tb_keep.specs.Following.{entries_above, WritesEntries, EntriesOnce}
 use Rattle.tb_keep.specs.private.Sending.{SendsNext, SendsAll}
 
-pub finds_rules : (result : Result Rules StartFault) (file head : List ℕ) (scan : Place) → HasRead (head ∷ []) file scan → RulesIn result head → FindsRules result scan file
+pub finds_rules : (result : Result Rules StartFault) (file head : List ℕ) (scan : ScanState) → HasRead (head ∷ []) file scan → RulesIn result head → FindsRules result scan file
 finds_rules (Ok rules) file head scan at found = subst (λ (h : List ℕ). HasRead (h ∷ []) file scan) found at
 finds_rules (Err start.Head) file head scan at none = inr (head, [], at.begins, none)
 finds_rules (Err (start.Journal fault)) file head scan at none = absurd none
@@ -28,7 +28,7 @@ finds_rules (Err (start.Entry fault)) file head scan at none = absurd none
 finds_rules (Err start.NoMemory) file head scan at none = absurd none
 finds_rules (Err (start.TornTooLong place bytes)) file head scan at none = absurd none
 
-pub rules_found : (result : Result Rules StartFault) (file : List ℕ) (scan : Place) → FindsRules result scan file → RulesAnswer result file
+pub rules_found : (result : Result Rules StartFault) (file : List ℕ) (scan : ScanState) → FindsRules result scan file → RulesAnswer result file
 rules_found result file scan at = grind (arith, common_steps)
 
 -- records that are sent
@@ -78,17 +78,17 @@ send_one after read front bytes old mid new sent result more =
     (entries_once after read front (bytes ∷ [])) sent result more
 
 -- so far these were sent
-abbrev pub Sending : ℕ → List (List ℕ) → List ℕ → Place → Output → Output → Type 0
+abbrev pub Sending : ℕ → List (List ℕ) → List ℕ → ScanState → Output → Output → Type 0
 Sending after read file scan old new = (records : List (List ℕ)) × HasRead (read ++ records) file scan × Sent (entries_above after read records) old new
 
-pub sending_none : (after : ℕ) (read : List (List ℕ)) (file : List ℕ) (scan : Place) (old : Output) → HasRead read file scan → Sending after read file scan old old
+pub sending_none : (after : ℕ) (read : List (List ℕ)) (file : List ℕ) (scan : ScanState) (old : Output) → HasRead read file scan → Sending after read file scan old old
 sending_none after read file scan old has = (
   [],
   subst (λ (r : List (List ℕ)). HasRead r file scan) (sym (append-nil read)) has,
   subst (λ (l : List ℕ). Sent l old old) (sym (ap joined (drop_none (after + 1 - length read)))) (sends_none old),
 )
 
-module _ (after : ℕ) (read records : List (List ℕ)) (file : List ℕ) (scan : Place) (old mid new : Output) (sent : Sent (entries_above after read records) old mid) where
+module _ (after : ℕ) (read records : List (List ℕ)) (file : List ℕ) (scan : ScanState) (old mid new : Output) (sent : Sent (entries_above after read records) old mid) where
   pub sending_more : SendsNext (Ok true) after (read ++ records) file scan mid new → Sending after read file scan old new
   sending_more (bytes, at, one) = (
     records ++ bytes ∷ [],
@@ -112,12 +112,12 @@ module _ (after : ℕ) (read records : List (List ℕ)) (file : List ℕ) (scan 
 
 -- how many they are
 
-pub writes_not : (fault : DumpFault) (after : ℕ) (read : List (List ℕ)) (file : List ℕ) (scan : Place) (old new : Output)
+pub writes_not : (fault : DumpFault) (after : ℕ) (read : List (List ℕ)) (file : List ℕ) (scan : ScanState) (old new : Output)
     → SendsAll (Err fault) after read file scan old new → WritesEntries (Err fault) after read file scan old new
 writes_not (dump.Journal f) after read file scan old new sends = sends
 writes_not (dump.Writer f) after read file scan old new sends = sends
 
-pub wrote_entries : (count after : ℕ) (read : List (List ℕ)) (file : List ℕ) (scan : Place) (old new : Output) → count ≡ scan.count - 1
+pub wrote_entries : (count after : ℕ) (read : List (List ℕ)) (file : List ℕ) (scan : ScanState) (old new : Output) → count ≡ scan.count - 1
     → SendsAll (Ok tt) after read file scan old new → WritesEntries (Ok count) after read file scan old new
 wrote_entries count after read file scan old new is (more, reads, at, sent) = (more, reads, at, is ∙ ap (λ (n : ℕ). n - 1) at.count, sent)
 
@@ -135,7 +135,7 @@ module _ (rules : Rules) (file : List ℕ) (old mid new : Output) where
   sends_rest result records sent more =
       sent_rest head (entries_above 0 [] records) old mid new (dump_with rules records) (ap (λ (l : List ℕ). head ++ l) (of_all records)) sent result more
 
-  pub dumps_behind : (result : Result (Unit {0}) DumpFault) (scan : Place) → Sent head old mid → SendsAll result 0 [] file scan mid new → Dumps result rules file old new
+  pub dumps_behind : (result : Result (Unit {0}) DumpFault) (scan : ScanState) → Sent head old mid → SendsAll result 0 [] file scan mid new → Dumps result rules file old new
   dumps_behind (Ok done) scan sent (records, reads, at, more) =
       let found = ap records_of reads in (
         reads ∙ ap Records (sym found),

@@ -8,7 +8,7 @@ use Rattle.tb_journal.specs.Device.{Disk, IsLookedAt}
 use Rattle.tb_journal.specs.Contents.{Records, contents, records_of}
 use Rattle.tb_journal.specs.Opening.{IsAsBefore}
 use Rattle.tb_journal.specs.Reading.{extent_of}
-use Rattle.tb_journal.specs.Scans.{Place, BeginsWith, HasRead}
+use Rattle.tb_journal.specs.Scans.{ScanState, BeginsWith, HasRead}
 use Rattle.tb_journal.proofs.Moments.{started, goes_on}
 use Rattle.tb_journal.proofs.BlockWalks.{begins_shorter}
 use Rattle.tb_machine.specs.Histories.{State, start as start_state}
@@ -52,7 +52,7 @@ stays_then before mid after counts first second = record {
 
 -- its head
 
-pub head_read : (file head : List ℕ) (scan : Place) (profile : Profile) (clients_max : ℕ) → HasRead (head ∷ []) file scan → head ≡ head_record profile clients_max
+pub head_read : (file head : List ℕ) (scan : ScanState) (profile : Profile) (clients_max : ℕ) → HasRead (head ∷ []) file scan → head ≡ head_record profile clients_max
     → HasRead (head_record profile clients_max ∷ []) file scan
 head_read file head scan profile clients_max at is = subst (λ (h : List ℕ). HasRead (h ∷ []) file scan) is at
 
@@ -77,15 +77,15 @@ head_stops (start.TornTooLong at bytes) profile clients_max file head begins why
 
 -- the records behind it
 
-pub enters_not : (fault : StartFault) (read : List (List ℕ)) (file bytes : List ℕ) (after : Place) (S T : State) → BeginsWith (read ++ bytes ∷ []) file → RestoresRecord (Err fault) S bytes T
+pub enters_not : (fault : StartFault) (read : List (List ℕ)) (file bytes : List ℕ) (after : ScanState) (S T : State) → BeginsWith (read ++ bytes ∷ []) file → RestoresRecord (Err fault) S bytes T
     → EntersNext (Err fault) read file after S T
 enters_not fault read file bytes after S T begins stops = grind (arith, common_steps)
 
 -- so far these were entered
-abbrev pub Entered : List (List ℕ) → List ℕ → Place → State → State → Type 0
+abbrev pub Entered : List (List ℕ) → List ℕ → ScanState → State → State → Type 0
 Entered read file scan S T = (records : List (List ℕ)) × HasRead (read ++ records) file scan × RecordsLead S records T
 
-module _ (read records : List (List ℕ)) (file : List ℕ) (scan : Place) (S T U : State) (leads : RecordsLead S records T) where
+module _ (read records : List (List ℕ)) (file : List ℕ) (scan : ScanState) (S T U : State) (leads : RecordsLead S records T) where
   pub entered_more : EntersNext (Ok true) (read ++ records) file scan T U → Entered read file scan S U
   entered_more (bytes, at, (e, is_record, next, to)) = (
     records ++ bytes ∷ [],
@@ -105,7 +105,7 @@ module _ (read records : List (List ℕ)) (file : List ℕ) (scan : Place) (S T 
 
 -- and where its records end
 
-pub extent_found : (file : List ℕ) (records : List (List ℕ)) (scan : Place) (extent : Extent) → contents file ≡ Records records → HasRead records file scan
+pub extent_found : (file : List ℕ) (records : List (List ℕ)) (scan : ScanState) (extent : Extent) → contents file ≡ Records records → HasRead records file scan
     → extent.end ≡ scan.end → extent.count ≡ scan.count → extent_of (contents file) ≡ Ok extent
 extent_found file records scan extent reads has end count = grind (arith, common_steps)
 
@@ -120,17 +120,17 @@ module _ (profile : Profile) (clients_max : ℕ) (clients : IsClients clients_ma
     spelled = inl (ap (λ (r : List (List ℕ)). head_record profile clients_max ∷ r) leads.spelled);
   }
 
-  pub restored_behind : (file : List ℕ) (scan : Place) (extent : Extent) (S T : State) → S ≡ start_state profile clients_max → extent.end ≡ scan.end → extent.count ≡ scan.count
+  pub restored_behind : (file : List ℕ) (scan : ScanState) (extent : Extent) (S T : State) → S ≡ start_state profile clients_max → extent.end ≡ scan.end → extent.count ≡ scan.count
       → EntersAll (Ok tt) (head_record profile clients_max ∷ []) file scan S T → IsRestoredFrom profile clients_max file T extent
   restored_behind file scan extent S T empty end count (records, reads, has, leads) = record {
     extent_is = extent_found file (head_record profile clients_max ∷ records) scan extent reads has end count;
     restored = subst (λ (r : List (List ℕ)). IsRestored profile clients_max r T) (sym (ap records_of reads)) (of_history records T (subst (λ (V : State). RecordsLead V records T) empty leads));
   }
 
-pub behind_begins : (head file : List ℕ) (scan : Place) (S T : State) → EntersAll (Ok tt) (head ∷ []) file scan S T → BeginsWith (head ∷ []) file
+pub behind_begins : (head file : List ℕ) (scan : ScanState) (S T : State) → EntersAll (Ok tt) (head ∷ []) file scan S T → BeginsWith (head ∷ []) file
 behind_begins head file scan S T (records, reads, has, leads) = begins_shorter (head ∷ []) records file has.begins
 
-module _ (rules : Rules) (file : List ℕ) (scan : Place) (S T : State) (empty : S ≡ start_state rules.profile rules.clients_max) where
+module _ (rules : Rules) (file : List ℕ) (scan : ScanState) (S T : State) (empty : S ≡ start_state rules.profile rules.clients_max) where
   abbrev head : List ℕ
   head = head_record rules.profile rules.clients_max
 

@@ -13,7 +13,7 @@ use Rattle.tb_journal.specs.Device.{Disk, LeavesOnly, FailsNone, IsOfCall, IsOfS
 use Rattle.tb_journal.specs.Contents.{Records, contents, recorded, records_end}
 use Rattle.tb_journal.specs.Creating.{is_blank}
 use Rattle.tb_journal.specs.Ready.{Kept}
-use Rattle.tb_journal.specs.Scans.{HasRead, Place, BeginsWith, ReadsNext, Starts, IsAt, IsOfStart}
+use Rattle.tb_journal.specs.Scans.{HasRead, ScanState, BeginsWith, ReadsNext, Starts, IsAt, IsOfStart}
 use Rattle.tb_journal.proofs.Causes.{none_since}
 use Rattle.tb_journal.proofs.Moments.{started, then, weaker}
 use Rattle.tb_journal.proofs.BlockWalks.{begins_shorter}
@@ -161,7 +161,7 @@ written_alone before mid after faults.SyncFailed cause = tt
 
 -- a file from which nothing is taken
 
-pub rules_unsalvaged : (result : Result Rules StartFault) (file head : List ℕ) (scan : Place) → HasRead (head ∷ []) file scan → RulesIn result head
+pub rules_unsalvaged : (result : Result Rules StartFault) (file head : List ℕ) (scan : ScanState) → HasRead (head ∷ []) file scan → RulesIn result head
     → IfErr result (λ fault. IsUnsalvaged (Old fault) file)
 rules_unsalvaged (Ok rules) file head scan at found = tt
 rules_unsalvaged (Err start.Head) file head scan at none = inr (head, [], at.begins, none)
@@ -172,7 +172,7 @@ rules_unsalvaged (Err (start.Entry fault)) file head scan at none = absurd none
 rules_unsalvaged (Err start.NoMemory) file head scan at none = absurd none
 rules_unsalvaged (Err (start.TornTooLong place bytes)) file head scan at none = absurd none
 
-pub first_unsalvaged : (fault : OpenFault) (file : List ℕ) (old new : Place) → HasRead [] file old → IsAt old.end fault → ReadsNext (Err fault) [] file new
+pub first_unsalvaged : (fault : OpenFault) (file : List ℕ) (old new : ScanState) → HasRead [] file old → IsAt old.end fault → ReadsNext (Err fault) [] file new
     → IsUnsalvaged (Old (start.Journal fault)) file
 first_unsalvaged (open_faults.Device f) file old new has place reads = tt
 first_unsalvaged (open_faults.Refused (refusals.Damaged at)) file old new has place reads = (reads, place ∙ has.end)
@@ -248,7 +248,7 @@ unsalvaged_not_whole (New f) file is = tt
 
 -- a file of which the head was read, and a new one that has the head alone
 
-module _ (rules : Rules) (clients : IsClients rules.clients_max) {N : Type 0} (disk : N → Disk) (tells : Type 0) (holds : List ℕ → Type 0) (first : Place)
+module _ (rules : Rules) (clients : IsClients rules.clients_max) {N : Type 0} (disk : N → Disk) (tells : Type 0) (holds : List ℕ → Type 0) (first : ScanState)
     (created last : Keeping N) (kept : tells → Keeps disk (history_of rules.profile rules.clients_max []) created) (empty : created.state ≡ start_state rules.profile rules.clients_max) where
   abbrev top : List ℕ
   top = head_record rules.profile rules.clients_max
@@ -256,7 +256,7 @@ module _ (rules : Rules) (clients : IsClients rules.clients_max) {N : Type 0} (d
   abbrev reads : List ℕ → Type 0
   reads = HoldsRead holds (top ∷ []) first
 
-  module _ (records : List (List ℕ)) (here : Place) (after : Keeping N) (taken : Taken disk tells holds records first here created after) where
+  module _ (records : List (List ℕ)) (here : ScanState) (after : Keeping N) (taken : Taken disk tells holds records first here created after) where
     leading : RecordsLead (start_state rules.profile rules.clients_max) records after.state
     leading = subst (λ (S : State). RecordsLead S records after.state) empty taken.leads
 
@@ -351,7 +351,7 @@ module _ (rules : Rules) (clients : IsClients rules.clients_max) {N : Type 0} (d
             (written_alone before (disk middle.journal.device) (disk last.journal.device) f (breaks t).cause);
       }
 
-module _ (rules : Rules) (clients : IsClients rules.clients_max) (holds : List ℕ → Type 0) (first : Place) (before after : Disk) where
+module _ (rules : Rules) (clients : IsClients rules.clients_max) (holds : List ℕ → Type 0) (first : ScanState) (before after : Disk) where
   pub moments_not_made : LeavesOnly before after (MayBeCreated rules.profile rules.clients_max before) → LeavesOnly before after (MayBeSalvaged (HoldsRead holds (head_record rules.profile rules.clients_max ∷ []) first) before)
   moments_not_made leaves =
       moments_of_none rules.profile rules.clients_max (HoldsRead holds (head_record rules.profile rules.clients_max ∷ []) first) before after leaves

@@ -6,7 +6,7 @@ use Rattle.tb_journal.specs.Device.{Disk, FailsNone}
 use Rattle.tb_journal.specs.Contents.{Records, contents}
 use Rattle.tb_journal.specs.Ready.{Kept, IsReady}
 use Rattle.tb_journal.specs.Reading.{extent_of}
-use Rattle.tb_journal.specs.Scans.{Place}
+use Rattle.tb_journal.specs.Scans.{ScanState}
 use Rattle.tb_journal.proofs.Causes.{none_since}
 use Rattle.tb_journal.proofs.Opened.{is_told}
 use Rattle.tb_machine.specs.Histories.{State}
@@ -82,8 +82,8 @@ own_none before after start.OtherRules stop is cause = cause
 own_none before after start.NoMemory stop is cause = cause
 own_none before after (start.TornTooLong at bytes) stop is cause = cause
 
-module _ {N : Type 0} (disk : N → Disk) (tells : Type 0) (holds later : List ℕ → Type 0) (same : (file : List ℕ) → holds file → later file) (extent : Extent) (first : Place) (before mid : Keeping N) where
-  committed : (records : List (List ℕ)) (here : Place) (middle after : Keeping N) → Taken disk tells holds records first here before middle → mid.state ≡ middle.state → mid.journal ≡ middle.journal
+module _ {N : Type 0} (disk : N → Disk) (tells : Type 0) (holds later : List ℕ → Type 0) (same : (file : List ℕ) → holds file → later file) (extent : Extent) (first : ScanState) (before mid : Keeping N) where
+  committed : (records : List (List ℕ)) (here : ScanState) (middle after : Keeping N) → Taken disk tells holds records first here before middle → mid.state ≡ middle.state → mid.journal ≡ middle.journal
       → CommitsTaken disk tells (Ok tt) mid after → Taken disk tells holds records first here before after
   committed records here middle after taken state journal commits = record {
     leads = subst (λ (S : State). RecordsLead before.state records S) (sym (commits.0 ∙ state)) taken.leads;

@@ -10,7 +10,7 @@ use Rattle.tb_journal.specs.declared.reading.Refusal.TheVariants as refusals
 use Rattle.tb_journal.specs.Device.{Disk, LeavesOnly, FailsNone, HasFailed, HasCause}
 use Rattle.tb_journal.specs.Contents.{Records, at_rest, contents, recorded, records_end}
 use Rattle.tb_journal.specs.Ready.{Kept, IsReady, grown}
-use Rattle.tb_journal.specs.Scans.{HasRead, Place, BeginsWith, ReadsNext, IsAt}
+use Rattle.tb_journal.specs.Scans.{HasRead, ScanState, BeginsWith, ReadsNext, IsAt}
 use Rattle.tb_journal.specs.Steps.{IsBeforeOrAfter}
 use Rattle.tb_journal.proofs.Causes.{none_at_once, none_since, failed_since}
 use Rattle.tb_journal.proofs.Moments.{started, then, weaker}
@@ -192,7 +192,7 @@ leads_first S T (x ∷ xs) rest leads =
 -- what was taken
 
 module _ {N : Type 0} (disk : N → Disk) (tells : Type 0) (holds : List ℕ → Type 0) where
-  pub taken_none : (place : Place) (keeper : Keeping N) → (tells → Latest (disk keeper.journal.device)) → keeper.journal.usable ≡ true → (tells → IsReady disk keeper.journal)
+  pub taken_none : (place : ScanState) (keeper : Keeping N) → (tells → Latest (disk keeper.journal.device)) → keeper.journal.usable ≡ true → (tells → IsReady disk keeper.journal)
       → Taken disk tells holds [] place place keeper keeper
   taken_none place keeper now usable ready = record {
     leads = leads_none keeper.state;
@@ -201,7 +201,7 @@ module _ {N : Type 0} (disk : N → Disk) (tells : Type 0) (holds : List ℕ →
     read = λ file read of has. subst (λ (r : List (List ℕ)). HasRead r file place) (sym (append-nil read)) has;
   }
 
-  pub taken_then : (xs ys : List (List ℕ)) (p q r : Place) (a b c : Keeping N) → Taken disk tells holds xs p q a b → Taken disk tells holds ys q r b c → Taken disk tells holds (xs ++ ys) p r a c
+  pub taken_then : (xs ys : List (List ℕ)) (p q r : ScanState) (a b c : Keeping N) → Taken disk tells holds xs p q a b → Taken disk tells holds ys q r b c → Taken disk tells holds (xs ++ ys) p r a c
   taken_then xs ys p q r a b c one two = record {
     leads = leads_join a.state b.state c.state xs ys one.leads two.leads;
     usable = two.usable;
@@ -267,7 +267,7 @@ stops_after start.OtherRules read S file bytes begins stops = absurd stops
 stops_after (start.Journal f) read S file bytes begins stops = absurd stops
 stops_after (start.TornTooLong at n) read S file bytes begins stops = absurd stops
 
-damage_after : (fault : OpenFault) (read : List (List ℕ)) (S : State) (file : List ℕ) (old new : Place) → HasRead read file old → IsAt old.end fault → ReadsNext (Err fault) read file new
+damage_after : (fault : OpenFault) (read : List (List ℕ)) (S : State) (file : List ℕ) (old new : ScanState) → HasRead read file old → IsAt old.end fault → ReadsNext (Err fault) read file new
     → StopsAfter (start.Journal fault) read S file
 damage_after (open_faults.Device f) read S file old new has place reads = tt
 damage_after (open_faults.Refused (refusals.Damaged at)) read S file old new has place reads = (reads, place ∙ has.end)
@@ -298,7 +298,7 @@ module _ {N : Type 0} (disk : N → Disk) (tells : Type 0) where
   record_cause (Old fault) bytes before after first last takes none = record { ok = tt; cause = record_none first last fault before.state bytes takes.0.1 none }
   record_cause (New fault) bytes before after first last takes none = record { ok = none; cause = tt }
 
-  module _ (holds : List ℕ → Type 0) (first last : Place) (before after : Keeping N) where
+  module _ (holds : List ℕ → Type 0) (first last : ScanState) (before after : Keeping N) where
     pub takes_one : (bytes : List ℕ) → TakesRecord disk tells (Ok tt) bytes before after
         → ((file : List ℕ) (read : List (List ℕ)) → holds file → HasRead read file first → HasRead (read ++ bytes ∷ []) file last)
         → TakesNext disk tells holds (Ok true) first last before after
@@ -314,7 +314,7 @@ module _ {N : Type 0} (disk : N → Disk) (tells : Type 0) where
         (takes.0.0, takes.1, λ file read of has. stops_after fault read before.state file bytes (begins file read of has) takes.0.1)
     takes_refused (New fault) bytes takes begins = takes
 
-    pub takes_damage : (fault : OpenFault) (new : Place) → after ≡ before → IsAt first.end fault
+    pub takes_damage : (fault : OpenFault) (new : ScanState) → after ≡ before → IsAt first.end fault
         → ((file : List ℕ) (read : List (List ℕ)) → holds file → HasRead read file first → ReadsNext (Err fault) read file new)
         → TakesNext disk tells holds (Err (Old (start.Journal fault))) first last before after
     takes_damage fault new same place reads = (
@@ -326,7 +326,7 @@ module _ {N : Type 0} (disk : N → Disk) (tells : Type 0) where
 -- one record more, by a device that is still the same
 
 module _ {N : Type 0} (disk : N → Disk) (tells : Type 0) (holds later : List ℕ → Type 0) (same : (file : List ℕ) → holds file → later file) where
-  pub taken_on : (records : List (List ℕ)) (first here last : Place) (before mid after : Keeping N) → Taken disk tells holds records first here before mid
+  pub taken_on : (records : List (List ℕ)) (first here last : ScanState) (before mid after : Keeping N) → Taken disk tells holds records first here before mid
       → TakesNext disk tells later (Ok true) here last mid after → (all : List (List ℕ)) × Taken disk tells holds all first last before after
   taken_on records first here last before mid after so_far (bytes, next) = (
     records ++ bytes ∷ [],
@@ -338,7 +338,7 @@ module _ {N : Type 0} (disk : N → Disk) (tells : Type 0) (holds later : List �
     }),
   )
 
-  pub ends_by : (result : Result (Unit {0}) SalvageFault) (here : Place) (mid after : Keeping N) → Ends disk tells later result here mid after → Ends disk tells holds result here mid after
+  pub ends_by : (result : Result (Unit {0}) SalvageFault) (here : ScanState) (mid after : Keeping N) → Ends disk tells later result here mid after → Ends disk tells holds result here mid after
   ends_by (Ok done) here mid after ends = (ends.0, λ file read of has. ends.1 file read (same file of) has)
   ends_by (Err (Old fault)) here mid after ends = (ends.0, ends.1, λ file read of has. ends.2 file read (same file of) has)
   ends_by (Err (New fault)) here mid after ends = ends

@@ -7,7 +7,7 @@ use Rattle.tb_records.specs.Transport.{Output, Sent, CutOff}
 use Rattle.tb_journal.specs.Device.{Disk}
 use Rattle.tb_journal.specs.Contents.{Records, contents}
 use Rattle.tb_journal.specs.Opening.{RefusesFile}
-use Rattle.tb_journal.specs.Scans.{BeginsWith, HasRead, Place}
+use Rattle.tb_journal.specs.Scans.{BeginsWith, HasRead, ScanState}
 use Rattle.tb_machine.specs.declared.entries.Entry.{Entry}
 use Rattle.tb_machine.specs.Dumps.{dumped}
 use Rattle.tb_keep.specs.declared.faults.DumpFault.{DumpFault}
@@ -22,7 +22,7 @@ entries_above after read more = joined (drop (after + 1 - length read) more)
 
 -- all records behind those read so far were read, and of these the later ones were written; or the file is not read to its end; or the
 -- writer failed, and a prefix of them went out
-abbrev pub WritesEntries : Result ℕ DumpFault → ℕ → List (List ℕ) → List ℕ → Place → Output → Output → Type 0
+abbrev pub WritesEntries : Result ℕ DumpFault → ℕ → List (List ℕ) → List ℕ → ScanState → Output → Output → Type 0
 WritesEntries (Ok count) after read file scan old new =
     (more : List (List ℕ)) × (contents file ≡ Records (read ++ more)) × HasRead (read ++ more) file scan
     × (count ≡ length (read ++ more) - 1) × Sent (entries_above after read more) old new
@@ -32,7 +32,7 @@ WritesEntries (Err (dump.Writer fault)) after read file scan old new =
     (fault ≡ Device) × ((more : List (List ℕ)) × BeginsWith (read ++ more) file × CutOff (entries_above after read more) old new)
 
 -- the cause of a fault, where these records were read before
-abbrev pub HasLaterCause : {T : Type 0} → Result T DumpFault → Place → Disk → Disk → Type 0
+abbrev pub HasLaterCause : {T : Type 0} → Result T DumpFault → ScanState → Disk → Disk → Type 0
 HasLaterCause result scan before after = (read : List (List ℕ)) → HasRead read before.seen scan → HasDumpCause result before after
 
 -- of the records of a history these are the entries with a commit number above `after`

@@ -10,7 +10,7 @@ use Rattle.tb_journal.specs.Device.{Disk, FailsNone}
 use Rattle.tb_journal.specs.Contents.{Records, contents, recorded}
 use Rattle.tb_journal.specs.Opening.{IsOpenCause, RefusesFile}
 use Rattle.tb_journal.specs.Reading.{extent_of}
-use Rattle.tb_journal.specs.Scans.{BeginsWith, HasRead, Place}
+use Rattle.tb_journal.specs.Scans.{BeginsWith, HasRead, ScanState}
 use Rattle.tb_machine.specs.Histories.{State}
 use Rattle.tb_machine.specs.Dumps.{DumpSpells}
 use Rattle.tb_keep.specs.declared.faults.DumpFault.{DumpFault}
@@ -35,7 +35,7 @@ NamesRules (Some rules) head = head ≡ head_record rules.0 rules.1
 NamesRules None head = IsNoHead head
 
 -- of each file that the reads are of, and of which some records were read
-abbrev pub OfRead : (List ℕ → Type 0) → Place → (List (List ℕ) → List ℕ → Type 0) → Type 0
+abbrev pub OfRead : (List ℕ → Type 0) → ScanState → (List (List ℕ) → List ℕ → Type 0) → Type 0
 OfRead holds scan Says = (file : List ℕ) (read : List (List ℕ)) → holds file → HasRead read file scan → Says read file
 
 -- the first record of a file is the head of a ledger of these rules

@@ -6,7 +6,7 @@ use Rattle.tb_journal.specs.declared.opening.OpenFault.TheVariants as open_fault
 use Rattle.tb_journal.specs.Device.{Disk, FailsNone, Looks}
 use Rattle.tb_journal.specs.Growing.{Later}
 use Rattle.tb_journal.specs.Opening.{IsOpenCause}
-use Rattle.tb_journal.specs.Scans.{HasRead, Place}
+use Rattle.tb_journal.specs.Scans.{HasRead, ScanState}
 use Rattle.tb_journal.proofs.Causes.{none_since}
 use Rattle.tb_journal.proofs.Growths.{later_same}
 use Rattle.tb_records.specs.Transport.{Output}
@@ -32,10 +32,10 @@ module _ (before mid after : Disk) (quiet : FailsNone before mid) (seen : mid.se
     cause = has_dump_then before mid after quiet seen is.result is.cause;
   }
 
-  pub reads_on_then : (scan : Place) → ReadsOn mid after scan → ReadsOn before after scan
+  pub reads_on_then : (scan : ScanState) → ReadsOn mid after scan → ReadsOn before after scan
   reads_on_then scan is = record { quiet = none_since before mid after quiet is.quiet; seen = is.seen ∙ seen; read = is.read; place = is.place }
 
-  pub round_cause_then : (outcome : Result (Unit {0}) KeepCommandFault) (scan : Place) → RoundCause outcome mid after scan → RoundCause outcome before after scan
+  pub round_cause_then : (outcome : Result (Unit {0}) KeepCommandFault) (scan : ScanState) → RoundCause outcome mid after scan → RoundCause outcome before after scan
   round_cause_then (Ok done) scan is = reads_on_then scan is
   round_cause_then (Err fault) scan is = part_cause_then (Err fault) is
 
@@ -62,7 +62,7 @@ module _ (before after : Disk) where
   look_failed {T} cause fault is looks = stopped_reading (open_faults.Device cause) fault is (inl (inl looks.cause.cause))
 
   -- one round of entries
-  pub round_reads_on : (above : ℕ) (read : List (List ℕ)) (scan : Place) (count : ℕ) (start written : Output)
+  pub round_reads_on : (above : ℕ) (read : List (List ℕ)) (scan : ScanState) (count : ℕ) (start written : Output)
       → WritesEntries (Ok count) above read before.seen scan start written → HasDumpCause {T = ℕ} (Ok count) before after → after.seen ≡ before.seen
       → ReadsOn before after scan
   round_reads_on above read scan count start written (more, whole, place, counted, sent) quiet seen = record {

@@ -5,7 +5,7 @@ use Rattle.tb_journal.specs.declared.opening.OpenFault.TheVariants as open_fault
 use Rattle.tb_journal.specs.declared.faults.JournalFault.{JournalFault}
 use Rattle.tb_journal.specs.Growing.{Later}
 use Rattle.tb_journal.specs.Opening.{RefusesFile}
-use Rattle.tb_journal.specs.Scans.{BeginsWith, Place, Starts}
+use Rattle.tb_journal.specs.Scans.{BeginsWith, ScanState, Starts}
 use Rattle.tb_records.specs.Transport.{Output, Sent, CutOff}
 use Rattle.tb_records.specs.declared.faults.FrameFault.TheVariants as frame
 use Rattle.tb_records.proofs.Sendings.{sent_rest, sent_few}
@@ -50,16 +50,16 @@ pub sent_held : (xs : List ℕ) (old mid new : Output) → Sent xs old mid → S
 sent_held xs old mid new one two = subst (λ (l : List ℕ). Sent l old new) (append-nil xs) (both xs [] old mid new one two)
 
 -- one round of entries was written, and went out
-pub round_done : (after : ℕ) (read : List (List ℕ)) (file : List ℕ) (scan : Place) (count : ℕ) (old mid new : Output)
+pub round_done : (after : ℕ) (read : List (List ℕ)) (file : List ℕ) (scan : ScanState) (count : ℕ) (old mid new : Output)
     → WritesEntries (Ok count) after read file scan old mid → Sent [] mid new → SendsRound (Ok tt) after read file scan old new
 round_done after read file scan count old mid new (more, whole, place, counted, sent) held = (more, whole, place, sent_held _ old mid new sent held)
 
-pub round_lost : (after : ℕ) (read : List (List ℕ)) (file : List ℕ) (scan : Place) (count : ℕ) (fault : KeepCommandFault) (old mid new : Output)
+pub round_lost : (after : ℕ) (read : List (List ℕ)) (file : List ℕ) (scan : ScanState) (count : ℕ) (fault : KeepCommandFault) (old mid new : Output)
     → fault ≡ Device failed.Output → WritesEntries (Ok count) after read file scan old mid → CutOff [] mid new → SendsRound (Err fault) after read file scan old new
 round_lost after read file scan count fault old mid new is (more, whole, place, counted, sent) held =
     (more, place.begins, lost_held fault file _ old mid new is sent held)
 
-pub round_broken : (after : ℕ) (read : List (List ℕ)) (file : List ℕ) (scan : Place) (cause : DumpFault) (fault : KeepCommandFault) (old new : Output)
+pub round_broken : (after : ℕ) (read : List (List ℕ)) (file : List ℕ) (scan : ScanState) (cause : DumpFault) (fault : KeepCommandFault) (old new : Output)
     → fault ≡ dumped_fault cause → WritesEntries (Err cause) after read file scan old new → SendsRound (Err fault) after read file scan old new
 round_broken after read file scan (dump.Journal cause) fault old new is (refuses, (more, begins, sent)) =
     (more, begins, inl (record { why = cause; named = is; refuses = refuses; went = sent }))
@@ -67,7 +67,7 @@ round_broken after read file scan (dump.Writer cause) fault old new is (device, 
 
 -- one more round behind those that were written
 module _ {D : Type 0} (holds : D → List ℕ → Type 0) (after : ℕ) (file : List ℕ) (start : Output) where
-  pub once_more : (records : List (List ℕ)) (now : List ℕ) (device : D) (scan : Place) (result : Result (Unit {0}) KeepCommandFault) (mid new : Output)
+  pub once_more : (records : List (List ℕ)) (now : List ℕ) (device : D) (scan : ScanState) (result : Result (Unit {0}) KeepCommandFault) (mid new : Output)
       → Later file now → holds device now → Sent (entries_above after [] records) start mid → SendsRound result after records now scan mid new
       → GrowsBy holds result after file device scan start new
   once_more records now device scan (Ok done) mid new since held sent (more, whole, place, also) = record {
@@ -88,7 +88,7 @@ module _ {D : Type 0} (holds : D → List ℕ → Type 0) (after : ℕ) (file : 
   }
 
   -- no round more: the file could not be read on
-  pub no_more : (cause : JournalFault) (fault : KeepCommandFault) (device : D) (scan : Place) (mid : Output) → fault ≡ disk_fault cause → Grown holds after file device scan start mid
+  pub no_more : (cause : JournalFault) (fault : KeepCommandFault) (device : D) (scan : ScanState) (mid : Output) → fault ≡ disk_fault cause → Grown holds after file device scan start mid
       → Breaks fault true after file start mid
   no_more cause fault device scan mid is g = record {
     later = g.later;
@@ -98,7 +98,7 @@ module _ {D : Type 0} (holds : D → List ℕ → Type 0) (after : ℕ) (file : 
     ends = inl (record { why = open_faults.Device cause; named = is; refuses = tt; went = g.sent });
   }
 
-  pub reached : (device : D) (scan : Place) (mid : Output) → Grown holds after file device scan start mid
+  pub reached : (device : D) (scan : ScanState) (mid : Output) → Grown holds after file device scan start mid
       → EndsRounds (holds device) (Ok tt) true after file start mid
   reached device scan mid g = record { later = g.later; since = g.since; held = g.held; records = g.records; whole = g.whole; sent = g.sent }
 
@@ -141,7 +141,7 @@ start_cut follows after rules file old new fault is cut begins = inr (record {
 
 -- the first round, of a file of which nothing was read
 module _ {D : Type 0} (holds : D → List ℕ → Type 0) (after : ℕ) (file : List ℕ) (start written : Output) where
-  pub first_round : (device : D) (scan : Place) → holds device file → SendsRound (Ok tt) after [] file scan start written → Grown holds after file device scan start written
+  pub first_round : (device : D) (scan : ScanState) → holds device file → SendsRound (Ok tt) after [] file scan start written → Grown holds after file device scan start written
   first_round device scan held (more, whole, place, sent) = record {
     later = file;
     since = later_same file;
@@ -153,13 +153,13 @@ module _ {D : Type 0} (holds : D → List ℕ → Type 0) (after : ℕ) (file : 
   }
 
 -- and no other
-pub one_round : (holds : List ℕ → Type 0) (after : ℕ) (file : List ℕ) (scan : Place) (start written : Output) → holds file
+pub one_round : (holds : List ℕ → Type 0) (after : ℕ) (file : List ℕ) (scan : ScanState) (start written : Output) → holds file
     → SendsRound (Ok tt) after [] file scan start written → EndsRounds holds (Ok tt) false after file start written
 one_round holds after file scan start written held (more, whole, place, sent) =
     record { later = file; since = refl; held = held; records = more; whole = whole; sent = sent }
 
 -- or a fault in it
-pub first_broken : (follows : Bool) (after : ℕ) (file : List ℕ) (scan : Place) (start written : Output) (fault : KeepCommandFault)
+pub first_broken : (follows : Bool) (after : ℕ) (file : List ℕ) (scan : ScanState) (start written : Output) (fault : KeepCommandFault)
     → SendsRound (Err fault) after [] file scan start written → Breaks fault follows after file start written
 first_broken follows after file scan start written fault (more, begins, ends) =
     record { later = file; since = grows_same follows file; records = more; begins = begins; ends = ends }

@@ -8,7 +8,7 @@ use Rattle.tb_journal.specs.Contents.{Records, contents}
 use Rattle.tb_journal.specs.Device.{Disk, FailsNone}
 use Rattle.tb_journal.specs.Growing.{Later}
 use Rattle.tb_journal.specs.Opening.{RefusesFile}
-use Rattle.tb_journal.specs.Scans.{BeginsWith, HasRead, Place}
+use Rattle.tb_journal.specs.Scans.{BeginsWith, HasRead, ScanState}
 use Rattle.tb_keep.specs.declared.faults.DumpFault.{DumpFault}
 use Rattle.tb_keep.specs.declared.recovering.Rules.{Rules}
 use Rattle.tb_keep.specs.Following.{entries_above}
@@ -85,18 +85,18 @@ pub record HasPartCause (outcome : Result (Unit {0}) KeepCommandFault) (before a
 -- what private functions alone cite
 
 -- no call on a device failed, and its file is read on from there
-pub record ReadsOn (before after : Disk) (scan : Place) : Type 0 where
+pub record ReadsOn (before after : Disk) (scan : ScanState) : Type 0 where
   pub quiet : FailsNone before after
   pub seen : after.seen ≡ before.seen
   pub read : List (List ℕ)
   pub place : HasRead read after.seen scan
 
-abbrev pub RoundCause : Result (Unit {0}) KeepCommandFault → Disk → Disk → Place → Type 0
+abbrev pub RoundCause : Result (Unit {0}) KeepCommandFault → Disk → Disk → ScanState → Type 0
 RoundCause (Ok done) before after scan = ReadsOn before after scan
 RoundCause (Err fault) before after scan = HasPartCause (Err fault) before after
 
 -- the entries behind the records that were read were read and written, to the end of the file; or some of them
-abbrev pub SendsRound : Result (Unit {0}) KeepCommandFault → ℕ → List (List ℕ) → List ℕ → Place → Output → Output → Type 0
+abbrev pub SendsRound : Result (Unit {0}) KeepCommandFault → ℕ → List (List ℕ) → List ℕ → ScanState → Output → Output → Type 0
 SendsRound (Ok done) after read file scan start written =
     (more : List (List ℕ)) × (contents file ≡ Records (read ++ more)) × HasRead (read ++ more) file scan
     × Sent (entries_above after read more) start written
@@ -104,7 +104,7 @@ SendsRound (Err fault) after read file scan start written =
     (more : List (List ℕ)) × BeginsWith (read ++ more) file × EndsBy fault file (entries_above after read more) start written
 
 -- a file that has grown meanwhile was read to its end, and of its entries those were written
-pub record Grown {D : Type 0} (holds : D → List ℕ → Type 0) (after : ℕ) (file : List ℕ) (device : D) (scan : Place) (start written : Output) : Type 0 where
+pub record Grown {D : Type 0} (holds : D → List ℕ → Type 0) (after : ℕ) (file : List ℕ) (device : D) (scan : ScanState) (start written : Output) : Type 0 where
   pub later : List ℕ
   pub since : Later file later
   pub held : holds device later
@@ -122,7 +122,7 @@ pub record Breaks (fault : KeepCommandFault) (follows : Bool) (after : ℕ) (fil
   pub ends : EndsBy fault later (entries_above after [] records) start written
 
 -- one more round
-abbrev pub GrowsBy : {D : Type 0} → (D → List ℕ → Type 0) → Result (Unit {0}) KeepCommandFault → ℕ → List ℕ → D → Place → Output → Output → Type 0
+abbrev pub GrowsBy : {D : Type 0} → (D → List ℕ → Type 0) → Result (Unit {0}) KeepCommandFault → ℕ → List ℕ → D → ScanState → Output → Output → Type 0
 GrowsBy holds (Ok done) after file device scan start written = Grown holds after file device scan start written
 GrowsBy holds (Err fault) after file device scan start written = Breaks fault true after file start written
 

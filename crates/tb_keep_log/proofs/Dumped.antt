@@ -9,7 +9,7 @@ use Rattle.tb_records.specs.Inputs.{IsTimed, TimedAnswered, timed_bytes}
 use Rattle.tb_records.specs.Transport.{Output, Sent, CutOff}
 use Rattle.tb_records.proofs.Sendings.{sent_rest}
 use Rattle.tb_journal.specs.Device.{Disk, FailsNone}
-use Rattle.tb_journal.specs.Scans.{BeginsWith as BeginsFile, HasRead, Place}
+use Rattle.tb_journal.specs.Scans.{BeginsWith as BeginsFile, HasRead, ScanState}
 use Rattle.tb_journal.proofs.Causes.{none_since}
 use Rattle.tb_machine.specs.Dumps.{dumped}
 use Rattle.tb_machine.specs.Histories.{State, start}
@@ -221,7 +221,7 @@ module _ (profile : Profile) (clients_max : ℕ) (records : List (List ℕ)) (by
   next_of : (ps : List Pair) → AreFront (drop fixed_bytes bytes) ps → AreNext records file ps
   next_of ps front = record { records = bytes ∷ []; rest = front.left; begins = begins; spelled = append-nil (drop fixed_bytes bytes) ∙ front.spelled; fit = front.fit }
 
-  pub next_halts : (fault : DumpLogFault) (last : ℕ) (scan : Place) (S T : State) (a b : Output) → last ≡ length records → DumpsRecord (Err fault) profile clients_max last S T bytes a b
+  pub next_halts : (fault : DumpLogFault) (last : ℕ) (scan : ScanState) (S T : State) (a b : Output) → last ≡ length records → DumpsRecord (Err fault) profile clients_max last S T bytes a b
       → DumpsNext (Err fault) profile clients_max records file scan S T a b
   next_halts fault last scan S T a b is halts = (
     stops_dump fault (subst (λ (n : ℕ). StopsRecord fault profile clients_max n bytes) is halts.0),
@@ -259,7 +259,7 @@ module _ (before mid after : Disk) (first : FailsNone before mid) (seen : mid.se
 
 -- records
 
-pub dumped_none : (profile : Profile) (clients_max : ℕ) (read : List (List ℕ)) (file : List ℕ) (scan : Place) (S : State) (o : Output) → HasRead read file scan
+pub dumped_none : (profile : Profile) (clients_max : ℕ) (read : List (List ℕ)) (file : List ℕ) (scan : ScanState) (S : State) (o : Output) → HasRead read file scan
     → Dumped profile clients_max read file scan S S o o
 dumped_none profile clients_max read file scan S o has = record {
   records = [];
@@ -270,7 +270,7 @@ dumped_none profile clients_max read file scan S o has = record {
   dumps = dumps_none S o;
 }
 
-spelled_join : (profile : Profile) (clients_max : ℕ) (read : List (List ℕ)) (file : List ℕ) (scan : Place) (S T : State) (a b : Output) (so_far : Dumped profile clients_max read file scan S T a b) (records : List (List ℕ)) (ps : List Pair) (rest : List ℕ)
+spelled_join : (profile : Profile) (clients_max : ℕ) (read : List (List ℕ)) (file : List ℕ) (scan : ScanState) (S T : State) (a b : Output) (so_far : Dumped profile clients_max read file scan S T a b) (records : List (List ℕ)) (ps : List Pair) (rest : List ℕ)
     → flat_map (drop fixed_bytes) records ≡ content_of ps ++ rest → flat_map (drop fixed_bytes) (so_far.records ++ records) ≡ content_of (so_far.pairs ++ ps) ++ rest
 spelled_join profile clients_max read file scan S T a b so_far records ps rest spelled =
     flat_map-append (drop fixed_bytes) so_far.records records
@@ -279,7 +279,7 @@ spelled_join profile clients_max read file scan S T a b so_far records ps rest s
     ∙ sym (append_assoc (content_of so_far.pairs) (content_of ps) rest)
     ∙ ap (λ (bs : List ℕ). bs ++ rest) (sym (flat_map-append timed_bytes so_far.pairs ps))
 
-module _ (profile : Profile) (clients_max : ℕ) (read : List (List ℕ)) (file : List ℕ) (scan next : Place) (S T U : State) (a b c : Output) (so_far : Dumped profile clients_max read file scan S T a b) where
+module _ (profile : Profile) (clients_max : ℕ) (read : List (List ℕ)) (file : List ℕ) (scan next : ScanState) (S T U : State) (a b c : Output) (so_far : Dumped profile clients_max read file scan S T a b) where
   pub dumped_more : DumpsNext (Ok true) profile clients_max (read ++ so_far.records) file next T U b c → Dumped profile clients_max read file next S U a c
   dumped_more (bytes, has, (marked, (ps, spelled, dumps))) = record {
     records = so_far.records ++ bytes ∷ [];
@@ -313,7 +313,7 @@ module _ (profile : Profile) (clients_max : ℕ) (file : List ℕ) where
   first_of ps next = record { records = next.records; rest = next.rest; begins = next.begins; spelled = next.spelled; fit = next.fit }
 
   -- the head did not go out whole
-  pub head_cut : (scan : Place) (a b : Output) → HasRead [] file scan → CutOff (head_bytes profile clients_max) a b → DumpsLog (Err dump.Writer) profile clients_max file a b
+  pub head_cut : (scan : ScanState) (a b : Output) → HasRead [] file scan → CutOff (head_bytes profile clients_max) a b → DumpsLog (Err dump.Writer) profile clients_max file a b
   head_cut scan a b has cut = (
     tt,
     (

@@ -6,7 +6,7 @@ use Rattle.tb_journal.specs.declared.reading.Extent.{Extent}
 use Rattle.tb_journal.specs.Device.{Disk, FailsNone}
 use Rattle.tb_journal.specs.Contents.{records_of}
 use Rattle.tb_journal.specs.Opening.{IsOpenCause}
-use Rattle.tb_journal.specs.Scans.{BeginsWith, HasRead, Place}
+use Rattle.tb_journal.specs.Scans.{BeginsWith, HasRead, ScanState}
 use Rattle.tb_journal.proofs.Causes.{none_since, has_open_cause_since}
 use Rattle.tb_log.specs.Following.{Following, begun}
 use Rattle.tb_keep.proofs.Entered.{extent_found}
@@ -50,7 +50,7 @@ record_cause before after start.NoMemory profile clients_max F bytes stops none 
 record_cause before after (start.TornTooLong at torn) profile clients_max F bytes stops none = none
 
 module _ (profile : Profile) (clients_max : ℕ) where
-  pub enters_not : (fault : LogStartFault) (read : List (List ℕ)) (file bytes : List ℕ) (after : Place) (F G : Following) → BeginsWith (read ++ bytes ∷ []) file → StopsAt fault profile clients_max F bytes
+  pub enters_not : (fault : LogStartFault) (read : List (List ℕ)) (file bytes : List ℕ) (after : ScanState) (F G : Following) → BeginsWith (read ++ bytes ∷ []) file → StopsAt fault profile clients_max F bytes
       → EntersNext (Err fault) profile clients_max read file after F G
   enters_not (start.Journal fault) read file bytes after F G begins stops = absurd stops
   enters_not start.Plain read file bytes after F G begins stops = (bytes, begins, stops)
@@ -61,14 +61,14 @@ module _ (profile : Profile) (clients_max : ℕ) where
   enters_not start.NoMemory read file bytes after F G begins stops = (bytes, begins, stops)
   enters_not (start.TornTooLong at torn) read file bytes after F G begins stops = absurd stops
 
-  pub entered_none : (read : List (List ℕ)) (file : List ℕ) (scan : Place) (F : Following) → HasRead read file scan → Entered profile clients_max read file scan F F
+  pub entered_none : (read : List (List ℕ)) (file : List ℕ) (scan : ScanState) (F : Following) → HasRead read file scan → Entered profile clients_max read file scan F F
   entered_none read file scan F has = record {
     records = [];
     has = subst (λ (r : List (List ℕ)). HasRead r file scan) (sym (append-nil read)) has;
     leads = leads_none profile clients_max F;
   }
 
-  module _ (read : List (List ℕ)) (file : List ℕ) (scan next : Place) (F G H : Following) (so_far : Entered profile clients_max read file scan F G) where
+  module _ (read : List (List ℕ)) (file : List ℕ) (scan next : ScanState) (F G H : Following) (so_far : Entered profile clients_max read file scan F G) where
     pub entered_more : EntersNext (Ok true) profile clients_max (read ++ so_far.records) file next G H → Entered profile clients_max read file next F H
     entered_more (bytes, at, enters) = record {
       records = so_far.records ++ bytes ∷ [];
@@ -98,7 +98,7 @@ module _ (profile : Profile) (clients_max : ℕ) where
 
   -- a whole file
 
-  module _ (file : List ℕ) (scan : Place) (F G : Following) (empty : F ≡ begun profile clients_max) where
+  module _ (file : List ℕ) (scan : ScanState) (F G : Following) (empty : F ≡ begun profile clients_max) where
     pub restored_whole : (extent : Extent) → extent.end ≡ scan.end → extent.count ≡ scan.count → EntersAll (Ok tt) profile clients_max [] file scan F G → IsRestored profile clients_max file G extent
     restored_whole extent end count (entered, reads) = record {
       extent_is = extent_found file entered.records scan extent reads entered.has end count;

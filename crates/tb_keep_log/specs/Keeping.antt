@@ -13,7 +13,7 @@ use Rattle.tb_log.specs.Format.{content_of, standing_item}
 use Rattle.tb_log.specs.Following.{Following, begun, Item, Entry, Question, with_item, after_items, AllAnswered}
 use Rattle.tb_log.specs.Follows.{ItemFits}
 use Rattle.tb_keep.specs.declared.recovering.Rules.{Rules}
-use Rattle.tb_journal.specs.Scans.{HasRead, Place}
+use Rattle.tb_journal.specs.Scans.{HasRead, ScanState}
 
 -- the first bytes of each record: the text TBF1, the profile's number, and the number of clients that can have a session at one time
 abbrev pub mark : Profile → ℕ → List ℕ
@@ -73,11 +73,11 @@ abbrev pub OfHeld : (List ℕ → Type 0) → (List ℕ → Type 0) → Type 0
 OfHeld holds P = (file : List ℕ) → holds file → P file
 
 -- of this file, where a scan has read no record of it
-abbrev pub OfUnread : (List ℕ → Type 0) → Place → (List ℕ → Type 0) → Type 0
+abbrev pub OfUnread : (List ℕ → Type 0) → ScanState → (List ℕ → Type 0) → Type 0
 OfUnread holds scan P = (file : List ℕ) → holds file → HasRead [] file scan → P file
 
 -- of this file, and of the records that a scan has read of it
-abbrev pub OfEachRead : (List ℕ → Type 0) → Place → (List (List ℕ) → List ℕ → Type 0) → Type 0
+abbrev pub OfEachRead : (List ℕ → Type 0) → ScanState → (List (List ℕ) → List ℕ → Type 0) → Type 0
 OfEachRead holds scan P = (file : List ℕ) (read : List (List ℕ)) → holds file → HasRead read file scan → P read file
 
 -- of a device that reports what its calls do, where no sync has failed before

@@ -17,7 +17,7 @@ use std::alloc::Allocator;
 /// An event of a batch.
 pub trait Event: Copy {
     ghost use Rattle.std.specs.Prelude.{ℕ, Bool, List, Option};
-    ghost use Rattle.tb_ledger.specs.Batches.{Kind};
+    ghost use Rattle.tb_ledger.specs.Batches.{Kind, chain_failed, chain_open};
     ghost use Rattle.tb_ledger.specs.private.Capacity.{Capacity};
 
     /// Why an event isn't accepted.
@@ -44,11 +44,11 @@ pub trait Event: Copy {
 
     /// The refusal of an event that another one's failure undoes.
     fn undone() -> Self::Refusal
-        ensures { code_of result ≡ 1 };
+        ensures { code_of result ≡ chain_failed };
 
     /// The refusal of the last event of an open chain.
     fn chain_open() -> Self::Refusal
-        ensures { code_of result ≡ 2 };
+        ensures { code_of result ≡ chain_open };
 
     /// Looks for the ids of the first eight events interleaved, where there are so many. The rows stay.
     fn look_ahead<A: Allocator + Clone>(events: &[Self], rows: &mut Rows<A>)
@@ -76,7 +76,7 @@ pub trait Event: Copy {
     ghost leaves_rest: { (m n : ℕ) (before after : Capacity) → HasCapacity (m + n) before → Uses m before after
         → HasCapacity n after };
 
-    ghost open_is_new: { (failed : Option (List ℕ)) (e : Self) → IsNew failed e 2 };
+    ghost open_is_new: { (failed : Option (List ℕ)) (e : Self) → IsNew failed e chain_open };
 }
 
 /// The number of events in the first chain: up to the first that isn't linked.

@@ -7,7 +7,7 @@ use Rattle.std.specs.List.{Contains, filter}
 use Rattle.std.proofs.lemmas.List.{append-nil, take-append-drop}
 use Rattle.std.proofs.lemmas.List.Elements.{All-contains, filter_passes, filter_more, filter-append, Contains-push, Contains-append_left}
 use Rattle.std.proofs.lemmas.Option.{none-some, option_and_then_some, same_Some}
-use Rattle.tb_text.proofs.Names.{Operation, Field, Word, Lexeme, Gap, Comment, Spelled, Zero, Prefix, Decimal, Hexadecimal, Place, Named, Wanted, Given, Opened, Parted}
+use Rattle.tb_text.proofs.Names.{Operation, Field, Word, Lexeme, Gap, Comment, Spelled, Zero, Prefix, Decimal, Hexadecimal, NextPart, Named, Wanted, Given, Opened, Parted}
 use Rattle.tb_text.specs.declared.awaited.Awaited.{Awaited}
 use Rattle.tb_text.specs.declared.words.Field.TheVariants as field
 use Rattle.tb_text.specs.declared.words.Word.TheVariants as word
@@ -151,11 +151,11 @@ refused s b bs e r = absurd (none-some r.0 (sym (ap (option_and_then (λ t. run 
 neither : (s : Scan) (b : ℕ) → step s b ≡ None → (false ≡ true) ↔ Runs s (b ∷ 10 ∷ [])
 neither s b e = (λ h. absurd cc, λ r. absurd (refused s b (10 ∷ []) e r))
 
-equals_both : (s : Scan) (p : Place) → step s 61 ≡ valued_at s p → (awaits_equals p ≡ true) ↔ Runs s (61 ∷ 10 ∷ [])
+equals_both : (s : Scan) (p : NextPart) → step s 61 ≡ valued_at s p → (awaits_equals p ≡ true) ↔ Runs s (61 ∷ 10 ∷ [])
 equals_both s (Named f) e = (λ h. first s (moved s (Wanted f)) 61 e refl, λ r. refl)
 equals_both s p e = neither s 61 e
 
-bar_both : (s : Scan) (p : Place) → step s 124 ≡ joined_at s p → (awaits_bar p ≡ true) ↔ Runs s (124 ∷ 10 ∷ [])
+bar_both : (s : Scan) (p : NextPart) → step s 124 ≡ joined_at s p → (awaits_bar p ≡ true) ↔ Runs s (124 ∷ 10 ∷ [])
 bar_both s (Given f) e = by (same_field field.Flags f) e
   where
     by : (c : Bool) → step s 124 ≡ cond c (Some (moved s (Wanted f))) None → (c ≡ true) ↔ Runs s (124 ∷ 10 ∷ [])
@@ -163,7 +163,7 @@ bar_both s (Given f) e = by (same_field field.Flags f) e
     by false is = neither s 124 is
 bar_both s p e = neither s 124 e
 
-comma_both : (s : Scan) (o : Option Operation) (p : Place) → step s 44 ≡ option_and_then (λ q. parted_at s q p) o
+comma_both : (s : Scan) (o : Option Operation) (p : NextPart) → step s 44 ≡ option_and_then (λ q. parted_at s q p) o
     → ((has_operation o && is_given_place p && nat_lt (item_count s + 1) 8190) ≡ true) ↔ Runs s (44 ∷ 10 ∷ [])
 comma_both s (Some o) (Given f) e = by (nat_lt (item_count s + 1) 8190) e
   where
@@ -180,7 +180,7 @@ rested s t b l g e h = absurd cc
 ended : (s : Scan) (next : Option Scan) → step s 59 ≡ next → Rests next → Runs s (59 ∷ 10 ∷ [])
 ended s next e r = rested s r.0 59 r.0.lexeme refl (e ∙ r.1) r.2
 
-semicolon_both : (s : Scan) (o : Option Operation) (p : Place) → step s 59 ≡ option_and_then (λ q. closed_at s q p) o → Stands o p s.given s.header (item_count s)
+semicolon_both : (s : Scan) (o : Option Operation) (p : NextPart) → step s 59 ≡ option_and_then (λ q. closed_at s q p) o → Stands o p s.given s.header (item_count s)
     → ((has_operation o && is_opened_place p) ≡ true) ↔ Runs s (59 ∷ 10 ∷ [])
 semicolon_both s (Some o) (Given f) e h = (λ t. ended s (finished (pushed s o Opened) o) e (pushed_rests s o h.0 h.1), λ r. refl)
 semicolon_both s (Some o) Opened e h = (λ t. ended s (finished s o) e (finished_rests s o h.0 (omega (arith, h.1))), λ r. refl)

@@ -1,7 +1,7 @@
 -- Accounts, transfers and ids are read as what they are.
 use Rattle.std.proofs.Common.{◌≡◌, ℕ, ◌+◌, ◌^◌, ◌<◌, true, false, ◌==◌, List, [], ◌∷◌, ◌++◌, length, Some, refl, sym, ap, ◌∙◌, arith}
 use Rattle.std.specs.Prelude.{nat_lt}
-use Rattle.tb_text.proofs.Names.{Operation, Register, CreateAccounts, CreateTransfers, Account, Transfer, Field, Place, Opened, Parted}
+use Rattle.tb_text.proofs.Names.{Operation, Register, CreateAccounts, CreateTransfers, Account, Transfer, Field, NextPart, Opened, Parted}
 use Rattle.tb_records.specs.RecordBytes.{IsAccount, IsTransfer}
 use Rattle.tb_records.specs.Messages.{Message}
 use Rattle.tb_records.specs.Frames.{IsId}
@@ -29,7 +29,7 @@ event_through q s id es tail e b bits a n m fits o =
     )
 
 -- a statement of accounts, so far
-abbrev pub accounts_state : List (ℕ × Message) → List Entry → List Account → Place → Scan
+abbrev pub accounts_state : List (ℕ × Message) → List Entry → List Account → NextPart → Scan
 accounts_state pairs header xs place = mid pairs header CreateAccounts place xs [] []
 
 pub accounts_kind : (pairs : List (ℕ × Message)) (header : List Entry) → IsKind (accounts_state pairs header) CreateAccounts account_text IsAccount
@@ -51,7 +51,7 @@ accounts_kind pairs header = record {
 }
 
 -- a statement of transfers, so far
-abbrev pub transfers_state : List (ℕ × Message) → List Entry → List Transfer → Place → Scan
+abbrev pub transfers_state : List (ℕ × Message) → List Entry → List Transfer → NextPart → Scan
 transfers_state pairs header xs place = mid pairs header CreateTransfers place [] xs []
 
 pub transfers_kind : (pairs : List (ℕ × Message)) (header : List Entry) → IsKind (transfers_state pairs header) CreateTransfers transfer_text IsTransfer
@@ -73,11 +73,11 @@ transfers_kind pairs header = record {
 }
 
 -- a lookup of ids, so far
-abbrev pub sought_state : Operation → List (ℕ × Message) → List Entry → List ℕ → Place → Scan
+abbrev pub sought_state : Operation → List (ℕ × Message) → List Entry → List ℕ → NextPart → Scan
 sought_state o pairs header xs place = mid pairs header o place [] [] xs
 
 -- of an operation that has ids without flags, and puts each behind the others
-pub sought_kind : (o : Operation) → SameBits (Some o) Register → may_have (Some o) field.Id ≡ true → ((s : Scan) (place : Place) → pushed s o place ≡ moved (with_items s s.accounts s.transfers (s.ids ++ value_of field.Id s.given ∷ [])) place) → (pairs : List (ℕ × Message)) (header : List Entry)
+pub sought_kind : (o : Operation) → SameBits (Some o) Register → may_have (Some o) field.Id ≡ true → ((s : Scan) (place : NextPart) → pushed s o place ≡ moved (with_items s s.accounts s.transfers (s.ids ++ value_of field.Id s.given ∷ [])) place) → (pairs : List (ℕ × Message)) (header : List Entry)
     → IsKind (sought_state o pairs header) o id_text IsId
 unfolding id_text
 sought_kind o bits has puts pairs header = record {
@@ -85,7 +85,7 @@ sought_kind o bits has puts pairs header = record {
       let s = sought_state o pairs header xs place in
       let through = event_through Register s x [] tail end (record { lexeme = refl; spelled = refl }) bits awaits refl has h tt in
       let at_id = at s through.0 ((field.Id, x) ∷ told Register []) in
-      let behind : (p : Place) → pushed at_id o p ≡ sought_state o pairs header (xs ++ x ∷ []) p =
+      let behind : (p : NextPart) → pushed at_id o p ≡ sought_state o pairs header (xs ++ x ∷ []) p =
       λ p. puts at_id p ∙ ap (λ (y : ℕ). sought_state o pairs header (xs ++ y ∷ []) p) (none_or x) in (
         at_id,
         ap (λ (t : List ℕ). run s (t ++ tail)) (sym (append-nil (entry_text Register (field.Id, x)))) ∙ through.1,

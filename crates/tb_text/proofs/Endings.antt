@@ -4,7 +4,7 @@ use Rattle.std.specs.Prelude.{nat_lt}
 use Rattle.std.specs.Option.{option_and_then, is_none}
 use Rattle.std.proofs.lemmas.Bool.{and_from, and_parts, eqb-true, not-true, or_left, or_right, le-ltb}
 use Rattle.tb_records.specs.Messages.{Message, number_fault, is_register, item_count as body_count}
-use Rattle.tb_text.proofs.Names.{Operation, Register, CreateAccounts, CreateTransfers, LookupAccounts, LookupTransfers, Field, Word, Lexeme, Gap, Comment, Spelled, Zero, Prefix, Decimal, Hexadecimal, Place, Head, Named, Wanted, Given, Opened, Parted}
+use Rattle.tb_text.proofs.Names.{Operation, Register, CreateAccounts, CreateTransfers, LookupAccounts, LookupTransfers, Field, Word, Lexeme, Gap, Comment, Spelled, Zero, Prefix, Decimal, Hexadecimal, NextPart, Head, Named, Wanted, Given, Opened, Parted}
 use Rattle.tb_text.specs.declared.words.Field.TheVariants as field
 use Rattle.tb_text.specs.declared.words.Word.TheVariants as word
 use Rattle.tb_text.specs.Words.{field_name, word_text, field_max, has_field, is_header_field}
@@ -78,7 +78,7 @@ finished_rests s o h few =
 pub pushed_rests : (s : Scan) (o : Operation) → IsChosen o s.header → item_count s < 8190 → Rests (finished (pushed s o Opened) o)
 pushed_rests s o h lt = finished_rests (pushed s o Opened) o h (omega (arith, lt, pushed_most s o Opened))
 
-closes : (s : Scan) (o : Operation) (place : Place) → s.lexeme ≡ Gap → s.operation ≡ Some o → s.place ≡ place → Rests (closed_at s o place) → CanEnd s
+closes : (s : Scan) (o : Operation) (place : NextPart) → s.lexeme ≡ Gap → s.operation ≡ Some o → s.place ≡ place → Rests (closed_at s o place) → CanEnd s
 closes s o place g e p h =
     let close : step s 59 ≡ closed_at s o place = at_gap s 59 g ∙ (ap (option_and_then (λ q. closed_at s q s.place)) e ∙ ap (closed_at s o) p) in
     record { more = 59 ∷ []; last = h.0; taken = ap (option_and_then (λ t. run t [])) (close ∙ h.1); whole = h.2 }
@@ -204,7 +204,7 @@ ends_clear s h = by s.place refl h.stands s.operation refl h.stands
     between : IsBetween s
     between = record { lexeme = h.gap; spelled = h.spelled }
 
-    by : (p : Place) → s.place ≡ p → Stands s.operation p s.given s.header (item_count s) → (o : Option Operation) → s.operation ≡ o → Stands o p s.given s.header (item_count s) → CanEnd s
+    by : (p : NextPart) → s.place ≡ p → Stands s.operation p s.given s.header (item_count s) → (o : Option Operation) → s.operation ≡ o → Stands o p s.given s.header (item_count s) → CanEnd s
     by Head e k o is here = record { more = []; last = s; taken = refl; whole = ap (λ (l : Lexeme). rests l s.place) h.gap ∙ ap (rests Gap) e }
     by (Named f) e k o is here = ends_named s f h.gap e k
     by (Wanted f) e k o is here = ends_wanted s f h.gap e k
@@ -234,7 +234,7 @@ ends_spelled s e begun h =
     (ends_clear (taken s w) (taken_clear s w begun.may h)))
 
 here : (s : Scan) (f : Field) → wanted s.place ≡ Some f → Stands s.operation s.place s.given s.header (item_count s) → Stands s.operation (Wanted f) s.given s.header (item_count s)
-here s f w h = subst (λ (p : Place). Stands s.operation p s.given s.header (item_count s)) (wanted_here s.place f w) h
+here s f w h = subst (λ (p : NextPart). Stands s.operation p s.given s.header (item_count s)) (wanted_here s.place f w) h
 
 ends : (s : Scan) → IsOngoing s → CanEnd s
 ends s h = by s.lexeme refl h.lexeme

@@ -2,7 +2,7 @@
 use Rattle.std.proofs.Common.{◌≡◌, ℕ, ◌+◌, ◌%◌, ◌^◌, ◌<◌, ◌≤◌, true, List, [], ◌∷◌, ◌++◌, length, Option, Some, refl, ap, ◌∙◌, append_assoc, arith, length-append}
 use Rattle.std.specs.List.{AllByRecursion}
 use Rattle.std.specs.Option.{option_and_then}
-use Rattle.tb_text.proofs.Names.{Operation, CreateAccounts, CreateTransfers, Account, Transfer, Field, Gap, Place, Opened, Parted}
+use Rattle.tb_text.proofs.Names.{Operation, CreateAccounts, CreateTransfers, Account, Transfer, Field, Gap, NextPart, Opened, Parted}
 use Rattle.tb_records.specs.RecordBytes.{IsAccount, IsTransfer}
 use Rattle.tb_records.specs.Messages.{Message}
 use Rattle.tb_text.specs.declared.words.Field.TheVariants as field
@@ -14,25 +14,25 @@ use Rattle.tb_text.proofs.Entries.{told, InOrder, only_flags, value_told, none_o
 use Rattle.tb_text.proofs.Orders.{accounts_in_order, transfers_in_order}
 
 -- within a statement
-abbrev pub mid : List (ℕ × Message) → List Entry → Operation → Place → List Account → List Transfer → List ℕ → Scan
+abbrev pub mid : List (ℕ × Message) → List Entry → Operation → NextPart → List Account → List Transfer → List ℕ → Scan
 mid pairs header o place accounts transfers ids = with_items (bare pairs place (Some o) header) accounts transfers ids
 
 -- an event is given, and is behind others once a mark follows
-pub record Holds {X : Type 0} (state : List X → Place → Scan) (o : Operation) (xs : List X) (x : X) (s : Scan) : Type 0 where
+pub record Holds {X : Type 0} (state : List X → NextPart → Scan) (o : Operation) (xs : List X) (x : X) (s : Scan) : Type 0 where
   pub parts : length xs + 1 < 8190 → step s 44 ≡ Some (state (xs ++ x ∷ []) Parted)
   pub ends : step s 59 ≡ finished (state (xs ++ x ∷ []) Opened) o
 
 -- what reads events of one kind
-pub record IsKind {X : Type 0} (state : List X → Place → Scan) (o : Operation) (text : X → List ℕ) (Fits : X → Type 0) : Type 0 where
-  pub item : (xs : List X) (place : Place) → awaits_field place ≡ true → (x : X) → Fits x → (tail : List ℕ) → IsEnd tail → (s : Scan) × (run (state xs place) (text x ++ tail) ≡ run s tail) × Holds state o xs x s
-  pub between : (xs : List X) (place : Place) → (state xs place).lexeme ≡ Gap
+pub record IsKind {X : Type 0} (state : List X → NextPart → Scan) (o : Operation) (text : X → List ℕ) (Fits : X → Type 0) : Type 0 where
+  pub item : (xs : List X) (place : NextPart) → awaits_field place ≡ true → (x : X) → Fits x → (tail : List ℕ) → IsEnd tail → (s : Scan) × (run (state xs place) (text x ++ tail) ≡ run s tail) × Holds state o xs x s
+  pub between : (xs : List X) (place : NextPart) → (state xs place).lexeme ≡ Gap
   pub empty : step (state [] Opened) 59 ≡ finished (state [] Opened) o
 
 end_of_items : {X : Type 0} (text : X → List ℕ) (xs : List X) (tail : List ℕ) → IsEnd (more_text text xs ++ 59 ∷ tail)
 end_of_items text [] tail = record { byte = 59; rest = tail; text_is = refl; ends = refl }
 end_of_items text (x ∷ xs) tail = record { byte = 44; rest = (32 ∷ text x ++ more_text text xs) ++ 59 ∷ tail; text_is = refl; ends = refl }
 
-more_through : {X : Type 0} (state : List X → Place → Scan) (o : Operation) (text : X → List ℕ) (Fits : X → Type 0) → IsKind state o text Fits
+more_through : {X : Type 0} (state : List X → NextPart → Scan) (o : Operation) (text : X → List ℕ) (Fits : X → Type 0) → IsKind state o text Fits
     → (xs ys : List X) (y : X) (s : Scan) (tail : List ℕ) → Holds state o ys y s → AllByRecursion Fits xs → length ys + 1 + length xs ≤ 8190
     → run s (more_text text xs ++ 59 ∷ tail) ≡ option_and_then (λ t. run t tail) (finished (state (ys ++ y ∷ xs) Opened) o)
 more_through state o text Fits kind [] ys y s tail holds fits room = ap (option_and_then (λ t. run t tail)) holds.ends
@@ -44,7 +44,7 @@ more_through {X} state o text Fits kind (x ∷ xs) ys y s tail holds fits room =
     ∙ (next.1 ∙ (more_through state o text Fits kind xs (ys ++ y ∷ []) x next.0 tail next.2 fits.1 (omega (arith, length-append ys (y ∷ [])))
     ∙ ap (λ (zs : List X). option_and_then (λ t. run t tail) (finished (state zs Opened) o)) (append_assoc ys (y ∷ []) (x ∷ xs))))))
 
-pub items_through : {X : Type 0} (state : List X → Place → Scan) (o : Operation) (text : X → List ℕ) (Fits : X → Type 0) → IsKind state o text Fits
+pub items_through : {X : Type 0} (state : List X → NextPart → Scan) (o : Operation) (text : X → List ℕ) (Fits : X → Type 0) → IsKind state o text Fits
     → (xs : List X) (tail : List ℕ) → AllByRecursion Fits xs → length xs ≤ 8190
     → run (state [] Opened) (items_text text xs ++ 59 ∷ tail) ≡ option_and_then (λ t. run t tail) (finished (state xs Opened) o)
 items_through state o text Fits kind [] tail fits room = ap (option_and_then (λ t. run t tail)) kind.empty

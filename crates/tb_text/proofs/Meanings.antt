@@ -1,7 +1,7 @@
 -- What a text means is what the grammar says that it says.
 use Rattle.std.proofs.Common.{◌≡◌, ℕ, true, List, [], refl, subst}
 use Rattle.tb_records.specs.Messages.{Message}
-use Rattle.tb_text.proofs.Names.{Lexeme, Gap, Comment, Place, Head}
+use Rattle.tb_text.proofs.Names.{Lexeme, Gap, Comment, NextPart, Head}
 use Rattle.tb_text.specs.Scan.{behind, rests, within}
 use Rattle.tb_text.specs.Steps.{Means}
 use Rattle.tb_text.specs.Grammar.{Says, Statements}
@@ -11,7 +11,7 @@ use Rattle.tb_text.proofs.Parsing.{statements_said}
 use Rattle.tb_text.proofs.Feeding.{text_fed}
 use Rattle.tb_text.proofs.Stating.{statements_taken}
 
-rests_at_head : (l : Lexeme) (p : Place) → rests l p ≡ true → p ≡ Head
+rests_at_head : (l : Lexeme) (p : NextPart) → rests l p ≡ true → p ≡ Head
 rests_at_head Gap Head h = refl
 rests_at_head Comment Head h = refl
 rests_at_head l p h = absurd cc

@@ -4,7 +4,7 @@ use Rattle.std.specs.Prelude.{nat_le, nat_lt}
 use Rattle.std.specs.Option.{option_and_then}
 use Rattle.std.proofs.lemmas.Bool.{leb-true, eqb-true}
 use Rattle.std.proofs.lemmas.Option.{cond_some, option_and_then_some, same_Some}
-use Rattle.tb_text.proofs.Names.{FrameFault, Operation, Lexeme, Gap, Comment, Spelled, Zero, Prefix, Decimal, Hexadecimal, Place, Named, Wanted, Given, Opened, Parted, Field, Word}
+use Rattle.tb_text.proofs.Names.{FrameFault, Operation, Lexeme, Gap, Comment, Spelled, Zero, Prefix, Decimal, Hexadecimal, NextPart, Named, Wanted, Given, Opened, Parted, Field, Word}
 use Rattle.tb_records.specs.Messages.{Message, number_fault}
 use Rattle.tb_text.specs.declared.words.Field.TheVariants as field
 use Rattle.tb_text.specs.Words.{field_max, same_field}
@@ -13,7 +13,7 @@ use Rattle.tb_text.specs.Scan.{Scan, behind, step, step_at, gap, wanted, may_sta
 use Rattle.tb_text.proofs.Runs.{word_taken, number_entered, only_false}
 
 -- a number of the field that is wanted
-pub record Fits (place : Place) (n : ℕ) : Type 0 where
+pub record Fits (place : NextPart) (n : ℕ) : Type 0 where
   pub field : Field
   pub is : wanted place ≡ Some field
   pub most : n ≤ field_max field
@@ -65,22 +65,22 @@ finished_with s v r None e = same_Some (behind (s.pairs ++ (value_of field.At s.
 finished_with s v r (Some fault) e = absurd cc
 
 -- behind a statement nothing of the next one is begun
-pub closed_is : (s v : Scan) (o : Operation) (place : Place) → closed_at s o place ≡ Some v → (pair : ℕ × Message) × (behind (s.pairs ++ pair ∷ []) ≡ v)
+pub closed_is : (s v : Scan) (o : Operation) (place : NextPart) → closed_at s o place ≡ Some v → (pair : ℕ × Message) × (behind (s.pairs ++ pair ∷ []) ≡ v)
 closed_is s v o Opened e = (_, finished_with s v (request_of s o) (number_fault (request_of s o)) e)
 closed_is s v o (Given f) e =
     let t = pushed s o Opened in
     (_, finished_with t v (request_of t o) (number_fault (request_of t o)) e)
 closed_is s v o place e = absurd cc
 
-valued_cases : (s v : Scan) (place : Place) → s.place ≡ place → valued_at s place ≡ Some v → Marked s 61 v
+valued_cases : (s v : Scan) (place : NextPart) → s.place ≡ place → valued_at s place ≡ Some v → Marked s 61 v
 valued_cases s v (Named f) p e = subst (Marked s 61) (same_Some (moved s (Wanted f)) v e) (equals f p)
 valued_cases s v place p e = absurd cc
 
-joined_cases : (s v : Scan) (place : Place) → s.place ≡ place → joined_at s place ≡ Some v → Marked s 124 v
+joined_cases : (s v : Scan) (place : NextPart) → s.place ≡ place → joined_at s place ≡ Some v → Marked s 124 v
 joined_cases s v (Given f) p e = let test = cond_some (same_field field.Flags f) (moved s (Wanted f)) v e in subst (Marked s 124) test.1 (bar f p test.0)
 joined_cases s v place p e = absurd cc
 
-parted_cases : (s v : Scan) (o : Operation) (place : Place) → s.operation ≡ Some o → s.place ≡ place → parted_at s o place ≡ Some v → Marked s 44 v
+parted_cases : (s v : Scan) (o : Operation) (place : NextPart) → s.operation ≡ Some o → s.place ≡ place → parted_at s o place ≡ Some v → Marked s 44 v
 parted_cases s v o (Given f) is p e = let test = cond_some (nat_lt (item_count s + 1) 8190) (pushed s o Parted) v e in subst (Marked s 44) test.1 (comma o f is p test.0)
 parted_cases s v o place is p e = absurd cc
 

@@ -7,7 +7,7 @@ use Rattle.std.proofs.lemmas.Bool.Decides.{nat_tests}
 use Rattle.std.proofs.lemmas.List.{at_drop_more}
 use Rattle.std.proofs.lemmas.Nat.{or_shifted, or_comm}
 use Rattle.std.proofs.Math.Nat.{div-div-eq-div-mul}
-use Rattle.tb_text.proofs.Names.{Operation, Register, CreateAccounts, CreateTransfers, Field, Flag, Gap, Place, Given, Named, Wanted}
+use Rattle.tb_text.proofs.Names.{Operation, Register, CreateAccounts, CreateTransfers, Field, Flag, Gap, NextPart, Given, Named, Wanted}
 use Rattle.tb_text.specs.declared.words.Field.TheVariants as field
 use Rattle.tb_text.specs.declared.words.Flag.TheVariants as flag
 use Rattle.tb_text.specs.declared.words.Word.TheVariants as word
@@ -25,7 +25,7 @@ flags_from [] mark rest n = cond (mark == 124 && rest == 0) [] (mark ∷ decimal
 flags_from (f ∷ fs) mark rest n = cond (n % 2 == 0) (flags_from fs mark rest (n / 2)) (mark ∷ flag_name f ++ flags_from fs 124 rest (n / 2))
 
 -- the statement, at a place and with these entries of its event
-abbrev pub placed : Scan → Place → List Entry → Scan
+abbrev pub placed : Scan → NextPart → List Entry → Scan
 placed s place given = standing s Gap [] place given
 
 -- a field was given, as the last of these
@@ -52,7 +52,7 @@ has_flags CreateAccounts = (refl, (refl, (refl, (refl, (refl, (refl, tt))))))
 has_flags CreateTransfers = (refl, (refl, (refl, (refl, (refl, (refl, (refl, (refl, (refl, tt)))))))))
 has_flags o = tt
 
-between : (s : Scan) (place : Place) (g : List Entry) → IsBetween (placed s place g)
+between : (s : Scan) (place : NextPart) (g : List Entry) → IsBetween (placed s place g)
 between s place g = record { lexeme = refl; spelled = refl }
 
 -- a mark and a flag's name

@@ -9,7 +9,7 @@ use Rattle.std.proofs.lemmas.Bool.{and_parts, eqb-true, not-true, or_parts, ltb-
 use Rattle.std.proofs.lemmas.List.{take-append-drop}
 use Rattle.std.proofs.lemmas.Option.{option_and_then_some, same_Some}
 use Rattle.tb_records.specs.Messages.{Message}
-use Rattle.tb_text.proofs.Names.{Operation, Register, CreateAccounts, CreateTransfers, LookupAccounts, LookupTransfers, Field, Word, Lexeme, Gap, Comment, Spelled, Zero, Prefix, Decimal, Hexadecimal, Place, Head, Named, Wanted, Given, Opened, Parted}
+use Rattle.tb_text.proofs.Names.{Operation, Register, CreateAccounts, CreateTransfers, LookupAccounts, LookupTransfers, Field, Word, Lexeme, Gap, Comment, Spelled, Zero, Prefix, Decimal, Hexadecimal, NextPart, Head, Named, Wanted, Given, Opened, Parted}
 use Rattle.tb_text.specs.declared.words.Field.TheVariants as field
 use Rattle.tb_text.specs.declared.words.Word.TheVariants as word
 use Rattle.tb_text.specs.Words.{word_text, all_words, field_index, field_max, same_field, is_header_field, has_field}
@@ -29,7 +29,7 @@ pub record HeaderNumbers (given : List Entry) : Type 0 where
 abbrev pub IsNew : Field → List Entry → Type 0
 IsNew f given = (is_header_field f ≡ true) × (is_given f given ≡ false)
 
-abbrev pub InHeader : Place → List Entry → Type 0
+abbrev pub InHeader : NextPart → List Entry → Type 0
 InHeader Head given = Unit {0}
 InHeader (Named f) given = IsNew f given
 InHeader (Wanted f) given = IsNew f given
@@ -41,7 +41,7 @@ pub record IsChosen (o : Operation) (header : List Entry) : Type 0 where
   pub suited : suits o header ≡ true
   pub small : value_of field.Request header < 2 ^ 32
 
-abbrev pub InBody : Operation → Place → List Entry → Type 0
+abbrev pub InBody : Operation → NextPart → List Entry → Type 0
 InBody o Head given = ⊥
 InBody o (Named f) given = has_field o field.Id ≡ true
 InBody o (Wanted f) given = has_field o field.Id ≡ true
@@ -50,7 +50,7 @@ InBody o Opened given = Unit {0}
 InBody o Parted given = (given ≡ []) × (has_field o field.Id ≡ true)
 
 -- the state of a statement: its operation, the place, the entries given, those before the operation, and the number of events
-abbrev pub Stands : Option Operation → Place → List Entry → List Entry → ℕ → Type 0
+abbrev pub Stands : Option Operation → NextPart → List Entry → List Entry → ℕ → Type 0
 Stands None place given header count = HeaderNumbers given × InHeader place given
 Stands (Some o) place given header count = IsChosen o header × (count < 8190) × InBody o place given
 
@@ -167,7 +167,7 @@ no_header_amount field.Amount h e = absurd cc
 no_header_amount f h e = absurd cc
 
 -- behind a word that represents a number
-named_number_stands : (o : Option Operation) (place : Place) (f : Field) (n : ℕ) (given header : List Entry) (count : ℕ) → is_field f (wanted place) ≡ true
+named_number_stands : (o : Option Operation) (place : NextPart) (f : Field) (n : ℕ) (given header : List Entry) (count : ℕ) → is_field f (wanted place) ≡ true
     → ((g : Field) → is_header_field g ≡ true → same_field f g ≡ true → ⊥) → Stands o place given header count → Stands o (Given f) (given ++ (f, n) ∷ []) header count
 named_number_stands None (Wanted g) f n given header count is never h = absurd (never g h.1.0 is)
 named_number_stands (Some o) (Wanted g) f n given header count is never h = h
@@ -178,7 +178,7 @@ has_id Register f h = absurd cc
 has_id o f h = refl
 
 -- behind the name of a field that may come
-name_stands : (o : Option Operation) (place : Place) (f : Field) (given header : List Entry) (count : ℕ) → may_have o f ≡ true → is_given f given ≡ false
+name_stands : (o : Option Operation) (place : NextPart) (f : Field) (given header : List Entry) (count : ℕ) → may_have o f ≡ true → is_given f given ≡ false
     → Stands o place given header count → Stands o (Named f) given header count
 name_stands None place f given header count may new h = (h.0, (may, new))
 name_stands (Some o) place f given header count may new h = (h.0, h.1, has_id o f may)
@@ -192,16 +192,16 @@ joined_stands : (o : Option Operation) (f : Field) (given header : List Entry) (
 joined_stands None f given header count flags h = absurd (no_header_flags f h.1 flags)
 joined_stands (Some o) f given header count flags h = h
 
-numbers_before : (o : Option Operation) (place : Place) (given header : List Entry) (count : ℕ) → is_none o ≡ true → Stands o place given header count → HeaderNumbers given
+numbers_before : (o : Option Operation) (place : NextPart) (given header : List Entry) (count : ℕ) → is_none o ≡ true → Stands o place given header count → HeaderNumbers given
 numbers_before None place given header count none h = h.0
 numbers_before (Some o) place given header count none h = absurd cc
 
-pub wanted_here : (place : Place) (f : Field) → wanted place ≡ Some f → place ≡ Wanted f
+pub wanted_here : (place : NextPart) (f : Field) → wanted place ≡ Some f → place ≡ Wanted f
 wanted_here (Wanted g) f h = ap (λ (k : Field). Wanted k) (same_Some g f h)
 wanted_here place f h = absurd cc
 
-at_place : (s : Scan) (place : Place) → s.place ≡ place → Stands s.operation s.place s.given s.header (item_count s) → Stands s.operation place s.given s.header (item_count s)
-at_place s place e h = subst (λ (p : Place). Stands s.operation p s.given s.header (item_count s)) e h
+at_place : (s : Scan) (place : NextPart) → s.place ≡ place → Stands s.operation s.place s.given s.header (item_count s) → Stands s.operation place s.given s.header (item_count s)
+at_place s place e h = subst (λ (p : NextPart). Stands s.operation p s.given s.header (item_count s)) e h
 
 -- WORDS
 
@@ -259,7 +259,7 @@ pub fresh : (pairs : List (ℕ × Message)) → IsClear (behind pairs)
 fresh pairs = record { gap = refl; spelled = refl; stands = (record { client = λ e. absurd cc; request = λ e. absurd cc; small = lit< tt }, tt) }
 
 -- one more than before
-pub pushed_most : (s : Scan) (o : Operation) (place : Place) → item_count (pushed s o place) ≤ item_count s + 1
+pub pushed_most : (s : Scan) (o : Operation) (place : NextPart) → item_count (pushed s o place) ≤ item_count s + 1
 pushed_most s Register place = omega arith
 pushed_most s CreateAccounts place = omega (arith, length-append s.accounts (account_of s.given ∷ []))
 pushed_most s CreateTransfers place = omega (arith, length-append s.transfers (transfer_of s.given ∷ []))
@@ -285,7 +285,7 @@ gapped_goes s (digit is fits) h = record { lexeme = fits; stands = h.stands }
 gapped_goes s (letter is begins) h = word_begun s _ begins h.stands
 gapped_goes s {b} (marked {v} e) h = marked_goes s (mark_cases s v b e) h.stands
 
-pub fits_most : (place : Place) (n : ℕ) (f : Field) → Fits place n → wanted place ≡ Some f → n ≤ field_max f
+pub fits_most : (place : NextPart) (n : ℕ) (f : Field) → Fits place n → wanted place ≡ Some f → n ≤ field_max f
 fits_most place n f h e = subst (λ (g : Field). n ≤ field_max g) (same_Some h.field f (sym h.is ∙ e)) h.most
 
 numbered_goes : (s : Scan) {n b : ℕ} {v : Scan} → Numbered s n b v → Fits s.place n → Stands s.operation s.place s.given s.header (item_count s) → IsOngoing v

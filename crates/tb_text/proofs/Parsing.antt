@@ -3,7 +3,7 @@ use Rattle.std.proofs.Common.{◌≡◌, ℕ, ◌⊎◌, inl, inr, true, not, �
 use Rattle.std.proofs.lemmas.Bool.{and_parts, not-true}
 use Rattle.std.proofs.lemmas.List.{append-nil}
 use Rattle.std.proofs.lemmas.Option.{cond_some, option_and_then_some, same_Some}
-use Rattle.tb_text.proofs.Names.{FrameFault, Operation, Field, Place, Head, Named, Wanted, Given, Opened, Parted}
+use Rattle.tb_text.proofs.Names.{FrameFault, Operation, Field, NextPart, Head, Named, Wanted, Given, Opened, Parted}
 use Rattle.tb_records.specs.Messages.{Message, IsLawful, number_fault}
 use Rattle.tb_text.specs.declared.words.Field.TheVariants as field
 use Rattle.tb_text.specs.declared.words.Word.TheVariants as word
@@ -133,7 +133,7 @@ events_from (front pairs) f h = tt
 events_from (event pairs header o done) f h = has_id o f h
 
 -- a field where one may come
-field_says : (c : Context) (place : Place) (given : List Entry) (f : Field) (ts : List Token) (u v : Scan) → Later ts u → after (stand c place given) (Name (word.Field f)) ≡ Some v → all_after v ts ≡ Some u
+field_says : (c : Context) (place : NextPart) (given : List Entry) (f : Field) (ts : List Token) (u v : Scan) → Later ts u → after (stand c place given) (Name (word.Field f)) ≡ Some v → all_after v ts ≡ Some u
     → ValuedRest c u.pairs given (Name (word.Field f) ∷ ts)
 field_says c place given f ts u v later h k =
     let test = cond_some (awaits_field place && may_have (operation_in c) f && not (is_given f given)) (stand c (Named f) given) v h in
@@ -151,7 +151,7 @@ entries_from : (c : Context) (all : List (ℕ × Message)) (given : List Entry) 
 entries_from c all given ts h = record { es = h.rest.es; over = h.rest.over; entries = more_entries h.first h.rest.entries; rest = h.rest.rest }
 
 -- an operation behind a header
-operation_says : (pairs : List (ℕ × Message)) (place : Place) (given : List Entry) (o : Operation) (ts : List Token) (u v : Scan) → Later ts u
+operation_says : (pairs : List (ℕ × Message)) (place : NextPart) (given : List Entry) (o : Operation) (ts : List Token) (u v : Scan) → Later ts u
     → after (stand (front pairs) place given) (Name (word.Operation o)) ≡ Some v → all_after v ts ≡ Some u → EntriesRest (front pairs) u.pairs given (Name (word.Operation o) ∷ ts)
 operation_says pairs place given o ts u v later h k =
     let test = cond_some (awaits_operation place && true && suits o given) (opened (stand (front pairs) place given) o) v h in

@@ -5,8 +5,8 @@ use Rattle.std.proofs.lemmas.List.{take_more}
 use Rattle.std.proofs.lemmas.Option.{cond_some, option_and_then_some, same_Some}
 use Rattle.tb_text.proofs.Names.{Field, Word}
 use Rattle.tb_text.specs.declared.words.Word.TheVariants as word
-use Rattle.tb_text.specs.declared.places.Refusal.{Refusal}
-use Rattle.tb_text.specs.declared.places.Refusal.TheVariants.{Memory, Unexpected}
+use Rattle.tb_text.specs.declared.parts.Refusal.{Refusal}
+use Rattle.tb_text.specs.declared.parts.Refusal.TheVariants.{Memory, Unexpected}
 use Rattle.tb_text.specs.Entries.{is_positive, is_word_byte}
 use Rattle.tb_text.specs.Scan.{Scan, step, run, gap, word_named, word_ended, number_ended, may_stand, taken, wanted, entered, number_left}
 use Rattle.tb_text.specs.Steps.{Steps}

@@ -4,7 +4,7 @@ use Rattle.std.specs.Prelude.{nat_lt}
 use Rattle.std.specs.Option.{option_and_then}
 use Rattle.std.proofs.lemmas.List.{append-nil}
 use Rattle.tb_records.specs.Messages.{Message, IsLawful}
-use Rattle.tb_text.proofs.Names.{Operation, Field, Place, Head, Named, Wanted, Given, Opened, Parted}
+use Rattle.tb_text.proofs.Names.{Operation, Field, NextPart, Head, Named, Wanted, Given, Opened, Parted}
 use Rattle.tb_text.specs.declared.words.Field.TheVariants as field
 use Rattle.tb_text.specs.declared.words.Word.TheVariants as word
 use Rattle.tb_text.specs.Words.{same_field, has_field}
@@ -30,7 +30,7 @@ values_taken c f (more_values {t} {n} {given} {es} {ts} {rest} is flags more) =
     (cond-true (same_field field.Flags f) (Some (stand c (Wanted f) (given ++ (f, n) ∷ []))) None flags)
     ∙ values_taken c f more)
 
-field_taken : (c : Context) (place : Place) (given : List Entry) (f : Field) → awaits_field place ≡ true → may_have (operation_in c) f ≡ true → is_given f given ≡ false
+field_taken : (c : Context) (place : NextPart) (given : List Entry) (f : Field) → awaits_field place ≡ true → may_have (operation_in c) f ≡ true → is_given f given ≡ false
     → after (stand c place given) (Name (word.Field f)) ≡ Some (stand c (Named f) given)
 field_taken c place given f awaits may new =
     cond-true (awaits_field place && may_have (operation_in c) f && not (is_given f given)) (Some (stand c (Named f) given)) None
@@ -41,7 +41,7 @@ record Taken (c : Context) (from : Scan) (ts : List Token) (es : List Entry) (re
   last : Field
   taken : all_after from ts ≡ all_after (stand c (Given last) es) rest
 
-valued_taken : (c : Context) (place : Place) {given es : List Entry} {ts rest : List Token} → Valued (operation_in c) given ts es rest → awaits_field place ≡ true → Taken c (stand c place given) ts es rest
+valued_taken : (c : Context) (place : NextPart) {given es : List Entry} {ts rest : List Token} → Valued (operation_in c) given ts es rest → awaits_field place ≡ true → Taken c (stand c place given) ts es rest
 valued_taken c place {given} (valued {f} {es} {ts} {rest} may new values) awaits = record {
   last = f;
   taken = one_after (stand c place given) (stand c (Named f) given) (Name (word.Field f)) (Mark 61 ∷ ts) (field_taken c place given f awaits may new)
@@ -57,7 +57,7 @@ entries_taken c f (more_entries {given} {es} {all} {ts} {mid} {rest} first more)
 
 -- behind a header an operation may come
 record HeaderTaken (pairs : List (ℕ × Message)) (ts : List Token) (header : List Entry) (rest : List Token) : Type 0 where
-  place : Place
+  place : NextPart
   awaits : awaits_operation place ≡ true
   taken : all_after (behind pairs) ts ≡ all_after (stand (front pairs) place header) rest
 
@@ -72,7 +72,7 @@ header_taken pairs e (more_entries {given} {es} {all} {ts} {mid} {rest} first mo
       taken = ap (λ (es : List Entry). all_after (stand (front pairs) Head es) ts) (sym e) ∙ (one.taken ∙ others.taken);
     }
 
-operation_taken : (pairs : List (ℕ × Message)) (place : Place) (header : List Entry) (o : Operation) → awaits_operation place ≡ true → suits o header ≡ true
+operation_taken : (pairs : List (ℕ × Message)) (place : NextPart) (header : List Entry) (o : Operation) → awaits_operation place ≡ true → suits o header ≡ true
     → after (stand (front pairs) place header) (Name (word.Operation o)) ≡ Some (stand (event pairs header o []) Opened [])
 operation_taken pairs place header o awaits suited =
     cond-true (awaits_operation place && true && suits o header) (Some (opened (stand (front pairs) place header) o)) None
@@ -101,7 +101,7 @@ room : (n m k : ℕ) → n ≡ m → m + 2 ≤ k → k ≤ 8190 → nat_lt (n + 
 room n m k e h le = lt-ltb (n + 1) 8190 (omega (arith, e, h, le))
 
 -- an event, behind those that are done
-event_taken : (c : Context) (place : Place) {es all : List Entry} {ts mid rest : List Token} → awaits_field place ≡ true → Valued (operation_in c) [] ts es mid → Entries (operation_in c) es mid all rest → Taken c (stand c place []) ts all rest
+event_taken : (c : Context) (place : NextPart) {es all : List Entry} {ts mid rest : List Token} → awaits_field place ≡ true → Valued (operation_in c) [] ts es mid → Entries (operation_in c) es mid all rest → Taken c (stand c place []) ts all rest
 event_taken c place awaits first entries =
     let one = valued_taken c place first awaits in
     let others = entries_taken c one.last entries in
@@ -115,7 +115,7 @@ comma_taken pairs header o done events f es has more most =
     (room (item_count (stand (event pairs header o done) (Given f) es)) (length done) (length events) (counted pairs header o done (Given f) es has) (omega (arith, more, length-append done (es ∷ []))) most)
     ∙ ap (λ (s : Scan). Some s) (pushed_is pairs header o done f es Parted has)
 
-events_taken : (pairs : List (ℕ × Message)) (header : List Entry) (o : Operation) (place : Place) {done events : List (List Entry)} {ts rest : List Token} → awaits_field place ≡ true → Events o done ts events rest
+events_taken : (pairs : List (ℕ × Message)) (header : List Entry) (o : Operation) (place : NextPart) {done events : List (List Entry)} {ts rest : List Token} → awaits_field place ≡ true → Events o done ts events rest
     → length events ≤ 8190 → EventsTaken pairs header o (stand (event pairs header o done) place []) ts events rest
 events_taken pairs header o place awaits (last_event {done} {es} {all} {ts} {mid} {rest} first entries) most =
     let one = event_taken (event pairs header o done) place awaits first entries in

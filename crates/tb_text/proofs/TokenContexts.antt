@@ -4,7 +4,7 @@ use Rattle.std.specs.Prelude.{nat_le}
 use Rattle.std.specs.Option.{option_and_then}
 use Rattle.std.proofs.lemmas.Bool.Decides.{nat_tests}
 use Rattle.std.proofs.lemmas.List.{map-append, length-map}
-use Rattle.tb_text.proofs.Names.{Operation, Register, CreateAccounts, CreateTransfers, LookupAccounts, LookupTransfers, Account, Transfer, Field, Gap, Place, Wanted, Given, Opened}
+use Rattle.tb_text.proofs.Names.{Operation, Register, CreateAccounts, CreateTransfers, LookupAccounts, LookupTransfers, Account, Transfer, Field, Gap, NextPart, Wanted, Given, Opened}
 use Rattle.tb_records.specs.Messages.{Message, number_fault, item_count as body_count}
 use Rattle.tb_text.specs.declared.words.Field.TheVariants as field
 use Rattle.tb_text.specs.declared.words.Word.TheVariants as word
@@ -58,7 +58,7 @@ ids_in (front pairs) = []
 ids_in (event pairs header o done) = ids_said o done
 
 -- the reader there
-abbrev pub stand : Context → Place → List Entry → Scan
+abbrev pub stand : Context → NextPart → List Entry → Scan
 stand c place given = standing (with_items (bare (pairs_in c) place (operation_in c) (header_in c)) (accounts_in c) (transfers_in c) (ids_in c)) Gap [] place given
 
 -- VALUES
@@ -114,12 +114,12 @@ value_after c f given (Mark b) = no_mark c f given b
 
 -- EVENTS
 
-pub opened_is : (pairs : List (ℕ × Message)) (place : Place) (given : List Entry) (o : Operation) → opened (stand (front pairs) place given) o ≡ stand (event pairs given o []) Opened []
+pub opened_is : (pairs : List (ℕ × Message)) (place : NextPart) (given : List Entry) (o : Operation) → opened (stand (front pairs) place given) o ≡ stand (event pairs given o []) Opened []
 opened_is pairs place given Register = refl
 opened_is pairs place given o = refl
 
 -- an event is behind those that are done
-pub pushed_is : (pairs : List (ℕ × Message)) (header : List Entry) (o : Operation) (done : List (List Entry)) (f : Field) (given : List Entry) (place : Place) → has_field o field.Id ≡ true
+pub pushed_is : (pairs : List (ℕ × Message)) (header : List Entry) (o : Operation) (done : List (List Entry)) (f : Field) (given : List Entry) (place : NextPart) → has_field o field.Id ≡ true
     → pushed (stand (event pairs header o done) (Given f) given) o place ≡ stand (event pairs header o (done ++ given ∷ [])) place []
 pushed_is pairs header Register done f given place h = absurd cc
 pushed_is pairs header CreateAccounts done f given place h =
@@ -130,7 +130,7 @@ pushed_is pairs header o done f given place h =
     ap (with_items (stand (event pairs header o []) place []) [] []) (sym (map-append (value_of field.Id) done (given ∷ [])))
 
 -- as many as there are
-pub counted : (pairs : List (ℕ × Message)) (header : List Entry) (o : Operation) (done : List (List Entry)) (place : Place) (given : List Entry) → has_field o field.Id ≡ true
+pub counted : (pairs : List (ℕ × Message)) (header : List Entry) (o : Operation) (done : List (List Entry)) (place : NextPart) (given : List Entry) → has_field o field.Id ≡ true
     → item_count (stand (event pairs header o done) place given) ≡ length done
 counted pairs header Register done place given h = absurd cc
 counted pairs header CreateAccounts done place given h = omega (arith, length-map done account_of)
@@ -143,13 +143,13 @@ body_counted CreateAccounts events h = length-map events account_of
 body_counted CreateTransfers events h = length-map events transfer_of
 body_counted o events h = length-map events (value_of field.Id)
 
-request_is : (pairs : List (ℕ × Message)) (header : List Entry) (o : Operation) (events : List (List Entry)) (place : Place) (given : List Entry)
+request_is : (pairs : List (ℕ × Message)) (header : List Entry) (o : Operation) (events : List (List Entry)) (place : NextPart) (given : List Entry)
     → request_of (stand (event pairs header o events) place given) o ≡ (said header o events).1
 request_is pairs header Register events place given = refl
 request_is pairs header o events place given = refl
 
 -- what `;` makes of events
-pub finished_is : (pairs : List (ℕ × Message)) (header : List Entry) (o : Operation) (events : List (List Entry)) (place : Place) (given : List Entry)
+pub finished_is : (pairs : List (ℕ × Message)) (header : List Entry) (o : Operation) (events : List (List Entry)) (place : NextPart) (given : List Entry)
     → finished (stand (event pairs header o events) place given) o ≡ when_lawful (stand (event pairs header o events) place given) (said header o events).1 (number_fault (said header o events).1)
 finished_is pairs header o events place given =
     ap (λ (r : Message). when_lawful (stand (event pairs header o events) place given) r (number_fault r)) (request_is pairs header o events place given)

@@ -4,8 +4,8 @@ use Rattle.std.specs.Prelude.{ℕ, Bool, true, false, ◌&&◌, ◌≡◌, ◌+�
 use Rattle.std.specs.List.{Contains, filter}
 use Rattle.tb_records.specs.declared.operations.Operation.{Operation}
 use Rattle.tb_text.specs.declared.awaited.Awaited.{Awaited}
-use Rattle.tb_text.specs.declared.places.Place.{Place}
-use Rattle.tb_text.specs.declared.places.Place.TheVariants.{Named, Given, Opened}
+use Rattle.tb_text.specs.declared.parts.NextPart.{NextPart}
+use Rattle.tb_text.specs.declared.parts.NextPart.TheVariants.{Named, Given, Opened}
 use Rattle.tb_text.specs.declared.words.Field.TheVariants as field
 use Rattle.tb_text.specs.declared.words.Word.{Word}
 use Rattle.tb_text.specs.Words.{same_field, word_text, all_words}
@@ -32,19 +32,19 @@ AwaitsBehind text None = BeginsStatements (text ++ 10 ∷ []) → ⊥
 
 -- by the place
 
-abbrev pub awaits_equals : Place → Bool
+abbrev pub awaits_equals : NextPart → Bool
 awaits_equals (Named f) = true
 awaits_equals place = false
 
-abbrev pub awaits_bar : Place → Bool
+abbrev pub awaits_bar : NextPart → Bool
 awaits_bar (Given f) = same_field field.Flags f
 awaits_bar place = false
 
-abbrev pub is_given_place : Place → Bool
+abbrev pub is_given_place : NextPart → Bool
 is_given_place (Given f) = true
 is_given_place place = false
 
-abbrev pub is_opened_place : Place → Bool
+abbrev pub is_opened_place : NextPart → Bool
 is_opened_place Opened = true
 is_opened_place (Given f) = true
 is_opened_place place = false

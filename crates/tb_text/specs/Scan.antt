@@ -17,10 +17,10 @@ use Rattle.tb_text.specs.declared.words.Field.{Field}
 use Rattle.tb_text.specs.declared.words.Field.TheVariants as field
 use Rattle.tb_text.specs.declared.words.Word.{Word}
 use Rattle.tb_text.specs.declared.words.Word.TheVariants as word
-use Rattle.tb_text.specs.declared.places.Lexeme.{Lexeme}
-use Rattle.tb_text.specs.declared.places.Lexeme.TheVariants.{Gap, Comment, Spelled, Zero, Prefix, Decimal, Hexadecimal}
-use Rattle.tb_text.specs.declared.places.Place.{Place}
-use Rattle.tb_text.specs.declared.places.Place.TheVariants.{Head, Named, Wanted, Given, Opened, Parted}
+use Rattle.tb_text.specs.declared.parts.Lexeme.{Lexeme}
+use Rattle.tb_text.specs.declared.parts.Lexeme.TheVariants.{Gap, Comment, Spelled, Zero, Prefix, Decimal, Hexadecimal}
+use Rattle.tb_text.specs.declared.parts.NextPart.{NextPart}
+use Rattle.tb_text.specs.declared.parts.NextPart.TheVariants.{Head, Named, Wanted, Given, Opened, Parted}
 use Rattle.tb_text.specs.Words.{field_max, same_field, word_text, all_words}
 use Rattle.tb_text.specs.Entries.{Entry, is_space, is_digit, is_word_byte, digit_of, is_given, value_of, account_of, transfer_of, may_have, bit_of, is_positive, suits}
 
@@ -29,7 +29,7 @@ pub record Scan : Type 0 where
   pub pairs : List (ℕ × Message)
   pub lexeme : Lexeme
   pub spelled : List ℕ
-  pub place : Place
+  pub place : NextPart
   pub operation : Option Operation
   pub header : List Entry
   pub given : List Entry
@@ -38,7 +38,7 @@ pub record Scan : Type 0 where
   pub ids : List ℕ
 
 -- a statement of which nothing is given behind its header
-abbrev pub bare : List (ℕ × Message) → Place → Option Operation → List Entry → Scan
+abbrev pub bare : List (ℕ × Message) → NextPart → Option Operation → List Entry → Scan
 bare pairs place operation header = record {
   pairs = pairs;
   lexeme = Gap;
@@ -59,7 +59,7 @@ behind pairs = bare pairs Head None []
 -- words
 
 -- a field may come next
-abbrev pub awaits_field : Place → Bool
+abbrev pub awaits_field : NextPart → Bool
 awaits_field Head = true
 awaits_field Opened = true
 awaits_field Parted = true
@@ -67,13 +67,13 @@ awaits_field (Given f) = true
 awaits_field place = false
 
 -- an operation may come next
-abbrev pub awaits_operation : Place → Bool
+abbrev pub awaits_operation : NextPart → Bool
 awaits_operation Head = true
 awaits_operation (Given f) = true
 awaits_operation place = false
 
 -- the field whose number is to come next
-abbrev pub wanted : Place → Option Field
+abbrev pub wanted : NextPart → Option Field
 wanted (Wanted f) = Some f
 wanted place = None
 
@@ -97,7 +97,7 @@ abbrev pub begins_word : Scan → List ℕ → Bool
 begins_word s text = list_any (λ w. may_stand s w && starts_with nat_eq (word_text w) text) all_words
 
 -- at a place of the same statement, within what is begun and with these entries given
-abbrev pub standing : Scan → Lexeme → List ℕ → Place → List Entry → Scan
+abbrev pub standing : Scan → Lexeme → List ℕ → NextPart → List Entry → Scan
 standing s lexeme spelled place given = record {
   pairs = s.pairs;
   lexeme = lexeme;
@@ -115,7 +115,7 @@ standing s lexeme spelled place given = record {
 abbrev pub entered : Scan → Field → ℕ → Scan
 entered s f n = standing s Gap [] (Given f) (s.given ++ (f, n) ∷ [])
 
-abbrev pub moved : Scan → Place → Scan
+abbrev pub moved : Scan → NextPart → Scan
 moved s place = standing s Gap [] place s.given
 
 abbrev pub within : Scan → Lexeme → Scan
@@ -177,7 +177,7 @@ ids_with s LookupAccounts = s.ids ++ value_of field.Id s.given ∷ []
 ids_with s LookupTransfers = s.ids ++ value_of field.Id s.given ∷ []
 ids_with s o = s.ids
 
-abbrev pub pushed : Scan → Operation → Place → Scan
+abbrev pub pushed : Scan → Operation → NextPart → Scan
 pushed s o place = moved (with_items s (accounts_with s o) (transfers_with s o) (ids_with s o)) place
 
 abbrev pub body_of : Scan → Operation → Body
@@ -200,12 +200,12 @@ finished s o = when_lawful s (request_of s o) (number_fault (request_of s o))
 
 -- marks
 
-abbrev pub closed_at : Scan → Operation → Place → Option Scan
+abbrev pub closed_at : Scan → Operation → NextPart → Option Scan
 closed_at s o Opened = finished s o
 closed_at s o (Given f) = finished (pushed s o Opened) o
 closed_at s o place = None
 
-abbrev pub parted_at : Scan → Operation → Place → Option Scan
+abbrev pub parted_at : Scan → Operation → NextPart → Option Scan
 parted_at s o (Given f) = if nat_lt (item_count s + 1) 8190 then Some (pushed s o Parted) else None
 parted_at s o place = None
 
@@ -217,11 +217,11 @@ closed s = option_and_then (λ o. closed_at s o s.place) s.operation
 abbrev pub parted : Scan → Option Scan
 parted s = option_and_then (λ o. parted_at s o s.place) s.operation
 
-abbrev pub valued_at : Scan → Place → Option Scan
+abbrev pub valued_at : Scan → NextPart → Option Scan
 valued_at s (Named f) = Some (moved s (Wanted f))
 valued_at s place = None
 
-abbrev pub joined_at : Scan → Place → Option Scan
+abbrev pub joined_at : Scan → NextPart → Option Scan
 joined_at s (Given f) = if same_field field.Flags f then Some (moved s (Wanted f)) else None
 joined_at s place = None
 
@@ -300,7 +300,7 @@ abbrev pub run : Scan → List ℕ → Option Scan
 run s [] = Some s
 run s (b ∷ bs) = option_and_then (λ t. run t bs) (step s b)
 
-abbrev pub rests : Lexeme → Place → Bool
+abbrev pub rests : Lexeme → NextPart → Bool
 rests Gap Head = true
 rests Comment Head = true
 rests lexeme place = false

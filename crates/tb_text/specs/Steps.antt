@@ -2,8 +2,8 @@
 -- Cited by public contracts of: reading, text_laws.
 use Rattle.std.specs.Prelude.{ℕ, false, true, ◌≡◌, ◌+◌, ◌<◌, ◌≤◌, ◌⊎◌, List, [], ◌++◌, length, take, get_or, Option, Some, None, Result, Ok, Err}
 use Rattle.tb_records.specs.Messages.{Message}
-use Rattle.tb_text.specs.declared.places.Refusal.{Refusal}
-use Rattle.tb_text.specs.declared.places.Refusal.TheVariants.{Memory, Unexpected}
+use Rattle.tb_text.specs.declared.parts.Refusal.{Refusal}
+use Rattle.tb_text.specs.declared.parts.Refusal.TheVariants.{Memory, Unexpected}
 use Rattle.tb_text.specs.declared.reading.TextFault.{TextFault}
 use Rattle.tb_text.specs.Scan.{Scan, behind, step, run, is_at_rest}
 

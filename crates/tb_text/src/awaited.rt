@@ -5,7 +5,7 @@ ghost use Rattle.tb_text.specs.Awaited.{AwaitsBehind, MayStand, OnNextLine, awai
 ghost use Rattle.tb_text.specs.Scan.{may_stand};
 ghost use Rattle.tb_text.specs.Words.{all_words};
 
-use crate::places::{Place, Refusal};
+use crate::parts::{NextPart, Refusal};
 use crate::scanner::Scanner;
 use crate::words::{Field, Word, words};
 use std::alloc::{AllocError, Global};
@@ -45,14 +45,14 @@ impl Scanner {
     fn awaits_comma(&self) -> bool
         ensures { result ≡ awaits_comma self.now }
     {
-        self.has_operation() && matches!(self.place(), Place::Given(_)) && self.has_room()
+        self.has_operation() && matches!(self.place(), NextPart::Given(_)) && self.has_room()
     }
 
     /// Says that a `;` may come next.
     fn awaits_semicolon(&self) -> bool
         ensures { result ≡ awaits_semicolon self.now }
     {
-        self.has_operation() && matches!(self.place(), Place::Given(_) | Place::Opened)
+        self.has_operation() && matches!(self.place(), NextPart::Given(_) | NextPart::Opened)
     }
 
     /// What may come next, where no word or number is begun.
@@ -64,8 +64,8 @@ impl Scanner {
         Ok(Awaited {
             words,
             number: place.wanted(),
-            equals: matches!(place, Place::Named(_)),
-            bar: matches!(place, Place::Given(Field::Flags)),
+            equals: matches!(place, NextPart::Named(_)),
+            bar: matches!(place, NextPart::Given(Field::Flags)),
             comma: self.awaits_comma(),
             semicolon: self.awaits_semicolon(),
         })

@@ -5,7 +5,7 @@
 //! - `words`: fields and flags by name, and which of them each operation has; operations are those of tb_records.
 //! - `lexemes`: the bytes of words and numbers, and the word that is named so.
 //! - `given`: the fields that were given, and the account or transfer that they make.
-//! - `places`: where a reader is: in a word or number, and among the parts of a statement.
+//! - `parts`: where a reader is: in a word or number, and among the parts of a statement.
 //! - `scanner`: the reader, a byte at a time.
 //! - `reading`: `read_text`, a text as requests, or its fault's place, line and column.
 //! - `awaited`: what could come next.
@@ -27,7 +27,7 @@ mod given;
 mod lexemes;
 mod messages;
 mod nearest;
-mod places;
+mod parts;
 mod printing;
 mod reading;
 mod scanner;
@@ -38,7 +38,7 @@ pub use awaited::{Awaited, awaited_behind};
 pub use lexemes::{digit, word_named};
 pub use messages::{as_shown, explain_fault, word_around};
 pub use nearest::nearest_name;
-pub use places::{Lexeme, Place, Refusal};
+pub use parts::{Lexeme, NextPart, Refusal};
 pub use printing::{print_request, print_requests};
 pub use reading::{Reading, TextFault, position, read_text};
 pub use words::{Field, Flag, Word, flags, has_field};

@@ -5,7 +5,7 @@ ghost use Rattle.tb_text.specs.Steps.{BeginsUpTo, Reads, Stands, StandsBehind, p
 ghost use Rattle.tb_text.specs.Scan.{Scan, behind, run};
 ghost use Rattle.tb_text.specs.Positions.{line_from, column_from};
 
-use crate::places::{Lexeme, Place};
+use crate::parts::{Lexeme, NextPart};
 use crate::scanner::Scanner;
 use std::alloc::{AllocError, Global};
 use tb_records::{Items, Request};
@@ -18,7 +18,7 @@ pub struct TextFault {
     /// What the reader is within behind these bytes.
     pub lexeme: Lexeme,
     /// The part of a statement that is to come next behind them; of a word or number that is begun, the part that it is.
-    pub awaited: Place,
+    pub awaited: NextPart,
 }
 
 /// What a text says.

@@ -11,7 +11,7 @@ use crate::given::{
     value_of,
 };
 use crate::lexemes::{appended, digit, is_digit, is_space, is_word_byte, word_named};
-use crate::places::{Lexeme, Place, Refusal};
+use crate::parts::{Lexeme, NextPart, Refusal};
 use crate::words::{Field, Word, words};
 use std::alloc::{AllocError, Global};
 use std::marker::Model;
@@ -25,7 +25,7 @@ pub struct Scanner {
     pairs: Vec<(u64, Request)>,
     lexeme: Lexeme,
     spelled: Vec<u8>,
-    place: Place,
+    place: NextPart,
     operation: Option<Operation>,
     header: Vec<(Field, u128)>,
     given: Vec<(Field, u128)>,
@@ -44,14 +44,14 @@ impl Model for Scanner {
     ghost view = { scan_of };
 }
 
-impl Place {
+impl NextPart {
     /// Says that a field may come next.
     fn awaits_field(self) -> bool
         ensures { result ≡ awaits_field self }
     {
         matches!(
             self,
-            Place::Head | Place::Opened | Place::Parted | Place::Given(_)
+            NextPart::Head | NextPart::Opened | NextPart::Parted | NextPart::Given(_)
         )
     }
 
@@ -59,7 +59,7 @@ impl Place {
     fn awaits_operation(self) -> bool
         ensures { result ≡ awaits_operation self }
     {
-        matches!(self, Place::Head | Place::Given(_))
+        matches!(self, NextPart::Head | NextPart::Given(_))
     }
 
     /// The field whose number is to come next.
@@ -67,7 +67,7 @@ impl Place {
         ensures { result ≡ wanted self }
     {
         match self {
-            Place::Wanted(field) => Some(field),
+            NextPart::Wanted(field) => Some(field),
             _ => None,
         }
     }
@@ -126,7 +126,7 @@ impl Scanner {
     }
 
     /// Goes to another place.
-    fn go(&mut self, place: Place)
+    fn go(&mut self, place: NextPart)
         ensures { self.new ≡ moved self.old place }
     {
         self.lexeme = Lexeme::Gap;
@@ -147,7 +147,7 @@ impl Scanner {
         ensures { Steps self.old result (Some (entered self.old field number)) self.new }
     {
         self.given.push((field, number))?;
-        self.go(Place::Given(field));
+        self.go(NextPart::Given(field));
         Ok(())
     }
 
@@ -168,7 +168,7 @@ impl Scanner {
         self.header = mem::replace(&mut self.given, Vec::new(self.alloc));
         self.operation = Some(operation);
         self.clear();
-        self.go(Place::Opened);
+        self.go(NextPart::Opened);
     }
 
     /// Takes a word that may come next.
@@ -176,7 +176,7 @@ impl Scanner {
         ensures { Steps self.old result (Some (taken self.old word)) self.new }
     {
         match word {
-            Word::Field(field) => self.go(Place::Named(field)),
+            Word::Field(field) => self.go(NextPart::Named(field)),
             Word::Operation(operation) => self.open(operation),
             Word::Flag(flag) => return self.enter(Field::Flags, bit_of(self.operation, flag)),
             Word::AmountMax => return self.enter(Field::Amount, u128::MAX),
@@ -208,7 +208,7 @@ impl Scanner {
     }
 
     /// Puts the event, or the id, that was given behind the others, and goes to a place.
-    fn push(&mut self, operation: Operation, place: Place) -> Result<(), Refusal>
+    fn push(&mut self, operation: Operation, place: NextPart) -> Result<(), Refusal>
         ensures { Steps self.old result (Some (pushed self.old operation place)) self.new }
     {
         let given = self.given.as_slice();
@@ -252,7 +252,7 @@ impl Scanner {
         self.operation = None;
         self.header.clear();
         self.clear();
-        self.go(Place::Head);
+        self.go(NextPart::Head);
     }
 
     /// Ends a statement.
@@ -278,9 +278,9 @@ impl Scanner {
         ensures { Steps self.old result (closed self.old) self.new }
     {
         match (self.operation, self.place) {
-            (Some(operation), Place::Opened) => self.finish(operation),
-            (Some(operation), Place::Given(_)) => {
-                self.push(operation, Place::Opened)?;
+            (Some(operation), NextPart::Opened) => self.finish(operation),
+            (Some(operation), NextPart::Given(_)) => {
+                self.push(operation, NextPart::Opened)?;
                 self.finish(operation)
             }
             _ => Err(Refusal::Unexpected),
@@ -292,8 +292,8 @@ impl Scanner {
         ensures { Steps self.old result (parted self.old) self.new }
     {
         match (self.operation, self.place) {
-            (Some(operation), Place::Given(_)) if self.has_room() => {
-                self.push(operation, Place::Parted)
+            (Some(operation), NextPart::Given(_)) if self.has_room() => {
+                self.push(operation, NextPart::Parted)
             }
             _ => Err(Refusal::Unexpected),
         }
@@ -318,10 +318,10 @@ impl Scanner {
     fn assign(&mut self) -> Result<(), Refusal>
         ensures { Steps self.old result (valued_at self.old self.old.place) self.new }
     {
-        let Place::Named(field) = self.place else {
+        let NextPart::Named(field) = self.place else {
             return Err(Refusal::Unexpected);
         };
-        self.go(Place::Wanted(field));
+        self.go(NextPart::Wanted(field));
         Ok(())
     }
 
@@ -329,10 +329,10 @@ impl Scanner {
     fn join(&mut self) -> Result<(), Refusal>
         ensures { Steps self.old result (joined_at self.old self.old.place) self.new }
     {
-        let Place::Given(Field::Flags) = self.place else {
+        let NextPart::Given(Field::Flags) = self.place else {
             return Err(Refusal::Unexpected);
         };
-        self.go(Place::Wanted(Field::Flags));
+        self.go(NextPart::Wanted(Field::Flags));
         Ok(())
     }
 
@@ -450,7 +450,7 @@ impl Scanner {
             pairs: Vec::new(alloc),
             lexeme: Lexeme::Gap,
             spelled: Vec::new(alloc),
-            place: Place::Head,
+            place: NextPart::Head,
             operation: None,
             header: Vec::new(alloc),
             given: Vec::new(alloc),
@@ -533,19 +533,19 @@ impl Scanner {
     {
         matches!(
             (self.lexeme, self.place),
-            (Lexeme::Gap, Place::Head) | (Lexeme::Comment, Place::Head)
+            (Lexeme::Gap, NextPart::Head) | (Lexeme::Comment, NextPart::Head)
         )
     }
 
     /// Where the reader is: within what, and before which part of a statement.
-    pub fn stand(&self) -> (Lexeme, Place)
+    pub fn stand(&self) -> (Lexeme, NextPart)
         ensures { result ≡ (self.now.lexeme, self.now.place) }
     {
         (self.lexeme, self.place)
     }
 
     /// The part of a statement that is to come next.
-    pub(crate) fn place(&self) -> Place
+    pub(crate) fn place(&self) -> NextPart
         ensures { result ≡ self.now.place }
     {
         self.place

@@ -29,7 +29,7 @@ use Rattle.tb_machine.specs.Histories.{LegalFrom, State, after, fits, start, ste
 use Rattle.tb_machine.specs.Replays.{Dump, Headless, Replayed, ReplayRan, ReplaysItem, SpellsDump, item_of, state_behind}
 use Rattle.tb_text_commands.specs.declared.stops.DumpEnd.{DumpEnd}
 use Rattle.tb_text_commands.specs.declared.stops.DumpEnd.TheVariants as dump_end
-use Rattle.tb_text_commands.specs.declared.stops.Place.{Place}
+use Rattle.tb_text_commands.specs.declared.stops.Position.{Position}
 use Rattle.tb_text_commands.specs.declared.stops.Stop.{Stop}
 use Rattle.tb_text_commands.specs.declared.stops.Stop.TheVariants as stop
 use Rattle.tb_text_commands.specs.Explained.{ComesOfBytes, ComesOfItem, DumpEnds, EndsBehind, EndsHeaded, Follows, IsDumpedItem, IsNextItem, IsNextPlace, IsRefused, LeadsTo, TakesAll, item_bytes}
@@ -507,7 +507,7 @@ halted f d bytes rest end read stuck ends = by end ends
     there : (T : State) (r : List ℕ) (more : List DumpItem) → Each IsDumpedItem more → TakesAll more (state_behind d) T → rest ≡ flat_map item_bytes more ++ r → more ≡ []
     there T r more each takes e = stuck_more f (state_behind d) T rest r more stuck each takes e
 
-    at_place : (g : DumpFault) (place : Place) (n : ℕ) (T : State) (items r : List ℕ) → items ≡ flat_map item_bytes (items_of d.place d.history) ++ rest → LeadsTo n (start d.profile d.clients_max) T items r
+    at_place : (g : DumpFault) (place : Position) (n : ℕ) (T : State) (items r : List ℕ) → items ≡ flat_map item_bytes (items_of d.place d.history) ++ rest → LeadsTo n (start d.profile d.clients_max) T items r
         → IsNextPlace place T bytes r → IsStuck g T r → (g ≡ f) × (place.number ≡ length d.history + 1) × (place.at + length rest ≡ length bytes)
     at_place g place n T items r is l next here =
         let m = meets d bytes rest items r n T read is l (λ more each takes e. stuck_more g T (state_behind d) r rest more here each takes e) (there T r) in

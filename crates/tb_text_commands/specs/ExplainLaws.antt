@@ -13,7 +13,7 @@ use Rattle.tb_machine.specs.Runs.{Ran}
 use Rattle.tb_machine.specs.Scripts.{Pair}
 use Rattle.tb_text_commands.specs.declared.stops.DumpEnd.{DumpEnd}
 use Rattle.tb_text_commands.specs.declared.stops.DumpEnd.TheVariants as dump_end
-use Rattle.tb_text_commands.specs.declared.stops.Place.{Place}
+use Rattle.tb_text_commands.specs.declared.stops.Position.{Position}
 use Rattle.tb_text_commands.specs.declared.stops.ScriptEnd.{ScriptEnd}
 use Rattle.tb_text_commands.specs.declared.stops.ScriptEnd.TheVariants as script_end
 use Rattle.tb_text_commands.specs.declared.stops.Stop.{Stop}
@@ -58,7 +58,7 @@ stop_fault stop.Mark = dump.Mark
 stop_fault (stop.NotLegal cause) = dump.NotLegal
 
 -- an item is reported by its number, the bytes before it, and the fault
-abbrev pub IsToldAt : Place → DumpFault → DumpFault → ℕ → List ℕ → List ℕ → Type 0
+abbrev pub IsToldAt : Position → DumpFault → DumpFault → ℕ → List ℕ → List ℕ → Type 0
 IsToldAt place told fault replayed bytes rest = (told ≡ fault) × (place.number ≡ replayed + 1) × (place.at + length rest ≡ length bytes)
 
 -- of one at whose next item a fault stops `tbs`, behind so many entries

@@ -24,7 +24,7 @@ use Rattle.tb_text_commands.specs.declared.stops.Cause.{Cause}
 use Rattle.tb_text_commands.specs.declared.stops.Cause.TheVariants as cause
 use Rattle.tb_text_commands.specs.declared.stops.DumpEnd.{DumpEnd}
 use Rattle.tb_text_commands.specs.declared.stops.DumpEnd.TheVariants as dump_end
-use Rattle.tb_text_commands.specs.declared.stops.Place.{Place}
+use Rattle.tb_text_commands.specs.declared.stops.Position.{Position}
 use Rattle.tb_text_commands.specs.declared.stops.ScriptEnd.{ScriptEnd}
 use Rattle.tb_text_commands.specs.declared.stops.ScriptEnd.TheVariants as script_end
 use Rattle.tb_text_commands.specs.declared.stops.Stop.{Stop}
@@ -58,7 +58,7 @@ ComesOfBytes frame.NoMemory = ⊥
 ComesOfBytes fault = Unit {0}
 
 -- a place is that of the rest
-abbrev pub IsPlace : Place → List ℕ → List ℕ → Type 0
+abbrev pub IsPlace : Position → List ℕ → List ℕ → Type 0
 IsPlace place bytes rest = place.at + length rest ≡ length bytes
 
 -- whatever the state, there is no time for the next pair
@@ -124,7 +124,7 @@ pub record LeadsTo (count : ℕ) (S T : State) (bytes rest : List ℕ) : Type 0 
   pub counted : count ≡ length items
 
 -- the place is that of the next entry
-abbrev pub IsNextPlace : Place → State → List ℕ → List ℕ → Type 0
+abbrev pub IsNextPlace : Position → State → List ℕ → List ℕ → Type 0
 IsNextPlace place T bytes rest = (place.number ≡ T.commit + 1) × IsPlace place bytes rest
 
 -- an item comes next

@@ -7,7 +7,7 @@ use Rattle.tb_records.specs.DumpFaults.{dump_fault_name}
 use Rattle.tb_records.specs.Transport.{Input, Output, Sent}
 use Rattle.tb_text_commands.specs.declared.stops.DumpEnd.{DumpEnd}
 use Rattle.tb_text_commands.specs.declared.stops.DumpEnd.TheVariants as dump_end
-use Rattle.tb_text_commands.specs.declared.stops.Place.{Place}
+use Rattle.tb_text_commands.specs.declared.stops.Position.{Position}
 use Rattle.tb_text_commands.specs.declared.stops.ScriptEnd.{ScriptEnd}
 use Rattle.tb_text_commands.specs.declared.stops.ScriptEnd.TheVariants as script_end
 use Rattle.tb_text_commands.specs.declared.stops.Stop.{Stop}
@@ -19,14 +19,14 @@ use Rattle.tb_text_commands.specs.Whole.{WasWhole}
 
 -- a unit's number, the bytes before it, why `tbs` stops there in words, and the name that `tbs` prints; more may follow
 -- the line
-abbrev pub stop_text : List ℕ → Place → List ℕ → List ℕ → List ℕ → List ℕ
+abbrev pub stop_text : List ℕ → Position → List ℕ → List ℕ → List ℕ → List ℕ
 stop_text unit place words name more =
     unit
     ++ (codes " "
     ++ (decimal place.number
     ++ (codes ", at byte " ++ (decimal place.at ++ (codes ": " ++ (words ++ (codes " (" ++ (name ++ (codes ")\n" ++ more)))))))))
 
-pub record NamesStop (unit : List ℕ) (place : Place) (name line : List ℕ) : Type 0 where
+pub record NamesStop (unit : List ℕ) (place : Position) (name line : List ℕ) : Type 0 where
   pub words : List ℕ
   pub more : List ℕ
   pub line_is : line ≡ stop_text unit place words name more
@@ -48,7 +48,7 @@ pub record SaysScript (bytes line : List ℕ) : Type 0 where
   pub tells : TellsScript end bytes line
 
 -- what is reported of an item that is not taken
-abbrev pub SaysRefused : Place → Stop → List ℕ → Type 0
+abbrev pub SaysRefused : Position → Stop → List ℕ → Type 0
 SaysRefused place stop.Mark line = NamesStop (codes "entry") place (codes "Mark") line
 SaysRefused place (stop.NotLegal cause) line = NamesStop (codes "entry") place (codes "NotLegal") line
 

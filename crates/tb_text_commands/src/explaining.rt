@@ -7,7 +7,7 @@ use crate::faults::TextCommandFault;
 use crate::intake::Intake;
 use crate::kinds::{DUMP, Kind, LEDGER, begins_with, kind_words};
 use crate::scripts::put;
-use crate::stops::{Cause, DumpEnd, Place, ScriptEnd, Stop, dump_end, script_end};
+use crate::stops::{Cause, DumpEnd, Position, ScriptEnd, Stop, dump_end, script_end};
 use std::alloc::{AllocError, Global};
 use std::format;
 use tb_machine::status_of;
@@ -68,7 +68,7 @@ fn hint(bytes: &[u8]) -> &'static str {
 fn stop_line(
     alloc: Global,
     unit: &str,
-    place: Place,
+    place: Position,
     words: &str,
     name: &str,
     more: &str,
@@ -76,7 +76,7 @@ fn stop_line(
     ensures { IfOk result (λ line.
         string_bytes line ≡ stop_text unit.now place words.now name.now more.now) }
 {
-    let Place { number, at } = place;
+    let Position { number, at } = place;
     format!(in alloc; "{unit} {number}, at byte {at}: {words} ({name})\n{more}")
 }
 
@@ -84,7 +84,7 @@ fn stop_line(
 fn stops_at(
     alloc: Global,
     unit: &str,
-    place: Place,
+    place: Position,
     words: &str,
     name: &str,
     more: &str,
@@ -140,7 +140,7 @@ fn cause_words(alloc: Global, cause: Cause) -> Result<String, AllocError> {
 }
 
 /// What is reported of an item that is not taken.
-fn refused_at(alloc: Global, place: Place, stop: Stop) -> Result<String, AllocError>
+fn refused_at(alloc: Global, place: Position, stop: Stop) -> Result<String, AllocError>
     ensures { IfOk result (λ line. SaysRefused place stop (string_bytes line)) }
 {
     match stop {

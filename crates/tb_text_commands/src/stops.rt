@@ -13,7 +13,7 @@ use tb_sessions::Class;
 
 /// A pair or an entry, by its number and the bytes before it.
 #[derive(Clone, Copy)]
-pub struct Place {
+pub struct Position {
     pub number: u64,
     pub at: usize,
 }
@@ -24,9 +24,9 @@ pub enum ScriptEnd {
     /// To its end, behind so many pairs.
     Whole(u64),
     /// To a pair for which no time is left, where its request is new.
-    Late(Place),
+    Late(Position),
     /// To a pair that cannot be read.
-    Wrong(Place, FrameFault),
+    Wrong(Position, FrameFault),
     /// Over 2^64 - 2 pairs.
     TooLong,
 }
@@ -59,9 +59,9 @@ pub enum DumpEnd {
     /// To its end, behind so many entries.
     Whole(u64),
     /// To an item that cannot be read.
-    Wrong(Place, DumpFault),
+    Wrong(Position, DumpFault),
     /// To an item that is not taken.
-    Refused(Place, Stop),
+    Refused(Position, Stop),
     /// Over 2^64 - 1 items.
     TooLong,
 }
@@ -87,7 +87,7 @@ pub fn script_end(alloc: Global, bytes: &[u8]) -> Result<ScriptEnd, AllocError>
     let mut rest = bytes;
     for number in 1..u64::MAX {
         let at = bytes.len() - rest.len();
-        let place = Place { number, at };
+        let place = Position { number, at };
         match next_pair(alloc, rest) {
             Ok(Some((moment, behind))) => {
                 if moment > LAST_MOMENT {
@@ -186,7 +186,7 @@ const NUMBERS: usize = 16;
 
 /// The end at an item that cannot be read. AllocError where there is no memory; bytes in memory have no device that fails,
 /// and no entry has the number of a mark.
-fn end_at(place: Place, fault: DumpFault, rest: &[u8]) -> Result<DumpEnd, AllocError>
+fn end_at(place: Position, fault: DumpFault, rest: &[u8]) -> Result<DumpEnd, AllocError>
     ensures { IfOk result (λ end. (end ≡ DumpEnd.Wrong place fault) × ComesOfItem fault rest.now) }
 {
     match fault {
@@ -216,7 +216,7 @@ fn items_end(
     let mut rest = items;
     for _ in 0..u64::MAX {
         let number = machine.commit() + 1;
-        let place = Place {
+        let place = Position {
             number,
             at: bytes.len() - rest.len(),
         };

@@ -5,7 +5,7 @@ use Rattle.tb_journal.specs.declared.reading.Extent.{Extent}
 use Rattle.tb_journal.specs.Device.{Disk, IsOnDisk}
 use Rattle.tb_journal.specs.Contents.{Records, contents}
 use Rattle.tb_journal.specs.Opening.{RefusesFile}
-use Rattle.tb_journal.specs.Scans.{BeginsWith, HasRead, Place}
+use Rattle.tb_journal.specs.Scans.{BeginsWith, HasRead, ScanState}
 use Rattle.tb_machine.specs.Histories.{State}
 use Rattle.tb_keep.specs.declared.faults.StartFault.{StartFault}
 use Rattle.tb_keep.specs.declared.faults.StartFault.TheVariants as start
@@ -23,11 +23,11 @@ pub record StaysKept (before after : Disk) : Type 0 where
   pub sound : after.sound ≡ before.sound
 
 -- the cause of a fault, where some records were read before
-abbrev pub ReadCause : {T : Type 0} → Result T StartFault → Place → Disk → Disk → Type 0
+abbrev pub ReadCause : {T : Type 0} → Result T StartFault → ScanState → Disk → Disk → Type 0
 ReadCause result scan before after = (read : List (List ℕ)) → HasRead read before.seen scan → HasStartCause result before after
 
 -- the same, where nothing was read
-abbrev pub UnreadCause : {T : Type 0} → Result T StartFault → Place → Disk → Disk → Type 0
+abbrev pub UnreadCause : {T : Type 0} → Result T StartFault → ScanState → Disk → Disk → Type 0
 UnreadCause result scan before after = HasRead [] before.seen scan → HasStartCause result before after
 
 -- the records of a file that has a head of these rules and nothing behind it
@@ -35,11 +35,11 @@ abbrev pub head_of : Rules → List (List ℕ)
 head_of rules = head_record rules.profile rules.clients_max ∷ []
 
 -- the same, where the head was read, which names these rules
-abbrev pub HeadCause : {T : Type 0} → Result T StartFault → Rules → Place → Disk → Disk → Type 0
+abbrev pub HeadCause : {T : Type 0} → Result T StartFault → Rules → ScanState → Disk → Disk → Type 0
 HeadCause result rules scan before after = HasRead (head_of rules) before.seen scan → HasStartCause result before after
 
 -- of each file that the reads are of, and of which these records were read
-abbrev pub OfBehind : (List ℕ → Type 0) → List (List ℕ) → Place → (List ℕ → Type 0) → Type 0
+abbrev pub OfBehind : (List ℕ → Type 0) → List (List ℕ) → ScanState → (List ℕ → Type 0) → Type 0
 OfBehind holds records scan Says = (file : List ℕ) → holds file → HasRead records file scan → Says file
 
 -- of each file that the reads are of, and of which the records end there
@@ -51,20 +51,20 @@ abbrev pub RestoresBy : Result (State × Extent) StartFault → Rules → List �
 RestoresBy result rules file = Restores result rules.profile rules.clients_max file
 
 -- the head was read, or there is none
-abbrev pub ReadsHead : Result Bool StartFault → Rules → Place → List ℕ → Type 0
+abbrev pub ReadsHead : Result Bool StartFault → Rules → ScanState → List ℕ → Type 0
 ReadsHead (Ok true) rules after file = HasRead (head_of rules) file after
 ReadsHead (Ok false) rules after file = (contents file ≡ Records []) × HasRead [] file after
 ReadsHead (Err fault) rules after file = StopsReading fault rules.profile rules.clients_max file
 
 -- behind the records that were read one more was read and entered, or there is none
-abbrev pub EntersNext : Result Bool StartFault → List (List ℕ) → List ℕ → Place → State → State → Type 0
+abbrev pub EntersNext : Result Bool StartFault → List (List ℕ) → List ℕ → ScanState → State → State → Type 0
 EntersNext (Ok true) read file after S T = (bytes : List ℕ) × HasRead (read ++ bytes ∷ []) file after × RestoresRecord (Ok tt) S bytes T
 EntersNext (Ok false) read file after S T = (contents file ≡ Records read) × HasRead read file after × (T ≡ S)
 EntersNext (Err (start.Journal fault)) read file after S T = RefusesFile fault file × BeginsWith read file
 EntersNext (Err fault) read file after S T = (bytes : List ℕ) × BeginsWith (read ++ bytes ∷ []) file × StopsAt fault S bytes
 
 -- all records behind those that were read, or those before the first one that is not entered
-abbrev pub EntersAll : Result (Unit {0}) StartFault → List (List ℕ) → List ℕ → Place → State → State → Type 0
+abbrev pub EntersAll : Result (Unit {0}) StartFault → List (List ℕ) → List ℕ → ScanState → State → State → Type 0
 EntersAll (Ok done) read file after S T =
     (records : List (List ℕ)) × (contents file ≡ Records (read ++ records)) × HasRead (read ++ records) file after × RecordsLead S records T
 EntersAll (Err (start.Journal fault)) read file after S T = RefusesFile fault file × BeginsWith read file
@@ -76,7 +76,7 @@ abbrev pub FindsBehind : Result (State × Extent) StartFault → Rules → List 
 FindsBehind result rules file = HasRules rules file × RestoresBy result rules file
 
 -- the head was read, and names rules
-abbrev pub FindsRules : Result Rules StartFault → Place → List ℕ → Type 0
+abbrev pub FindsRules : Result Rules StartFault → ScanState → List ℕ → Type 0
 FindsRules (Ok rules) after file = HasRead (head_of rules) file after
 FindsRules (Err fault) after file = RulesAnswer (Err fault) file
 

@@ -5,7 +5,7 @@ use Rattle.tb_records.specs.declared.faults.FrameFault.TheVariants.{Device}
 use Rattle.tb_records.specs.Transport.{Output, Sent, CutOff}
 use Rattle.tb_journal.specs.Contents.{Records, contents}
 use Rattle.tb_journal.specs.Opening.{RefusesFile}
-use Rattle.tb_journal.specs.Scans.{BeginsWith, HasRead, Place}
+use Rattle.tb_journal.specs.Scans.{BeginsWith, HasRead, ScanState}
 use Rattle.tb_keep.specs.declared.faults.DumpFault.{DumpFault}
 use Rattle.tb_keep.specs.declared.faults.DumpFault.TheVariants as dump
 use Rattle.tb_keep.specs.Following.{entries_above}
@@ -16,7 +16,7 @@ abbrev pub above : ℕ → ℕ → List ℕ → List ℕ
 above commit after bytes = joined (drop (after + 1 - commit) (bytes ∷ []))
 
 -- behind the records that were read one more was read, and sent if its number is above `after`; or there is none
-abbrev pub SendsNext : Result Bool DumpFault → ℕ → List (List ℕ) → List ℕ → Place → Output → Output → Type 0
+abbrev pub SendsNext : Result Bool DumpFault → ℕ → List (List ℕ) → List ℕ → ScanState → Output → Output → Type 0
 SendsNext (Ok true) after read file scan old new =
     (bytes : List ℕ) × HasRead (read ++ bytes ∷ []) file scan × Sent (entries_above after read (bytes ∷ [])) old new
 SendsNext (Ok false) after read file scan old new = (contents file ≡ Records read) × HasRead read file scan × (new ≡ old)
@@ -25,7 +25,7 @@ SendsNext (Err (dump.Writer fault)) after read file scan old new =
     (fault ≡ Device) × ((bytes : List ℕ) × BeginsWith (read ++ bytes ∷ []) file × CutOff (entries_above after read (bytes ∷ [])) old new)
 
 -- all records behind those that were read, or some of them
-abbrev pub SendsAll : Result (Unit {0}) DumpFault → ℕ → List (List ℕ) → List ℕ → Place → Output → Output → Type 0
+abbrev pub SendsAll : Result (Unit {0}) DumpFault → ℕ → List (List ℕ) → List ℕ → ScanState → Output → Output → Type 0
 SendsAll (Ok done) after read file scan old new =
     (more : List (List ℕ)) × (contents file ≡ Records (read ++ more)) × HasRead (read ++ more) file scan × Sent (entries_above after read more) old new
 SendsAll (Err (dump.Journal fault)) after read file scan old new =

@@ -2,9 +2,9 @@
 -- Cited by private contracts alone, of: recovering.
 use Rattle.std.specs.Prelude.{ℕ, Bool, List, Result}
 use Rattle.tb_journal.specs.declared.opening.OpenFault.{OpenFault}
-use Rattle.tb_journal.specs.Scans.{BeginsWith, Place, ReadsNext}
+use Rattle.tb_journal.specs.Scans.{BeginsWith, ScanState, ReadsNext}
 
 -- what the next step of a scan finds behind these records
-pub record IsNext (result : Result Bool OpenFault) (read : List (List ℕ)) (file : List ℕ) (scan : Place) : Type 0 where
+pub record IsNext (result : Result Bool OpenFault) (read : List (List ℕ)) (file : List ℕ) (scan : ScanState) : Type 0 where
   pub begins : BeginsWith read file
   pub reads : ReadsNext result read file scan

@@ -8,7 +8,7 @@ use Rattle.tb_journal.specs.Device.{Disk, LeavesOnly, FailsNone}
 use Rattle.tb_journal.specs.Contents.{Records, contents, recorded}
 use Rattle.tb_journal.specs.Ready.{Kept, IsReady}
 use Rattle.tb_journal.specs.Reading.{extent_of}
-use Rattle.tb_journal.specs.Scans.{HasRead, Place}
+use Rattle.tb_journal.specs.Scans.{HasRead, ScanState}
 use Rattle.tb_machine.specs.Histories.{State}
 use Rattle.tb_keep.specs.declared.faults.SalvageFault.{SalvageFault}
 use Rattle.tb_keep.specs.declared.faults.SalvageFault.TheVariants.{Old, New}
@@ -34,13 +34,13 @@ abbrev pub by_device : JournalFault → SalvageFault
 by_device fault = New (start.Journal (open_faults.Device fault))
 
 -- a file that the reads are of, and of which these records were read
-abbrev pub HoldsRead : (List ℕ → Type 0) → List (List ℕ) → Place → List ℕ → Type 0
+abbrev pub HoldsRead : (List ℕ → Type 0) → List (List ℕ) → ScanState → List ℕ → Type 0
 HoldsRead holds read scan file = holds file × HasRead read file scan
 
-abbrev pub HeadRead : (List ℕ → Type 0) → Rules → Place → List ℕ → Type 0
+abbrev pub HeadRead : (List ℕ → Type 0) → Rules → ScanState → List ℕ → Type 0
 HeadRead holds rules scan file = HoldsRead holds (head_of rules) scan file
 
-abbrev pub Unread : (List ℕ → Type 0) → Place → List ℕ → Type 0
+abbrev pub Unread : (List ℕ → Type 0) → ScanState → List ℕ → Type 0
 Unread holds scan file = HoldsRead holds [] scan file
 
 -- the fault for which a start refuses a file each time
@@ -133,7 +133,7 @@ module _ {N : Type 0} (disk : N → Disk) where
 
     module _ (holds : List ℕ → Type 0) where
       -- these records were taken over, and a scan is behind them that was at a place before
-      pub record Taken (records : List (List ℕ)) (first here : Place) (before after : Keeping N) : Type 0 where
+      pub record Taken (records : List (List ℕ)) (first here : ScanState) (before after : Keeping N) : Type 0 where
         pub leads : RecordsLead before.state records after.state
         pub usable : after.journal.usable ≡ true
         pub queues : tells → Queues records before.journal after.journal
@@ -141,7 +141,7 @@ module _ {N : Type 0} (disk : N → Disk) where
 
       -- no more were taken behind that place: the file ends there; or it is the reason, or its device or memory, and all is as it was; or the
       -- new file is the reason
-      abbrev pub Ends : Result (Unit {0}) SalvageFault → Place → Keeping N → Keeping N → Type 0
+      abbrev pub Ends : Result (Unit {0}) SalvageFault → ScanState → Keeping N → Keeping N → Type 0
       Ends (Ok done) here before after =
           (after ≡ before) × ((file : List ℕ) (read : List (List ℕ)) → holds file → HasRead read file here → contents file ≡ Records read)
       Ends (Err (Old fault)) here before after =
@@ -150,15 +150,15 @@ module _ {N : Type 0} (disk : N → Disk) where
       Ends (Err (New fault)) here before after =
           (f : JournalFault) × (fault ≡ start.Journal (open_faults.Device f)) × (tells → Breaks f [] before.journal after.journal)
 
-      abbrev pub TakesNext : Result Bool SalvageFault → Place → Place → Keeping N → Keeping N → Type 0
+      abbrev pub TakesNext : Result Bool SalvageFault → ScanState → ScanState → Keeping N → Keeping N → Type 0
       TakesNext (Ok true) first last before after = (bytes : List ℕ) × Taken (bytes ∷ []) first last before after
       TakesNext (Ok false) first last before after = Ends (Ok tt) first before after
       TakesNext (Err fault) first last before after = Ends (Err fault) first before after
 
       -- all records up to a place were taken over, and no more
-      pub record TakesAll (extent : Extent) (result : Result (Unit {0}) SalvageFault) (first : Place) (before after : Keeping N) : Type 0 where
+      pub record TakesAll (extent : Extent) (result : Result (Unit {0}) SalvageFault) (first : ScanState) (before after : Keeping N) : Type 0 where
         pub records : List (List ℕ)
-        pub here : Place
+        pub here : ScanState
         pub middle : Keeping N
         pub taken : Taken records first here before middle
         pub end : extent.end ≡ here.end
@@ -166,11 +166,11 @@ module _ {N : Type 0} (disk : N → Disk) where
         pub ends : Ends result here middle after
 
       -- and they were committed; or not, where the old file is not read on for a reason that is not its own, or the new one was not written
-      abbrev pub TakesRest : Result (Extent × Option StartFault) SalvageFault → Place → Keeping N → Keeping N → Type 0
+      abbrev pub TakesRest : Result (Extent × Option StartFault) SalvageFault → ScanState → Keeping N → Keeping N → Type 0
       TakesRest (Ok found) first before after =
-          (records : List (List ℕ)) × (here : Place) × Taken records first here before after × (after.journal.waiting ≡ []) × (found.0.end ≡ here.end)
+          (records : List (List ℕ)) × (here : ScanState) × Taken records first here before after × (after.journal.waiting ≡ []) × (found.0.end ≡ here.end)
           × ((file : List ℕ) (read : List (List ℕ)) → holds file → HasRead read file first → StopsBehind found.1 (read ++ records) after.state file)
       TakesRest (Err fault) first before after =
-          (records : List (List ℕ)) × (here : Place) × (middle : Keeping N) × Taken records first here before middle
+          (records : List (List ℕ)) × (here : ScanState) × (middle : Keeping N) × Taken records first here before middle
           × IsUntaken fault middle after
           × ((file : List ℕ) (read : List (List ℕ)) → holds file → HasRead read file first → IsUnsalvaged fault file)

@@ -4,7 +4,7 @@ use Rattle.std.specs.Prelude.{ℕ, Bool, true, List, [], OnOk}
 use Rattle.tb_records.specs.Transport.{Input, Output}
 use Rattle.tb_records.specs.declared.devices.Sink as sinks
 use Rattle.tb_journal.specs.declared.devices.Device as devices
-use Rattle.tb_journal.specs.Scans.{HasRead, Place}
+use Rattle.tb_journal.specs.Scans.{HasRead, ScanState}
 use Rattle.tb_keep.specs.declared.recovering.Rules.{Rules}
 use Rattle.tb_keep.specs.declared.salvaging.Salvaged.{Salvaged}
 use Rattle.tb_keep.specs.Keeping.{Keeping}
@@ -84,30 +84,30 @@ module _ {O D E R W L : Type 0} (its : KnownEnds O D E R W L) where
 -- of the entries above a commit number, of whatever file a device holds
 module _ {D W : Type 0} (holds : D → List ℕ → Type 0) (sink : sinks.Ghosts W) (outcome : Outcome) where
   -- of which a scan has read some records: the entries of the others are written
-  abbrev pub SendsRest : ℕ → Change Place → Change D → Change W → Type 0
+  abbrev pub SendsRest : ℕ → Change ScanState → Change D → Change W → Type 0
   SendsRest after scan device writer =
       (file : List ℕ) (read : List (List ℕ)) → holds (old device) file → HasRead read file (old scan)
       → OnWriter sink (SendsRound outcome after read file (new scan)) writer
 
   -- one more round, behind those that wrote what went out so far
-  abbrev pub SendsMore : ℕ → Change Place → Change D → Change W → Type 0
+  abbrev pub SendsMore : ℕ → Change ScanState → Change D → Change W → Type 0
   SendsMore after scan device writer =
       (file : List ℕ) (start : Output) → Grown holds after file (old device) (old scan) start (sink.output (old writer))
       → GrowsBy holds outcome after file (new device) (new scan) start (sink.output (new writer))
 
   -- all that are left
-  abbrev pub SendsOn : ℕ → Change Place → Change D → Change W → Type 0
+  abbrev pub SendsOn : ℕ → Change ScanState → Change D → Change W → Type 0
   SendsOn after scan device writer =
       (file : List ℕ) (start : Output) → Grown holds after file (old device) (old scan) start (sink.output (old writer))
       → EndsRounds (holds (new device)) outcome true after file start (sink.output (new writer))
 
   -- of which a scan has read nothing
-  abbrev pub SendsUnread : Bool → ℕ → Change Place → Change D → Change W → Type 0
+  abbrev pub SendsUnread : Bool → ℕ → Change ScanState → Change D → Change W → Type 0
   SendsUnread follows after scan device writer =
       (file : List ℕ) → holds (old device) file → HasRead [] file (old scan)
       → OnWriter sink (EndsRounds (holds (new device)) outcome follows after file) writer
 
-  abbrev pub WritesUnread : Part → Rules → Change Place → Change D → Change W → Type 0
+  abbrev pub WritesUnread : Part → Rules → Change ScanState → Change D → Change W → Type 0
   WritesUnread part rules scan device writer =
       (file : List ℕ) → holds (old device) file → HasRead [] file (old scan)
       → OnWriter sink (WritesPart (holds (new device)) outcome part.follows part.after rules file) writer
@@ -123,17 +123,17 @@ LooksOnOk whole holds outcome device =
 
 -- why, over a device that reports what its calls do
 module _ {D : Type 0} (its : devices.Ghosts D) (outcome : Outcome) where
-  abbrev pub HasRoundCause : Change Place → Change D → Type 0
+  abbrev pub HasRoundCause : Change ScanState → Change D → Type 0
   HasRoundCause scan device =
       its.tells → (read : List (List ℕ)) → HasRead read (its.disk (old device)).seen (old scan)
       → RoundCause outcome (its.disk (old device)) (its.disk (new device)) (new scan)
 
-  abbrev pub HasRestCause : Change Place → Change D → Type 0
+  abbrev pub HasRestCause : Change ScanState → Change D → Type 0
   HasRestCause scan device =
       its.tells → (read : List (List ℕ)) → HasRead read (its.disk (old device)).seen (old scan)
       → HasPartCause outcome (its.disk (old device)) (its.disk (new device))
 
-  abbrev pub HasWholeCause : Change Place → Change D → Type 0
+  abbrev pub HasWholeCause : Change ScanState → Change D → Type 0
   HasWholeCause scan device =
       its.tells → HasRead [] (its.disk (old device)).seen (old scan) → HasPartCause outcome (its.disk (old device)) (its.disk (new device))
 

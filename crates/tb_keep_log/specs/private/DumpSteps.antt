@@ -7,7 +7,7 @@ use Rattle.tb_records.specs.Ordered.{Each}
 use Rattle.tb_records.specs.Transport.{Output, Sent, CutOff}
 use Rattle.tb_journal.specs.Contents.{Records, contents}
 use Rattle.tb_journal.specs.Device.{Disk}
-use Rattle.tb_journal.specs.Scans.{BeginsWith, HasRead, Place}
+use Rattle.tb_journal.specs.Scans.{BeginsWith, HasRead, ScanState}
 use Rattle.tb_machine.specs.Dumps.{dumped}
 use Rattle.tb_machine.specs.Histories.{State}
 use Rattle.tb_machine.specs.Runs.{IsTimely}
@@ -72,7 +72,7 @@ DumpsRecord (Ok done) profile clients_max last S T bytes before after =
 DumpsRecord (Err fault) profile clients_max last S T bytes before after =
     StopsRecord fault profile clients_max last bytes × Halts (AreFront (drop fixed_bytes bytes)) fault S before after
 
-abbrev pub DumpsNext : Result Bool DumpLogFault → Profile → ℕ → List (List ℕ) → List ℕ → Place → State → State → Output → Output → Type 0
+abbrev pub DumpsNext : Result Bool DumpLogFault → Profile → ℕ → List (List ℕ) → List ℕ → ScanState → State → State → Output → Output → Type 0
 DumpsNext (Ok true) profile clients_max read file scan S T before after =
     (bytes : List ℕ) × HasRead (read ++ bytes ∷ []) file scan
     × (HasMark profile clients_max bytes × DumpsContent (Ok tt) S T (drop fixed_bytes bytes) before after)
@@ -80,7 +80,7 @@ DumpsNext (Ok false) profile clients_max read file scan S T before after = (cont
 DumpsNext (Err fault) profile clients_max read file scan S T before after = StopsDump fault profile clients_max file × Halts (AreNext read file) fault S before after
 
 -- these records were read behind others, and the entries of their pairs went out
-pub record Dumped (profile : Profile) (clients_max : ℕ) (read : List (List ℕ)) (file : List ℕ) (scan : Place) (S T : State) (before after : Output) : Type 0 where
+pub record Dumped (profile : Profile) (clients_max : ℕ) (read : List (List ℕ)) (file : List ℕ) (scan : ScanState) (S T : State) (before after : Output) : Type 0 where
   pub records : List (List ℕ)
   pub pairs : List Pair
   pub has : HasRead (read ++ records) file scan
@@ -90,11 +90,11 @@ pub record Dumped (profile : Profile) (clients_max : ℕ) (read : List (List ℕ
 
 abbrev pub DumpsAll : Result (Unit {0}) DumpLogFault → Profile → ℕ → List (List ℕ) → List ℕ → State → Output → Output → Type 0
 DumpsAll (Ok done) profile clients_max read file S before after =
-    (scan : Place) × (T : State) × (dumped : Dumped profile clients_max read file scan S T before after) × (contents file ≡ Records (read ++ dumped.records))
+    (scan : ScanState) × (T : State) × (dumped : Dumped profile clients_max read file scan S T before after) × (contents file ≡ Records (read ++ dumped.records))
 DumpsAll (Err fault) profile clients_max read file S before after = StopsDump fault profile clients_max file × Halts (AreNext read file) fault S before after
 
 -- the cause of a fault, where some records were read before
-abbrev pub ReadCause : {T : Type 0} → Result T DumpLogFault → Place → Disk → Disk → Type 0
+abbrev pub ReadCause : {T : Type 0} → Result T DumpLogFault → ScanState → Disk → Disk → Type 0
 ReadCause result scan before after = (read : List (List ℕ)) → HasRead read before.seen scan → HasDumpCause result before after
 
 -- the same of one pair, and of the pairs of a content, over a writer
@@ -107,7 +107,7 @@ module _ {W : Type 0} (output : W → Output) where
 
 -- and by the rules of a file
 module _ (rules : Rules) {W : Type 0} (output : W → Output) where
-  abbrev pub DumpsNextOver : Result Bool DumpLogFault → Place → State → State → W → W → List (List ℕ) → List ℕ → Type 0
+  abbrev pub DumpsNextOver : Result Bool DumpLogFault → ScanState → State → State → W → W → List (List ℕ) → List ℕ → Type 0
   DumpsNextOver result scan S T writer later read file = DumpsNext result rules.profile rules.clients_max read file scan S T (output writer) (output later)
 
   abbrev pub DumpsAllOver : Result (Unit {0}) DumpLogFault → State → W → W → List (List ℕ) → List ℕ → Type 0

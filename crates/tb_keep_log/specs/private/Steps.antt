@@ -14,7 +14,7 @@ use Rattle.tb_journal.specs.Device.{Disk, FailsNone, IsOnDisk, LeavesOnly, HasFa
 use Rattle.tb_journal.specs.Contents.{Records, contents, recorded}
 use Rattle.tb_journal.specs.Opening.{RefusesFile}
 use Rattle.tb_journal.specs.Ready.{Kept, IsReady}
-use Rattle.tb_journal.specs.Scans.{BeginsWith, HasRead, Place}
+use Rattle.tb_journal.specs.Scans.{BeginsWith, HasRead, ScanState}
 use Rattle.tb_journal.specs.Steps.{IsBeforeOrAfter}
 use Rattle.tb_machine.specs.Scripts.{Pair}
 use Rattle.tb_log.specs.declared.faults.LogFault.{LogFault}
@@ -67,7 +67,7 @@ Enters (Ok done) profile clients_max bytes F G = EntersRecord profile clients_ma
 Enters (Err fault) profile clients_max bytes F G = StopsAt fault profile clients_max F bytes
 
 -- behind the records that were read one more was read and entered, or there is none
-abbrev pub EntersNext : Result Bool LogStartFault → Profile → ℕ → List (List ℕ) → List ℕ → Place → Following → Following → Type 0
+abbrev pub EntersNext : Result Bool LogStartFault → Profile → ℕ → List (List ℕ) → List ℕ → ScanState → Following → Following → Type 0
 EntersNext (Ok true) profile clients_max read file after F G =
     (bytes : List ℕ) × HasRead (read ++ bytes ∷ []) file after × EntersRecord profile clients_max bytes F G
 EntersNext (Ok false) profile clients_max read file after F G = (contents file ≡ Records read) × HasRead read file after × (G ≡ F)
@@ -76,7 +76,7 @@ EntersNext (Err fault) profile clients_max read file after F G =
     (bytes : List ℕ) × BeginsWith (read ++ bytes ∷ []) file × StopsAt fault profile clients_max F bytes
 
 -- these records were read and entered
-pub record Entered (profile : Profile) (clients_max : ℕ) (read : List (List ℕ)) (file : List ℕ) (scan : Place) (F G : Following) : Type 0 where
+pub record Entered (profile : Profile) (clients_max : ℕ) (read : List (List ℕ)) (file : List ℕ) (scan : ScanState) (F G : Following) : Type 0 where
   pub records : List (List ℕ)
   pub has : HasRead (read ++ records) file scan
   pub leads : Leads profile clients_max F records G
@@ -91,7 +91,7 @@ pub record EntersSome (fault : LogStartFault) (profile : Profile) (clients_max :
   pub stops : StopsAt fault profile clients_max here bytes
 
 -- all records behind those that were read, or those before the first one that is refused
-abbrev pub EntersAll : Result (Unit {0}) LogStartFault → Profile → ℕ → List (List ℕ) → List ℕ → Place → Following → Following → Type 0
+abbrev pub EntersAll : Result (Unit {0}) LogStartFault → Profile → ℕ → List (List ℕ) → List ℕ → ScanState → Following → Following → Type 0
 EntersAll (Ok done) profile clients_max read file after F G =
     (entered : Entered profile clients_max read file after F G) × (contents file ≡ Records (read ++ entered.records))
 EntersAll (Err (start.Journal fault)) profile clients_max read file after F G = RefusesFile fault file
@@ -193,7 +193,7 @@ module _ (tells : Type 0) {D : Type 0} (disk : D → Disk) where
 -- opening
 
 -- the cause of a fault, where some records were read before
-abbrev pub ReadCause : {T : Type 0} → Result T LogStartFault → Place → Disk → Disk → Type 0
+abbrev pub ReadCause : {T : Type 0} → Result T LogStartFault → ScanState → Disk → Disk → Type 0
 ReadCause result scan before after = (read : List (List ℕ)) → HasRead read before.seen scan → HasLogCause result before after
 
 -- a fault that names nothing of the file
@@ -236,10 +236,10 @@ abbrev pub IsUsableBy : {D : Type 0} → Rules → Keeping D → Type 0
 IsUsableBy rules keeper = IsUsable keeper × (keeper.rules ≡ rules)
 
 -- the same by the rules of a file, of the records that were read of it
-abbrev pub EntersNextBy : Rules → Result Bool LogStartFault → Place → Following → Following → List (List ℕ) → List ℕ → Type 0
+abbrev pub EntersNextBy : Rules → Result Bool LogStartFault → ScanState → Following → Following → List (List ℕ) → List ℕ → Type 0
 EntersNextBy rules result scan F G read file = EntersNext result rules.profile rules.clients_max read file scan F G
 
-abbrev pub EntersAllBy : Rules → Result (Unit {0}) LogStartFault → Place → Following → Following → List (List ℕ) → List ℕ → Type 0
+abbrev pub EntersAllBy : Rules → Result (Unit {0}) LogStartFault → ScanState → Following → Following → List (List ℕ) → List ℕ → Type 0
 EntersAllBy rules result scan F G read file = EntersAll result rules.profile rules.clients_max read file scan F G
 
 -- the same by the rules of a file, over a device that reports what its calls do or not, a reader and a writer

@@ -6,7 +6,7 @@ use Rattle.tb_ledger.specs.declared.tables.rows.Rows.{Rows}
 use Rattle.tb_ledger.specs.declared.tables.work.Work.{Work}
 use Rattle.tb_ledger.specs.declared.tables.work.TheConstants.{UNDOS_PER_EVENT}
 use Rattle.tb_ledger.specs.declared.tables.transfers.TransferRow.{TransferRow}
-use Rattle.tb_ledger.specs.Batches.{Kind, Outcome, chain_after, chains_after, chains, timed_from, undone}
+use Rattle.tb_ledger.specs.Batches.{Kind, Outcome, chain_failed, chain_open, chain_after, chains_after, chains, timed_from, undone}
 use Rattle.tb_ledger.specs.Books.{Books, resolves, transfer_at}
 use Rattle.tb_ledger.specs.private.Capacity.{Capacity, capacity_of, Uses}
 use Rattle.tb_ledger.specs.private.Found.{FoundPending, Judges}
@@ -67,7 +67,7 @@ TakesEvent kind code_of work event time = Decides code_of (kind.verdict (books_i
 -- an event of a chain is taken at a time: where it is linked and the last one the chain is open, else its verdict decides
 abbrev pub TakesInChain : {E R A : Type 0} → Kind E → (R → ℕ) → Bool → Work A → E → ℕ → Result (Unit {0}) R → Work A → Type 0
 TakesInChain kind code_of last work event time =
-    Decides code_of (if last && kind.linked event then 2 else kind.verdict (books_in work.rows) event time) (kind.recorded (books_in work.rows) event time) work
+    Decides code_of (if last && kind.linked event then chain_open else kind.verdict (books_in work.rows) event time) (kind.recorded (books_in work.rows) event time) work
 
 -- a post or void, filled and stamped, of the pending transfer p: its accounts decide whether they are open, and where it passes it is recorded
 abbrev pub TakesResolution : {A : Type 0} → Work A → TransferRow → Transfer → Result (Unit {0}) CreateTransferResult → Work A → Type 0
@@ -82,9 +82,9 @@ chain_from kind B stamp events = chain_after kind B (timed_from stamp events)
 abbrev pub chains_from : {E : Type 0} → Kind E → Books → ℕ → List E → Outcome
 chains_from kind B stamp events = chains_after kind B (chains kind (timed_from stamp events))
 
--- the codes of a chain whose event at this place was refused: 1 before it, its own, and those of events that another one's failure undoes
+-- the codes of a chain whose event at this place was refused: chain_failed before it, its own, and those of events that another one's failure undoes
 abbrev pub broken_codes : {E : Type 0} → Kind E → ℕ → ℕ → List E → List ℕ
-broken_codes kind place code events = replicate place 1 ++ code ∷ undone kind (timed_from 0 (drop (place + 1) events))
+broken_codes kind place code events = replicate place chain_failed ++ code ∷ undone kind (timed_from 0 (drop (place + 1) events))
 
 -- a refusal that is noted touches failed ids alone
 pub record StaysButFailed {A : Type 0} (rows later : Rows A) : Type 0 where

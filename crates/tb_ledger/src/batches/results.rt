@@ -1,6 +1,6 @@
 //! The results of a chain that breaks.
 ghost use Rattle.std.specs.Prelude.{◌≡◌, ◌≢◌, ◌+◌, ◌^◌, ◌<◌, ◌≤◌, ◌&&◌, ◌++◌, [], ◌∷◌, length, replicate, if◌then◌else◌};
-ghost use Rattle.tb_ledger.specs.Batches.{timed_from, undone, results_from};
+ghost use Rattle.tb_ledger.specs.Batches.{chain_failed, chain_open, timed_from, undone, results_from};
 ghost use Rattle.tb_ledger.specs.private.Steps.{broken_codes};
 ghost use Rattle.tb_ledger.specs.private.Gathered.{AddsResults};
 
@@ -48,7 +48,7 @@ pub(crate) fn break_off<E: Event>(
 fn push_failed<E: Event>(results: &mut Results, index: u32, n: usize)
     requires capacity { length results.old.items + n ≤ results.old.capacity }
     requires fits { index + n < 2 ^ 32 }
-    ensures items { results.new.items ≡ results.old.items ++ results_from index (replicate n 1) }
+    ensures items { results.new.items ≡ results.old.items ++ results_from index (replicate n chain_failed) }
     ensures len { length results.new.items ≡ length results.old.items + n }
     ensures capacity { results.new.capacity ≡ results.old.capacity }
 {
@@ -74,7 +74,7 @@ fn push_undone<E: Event>(results: &mut Results, rest: &[E], index: u32)
 
 /// The refusal of an event that another one's failure undoes.
 fn undone_by<E: Event>(event: &E, last: bool) -> E::Refusal
-    ensures { E.code_of result ≡ (if last && E.kind.linked event.now then 2 else 1) }
+    ensures { E.code_of result ≡ (if last && E.kind.linked event.now then chain_open else chain_failed) }
 {
     if last && event.linked() {
         E::chain_open()

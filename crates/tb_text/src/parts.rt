@@ -23,7 +23,7 @@ pub enum Lexeme {
 
 /// Which part of a statement comes next.
 #[derive(Clone, Copy, Debug, PartialEq, Eq)]
-pub enum Place {
+pub enum NextPart {
     /// A statement: a field before its operation, or the operation.
     Head,
     /// The `=` behind a field's name.
@@ -49,7 +49,7 @@ pub enum Refusal {
 
 impl<T: Drop> From<AllocFailed<T>> for Refusal {
     ghost use Rattle.std.specs.Prelude.{◌≡◌};
-    ghost use Rattle.tb_text.specs.declared.places.Refusal.TheVariants.{Memory};
+    ghost use Rattle.tb_text.specs.declared.parts.Refusal.TheVariants.{Memory};
 
     ghost from_gives = { λ _ refusal. refusal ≡ Memory };
 
