@@ -46,7 +46,7 @@ COLUMNS = (
     ">=40 lines",
     "casts",
 )
-CLAUSES_OVER_100 = 0.088  # wanted: 0.10
+CLAUSES_OVER_100 = 0.089
 # Each figure with a bound: what it has today, and what is wanted.
 BOUNDS = {
     "lines": (118742, 74500),
