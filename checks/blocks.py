@@ -11,7 +11,7 @@ First build both programs:
   type on a terminal.
 - json, directly after statements: the replies to them, as `tbs run` and `tbt replies` give them.
 - python: compiled. sh: read by `bash -n`. c: compiled as far as its syntax goes, where cc is there.
-- rust: is there word for word, but for its imports, in a crate that the gate proves
+- rust: is there word for word, but for its imports, in a crate that CI proves
   (checks/pages.py); on docs/use/EMBEDDING.md in an example of embed/rust, which checks/embed.py
   builds and runs.
 

@@ -1,11 +1,11 @@
 #!/usr/bin/env python3
-"""Tries every must-fail edit, as the gate tries those of crates/*/must-fail, side by side on all
+"""Tries every must-fail edit, as CI tries those of crates/*/must-fail, side by side on all
 cores.
 
     checks/edits.py [--jobs N] [CRATE ..]
     checks/edits.py --texts | --rules | --write [CRATE ..]
 
-The gate tries the edits in crates/CRATE/must-fail. This script tries those and the ones in
+CI tries the edits in crates/CRATE/must-fail. This script tries those and the ones in
 crates/CRATE/must-fail-release: it copies the repository, with what is kept of earlier checks, puts
 all edits of a crate into its must-fail folder there, proves the libraries below, and runs `rt
 must-fail CRATE`, one job a crate. Run it before a release, and whenever a public clause or a
@@ -80,11 +80,11 @@ def table(edits, chosen):
 def blocks(edits):
     """The tables of the page, by their names."""
     folders = [path.split("/")[-2] for paths in edits.values() for path in paths.values()]
-    gate, release = map(folders.count, FOLDERS)
+    own, release = map(folders.count, FOLDERS)
     return {
-        "gate": table(edits, lambda path, _: path.split("/")[-2] == FOLDERS[0]),
+        "ci": table(edits, lambda path, _: path.split("/")[-2] == FOLDERS[0]),
         "files": table(edits, lambda _, said: said.get("shown") == "a ledger in a file"),
-        "counts": f"The gate has {gate} edits, the release {release} more.\n",
+        "counts": f"CI has {own} edits, the release {release} more.\n",
     }
 
 

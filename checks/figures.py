@@ -4,12 +4,12 @@
     checks/figures.py           ends in 'N passed, 0 failed'; a line for each block that differs
     checks/figures.py --write   writes the blocks
 
-A row of runs.csv is one run of the gate, of a crate, of a benchmark or of a check;
+A row of runs.csv is one run of CI, of a crate, of a benchmark or of a check;
 docs/work/PROVING.md has its columns. A block of a page is between `<!-- figures: NAME -->` and
 `<!-- end of figures -->`. A block that no page has, a block without a writer, a row with an unknown
 kind, without a date or with a commit that git does not know are failures too; so are benchmarks
-that are not all of one commit and one machine, and a whole run of the gate that took more CPU time
-than GATE_CPU.
+that are not all of one commit and one machine, and a whole run of CI that took more CPU time
+than CI_CPU.
 """
 import collections
 import pathlib
@@ -38,7 +38,7 @@ COLUMNS = [
     "note",
 ]
 KINDS = {
-    "gate",
+    "ci",
     "start",
     "crate",
     "bench",
@@ -52,8 +52,8 @@ KINDS = {
     "edit",
     "form",
 }
-# CPU minutes of a whole run of the gate on the fast machine: at most, and wanted.
-GATE_CPU = (114, 100)
+# CPU minutes of a whole run of CI on the fast machine: at most, and wanted.
+CI_CPU = (114, 100)
 BLOCK = re.compile(r"(<!-- figures: (\w+) -->\n)(.*?)(<!-- end of figures -->)", re.S)
 
 
@@ -71,7 +71,7 @@ def when(row: dict[str, str]) -> str:
 
 def state() -> str:
     """What README.md says of its state."""
-    runs = of_kind("gate")
+    runs = of_kind("ci")
     last, whole = runs[0], next(row for row in runs if is_whole(row))
     first = {row["machine"]: row for row in of_kind("start") if "tb_script" in row["subject"]}
     # The note of a run that was not green ends with what failed.
@@ -90,13 +90,13 @@ def version() -> str:
     return found[1] if found else "?"
 
 
-def gate() -> str:
-    """The last runs of the gate; runs.csv has those before."""
+def ci() -> str:
+    """The last runs of CI; runs.csv has those before."""
     lines = [
         f"| {row['date']} | {row['commit']} | {row['kit']} | {row['machine']} | {row['subject']} "
         f"| {outcome(row)} | "
         f"{row['value']} | {row['cpu_minutes']} | {row['note']} |"
-        for row in of_kind("gate")[:4]
+        for row in of_kind("ci")[:4]
     ]
     return table(
         "| Date | Commit | Kit | Machine | Command | Result | Minutes | CPU minutes | |", lines
@@ -178,7 +178,7 @@ WRITERS = {
     it.__name__: it
     for it in (
         state,
-        gate,
+        ci,
         first_reply,
         crates,
         edits,
@@ -225,13 +225,13 @@ def check_rows() -> None:
     )
 
 
-def check_gate() -> None:
-    """The newest whole run of the gate on the fast machine took no more CPU time than it may."""
-    bound, wanted = GATE_CPU
-    whole = (it for it in of_kind("gate") if is_whole(it) and it["cpu_minutes"])
+def check_ci() -> None:
+    """The newest whole run of CI on the fast machine took no more CPU time than it may."""
+    bound, wanted = CI_CPU
+    whole = (it for it in of_kind("ci") if is_whole(it) and it["cpu_minutes"])
     found = next(it for it in whole if it["machine"] == "fast")
     said = f"{found['cpu_minutes']} at {found['commit']}; bound {bound}, wanted {wanted}"
-    tried.case("CPU minutes of the gate, fast", int(found["cpu_minutes"]) <= bound, said)
+    tried.case("CPU minutes of CI, fast", int(found["cpu_minutes"]) <= bound, said)
 
 
 def main() -> int:
@@ -239,7 +239,7 @@ def main() -> int:
     parser.add_argument("--write", action="store_true", help="write the blocks")
     writes, seen = parser.parse_args().write, set()
     check_rows()
-    check_gate()
+    check_ci()
     for page in pages():
         text = page.read_text()
 

@@ -2,7 +2,7 @@
 """Checks what pages say of the code, as far as a search can tell.
 
 - Each Rust example of a page CALLING.md is there word for word, but for its imports, in a crate
-  that the gate proves.
+  that CI proves.
 - The head of each crate's lib.rt or main.rt lists the modules of that crate, all of them and no
   other; where it lists those of a module, these too. So does the head of a module that lists any.
 - The first statements of README.md are those of examples/retry.text, which its first command reads.

@@ -1,8 +1,8 @@
 #!/usr/bin/env python3
-"""Runs the gate and prints what it took: CPU minutes of each crate by its passes, as a table
+"""Runs CI and prints what it took: CPU minutes of each crate by its passes, as a table
 in Markdown.
 
-    python3 checks/gate.py [--log FILE] [WORD ..]
+    python3 checks/ci.py [--log FILE] [WORD ..]
 
 The words are given to `rt ci` (`--anew` proves all; names prove these crates and those below them
 alone). What it prints goes to FILE, its last lines and the table to standard output. "Proof" is the
@@ -71,11 +71,11 @@ def below(found, top):
         tree |= more
 
 
-def look(gate, used):
-    """Notes what each prover below the gate has used so far. Those below a prover are its own
+def look(ci, used):
+    """Notes what each prover below CI has used so far. Those below a prover are its own
     forks."""
     found = processes()
-    for pid in below(found, gate):
+    for pid in below(found, ci):
         try:
             kind = pass_of(pid, found[pid][3]) if pid in found else None
         except OSError:
@@ -101,27 +101,27 @@ def table(used):
 def main():
     parser = tried.arguments(__doc__)
     parser.add_argument(
-        "--log", default="/tmp/gate.log", help="where what the gate prints goes (/tmp/gate.log)"
+        "--log", default="/tmp/ci.log", help="where what CI prints goes (/tmp/ci.log)"
     )
     options, words = parser.parse_known_args()
     begun, used = time.monotonic(), {}
     with open(options.log, "w", encoding="utf-8") as log:
-        gate = subprocess.Popen(
+        ci = subprocess.Popen(
             ["rt", "ci", *words],
             cwd=ROOT,
             stdin=subprocess.DEVNULL,
             stdout=log,
             stderr=subprocess.STDOUT,
         )
-        while gate.poll() is None:
-            look(gate.pid, used)
+        while ci.poll() is None:
+            look(ci.pid, used)
             time.sleep(PAUSE)
     minutes = (time.monotonic() - begun) / 60
     with open(options.log, encoding="utf-8", errors="replace") as log:
         print("".join(log.readlines()[-3:]), end="")
     print(f"{minutes:.0f} minutes on {len(os.sched_getaffinity(0))} cores\n")
     print("\n".join(table(used)))
-    return gate.returncode
+    return ci.returncode
 
 
 if __name__ == "__main__":
