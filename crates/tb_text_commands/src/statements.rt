@@ -1,6 +1,6 @@
 //! Statements that are read one by one.
-ghost use Rattle.std.specs.Prelude.{IfErr, OnOk};
-ghost use Rattle.tb_text_commands.specs.private.Taken.{EndedOver, IsOfStatement, IsOfText, OnRest, TakesIfWrong, TakesPart, TakesStatement};
+ghost use Rattle.std.specs.Prelude.{◌≡◌, IfErr, OnOk, drop};
+ghost use Rattle.tb_text_commands.specs.private.Taken.{EndedOver, IsOfStatement, IsOfText, OnRest, rest_of, TakesIfWrong, TakesPart, TakesStatement};
 ghost use Rattle.tb_text_commands.specs.Whole.{IsStatement};
 
 use crate::completing::{Standings, completed, untold_at, words_to_fill};
@@ -57,6 +57,7 @@ pub fn take_text<S: Standings>(
 ) -> Result<Items<(u64, Request)>, TextCommandFault>
     ensures fault { IfErr result IsOfText }
     ensures taken { OnOk result (TakesPart IsStatement intake.old intake.new) }
+    ensures rest { OnOk result (rest_of intake.new ≡ drop length (rest_of intake.old)) }
     ensures wrong { IfErr result (λ fault. TakesIfWrong fault intake.old intake.new) }
 {
     let text = intake.first(length);
