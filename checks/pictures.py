@@ -184,7 +184,7 @@ def request() -> str:
 
 
 def copies() -> str:
-    parts = [text(16, 26, "One writer, two copies, many seats", "head ink")]
+    parts = [text(16, 26, "One publisher, two copies, many seats", "head ink")]
     for at in range(3):
         parts += [
             box(20, 60 + 62 * at, 120, 42, ["client thread", f"port {at}, seat {at}"]),
@@ -217,7 +217,7 @@ def copies() -> str:
             "middle",
         ),
     ]
-    return picture(740, 262, "One writer, two copies, many seats", parts)
+    return picture(740, 262, "One publisher, two copies, many seats", parts)
 
 
 # A request's way through three machines

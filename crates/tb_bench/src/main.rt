@@ -3,7 +3,7 @@
 //!
 //! `take SIZE` takes SIZE batches of 8190 transfers, `single N` N thousands of single transfers with a show each, `eights N`
 //! the same with one show for eight, `memory SIZE` applies the batches to a machine alone, `reads THREADS N` reads N times in
-//! each of 1, 2 or 4 threads next to a busy writer, `calm THREADS N` the same without one, and `ports PORTS N EACH ACCOUNTS` sends N
+//! each of 1, 2 or 4 threads next to a busy publisher, `calm THREADS N` the same without one, and `ports PORTS N EACH ACCOUNTS` sends N
 //! orders of 1 to 8 transfers between so many accounts to a server from each of 1 to 32 ports.
 //!
 //! Modules, each over those before it:
@@ -11,7 +11,7 @@
 //! - `telling`: what is printed.
 //! - `requests`: the requests that are measured.
 //! - `taking`: takes compared with the one-thread machine.
-//! - `reading`: reads of seats next to a busy writer.
+//! - `reading`: reads of seats next to a busy publisher.
 //! - `offering`: ports that send orders to a server.
 #![tactic(auto)]
 

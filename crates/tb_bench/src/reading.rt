@@ -1,4 +1,4 @@
-//! Reads of seats, in threads of their own, next to a writer that is busy throughout.
+//! Reads of seats, in threads of their own, next to a publisher that is busy throughout.
 ghost use Rattle.std.specs.Prelude.{◌≡◌};
 
 use crate::requests::{first_requests, round};
@@ -17,7 +17,7 @@ use tb_records::Request;
 /// The accounts that are looked up.
 const IDS: [u128; 2] = [1, 1000];
 
-/// In how many threads is read, how often in each, and whether there is no writer.
+/// In how many threads is read, how often in each, and whether there is no publisher.
 #[derive(Clone, Copy)]
 pub struct Reads {
     pub threads: u32,
@@ -73,7 +73,7 @@ fn sum_of<J: Naming>(readers: &[Reader<J>]) -> Option<Times> {
     Some(sum)
 }
 
-/// Asks each seat in a thread of its own, and then stops the writer.
+/// Asks each seat in a thread of its own, and then stops the publisher.
 fn read_in_threads<J: Naming + Send + Sync, R: Threads + Clock + Sync>(
     rt: &R,
     readers: &mut [Reader<J>],
@@ -131,7 +131,7 @@ fn prepare<J: Naming, R: Wait>(
     take_all(rt, publisher, round(alloc, 2, 1, 1)?)
 }
 
-/// Reads next to a writer, or, where it is calm, without one: how many transfers were taken, and the time of the reads.
+/// Reads next to a publisher, or, where it is calm, without one: how many transfers were taken, and the time of the reads.
 fn read_beside<J: Naming + Send + Sync, R: Threads + Wait + Clock + Sync>(
     rt: &R,
     alloc: Global,
@@ -154,7 +154,7 @@ fn read_beside<J: Naming + Send + Sync, R: Threads + Wait + Clock + Sync>(
     )
 }
 
-/// Measures reads next to a writer, or, where it is calm, without one: of the second of the first requests.
+/// Measures reads next to a publisher, or, where it is calm, without one: of the second of the first requests.
 fn measure_reads<J: Naming + Send + Sync, R: Threads + Wait + Clock + Print + Eprint + Sync>(
     rt: &R,
     alloc: Global,
@@ -175,7 +175,7 @@ fn measure_reads<J: Naming + Send + Sync, R: Threads + Wait + Clock + Print + Ep
     tell_time(rt, "takes", u128::from(taken))
 }
 
-/// Opens a publisher with so many seats, and measures their reads, next to a busy writer unless it is calm.
+/// Opens a publisher with so many seats, and measures their reads, next to a busy publisher unless it is calm.
 pub fn measure<J: Naming + Send + Sync, R: Threads + Wait + Clock + Print + Eprint + Sync>(
     rt: &R,
     alloc: Global,

@@ -3,7 +3,7 @@ use Rattle.std.proofs.Common.{List, Result, Ok, Err, MatchResult, ℕ, ◌≡◌
 use Rattle.tb_records.specs.declared.faults.FrameFault.{FrameFault}
 use Rattle.tb_records.specs.declared.faults.FrameFault.TheVariants as frame
 use Rattle.tb_records.specs.Transport.{Output, Sent, CutOff}
-use Rattle.tb_commands.specs.Statuses.{TellsLine}
+use Rattle.tb_commands.specs.ExitStatuses.{TellsLine}
 
 -- what a writer answers, a line's own answer leaves out
 pub told_by : (result : Result (Unit {0}) FrameFault) (line : List ℕ) (before after : Output)

@@ -1,2 +1,2 @@
 pub mod Forms
-pub mod Statuses
+pub mod ExitStatuses

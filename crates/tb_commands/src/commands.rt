@@ -1,6 +1,6 @@
 //! The forms `run`, `dump` and `replay`, over any reader and writer, and the exit status of each outcome.
 ghost use Rattle.std.specs.Prelude.{◌≡◌, ◌<◌, map, string_bytes};
-ghost use Rattle.tb_commands.specs.Statuses.{fault_status, fault_name, fault_line, On, TellsLine, TellsUsage, PerformsOn, RefusesWords, ServesWords};
+ghost use Rattle.tb_commands.specs.ExitStatuses.{fault_exit_status, fault_name, fault_line, On, TellsLine, TellsUsage, PerformsOn, RefusesWords, ServesWords};
 
 use crate::arguments::{Form, read_form};
 use crate::lines::{LINE_BYTES, line_of, put_line};
@@ -12,7 +12,7 @@ use std::rt::Env;
 use tb_machine::{RunFault, dump, replay, run};
 use tb_records::{Buffered, Counting, DumpFault, FrameFault, Sink, Source};
 
-/// Why the program ends with a status other than 0; shown by its name alone.
+/// Why the program ends with an exit status other than 0; shown by its name alone.
 #[derive(Clone, Copy, Debug, PartialEq, Eq)]
 pub enum CommandFault {
     /// The arguments are none of the program's forms.
@@ -45,8 +45,8 @@ impl From<DumpFault> for CommandFault {
 
 impl CommandFault {
     /// 1 where a device or memory failed, 2 where the input or the arguments are wrong.
-    pub fn status(self) -> u8
-        ensures value { result ≡ fault_status self }
+    pub fn exit_status(self) -> u8
+        ensures value { result ≡ fault_exit_status self }
         ensures failing { 0 < result }
     {
         match self {
@@ -71,7 +71,7 @@ impl CommandFault {
     }
 }
 
-/// Writes the line `tbs: ` and the fault's name. A failure to write it changes no status.
+/// Writes the line `tbs: ` and the fault's name. A failure to write it changes no exit status.
 pub fn tell<E: Sink>(fault: CommandFault, faults: &mut E)
     ensures { TellsLine (fault_line fault) (E.output faults.old) (E.output faults.new) }
 {
@@ -118,7 +118,7 @@ pub fn command<R: Source, W: Sink, E: Sink>(
         Ok(_) => 0,
         Err(fault) => {
             tell(fault, faults);
-            fault.status()
+            fault.exit_status()
         }
     }
 }
@@ -152,7 +152,7 @@ pub fn serve<R: Read + Drop, W: Write + Drop, E: Sink>(
     let mut reader = Buffered::new(input);
     let mut writer = Counting::new(output);
     let mut line = Counting::new(ArrayVec::<u8, LINE_BYTES>::new());
-    let status = command(alloc, words, &mut reader, &mut writer, &mut line);
+    let exit_status = command(alloc, words, &mut reader, &mut writer, &mut line);
     // Replies that stay in the buffer are lost: that fault comes before any other.
     if writer.into_inner().flush().is_err() {
         return refuse(
@@ -161,7 +161,7 @@ pub fn serve<R: Read + Drop, W: Write + Drop, E: Sink>(
         );
     }
     put_line(line.into_inner().as_slice(), faults);
-    status
+    exit_status
 }
 
 /// The fault where the words cannot be had: a word is no text, or there is no memory for them.
@@ -172,11 +172,11 @@ pub fn fault_of(error: &io::Error) -> CommandFault {
     }
 }
 
-/// Prints the fault, and answers its status.
+/// Prints the fault, and answers its exit status.
 pub fn refuse<E: Sink>(fault: CommandFault, faults: &mut E) -> u8
-    ensures value { result ≡ fault_status fault }
+    ensures value { result ≡ fault_exit_status fault }
     ensures told { TellsLine (fault_line fault) (E.output faults.old) (E.output faults.new) }
 {
     tell(fault, faults);
-    fault.status()
+    fault.exit_status()
 }

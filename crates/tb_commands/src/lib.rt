@@ -7,7 +7,7 @@
 //!   clients.
 //! - `lines`: the line that a fault is reported by.
 //! - `commands`: `serve`, the way from arguments, input and output to `command`: each form over any reader and writer, and the exit
-//!   status of each outcome.
+//!   exit status of each outcome.
 #![tactic(auto)]
 
 mod arguments;

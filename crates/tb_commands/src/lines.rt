@@ -1,6 +1,6 @@
 //! The line that a fault is reported by.
 ghost use Rattle.std.specs.Prelude.{◌≡◌, ◌≤◌, ◌++◌, codes, length};
-ghost use Rattle.tb_commands.specs.Statuses.{line_named, TellsLine};
+ghost use Rattle.tb_commands.specs.ExitStatuses.{line_named, TellsLine};
 
 use arrayvec::ArrayVec;
 use tb_records::{Sink, put_all};

@@ -1,3 +1,3 @@
 -- what private contracts alone cite
 pub mod Forms
-pub mod Statuses
+pub mod ExitStatuses

@@ -6,7 +6,7 @@
 #![tactic(auto)]
 
 ghost use Rattle.std.specs.Prelude.{◌≡◌};
-ghost use Rattle.tb_follow.specs.private.Statuses.{fault_status};
+ghost use Rattle.tb_follow.specs.private.ExitStatuses.{fault_exit_status};
 
 mod arguments;
 
@@ -36,8 +36,8 @@ fn follow_input(rt: &HostRuntime, form: Form) -> Result<u64, LogFault> {
 }
 
 /// The exit status of a fault: 1 where a device or memory failed, 2 where the input is wrong.
-fn status_of(fault: LogFault) -> u8
-    ensures { result ≡ fault_status fault }
+fn exit_status_of(fault: LogFault) -> u8
+    ensures { result ≡ fault_exit_status fault }
 {
     match fault {
         LogFault::Device | LogFault::NoMemory => 1,
@@ -56,7 +56,7 @@ fn command(rt: &HostRuntime, words: &[String]) -> u8 {
     }
 }
 
-/// Tells why the words cannot be had, and returns the exit status: a word is no text, or there is no memory for them.
+/// Reports why the words cannot be had, and returns the exit status: a word is no text, or there is no memory for them.
 fn refuse_words(rt: &HostRuntime, error: &io::Error) -> u8 {
     match error.kind() {
         io::ErrorKind::OutOfMemory => refuse(rt, LogFault::NoMemory),
@@ -66,10 +66,10 @@ fn refuse_words(rt: &HostRuntime, error: &io::Error) -> u8 {
 
 /// Prints a fault, and returns its exit status.
 fn refuse(rt: &HostRuntime, fault: LogFault) -> u8
-    ensures { result ≡ fault_status fault }
+    ensures { result ≡ fault_exit_status fault }
 {
     let _ = tell(rt, fault);
-    status_of(fault)
+    exit_status_of(fault)
 }
 
 /// Prints how the program is called, and returns the exit status.
@@ -93,9 +93,9 @@ fn usage(rt: &HostRuntime) -> io::Result<()> {
 }
 
 fn main(rt: HostRuntime) -> ExitCode {
-    let status = match words(&rt) {
+    let exit_status = match words(&rt) {
         Ok(words) => command(&rt, words.as_slice()),
         Err(error) => refuse_words(&rt, &error),
     };
-    ExitCode::from(status)
+    ExitCode::from(exit_status)
 }

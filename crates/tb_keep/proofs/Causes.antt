@@ -14,8 +14,8 @@ use Rattle.tb_keep.specs.declared.faults.StartFault.{StartFault}
 use Rattle.tb_keep.specs.declared.faults.StartFault.TheVariants as start
 use Rattle.tb_keep.specs.declared.faults.DumpFault.{DumpFault}
 use Rattle.tb_keep.specs.declared.faults.DumpFault.TheVariants as dump
-use Rattle.tb_keep.specs.Restoration.{HeadAnswers, IsStartCause, HasStartCause}
-use Rattle.tb_keep.specs.Opening.{IsCreateStartCause, HasCreateStartCause, IsEitherCause, HasEitherCause}
+use Rattle.tb_keep.specs.Recovering.{HeadAnswers, IsStartCause, HasStartCause}
+use Rattle.tb_keep.specs.Creating.{IsCreateStartCause, HasCreateStartCause, IsEitherCause, HasEitherCause}
 use Rattle.tb_keep.specs.Reading.{RulesIn, IsDumpCause, HasDumpCause}
 use Rattle.tb_keep.specs.declared.recovering.Rules.{Rules}
 use Rattle.tb_keep.specs.private.Headed.{IsOfDevice, IsDeviceCause, HasDeviceCause}

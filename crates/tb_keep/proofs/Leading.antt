@@ -8,7 +8,7 @@ use Rattle.tb_machine.specs.Dumps.{dumped}
 use Rattle.tb_machine.specs.Recording.{IsRecord}
 use Rattle.tb_keep.specs.Keeping.{AreRecorded}
 use Rattle.tb_keep.specs.declared.faults.StartFault.{StartFault}
-use Rattle.tb_keep.specs.Restoration.{RecordsLead, HeadAnswers, StopsBehindHead, StopsFile}
+use Rattle.tb_keep.specs.Recovering.{RecordsLead, HeadAnswers, StopsBehindHead, StopsFile}
 
 pub leads_none : (S : State) → RecordsLead S [] S
 leads_none S = record { entries = []; legal = tt; state = refl; recorded_are = tt; spelled = refl }

@@ -11,7 +11,7 @@ use Rattle.tb_machine.specs.declared.restoring.RestoreFault.{RestoreFault}
 use Rattle.tb_keep.specs.declared.faults.StartFault.{StartFault}
 use Rattle.tb_keep.specs.declared.faults.StartFault.TheVariants as start
 use Rattle.tb_keep.specs.Keeping.{History, records_of, state_of, IsKeepable}
-use Rattle.tb_keep.specs.Restoration.{StopsAt, StopsFile}
+use Rattle.tb_keep.specs.Recovering.{StopsAt, StopsFile}
 use Rattle.tb_keep.specs.Salvaging.{IsLongest, StopsBehind}
 use Rattle.tb_keep.proofs.OneHistory.{one_head}
 use Rattle.tb_keep.proofs.Salvages.{stops_longer_history}

@@ -16,8 +16,8 @@ use Rattle.tb_keep.specs.declared.faults.StartFault.{StartFault}
 use Rattle.tb_keep.specs.declared.faults.StartFault.TheVariants as start
 use Rattle.tb_keep.specs.declared.creating.NotKept.{NotKept}
 use Rattle.tb_keep.specs.Keeping.{Keeping}
-use Rattle.tb_keep.specs.Restoration.{IsRestored, IsRestoredFrom, IsNotOfFile, IsTornTooLong, StopsOpening, torn_bytes}
-use Rattle.tb_keep.specs.Opening.{OpensFile, StartsFile, IsOpened, IsStarted, IsUntouched, MayBeOpened, MayBeStarted, IsRefused, IsStartRefused}
+use Rattle.tb_keep.specs.Recovering.{IsRestored, IsRestoredFrom, IsNotOfFile, IsTornTooLong, StopsOpening, torn_bytes}
+use Rattle.tb_keep.specs.Creating.{OpensFile, StartsFile, IsOpened, IsStarted, IsUntouched, MayBeOpened, MayBeStarted, IsRefused, IsStartRefused}
 
 abbrev pub Counts : Disk → Type 0
 Counts disk = (t : ℕ) (c : List ℕ) → t ≤ disk.moment → disk.may_leave c → disk.left_since t c

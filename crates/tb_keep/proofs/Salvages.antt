@@ -27,8 +27,8 @@ use Rattle.tb_keep.specs.declared.recovering.Rules.{Rules}
 use Rattle.tb_keep.specs.declared.salvaging.NotSalvaged.{NotSalvaged}
 use Rattle.tb_keep.specs.declared.salvaging.Salvaged.{Salvaged}
 use Rattle.tb_keep.specs.Keeping.{History, state_of, records_of, head_record, Keeping, Keeps, IsKeepable, IsLedger}
-use Rattle.tb_keep.specs.Opening.{history_of, MayBeCreated, IsCreateRefused, IsCreateStartCause}
-use Rattle.tb_keep.specs.Restoration.{RecordsLead, StopsAt, StopsBeginning, StopsFile, IsNotOfFile, IsStartCause}
+use Rattle.tb_keep.specs.Creating.{history_of, MayBeCreated, IsCreateRefused, IsCreateStartCause}
+use Rattle.tb_keep.specs.Recovering.{RecordsLead, StopsAt, StopsBeginning, StopsFile, IsNotOfFile, IsStartCause}
 use Rattle.tb_keep.specs.Salvaging.{StopsBehind, IsTaken, IsSalvaged, IsBackedUp, IsUnsalvaged, IsNotBackedUp, IsWriteCause, IsNewCause, HasNewCause, MayBeSalvaged, IsLeftAlone}
 use Rattle.tb_keep.specs.private.Taking.{HoldsRead, IsBetween, line, Taken, TakesRest, of_new}
 use Rattle.tb_keep.specs.Reading.{HasRules, RulesIn, rules_of}

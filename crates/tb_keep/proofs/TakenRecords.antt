@@ -15,7 +15,7 @@ use Rattle.tb_keep.specs.declared.faults.SalvageFault.TheVariants.{Old, New}
 use Rattle.tb_keep.specs.declared.faults.StartFault.{StartFault}
 use Rattle.tb_keep.specs.declared.faults.StartFault.TheVariants as start
 use Rattle.tb_keep.specs.Keeping.{Keeping}
-use Rattle.tb_keep.specs.Restoration.{RecordsLead, IsTornTooLong, HasStartCause, IsStartCause, torn_bytes}
+use Rattle.tb_keep.specs.Recovering.{RecordsLead, IsTornTooLong, HasStartCause, IsStartCause, torn_bytes}
 use Rattle.tb_keep.specs.Salvaging.{StopsBehind, IsUnsalvaged, old_part}
 use Rattle.tb_keep.specs.private.Taking.{stop_of, of_old, StopsAfter, StopsBy, IsTornStop, IsOldDevice, Breaks, Queues, Taken, TakesAll, CommitsTaken, TakesRest}
 use Rattle.tb_keep.proofs.Causes.{has_start_then}

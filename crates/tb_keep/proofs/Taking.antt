@@ -24,7 +24,7 @@ use Rattle.tb_keep.specs.declared.faults.SalvageFault.{SalvageFault}
 use Rattle.tb_keep.specs.declared.faults.SalvageFault.TheVariants.{Old, New}
 use Rattle.tb_keep.specs.declared.faults.StartFault.{StartFault}
 use Rattle.tb_keep.specs.declared.faults.StartFault.TheVariants as start
-use Rattle.tb_keep.specs.Restoration.{RecordsLead, RestoresRecord, StopsAt, IsStartCause, HasStartCause}
+use Rattle.tb_keep.specs.Recovering.{RecordsLead, RestoresRecord, StopsAt, IsStartCause, HasStartCause}
 use Rattle.tb_keep.specs.Rounds.{block_bytes_max}
 use Rattle.tb_keep.specs.Salvaging.{IsOwnWriteCause, IsWriteCause, old_part}
 use Rattle.tb_keep.specs.private.Taking.{IsBetween, line, Queues, Breaks, Puts, Taken, StopsAfter, TakesRecord, CommitsTaken, Ends, TakesNext, by_device}

@@ -21,7 +21,7 @@ use Rattle.tb_machine.proofs.JournalRecords.{one_record}
 use Rattle.tb_keep.specs.declared.faults.StartFault.{StartFault}
 use Rattle.tb_keep.specs.declared.faults.StartFault.TheVariants as start
 use Rattle.tb_keep.specs.Keeping.{History, head_record, records_of, IsKeepable, AreRecorded, IsLedger}
-use Rattle.tb_keep.specs.Restoration.{IsNoRecord, Fails, StopsAt, RestoresAll, HeadAnswers, StopsBehindHead, StopsBeginning, StopsOpening, torn_bytes, IsNotOfFile, OnlyMemory, FileOnlyMemory}
+use Rattle.tb_keep.specs.Recovering.{IsNoRecord, Fails, StopsAt, RestoresAll, HeadAnswers, StopsBehindHead, StopsBeginning, StopsOpening, torn_bytes, IsNotOfFile, OnlyMemory, FileOnlyMemory}
 use Rattle.tb_keep.proofs.OneHistory.{one_head}
 use Rattle.tb_keep.proofs.WholeFiles.{whole_stops}
 

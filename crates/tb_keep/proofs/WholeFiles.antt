@@ -15,7 +15,7 @@ use Rattle.tb_keep.specs.declared.faults.StartFault.{StartFault}
 use Rattle.tb_keep.specs.declared.faults.StartFault.TheVariants as start
 use Rattle.tb_keep.specs.declared.recovering.Rules.{Rules}
 use Rattle.tb_keep.specs.Keeping.{History, head_record, records_of as records_of_history}
-use Rattle.tb_keep.specs.Restoration.{HeadAnswers, IsRestoredFrom, StopsBehindHead, StopsFile, StopsReading, WholeStops}
+use Rattle.tb_keep.specs.Recovering.{HeadAnswers, IsRestoredFrom, StopsBehindHead, StopsFile, StopsReading, WholeStops}
 use Rattle.tb_keep.specs.Reading.{IsNoHead, HasRules, HasNoHead, RulesAnswer, IsHistory, IsNoHistory, behind_head, joined, dump_with, dump_of, WholeRules, WholeNoHead, WholeDumps}
 use Rattle.tb_keep.proofs.Dumping.{joined_join}
 use Rattle.tb_keep.proofs.Leading.{stops_file}

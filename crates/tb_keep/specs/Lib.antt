@@ -1,7 +1,7 @@
 pub mod Faults
 pub mod Keeping
-pub mod Restoration
-pub mod Opening
+pub mod Recovering
+pub mod Creating
 pub mod Reading
 pub mod Following
 pub mod Salvaging

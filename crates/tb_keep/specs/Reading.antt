@@ -19,7 +19,7 @@ use Rattle.tb_keep.specs.declared.faults.StartFault.{StartFault}
 use Rattle.tb_keep.specs.declared.faults.StartFault.TheVariants as start
 use Rattle.tb_keep.specs.declared.recovering.Rules.{Rules}
 use Rattle.tb_keep.specs.Keeping.{History, state_of, head_record, IsLedger}
-use Rattle.tb_keep.specs.Restoration.{StopsReading}
+use Rattle.tb_keep.specs.Recovering.{StopsReading}
 
 abbrev pub rules_of : Profile → ℕ → Rules
 rules_of profile clients_max = record { profile = profile; clients_max = clients_max }

@@ -18,9 +18,9 @@ use Rattle.tb_keep.specs.declared.faults.StartFault.TheVariants as start
 use Rattle.tb_keep.specs.declared.salvaging.NotSalvaged.{NotSalvaged}
 use Rattle.tb_keep.specs.declared.salvaging.Salvaged.{Salvaged}
 use Rattle.tb_keep.specs.Keeping.{History, state_of, records_of, Keeping, Keeps, IsUsable, IsKeepable, IsLedger}
-use Rattle.tb_keep.specs.Opening.{IsUntouched}
+use Rattle.tb_keep.specs.Creating.{IsUntouched}
 use Rattle.tb_keep.specs.Reading.{HasNoHead, IsNoHistory}
-use Rattle.tb_keep.specs.Restoration.{StopsAt, IsTornTooLong, torn_bytes}
+use Rattle.tb_keep.specs.Recovering.{StopsAt, IsTornTooLong, torn_bytes}
 
 -- a fault of the file that is read, or of the new one; the other has none
 abbrev pub old_part : SalvageFault → Result (Unit {0}) StartFault

@@ -6,8 +6,8 @@ ghost use Rattle.tb_journal.specs.Ready.{IsReady};
 ghost use Rattle.tb_journal.specs.Creating.{is_blank};
 ghost use Rattle.tb_machine.specs.Histories.{start};
 ghost use Rattle.tb_keep.specs.Keeping.{Keeps, IsFresh, IsUsable};
-ghost use Rattle.tb_keep.specs.Restoration.{IsNotOfFile, HasStartCause, torn_bytes};
-ghost use Rattle.tb_keep.specs.Opening.{OpensFile, CreatesIn, StartsFile, IsOpened, IsStarted, MayBeOpened, MayBeCreated, MayBeStarted, IsRefused, IsCreateRefused, IsStartRefused, HasCreateStartCause, HasEitherCause, history_of, device_left, Causes, GivesBackBy, GivesIfSound, LeavesBy, GivesBack};
+ghost use Rattle.tb_keep.specs.Recovering.{IsNotOfFile, HasStartCause, torn_bytes};
+ghost use Rattle.tb_keep.specs.Creating.{OpensFile, CreatesIn, StartsFile, IsOpened, IsStarted, MayBeOpened, MayBeCreated, MayBeStarted, IsRefused, IsCreateRefused, IsStartRefused, HasCreateStartCause, HasEitherCause, history_of, device_left, Causes, GivesBackBy, GivesIfSound, LeavesBy, GivesBack};
 ghost use Rattle.tb_keep.specs.private.Entering.{StaysKept, OfExtent};
 ghost use Rattle.tb_keep.specs.private.Headed.{HasHead, HasRecords, IsOfDevice, HasDeviceCause, journal_left, OpensRestored, HeadLeaves, IsOf, OpensOnly, IsEmpty, MayServe, WasRead, WasRestored};
 

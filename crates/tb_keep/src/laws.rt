@@ -2,7 +2,7 @@
 ghost use Rattle.tb_keep.specs.Again.{OneHistory, OneLedger, GoesOnAfter, AnyCrash, AfterKill};
 ghost use Rattle.tb_keep.specs.Following.{EntriesAreAbove, EntriesOnce};
 ghost use Rattle.tb_keep.specs.Reading.{DumpIsOfHistory, WholeRules, WholeNoHead, WholeDumps};
-ghost use Rattle.tb_keep.specs.Restoration.{OnlyMemory, FileOnlyMemory, WholeStops};
+ghost use Rattle.tb_keep.specs.Recovering.{OnlyMemory, FileOnlyMemory, WholeStops};
 ghost use Rattle.tb_keep.specs.Salvaging.{IsLongest};
 ghost use Rattle.tb_keep.specs.Moments.{WhileCommitting, WhileTelling, TellsTheDone, Lasts, RoundsAreServed};
 

@@ -14,7 +14,7 @@
 //! - `laws`: what holds of every kept ledger: functions that do nothing.
 //! - `worked_rows`: small files, and what the definitions make of them.
 //!
-//! specs/Keeping is what a file represents, specs/Rounds what serving does, specs/Opening, Restoration and Reading what the
+//! specs/Keeping is what a file represents, specs/Rounds what serving does, specs/Creating, Recovering and Reading what the
 //! others do, specs/private/Sources of which bytes they speak, specs/Moments and Again what holds at each moment and after
 //! a crash.
 #![tactic(auto)]

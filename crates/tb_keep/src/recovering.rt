@@ -2,8 +2,8 @@
 ghost use Rattle.std.specs.Prelude.{◌≡◌, ◌≤◌, ◌+◌, ℕ, true, List, [], Ok, IfOk, IfErr, OnOk};
 ghost use Rattle.tb_journal.specs.Scans.{GoesFurther, IsAt, ScanCause};
 ghost use Rattle.tb_machine.specs.Recording.{IsRecord};
-ghost use Rattle.tb_keep.specs.Restoration.{ReadsRecord, RestoresRecord, Restores, HasStartCause, HeadAnswers};
-ghost use Rattle.tb_keep.specs.Opening.{IsUntouched};
+ghost use Rattle.tb_keep.specs.Recovering.{ReadsRecord, RestoresRecord, Restores, HasStartCause, HeadAnswers};
+ghost use Rattle.tb_keep.specs.Creating.{IsUntouched};
 ghost use Rattle.tb_keep.specs.Reading.{OfRead, NamesRules};
 ghost use Rattle.tb_keep.specs.private.Sources.{IsNext};
 ghost use Rattle.tb_keep.specs.private.Entering.{StaysKept, ReadCause, ReadsHead, EntersNext, EntersAll, FindsBehind, HeadCause, RestoresEmpty, OfBehind, RestoresBy, UnreadCause, head_of};

@@ -5,9 +5,9 @@ ghost use Rattle.tb_journal.specs.declared.opening.OpenFault.TheVariants as open
 ghost use Rattle.tb_journal.specs.declared.reading.Refusal.TheVariants as refusals;
 ghost use Rattle.tb_keep.specs.declared.faults.StartFault.TheVariants as start;
 ghost use Rattle.tb_keep.specs.Keeping.{head_record};
-ghost use Rattle.tb_keep.specs.Opening.{HasNoEntry, StandFor, history_of};
+ghost use Rattle.tb_keep.specs.Creating.{HasNoEntry, StandFor, history_of};
 ghost use Rattle.tb_keep.specs.Reading.{RulesAnswer, dump_of, rules_of};
-ghost use Rattle.tb_keep.specs.Restoration.{IsRestored, StopsAt, StopsFile, StopsReading};
+ghost use Rattle.tb_keep.specs.Recovering.{IsRestored, StopsAt, StopsFile, StopsReading};
 ghost use Rattle.tb_machine.specs.Histories.{start as start_state};
 ghost use Rattle.tb_records.specs.declared.faults.FrameFault.TheVariants as frame;
 ghost use Rattle.tb_records.specs.declared.limits.Profile.TheVariants.{One, Two};

@@ -4,7 +4,7 @@ use Rattle.std.proofs.lemmas.List.{take_all}
 use Rattle.tb_keep_commands.specs.declared.arguments.TheConstants.{CLIENTS_WRONG}
 use Rattle.tb_keep_commands.specs.declared.help.TheConstants.{USAGE}
 use Rattle.tb_keep_commands.specs.Forms.{form_by, wrong_clients, so_wrong, wrong}
-use Rattle.tb_keep_commands.specs.Statuses.{shown_words, usage_lines, wrong_line}
+use Rattle.tb_keep_commands.specs.ExitStatuses.{shown_words, usage_lines, wrong_line}
 
 module _ {X : Type 0} (bytes : X → List ℕ) where
   pub three_said : (words : List X) → 3 ≤ length words → length words < 4 → wrong_clients (map bytes words) ≡ so_wrong (map bytes words) CLIENTS_WRONG.now

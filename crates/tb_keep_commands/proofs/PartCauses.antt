@@ -19,7 +19,7 @@ use Rattle.tb_keep.proofs.Causes.{has_dump_then}
 use Rattle.tb_keep_commands.specs.declared.faults.KeepCommandFault.{KeepCommandFault}
 use Rattle.tb_keep_commands.specs.declared.faults.KeepCommandFault.TheVariants.{Device}
 use Rattle.tb_keep_commands.specs.declared.faults.Failed.TheVariants as failed
-use Rattle.tb_keep_commands.specs.Statuses.{disk_fault, opened_fault, dumped_fault}
+use Rattle.tb_keep_commands.specs.ExitStatuses.{disk_fault, opened_fault, dumped_fault}
 use Rattle.tb_keep_commands.specs.Following.{HasPartCause, ReadsOn, RoundCause}
 
 -- behind calls of which none failed

@@ -4,7 +4,7 @@ use Rattle.tb_records.specs.declared.faults.FrameFault.{FrameFault}
 use Rattle.tb_records.specs.Transport.{Output, Sent, CutOff, IsSent}
 use Rattle.tb_records.proofs.Sendings.{sent_rest}
 use Rattle.tb_keep_commands.specs.Forms.{Wrong}
-use Rattle.tb_keep_commands.specs.Statuses.{said_text, wrong_line, cut_line, Passes, SaysLine, TellsCut}
+use Rattle.tb_keep_commands.specs.ExitStatuses.{said_text, wrong_line, cut_line, Passes, SaysLine, TellsCut}
 
 sent_passed : (xs : List ℕ) (old mid new : Output) → Sent xs old mid → Sent [] mid new → Sent xs old new
 sent_passed xs old mid new one two = sent_rest xs [] old mid new xs (append-nil xs) one (Ok tt) two

@@ -18,7 +18,7 @@ use Rattle.tb_keep.proofs.Dumping.{entries_once}
 use Rattle.tb_keep_commands.specs.declared.faults.KeepCommandFault.{KeepCommandFault}
 use Rattle.tb_keep_commands.specs.declared.faults.KeepCommandFault.TheVariants.{Device}
 use Rattle.tb_keep_commands.specs.declared.faults.Failed.TheVariants as failed
-use Rattle.tb_keep_commands.specs.Statuses.{disk_fault, opened_fault, dumped_fault}
+use Rattle.tb_keep_commands.specs.ExitStatuses.{disk_fault, opened_fault, dumped_fault}
 use Rattle.tb_keep_commands.specs.Following.{GrowsTo, StopsReading, EndsBy, SendsRound, Grown, Breaks, GrowsBy, EndsRounds, WritesSome, WritesPart, start_of, floor_of}
 
 -- two parts that were sent

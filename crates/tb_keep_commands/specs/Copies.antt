@@ -13,9 +13,9 @@ use Rattle.tb_keep.specs.declared.recovering.Rules.{Rules}
 use Rattle.tb_keep.specs.declared.salvaging.NotSalvaged.{NotSalvaged}
 use Rattle.tb_keep.specs.declared.salvaging.Salvaged.{Salvaged}
 use Rattle.tb_keep.specs.Keeping.{History, state_of}
-use Rattle.tb_keep.specs.Opening.{IsUntouched}
+use Rattle.tb_keep.specs.Creating.{IsUntouched}
 use Rattle.tb_keep.specs.Reading.{RulesAnswer}
-use Rattle.tb_keep.specs.Restoration.{HasStartCause}
+use Rattle.tb_keep.specs.Recovering.{HasStartCause}
 use Rattle.tb_keep.specs.Salvaging.{IsTaken, IsNewKeeper, IsUnsalvaged, MayBeSalvaged, HasNewCause, salvaged_device, why_old, why_new}
 use Rattle.tb_keep_commands.specs.declared.copies.Copied.{Copied}
 use Rattle.tb_keep_commands.specs.declared.faults.Damage.{Damage}
@@ -25,7 +25,7 @@ use Rattle.tb_keep_commands.specs.declared.faults.KeepCommandFault.TheVariants.{
 use Rattle.tb_keep_commands.specs.Ends.{KnownFiles}
 use Rattle.tb_keep_commands.specs.Naming.{Names}
 use Rattle.tb_keep_commands.specs.Outcomes.{Outcome, PrintsText, IsMeasured, IsRefused, Opens}
-use Rattle.tb_keep_commands.specs.Statuses.{damage_text, disk_fault, new_fault, started_fault}
+use Rattle.tb_keep_commands.specs.ExitStatuses.{damage_text, disk_fault, new_fault, started_fault}
 use Rattle.tb_keep_commands.specs.Summaries.{line_before, behind_text}
 
 -- what is damaged, where that is the fault

@@ -16,7 +16,7 @@ use Rattle.tb_keep_commands.specs.Copies.{CopiesOver}
 use Rattle.tb_keep_commands.specs.Ends.{KnownEnds, KnownFiles, On}
 use Rattle.tb_keep_commands.specs.Forms.{file_word, form_of, new_word}
 use Rattle.tb_keep_commands.specs.Outcomes.{Outcome, Prints, RunsOver, DumpsOver, ChecksOver}
-use Rattle.tb_keep_commands.specs.Statuses.{Says, SaysLine, fault_line, fault_path, fault_status, usage_lines}
+use Rattle.tb_keep_commands.specs.ExitStatuses.{Says, SaysLine, fault_line, fault_path, fault_exit_status, usage_lines}
 
 -- what was held back went out where all was done; where it does not go out, that is the outcome
 abbrev pub Finishes : Type 0 → Outcome → Outcome → Output → Output → Type 0
@@ -24,9 +24,9 @@ Finishes gone (Ok done) (Ok finished) middle written = gone × Sent [] middle wr
 Finishes gone (Ok done) (Err fault) middle written = (fault ≡ Device failed.Output) × CutOff [] middle written
 Finishes gone (Err fault) outcome middle written = (outcome ≡ Err fault) × (written ≡ middle)
 
-abbrev pub outcome_status : Outcome → ℕ
-outcome_status (Ok done) = 0
-outcome_status (Err fault) = fault_status fault
+abbrev pub outcome_exit_status : Outcome → ℕ
+outcome_exit_status (Ok done) = 0
+outcome_exit_status (Err fault) = fault_exit_status fault
 
 -- nothing is reported of a form that was done, and of a fault its line
 abbrev pub Tells : Outcome → List ℕ → List ℕ → Output → Output → Type 0
@@ -59,24 +59,24 @@ module _ {O D E : Type 0} (its : KnownFiles O D E) (ends : Terminals) (before : 
       (left ≡ before) × (last ≡ first) × (told ≡ quiet) × Prints VERSION.now outcome start written
 
   -- a form was done, or not to its end; what it wrote went out; and the exit status and the line are those of the outcome
-  pub record Exits (gone : Type 0) (form : Form) (status : ℕ) (first last : Input) (start written quiet told : Output) : Type 0 where
+  pub record Exits (gone : Type 0) (form : Form) (exit_status : ℕ) (first last : Input) (start written quiet told : Output) : Type 0 where
     pub performed : Outcome
     pub middle : Output
     pub noted : Output
     pub performs : Performs form performed first last start middle quiet noted
     pub outcome : Outcome
     pub finishes : Finishes gone performed outcome middle written
-    pub status_is : status ≡ outcome_status outcome
+    pub exit_status_is : exit_status ≡ outcome_exit_status outcome
     pub line : Tells outcome name new noted told
 
 module _ {O D E R W L : Type 0} (its : KnownEnds O D E R W L) where
   -- the form that words ask for was done, or not to its end; nothing is said of words that ask for none
   abbrev pub DoesForm : Option Form → Terminals → List (List ℕ) → O → O → ℕ → R → R → W → W → L → L → Type 0
-  DoesForm None ends words before left status first last start written quiet told = Unit {0}
-  DoesForm (Some form) ends words before left status first last start written quiet told =
-      On its.source its.sink its.lines (Exits its.files ends before (file_word words) (new_word words) left (its.gone written) form status)
+  DoesForm None ends words before left exit_status first last start written quiet told = Unit {0}
+  DoesForm (Some form) ends words before left exit_status first last start written quiet told =
+      On its.source its.sink its.lines (Exits its.files ends before (file_word words) (new_word words) left (its.gone written) form exit_status)
       first last start written quiet told
 
   abbrev pub Does : Terminals → List (String Global) → O → O → ℕ → R → R → W → W → L → L → Type 0
-  Does ends words before left status first last start written quiet told =
-      DoesForm (form_of (map string_bytes words)) ends (map string_bytes words) before left status first last start written quiet told
+  Does ends words before left exit_status first last start written quiet told =
+      DoesForm (form_of (map string_bytes words)) ends (map string_bytes words) before left exit_status first last start written quiet told

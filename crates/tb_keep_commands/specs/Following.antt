@@ -16,7 +16,7 @@ use Rattle.tb_keep.specs.Reading.{HasDumpCause}
 use Rattle.tb_keep_commands.specs.declared.faults.KeepCommandFault.{KeepCommandFault}
 use Rattle.tb_keep_commands.specs.declared.faults.KeepCommandFault.TheVariants.{Device}
 use Rattle.tb_keep_commands.specs.declared.faults.Failed.TheVariants as failed
-use Rattle.tb_keep_commands.specs.Statuses.{opened_fault, dumped_fault}
+use Rattle.tb_keep_commands.specs.ExitStatuses.{opened_fault, dumped_fault}
 
 -- above which commit number entries are written: all where none is given
 abbrev pub floor_of : Option ℕ → ℕ

@@ -10,6 +10,6 @@ pub mod Live
 pub mod Naming
 pub mod Outcomes
 pub mod Outlets
-pub mod Statuses
+pub mod ExitStatuses
 pub mod Summaries
 pub mod private

@@ -8,13 +8,13 @@ use Rattle.tb_keep.specs.declared.faults.StartFault.{StartFault}
 use Rattle.tb_keep.specs.declared.faults.StartFault.TheVariants as start
 use Rattle.tb_keep.specs.declared.recovering.Rules.{Rules}
 use Rattle.tb_keep.specs.Reading.{RulesAnswer}
-use Rattle.tb_keep.specs.Restoration.{HasStartCause}
+use Rattle.tb_keep.specs.Recovering.{HasStartCause}
 use Rattle.tb_keep_commands.specs.declared.faults.KeepCommandFault.{KeepCommandFault}
 use Rattle.tb_keep_commands.specs.declared.faults.KeepCommandFault.TheVariants.{NotAJournal, OtherRules}
 use Rattle.tb_keep_commands.specs.declared.faults.Mismatch.{Mismatch}
 use Rattle.tb_keep_commands.specs.declared.kinds.Kind.{Kind}
 use Rattle.tb_keep_commands.specs.Kinds.{kind_by}
-use Rattle.tb_keep_commands.specs.Statuses.{numbers_of, started_fault}
+use Rattle.tb_keep_commands.specs.ExitStatuses.{numbers_of, started_fault}
 
 -- rules that were read next to those that were asked for
 abbrev pub mismatch : Result Rules StartFault → Rules → Option Mismatch

@@ -11,9 +11,9 @@ use Rattle.tb_keep.specs.declared.faults.StartFault.{StartFault}
 use Rattle.tb_keep.specs.declared.recovering.Rules.{Rules}
 use Rattle.tb_keep.specs.declared.creating.NotKept.{NotKept}
 use Rattle.tb_keep.specs.Keeping.{Keeping}
-use Rattle.tb_keep.specs.Opening.{IsStarted, StartsFile, IsStartRefused, MayBeStarted, HasEitherCause, device_left, why_left}
+use Rattle.tb_keep.specs.Creating.{IsStarted, StartsFile, IsStartRefused, MayBeStarted, HasEitherCause, device_left, why_left}
 use Rattle.tb_keep.specs.Reading.{Dumps, HasDumpCause}
-use Rattle.tb_keep.specs.Restoration.{HasStartCause}
+use Rattle.tb_keep.specs.Recovering.{HasStartCause}
 use Rattle.tb_keep.specs.Rounds.{Served}
 use Rattle.tb_keep_commands.specs.declared.faults.KeepCommandFault.{KeepCommandFault}
 use Rattle.tb_keep_commands.specs.declared.faults.KeepCommandFault.TheVariants.{Device, NoMemory, Opening}
@@ -22,7 +22,7 @@ use Rattle.tb_keep_commands.specs.declared.faults.Failed.TheVariants as failed
 use Rattle.tb_keep_commands.specs.declared.openers.OpeningFault.{OpeningFault}
 use Rattle.tb_keep_commands.specs.declared.summaries.Found.{Found}
 use Rattle.tb_keep_commands.specs.Ends.{KnownFiles}
-use Rattle.tb_keep_commands.specs.Statuses.{disk_fault, started_fault, kept_fault, failed_pipe, TellsMade, TellsCut, TellsReading, TellsReady, TellsFrames}
+use Rattle.tb_keep_commands.specs.ExitStatuses.{disk_fault, started_fault, kept_fault, failed_pipe, TellsMade, TellsCut, TellsReading, TellsReady, TellsFrames}
 use Rattle.tb_keep_commands.specs.Live.{IsWholeLength, MeasuresWhole}
 use Rattle.tb_keep_commands.specs.Following.{WritesPart, HasPartCause, dump_outcome}
 use Rattle.tb_keep_commands.specs.Naming.{Names, NamesAsked}

@@ -203,7 +203,7 @@ fn exit<O: Opener, R: Source, W: Outlet, E: Sink>(
         Ok(()) => 0,
         Err(fault) => {
             tell(fault, fault.path(asked.file, asked.new), faults);
-            fault.status()
+            fault.exit_status()
         }
     }
 }
@@ -240,7 +240,7 @@ pub fn command<O: Opener, R: Source, W: Outlet, E: Sink>(
         }
         None => {
             tell_usage(words, faults);
-            KeepCommandFault::Usage.status()
+            KeepCommandFault::Usage.exit_status()
         }
     }
 }

@@ -34,7 +34,7 @@ pub(crate) fn damage_of(stop: Option<StartFault>) -> Option<Damage>
 
 impl fmt::Display for Damage {
     ghost use Rattle.std.specs.Prelude.{Some};
-    ghost use Rattle.tb_keep_commands.specs.Statuses.{damage_text};
+    ghost use Rattle.tb_keep_commands.specs.ExitStatuses.{damage_text};
 
     ghost output = { λ damage. Some (damage_text damage) };
 

@@ -1,6 +1,6 @@
-//! Why a command ends with a status other than 0.
+//! Why a command ends with an exit status other than 0.
 ghost use Rattle.std.specs.Prelude.{◌≡◌, ◌<◌};
-ghost use Rattle.tb_keep_commands.specs.Statuses.{fault_path, fault_status, opening_status, new_fault, numbers_of, opened_fault, read_fault, refused_fault, disk_fault, dumped_fault, started_fault, kept_fault, words_fault};
+ghost use Rattle.tb_keep_commands.specs.ExitStatuses.{fault_path, fault_exit_status, opening_exit_status, new_fault, numbers_of, opened_fault, read_fault, refused_fault, disk_fault, dumped_fault, started_fault, kept_fault, words_fault};
 
 use crate::kinds::Kind;
 use crate::openers::OpeningFault;
@@ -64,7 +64,7 @@ pub enum Damage {
     Torn { at: u64, bytes: u64 },
 }
 
-/// Why a command ends with a status other than 0.
+/// Why a command ends with an exit status other than 0.
 #[derive(Clone, Copy, Debug, PartialEq, Eq)]
 pub enum KeepCommandFault {
     /// The arguments are none of the program's forms.
@@ -203,9 +203,9 @@ pub fn words_fault(error: &io::Error) -> KeepCommandFault
 
 impl OpeningFault {
     /// The exit status.
-    pub(crate) fn status(self) -> u8
+    pub(crate) fn exit_status(self) -> u8
         ensures failing { 0 < result }
-        ensures value { result ≡ opening_status self }
+        ensures value { result ≡ opening_exit_status self }
     {
         match self {
             OpeningFault::Locked => 4,
@@ -228,12 +228,13 @@ impl KeepCommandFault {
     }
 
     /// The exit status.
-    pub fn status(self) -> u8
+    pub fn exit_status(self) -> u8
         ensures failing { 0 < result }
-        ensures value { result ≡ fault_status self }
+        ensures value { result ≡ fault_exit_status self }
     {
         match self {
-            KeepCommandFault::Opening(fault) | KeepCommandFault::Making(fault) => fault.status(),
+            KeepCommandFault::Opening(fault) | KeepCommandFault::Making(fault) =>
+                fault.exit_status(),
             KeepCommandFault::SyncFailed => 9,
             KeepCommandFault::Usage | KeepCommandFault::Request(_) => 2,
             KeepCommandFault::Device(_) | KeepCommandFault::NoMemory => 1,

@@ -1,7 +1,7 @@
 //! Devices that are read without a write.
 ghost use Rattle.std.specs.Prelude.{◌≡◌, ℕ, List, Ok};
-ghost use Rattle.tb_keep.specs.Opening.{IsUntouched};
-ghost use Rattle.tb_keep.specs.Restoration.{HasStartCause};
+ghost use Rattle.tb_keep.specs.Creating.{IsUntouched};
+ghost use Rattle.tb_keep.specs.Recovering.{HasStartCause};
 ghost use Rattle.tb_keep_commands.specs.Summaries.{ReadsWhole, summary_text};
 ghost use Rattle.tb_keep_commands.specs.Outcomes.{DumpsFound, DumpsFile, ChecksLong, ChecksFile, PrintsText};
 ghost use Rattle.tb_keep_commands.specs.private.Changes.{OnDevice};

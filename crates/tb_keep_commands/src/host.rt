@@ -1,7 +1,7 @@
 //! The way from a program's arguments, input and output to its commands.
 ghost use Rattle.std.specs.Prelude.{◌≡◌, []};
 ghost use Rattle.tb_keep_commands.specs.Hosts.{input_size, output_size, CommandsOn, ServesOn};
-ghost use Rattle.tb_keep_commands.specs.Statuses.{SaysLine, fault_status, fault_line};
+ghost use Rattle.tb_keep_commands.specs.ExitStatuses.{SaysLine, fault_exit_status, fault_line};
 
 use crate::arguments::{Form, read_form};
 use crate::commands::{Terminals, command};
@@ -82,11 +82,11 @@ pub fn serve<O: Opener, R: Read + Drop, W: Write + Drop, E: Sink>(
     between(alloc, opener, words, terminals, input, output, faults)
 }
 
-/// Prints a fault of no file, and answers its status.
+/// Prints a fault of no file, and answers its exit status.
 pub fn refuse<E: Sink>(fault: KeepCommandFault, faults: &mut E) -> u8
-    ensures value { result ≡ fault_status fault }
+    ensures value { result ≡ fault_exit_status fault }
     ensures told { SaysLine (fault_line fault []) (E.output faults.old) (E.output faults.new) }
 {
     tell(fault, "", faults);
-    fault.status()
+    fault.exit_status()
 }

@@ -5,7 +5,7 @@ ghost use Rattle.tb_keep_commands.specs.Ends.{On};
 ghost use Rattle.tb_keep_commands.specs.Naming.{NamesAsked, Left};
 ghost use Rattle.tb_keep_commands.specs.Outcomes.{kept_outcome};
 ghost use Rattle.tb_keep_commands.specs.private.Stages.{KeepsTold, RunsTold, StartsTold};
-ghost use Rattle.tb_keep_commands.specs.Statuses.{failed_pipe};
+ghost use Rattle.tb_keep_commands.specs.ExitStatuses.{failed_pipe};
 
 use crate::faults::{Failed, KeepCommandFault, disk_fault, kept_fault};
 use crate::lines::{tell_cut, tell_made, tell_reading, tell_ready};

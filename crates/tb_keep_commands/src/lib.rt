@@ -10,7 +10,7 @@
 //! - `outlets`: `Outlet`, a writer that says at its end whether all that was put went out.
 //! - `ends`: `Files` and `Ends`, what contracts know of what a command works with.
 //! - `kinds`: what a file is that holds no ledger, by its first bytes.
-//! - `faults`: why a command ends with a status other than 0.
+//! - `faults`: why a command ends with an exit status other than 0.
 //! - `lines`: the lines that say so.
 //! - `reports`: `Reported`, a file that reports how far it was read.
 //! - `summaries`: what `check` reports of a file.
@@ -24,7 +24,7 @@
 //! - `host`: `serve`, from a program's arguments, input and output to `command`.
 //!
 //! specs/Forms is which words ask for what, specs/Outcomes and specs/Copies what each form does, specs/Exits how it ends,
-//! specs/Statuses the exit status and the line of each fault, specs/Hosts what `serve` does.
+//! specs/ExitStatuses the exit status and the line of each fault, specs/Hosts what `serve` does.
 #![tactic(auto)]
 
 mod arguments;

@@ -1,6 +1,6 @@
 //! The lines of standard error.
 ghost use Rattle.std.specs.Prelude.{◌≡◌, ◌++◌, Some, map, string_bytes};
-ghost use Rattle.tb_keep_commands.specs.Statuses.{damage_text, opening_text, failed_text, kind_text, numbers_text, both_text, mismatch_text, fault_text, fault_line, reading_line, shown_words, said_text, wrong_line, usage_lines, counted, line_of, named, numbered, place_line, read_line, rules_text, said_with, Passes, Says, TellsMade, TellsCut, TellsReading, TellsReady, TellsFrames};
+ghost use Rattle.tb_keep_commands.specs.ExitStatuses.{damage_text, opening_text, failed_text, kind_text, numbers_text, both_text, mismatch_text, fault_text, fault_line, reading_line, shown_words, said_text, wrong_line, usage_lines, counted, line_of, named, numbered, place_line, read_line, rules_text, said_with, Passes, Says, TellsMade, TellsCut, TellsReading, TellsReady, TellsFrames};
 ghost use Rattle.tb_keep_commands.specs.Forms.{wrong};
 ghost use Rattle.tb_keep_commands.specs.private.Changes.{Puts};
 
@@ -196,7 +196,7 @@ fn put_two<E: Sink>(
 }
 
 /// Writes rules in words.
-#[tactic(auto, unfolding(crate::specs::Statuses::numbers_text))]
+#[tactic(auto, unfolding(crate::specs::ExitStatuses::numbers_text))]
 fn put_numbers<E: Sink>(faults: &mut E, numbers: Numbers) -> Result<(), FrameFault>
     ensures { Puts E.Sink result (numbers_text numbers) faults }
 {
@@ -335,7 +335,7 @@ fn put_line<E: Sink>(
     }
 }
 
-/// Prints a fault over a file of this path, in one line. A failure to write it changes no status.
+/// Prints a fault over a file of this path, in one line. A failure to write it changes no exit status.
 pub fn tell<E: Sink>(fault: KeepCommandFault, path: &str, faults: &mut E)
     ensures { Says E.Sink (fault_line fault path.now) faults.old faults.new }
 {
@@ -588,7 +588,7 @@ fn put_usage<E: Sink>(faults: &mut E, words: &[String]) -> Result<(), FrameFault
 }
 
 /// Prints what is wrong with words that are none of the program's forms: without words, the page of usage. A failure to write
-/// it changes no status.
+/// it changes no exit status.
 #[tactic(auto, using(crate::proofs::Passing::said))]
 pub fn tell_usage<E: Sink>(words: &[String], faults: &mut E)
     ensures { Says E.Sink (usage_lines (map string_bytes words.now)) faults.old faults.new }

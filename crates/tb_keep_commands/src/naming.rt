@@ -1,7 +1,7 @@
 //! What there is to say of a file that is refused.
 ghost use Rattle.std.specs.Prelude.{◌≡◌, ℕ, List};
 ghost use Rattle.tb_keep_commands.specs.Naming.{IsOfKind, IsMadeWith, Names, NamesAsked};
-ghost use Rattle.tb_keep_commands.specs.Statuses.{started_fault};
+ghost use Rattle.tb_keep_commands.specs.ExitStatuses.{started_fault};
 
 use crate::faults::{KeepCommandFault, Mismatch, numbers_of, started_fault};
 use crate::kinds::{FIRST_BYTES, Kind, kind_of};

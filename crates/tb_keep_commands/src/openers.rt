@@ -1,7 +1,7 @@
 //! What opens the device of a name.
 ghost use Rattle.std.specs.Prelude.{◌≡◌, false, true, ℕ, List, Result, IfOk};
 ghost use Rattle.tb_keep_commands.specs.declared.openers.OpeningFault.{OpeningFault};
-ghost use Rattle.tb_keep_commands.specs.Statuses.{opening_fault, unread_fault};
+ghost use Rattle.tb_keep_commands.specs.ExitStatuses.{opening_fault, unread_fault};
 
 use crate::live::Live;
 use std::io::ErrorKind;

@@ -1,7 +1,7 @@
 //! A file that reports how far it was read.
 ghost use Rattle.std.specs.Prelude.{◌≡◌, ◌≤◌, ℕ, List, length, IfErr, IfOk, MatchResult, string_bytes};
 ghost use Rattle.tb_journal.specs.Device.{IsOfCall, Looks, ReadsAt};
-ghost use Rattle.tb_keep_commands.specs.Statuses.{first_due, IfHeld, IsMadeLooking, Reports};
+ghost use Rattle.tb_keep_commands.specs.ExitStatuses.{first_due, IfHeld, IsMadeLooking, Reports};
 
 use crate::lines::{MEGABYTE, tell_read};
 use std::alloc::Global;

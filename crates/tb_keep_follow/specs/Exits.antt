@@ -6,11 +6,11 @@ use Rattle.tb_keep.specs.Reading.{rules_of}
 use Rattle.tb_keep_commands.specs.declared.faults.Failed.TheVariants as failed
 use Rattle.tb_keep_commands.specs.declared.faults.KeepCommandFault.TheVariants.{Device}
 use Rattle.tb_keep_commands.specs.Ends.{KnownEnds, KnownFiles, On}
-use Rattle.tb_keep_commands.specs.Statuses.{SaysLine}
+use Rattle.tb_keep_commands.specs.ExitStatuses.{SaysLine}
 use Rattle.tb_keep_follow.specs.declared.arguments.Form.{Form}
 use Rattle.tb_keep_follow.specs.declared.arguments.Form.TheVariants as form
 use Rattle.tb_keep_follow.specs.declared.faults.FollowFault.TheVariants.{Kept}
-use Rattle.tb_keep_follow.specs.Faults.{follow_line, follow_status}
+use Rattle.tb_keep_follow.specs.Faults.{follow_line, follow_exit_status}
 use Rattle.tb_keep_follow.specs.Outcomes.{Outcome, FollowsOver, DumpsOver}
 
 -- what was held back went out where all was done; where it does not go out, that is the outcome
@@ -19,11 +19,11 @@ Finishes gone (Ok done) (Ok finished) middle written = gone × Sent [] middle wr
 Finishes gone (Ok done) (Err fault) middle written = (fault ≡ Kept (Device failed.Output)) × CutOff [] middle written
 Finishes gone (Err fault) outcome middle written = (outcome ≡ Err fault) × (written ≡ middle)
 
-abbrev pub outcome_status : Outcome → ℕ
-outcome_status (Ok done) = 0
-outcome_status (Err fault) = follow_status fault
+abbrev pub outcome_exit_status : Outcome → ℕ
+outcome_exit_status (Ok done) = 0
+outcome_exit_status (Err fault) = follow_exit_status fault
 
--- nothing is told of a form that was done, and of a fault its line
+-- nothing is reported of a form that was done, and of a fault its line
 abbrev pub Tells : Outcome → List ℕ → Output → Output → Type 0
 Tells (Ok done) path before after = after ≡ before
 Tells (Err fault) path before after = SaysLine (follow_line fault path) before after
@@ -37,21 +37,21 @@ module _ {O D E : Type 0} (its : KnownFiles O D E) (before : O) (name : List ℕ
       (last ≡ first) × (told ≡ quiet) × DumpsOver its.reading (its.opener.opens before name) left outcome (rules_of profile clients_max) start written
 
   -- a form was done, or not to its end; what it wrote went out; and the exit status and the line are those of the outcome
-  pub record Exits (gone : Type 0) (form : Form) (status : ℕ) (first last : Input) (start written quiet told : Output) : Type 0 where
+  pub record Exits (gone : Type 0) (form : Form) (exit_status : ℕ) (first last : Input) (start written quiet told : Output) : Type 0 where
     pub performed : Outcome
     pub middle : Output
     pub noted : Output
     pub performs : Performs form performed first last start middle quiet noted
     pub outcome : Outcome
     pub finishes : Finishes gone performed outcome middle written
-    pub status_is : status ≡ outcome_status outcome
+    pub exit_status_is : exit_status ≡ outcome_exit_status outcome
     pub line : Tells outcome name noted told
 
 module _ {O D E R W L : Type 0} (its : KnownEnds O D E R W L) (form : Form) (name : List ℕ) (before left : O) where
   -- the same, between the ends of a command
   abbrev pub ExitsOn : ℕ → R → R → W → W → L → L → Type 0
-  ExitsOn status first last start written quiet told =
-      On its.source its.sink its.lines (Exits its.files before name left (its.gone written) form status) first last start written quiet told
+  ExitsOn exit_status first last start written quiet told =
+      On its.source its.sink its.lines (Exits its.files before name left (its.gone written) form exit_status) first last start written quiet told
 
   -- what private functions alone cite
 

@@ -22,11 +22,11 @@ use Rattle.tb_keep_commands.specs.declared.faults.Failed.TheVariants.{Output}
 use Rattle.tb_keep_commands.specs.declared.faults.KeepCommandFault.{KeepCommandFault}
 use Rattle.tb_keep_commands.specs.declared.faults.KeepCommandFault.TheVariants.{Device, NoMemory, NotAJournal, Damaged, Full}
 use Rattle.tb_keep_commands.specs.declared.kinds.Kind.TheVariants as kind
-use Rattle.tb_keep_commands.specs.Statuses.{disk_fault, opened_fault, fault_status, fault_line}
+use Rattle.tb_keep_commands.specs.ExitStatuses.{disk_fault, opened_fault, fault_exit_status, fault_line}
 use Rattle.tb_keep_follow.specs.declared.faults.FollowFault.{FollowFault}
 use Rattle.tb_keep_follow.specs.declared.faults.FollowFault.TheVariants.{Kept, Plain, OtherRules, NoEntry, Entry, OtherHashes, Unwritten, Item}
 
--- of a file that is no journal it is told that it does not begin as one
+-- of a file that is no journal it is reported that it does not begin as one
 abbrev pub journal_fault : OpenFault → KeepCommandFault
 journal_fault (opened.Refused refusal.NotAJournal) = NotAJournal kind.Other
 journal_fault fault = opened_fault fault
@@ -59,12 +59,12 @@ dumped_fault dump.Writer = Kept (Device Output)
 dumped_fault fault = Unwritten fault
 
 -- the numbers of `tbd`: 2 an item is wrong, 5 a ledger without positions, 6 damaged, 7 other rules
-abbrev pub follow_status : FollowFault → ℕ
-follow_status (Kept fault) = fault_status fault
-follow_status (Item fault) = 2
-follow_status Plain = 5
-follow_status OtherRules = 7
-follow_status fault = 6
+abbrev pub follow_exit_status : FollowFault → ℕ
+follow_exit_status (Kept fault) = fault_exit_status fault
+follow_exit_status (Item fault) = 2
+follow_exit_status Plain = 5
+follow_exit_status OtherRules = 7
+follow_exit_status fault = 6
 
 -- lines: with a text, a number, a number and a text, a path
 abbrev pub text_line : List ℕ → List ℕ → List ℕ
@@ -128,8 +128,8 @@ pub line_of_a_position : wanted_line 12 ≡ codes "tbd: has the log up to positi
 unfolding digits
 line_of_a_position = refl
 
-pub status_of_a_plain_ledger : follow_status Plain ≡ 5
-status_of_a_plain_ledger = refl
+pub exit_status_of_a_plain_ledger : follow_exit_status Plain ≡ 5
+exit_status_of_a_plain_ledger = refl
 
-pub status_of_a_full_disk : follow_status (Kept Full) ≡ 8
-status_of_a_full_disk = refl
+pub exit_status_of_a_full_disk : follow_exit_status (Kept Full) ≡ 8
+exit_status_of_a_full_disk = refl

@@ -31,15 +31,15 @@ output_size (form.Dump clients_max profile) = 2 ^ 16
 
 module _ {O D E : Type 0} (its : KnownFiles O D E) (before left : O) {R W : Type 0} (remaining : R → Option (List ℕ)) (contents : W → Option (List ℕ)) where
   -- a form was done, or not to its end; where it was done the buffer of the output is empty at its end
-  pub record Hosted (form : Form) (name : List ℕ) (status : ℕ) (input : BufReader R Global) (output : BufWriter W Global)
+  pub record Hosted (form : Form) (name : List ℕ) (exit_status : ℕ) (input : BufReader R Global) (output : BufWriter W Global)
       (quiet told : Output) : Type 0 where
     pub last : Watched (BufReader R Global)
     pub final : Watched (BufWriter W Global)
-    pub exits : Exits its before name left (writer_buffer final.inner ≡ []) form status
+    pub exits : Exits its before name left (writer_buffer final.inner ≡ []) form exit_status
         (input_of remaining (outgoing input)) (input_of remaining last) (output_of contents (outgoing output)) (output_of contents final) quiet told
 
   -- over an input and an output, each behind a buffer with nothing in it
-  pub record Serves (form : Form) (name : List ℕ) (status : ℕ) (input : R) (output : W) (quiet told : Output) : Type 0 where
+  pub record Serves (form : Form) (name : List ℕ) (exit_status : ℕ) (input : R) (output : W) (quiet told : Output) : Type 0 where
     pub reader : BufReader R Global
     pub of_input : reader_inner reader ≡ input
     pub read_ahead : reader_buffer reader ≡ []
@@ -48,36 +48,36 @@ module _ {O D E : Type 0} (its : KnownFiles O D E) (before left : O) {R W : Type
     pub of_output : writer_inner writer ≡ output
     pub held_back : writer_buffer writer ≡ []
     pub holds_output : writer_capacity writer ≡ output_size form
-    pub hosted : Hosted form name status reader writer quiet told
+    pub hosted : Hosted form name exit_status reader writer quiet told
 
 module _ {O D E : Type 0} (its : KnownFiles O D E) (ends : Terminals) (before left : O) {R W : Type 0} (remaining : R → Option (List ℕ))
     (contents : W → Option (List ℕ)) where
   -- the form over a log that words ask for was done, or not to its end; or, where they ask for none, what they ask for over a ledger; or there
   -- is no memory for the buffers
   abbrev pub ServesWords : Option Form → List (List ℕ) → ℕ → R → W → Output → Output → Type 0
-  ServesWords (Some form) words status input output quiet told =
-      Serves its before left remaining contents form (file_word words) status input output quiet told
-      ⊎ WantsMemory before left status quiet told
-  ServesWords None words status input output quiet told =
-      commands.Serves its ends before left remaining contents words status input output quiet told
-      ⊎ WantsMemory before left status quiet told
+  ServesWords (Some form) words exit_status input output quiet told =
+      Serves its before left remaining contents form (file_word words) exit_status input output quiet told
+      ⊎ WantsMemory before left exit_status quiet told
+  ServesWords None words exit_status input output quiet told =
+      commands.Serves its ends before left remaining contents words exit_status input output quiet told
+      ⊎ WantsMemory before left exit_status quiet told
 
 module _ {O D E : Type 0} (its : KnownFiles O D E) {R W L : Type 0} (remaining : R → Option (List ℕ)) (contents : W → Option (List ℕ))
     (lines : sinks.Ghosts L) where
   -- a form was done over an input and an output; or there is no memory for the buffers
   abbrev pub ServesOn : Form → List ℕ → O → O → ℕ → R → W → L → L → Type 0
-  ServesOn form name before left status input output quiet told =
-      Serves its before left remaining contents form name status input output (lines.output quiet) (lines.output told)
-      ⊎ WantsMemory before left status (lines.output quiet) (lines.output told)
+  ServesOn form name before left exit_status input output quiet told =
+      Serves its before left remaining contents form name exit_status input output (lines.output quiet) (lines.output told)
+      ⊎ WantsMemory before left exit_status (lines.output quiet) (lines.output told)
 
   -- what the words ask for
   abbrev pub WordsOn : Terminals → List (String Global) → O → O → ℕ → R → W → L → L → Type 0
-  WordsOn ends words before left status input output quiet told =
-      ServesWords its ends before left remaining contents (form_of (map string_bytes words)) (map string_bytes words) status input output
+  WordsOn ends words before left exit_status input output quiet told =
+      ServesWords its ends before left remaining contents (form_of (map string_bytes words)) (map string_bytes words) exit_status input output
       (lines.output quiet) (lines.output told)
 
   -- what private functions alone cite
 
   abbrev pub HostedOn : Form → List ℕ → O → O → ℕ → BufReader R Global → BufWriter W Global → L → L → Type 0
-  HostedOn form name before left status input output quiet told =
-      Hosted its before left remaining contents form name status input output (lines.output quiet) (lines.output told)
+  HostedOn form name before left exit_status input output quiet told =
+      Hosted its before left remaining contents form name exit_status input output (lines.output quiet) (lines.output told)

@@ -8,22 +8,22 @@ use Rattle.tb_journal.specs.declared.reading.Extent.{Extent}
 use Rattle.tb_journal.specs.Device.{LeavesOnly}
 use Rattle.tb_log.specs.Following.{Following}
 use Rattle.tb_keep.specs.declared.recovering.Rules.{Rules}
-use Rattle.tb_keep.specs.Opening.{IsUntouched}
+use Rattle.tb_keep.specs.Creating.{IsUntouched}
 use Rattle.tb_keep_log.specs.declared.faults.DumpLogFault.{DumpLogFault}
 use Rattle.tb_keep_log.specs.declared.faults.KeepLogFault.{KeepLogFault}
 use Rattle.tb_keep_log.specs.declared.faults.LogStartFault.{LogStartFault}
 use Rattle.tb_keep_log.specs.declared.beginning.NotStarted.{NotStarted}
 use Rattle.tb_keep_log.specs.Dumping.{DumpsLog, HasDumpCause}
 use Rattle.tb_keep_log.specs.Keeping.{Keeping}
-use Rattle.tb_keep_log.specs.Opening.{HasStartCause, IsStartRefused, IsStarted, MayBeStarted, StartsFile, device_left, why_left}
-use Rattle.tb_keep_log.specs.Restoring.{HasLogCause, IsRestored, StopsReading}
-use Rattle.tb_keep_log.specs.Serving.{Served, point}
+use Rattle.tb_keep_log.specs.Beginning.{HasStartCause, IsStartRefused, IsStarted, MayBeStarted, StartsFile, device_left, why_left}
+use Rattle.tb_keep_log.specs.Rereading.{HasLogCause, IsRestored, StopsReading}
+use Rattle.tb_keep_log.specs.Items.{Served, point}
 use Rattle.tb_keep_commands.specs.declared.faults.Failed.{Failed}
 use Rattle.tb_keep_commands.specs.declared.faults.KeepCommandFault.TheVariants.{Opening}
 use Rattle.tb_keep_commands.specs.declared.openers.OpeningFault.{OpeningFault}
 use Rattle.tb_keep_commands.specs.Ends.{KnownEnds, On}
 use Rattle.tb_keep_commands.specs.Outcomes.{IsAsked}
-use Rattle.tb_keep_commands.specs.Statuses.{SaysLine, TellsCut, TellsMade, disk_fault, failed_pipe}
+use Rattle.tb_keep_commands.specs.ExitStatuses.{SaysLine, TellsCut, TellsMade, disk_fault, failed_pipe}
 use Rattle.tb_keep_follow.specs.declared.faults.FollowFault.{FollowFault}
 use Rattle.tb_keep_follow.specs.declared.faults.FollowFault.TheVariants.{Kept}
 use Rattle.tb_keep_follow.specs.Faults.{started_fault, kept_fault, dumped_fault, wanted_line}
@@ -52,7 +52,7 @@ module _ {D : Type 0} (its : devices.Ghosts D) where
   abbrev pub OfFile : D → (List ℕ → Type 0) → Type 0
   OfFile device Is = (file : List ℕ) → its.holds device file → Is file
 
-  -- a device was read to the end of its file, as one log, or it is told why not; the file stays
+  -- a device was read to the end of its file, as one log, or it is reported why not; the file stays
   pub record IsReadWhole (read : Result (Unit {0}) LogStartFault) (rules : Rules) (device after : D) : Type 0 where
     pub found : OfFile device (ReadsLog read rules)
     pub same : OfFile device (its.holds after)
@@ -80,7 +80,7 @@ module _ {D : Type 0} (its : devices.Ghosts D) where
     pub dumps : MatchResult read (λ done. DumpsRead outcome rules between after start written)
         (λ fault. (outcome ≡ Err (started_fault fault)) × (after ≡ between) × (written ≡ start))
 
-  -- that its start made a file where there were no bytes was told, and what it cut off behind the records of one of so many bytes, and from
+  -- that its start made a file where there were no bytes was reported, and what it cut off behind the records of one of so many bytes, and from
   -- which position the log is wanted; then a log was kept
   pub record FollowsKept (outcome : Outcome) (keeper : Keeping D) (path : List ℕ) (len : ℕ) (first last : Input)
       (start written quiet told : Output) : Type 0 where
@@ -95,7 +95,7 @@ module _ {D : Type 0} (its : devices.Ghosts D) where
         (point after.now after.journal last written)
     pub outcome_is : outcome ≡ kept_outcome (failed_pipe first.failed last.failed) result
 
-  -- what a start over a device answers, of one that tells what its calls do; of a log that is kept, where no sync has failed before
+  -- what a start over a device answers, of one that reports what its calls do; of a log that is kept, where no sync has failed before
   pub record Starts (result : Result (Keeping D) (NotStarted D)) (rules : Rules) (device : D) : Type 0 where
     pub answers : MatchResult result (λ keeper. (its.disk device).sound ≡ true → IsStarted its.disk (its.disk device).seen keeper)
         (λ failed. IsStartRefused failed.fault rules.profile rules.clients_max (its.disk device) (its.disk failed.device))
@@ -103,7 +103,7 @@ module _ {D : Type 0} (its : devices.Ghosts D) where
     -- a crash at any moment of it, where none has
     pub any_moment : (its.disk device).sound ≡ true → LeavesOnly (its.disk device) (its.disk (device_left result)) (MayBeStarted (its.disk device))
 
-  -- a start was refused; nothing was read, written or told but why
+  -- a start was refused; nothing was read, written or reported but why
   pub record IsUnstarted (fault : LogStartFault) (outcome : Outcome) (first last : Input) (start written quiet told : Output) : Type 0 where
     pub outcome_is : outcome ≡ Err (started_fault fault)
     pub unread : last ≡ first

@@ -116,7 +116,7 @@ pub fn command<O: Opener, R: Source, W: Outlet, E: Sink>(
         Ok(()) => 0,
         Err(fault) => {
             tell_fault(fault, path, faults);
-            fault.status()
+            fault.exit_status()
         }
     }
 }

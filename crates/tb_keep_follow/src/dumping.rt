@@ -1,7 +1,7 @@
 //! The history of a log as a dump.
 ghost use Rattle.std.specs.Prelude.{◌≡◌, ℕ, List};
-ghost use Rattle.tb_keep.specs.Opening.{IsUntouched};
-ghost use Rattle.tb_keep_log.specs.Restoring.{HasLogCause};
+ghost use Rattle.tb_keep.specs.Creating.{IsUntouched};
+ghost use Rattle.tb_keep_log.specs.Rereading.{HasLogCause};
 ghost use Rattle.tb_keep_follow.specs.Outcomes.{ReadsLog, DumpsReadOn, DumpsFileOn, dumped_outcome};
 
 use crate::faults::{FollowFault, dumped_fault, started_fault};

@@ -1,13 +1,13 @@
-//! Why a form over a log ends with a status other than 0.
+//! Why a form over a log ends with an exit status other than 0.
 ghost use Rattle.std.specs.Prelude.{◌≡◌, ◌<◌};
-ghost use Rattle.tb_keep_follow.specs.Faults.{journal_fault, started_fault, item_fault, kept_fault, dumped_fault, follow_status};
+ghost use Rattle.tb_keep_follow.specs.Faults.{journal_fault, started_fault, item_fault, kept_fault, dumped_fault, follow_exit_status};
 
 use tb_journal::{OpenFault, Refusal};
 use tb_keep_commands::{Damage, Failed, KeepCommandFault, Kind, disk_fault, opened_fault};
 use tb_keep_log::{DumpLogFault, KeepLogFault, LogStartFault};
 use tb_log::LogFault;
 
-/// Why a form over a log ends with a status other than 0.
+/// Why a form over a log ends with an exit status other than 0.
 #[derive(Clone, Copy, Debug, PartialEq, Eq)]
 pub enum FollowFault {
     /// A fault that the forms over a ledger have too.
@@ -91,12 +91,12 @@ pub(crate) fn dumped_fault(fault: DumpLogFault) -> FollowFault
 
 impl FollowFault {
     /// The exit status.
-    pub fn status(self) -> u8
+    pub fn exit_status(self) -> u8
         ensures failing { 0 < result }
-        ensures value { result ≡ follow_status self }
+        ensures value { result ≡ follow_exit_status self }
     {
         match self {
-            FollowFault::Kept(fault) => fault.status(),
+            FollowFault::Kept(fault) => fault.exit_status(),
             FollowFault::Item(_) => 2,
             FollowFault::Plain => 5,
             FollowFault::OtherRules => 7,

@@ -15,7 +15,7 @@ use tb_keep_commands::{Failed, disk_fault, failed_pipe, tell_cut, tell_made};
 use tb_keep_log::{KeepLogFault, LogKeeper, keep_log};
 use tb_records::{Sink, Source};
 
-/// What is told of a log that ended so.
+/// What is reported of a log that ended so.
 fn kept_outcome(kept: Result<u64, KeepLogFault>, pipe: Failed) -> Result<(), FollowFault>
     ensures { result ≡ kept_outcome pipe kept }
 {
@@ -25,7 +25,7 @@ fn kept_outcome(kept: Result<u64, KeepLogFault>, pipe: Failed) -> Result<(), Fol
     }
 }
 
-/// Follows a log until it ends. What its start made of the file of this path is told first: where it had no bytes it was made, and else
+/// Follows a log until it ends. What its start made of the file of this path is reported first: where it had no bytes it was made, and else
 /// what was cut off behind the records; and then from which position the log is wanted.
 fn keep<D: Device + Drop, A: Allocator + Clone, R: Source, W: Sink, E: Sink>(
     alloc: Global,

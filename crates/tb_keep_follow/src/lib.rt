@@ -1,11 +1,11 @@
 //! The commands of `tbd` over a log: a follower whose entries are in a file, each with the position and both hashes behind it, before
-//! its replies are told; and the history of such a file as a dump, without positions. Over whatever opens devices, any reader and any
+//! its replies are written; and the history of such a file as a dump, without positions. Over whatever opens devices, any reader and any
 //! writer. The words of all other forms are tb_keep_commands's.
 //!
 //! Modules, each over those before it:
 //!
 //! - `arguments`: what the words of the command line ask for.
-//! - `faults`: why a form ends with a status other than 0.
+//! - `faults`: why a form ends with an exit status other than 0.
 //! - `lines`: the lines that say so, and from which position a log is wanted.
 //! - `dumping`: `dump`, a file read to its end and then written as a dump.
 //! - `following`: `follow`, a log kept over a file.

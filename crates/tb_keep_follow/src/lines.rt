@@ -1,6 +1,6 @@
 //! The lines of standard error.
 ghost use Rattle.std.specs.Prelude.{◌≡◌};
-ghost use Rattle.tb_keep_commands.specs.Statuses.{SaysLine};
+ghost use Rattle.tb_keep_commands.specs.ExitStatuses.{SaysLine};
 ghost use Rattle.tb_keep_follow.specs.Faults.{place_of, item_line, follow_line, wanted_line};
 
 use crate::faults::FollowFault;
@@ -23,7 +23,7 @@ fn place_of(fault: LogFault) -> u64
     }
 }
 
-/// Tells what is wrong with an item, and where.
+/// Reports what is wrong with an item, and where.
 fn tell_item<E: Sink>(fault: LogFault, faults: &mut E)
     ensures { SaysLine (item_line fault) (E.output faults.old) (E.output faults.new) }
 {
@@ -44,13 +44,13 @@ fn tell_item<E: Sink>(fault: LogFault, faults: &mut E)
     }
 }
 
-/// What is told of a file that has no positions, behind its path.
+/// What is reported of a file that has no positions, behind its path.
 const PLAIN: &str = " is a ledger without positions; tbd run serves it";
 
-/// What is told of a file of other rules, behind its path.
+/// What is reported of a file of other rules, behind its path.
 const OTHER: &str = " was made with another profile or number of clients";
 
-/// Tells a fault over a file of this path, in one line. A failure to write it changes no status.
+/// Reports a fault over a file of this path, in one line. A failure to write it changes no exit status.
 pub(crate) fn tell_fault<E: Sink>(fault: FollowFault, path: &str, faults: &mut E)
     ensures { SaysLine (follow_line fault path.now) (E.output faults.old) (E.output faults.new) }
 {
@@ -75,7 +75,7 @@ pub(crate) fn tell_fault<E: Sink>(fault: FollowFault, path: &str, faults: &mut E
     }
 }
 
-/// Tells the position of the last entry that a file has: the log is wanted behind it.
+/// Reports the position of the last entry that a file has: the log is wanted behind it.
 pub(crate) fn tell_wanted<E: Sink>(position: u64, faults: &mut E)
     ensures { SaysLine (wanted_line position) (E.output faults.old) (E.output faults.new) }
 {

@@ -17,7 +17,7 @@ use Rattle.tb_log.specs.Follows.{ItemFits}
 use Rattle.tb_keep_log.specs.declared.faults.KeepLogFault.{KeepLogFault}
 use Rattle.tb_keep_log.specs.declared.faults.KeepLogFault.TheVariants as keep
 use Rattle.tb_keep_log.specs.Keeping.{record_of, records_from, IsKept}
-use Rattle.tb_keep_log.specs.Serving.{Point, point, Turns, IsUncommitted, Halts, AreTooMany, Served}
+use Rattle.tb_keep_log.specs.Items.{Point, point, Turns, IsUncommitted, Halts, AreTooMany, Served}
 use Rattle.tb_keep_log.specs.Laws.{GoesOn, OpenedGoesOn, HasFirst, AfterKill, AnyCrash, WhileCommitting, TellsTheDone, WhileTelling}
 use Rattle.tb_keep_log.proofs.Leading.{records_join, answered_join, leads_then}
 

@@ -20,7 +20,7 @@ use Rattle.tb_log.specs.Entries.{BeginsWith}
 use Rattle.tb_log.specs.Format.{content_of}
 use Rattle.tb_log.proofs.Pairs.{begins_on, begins_few}
 use Rattle.tb_keep.specs.Rounds.{entered, entries_from, state_from, IsUntimely}
-use Rattle.tb_keep_log.specs.Restoring.{fixed_bytes, HasMark, RefusesMark}
+use Rattle.tb_keep_log.specs.Rereading.{fixed_bytes, HasMark, RefusesMark}
 use Rattle.tb_keep_log.specs.declared.faults.DumpLogFault.{DumpLogFault}
 use Rattle.tb_keep_log.specs.declared.faults.DumpLogFault.TheVariants as dump
 use Rattle.tb_keep_log.specs.declared.faults.LogStartFault.{LogStartFault}

@@ -13,7 +13,7 @@ use Rattle.tb_keep.proofs.Entered.{extent_found}
 use Rattle.tb_keep_log.specs.declared.faults.LogStartFault.{LogStartFault}
 use Rattle.tb_keep_log.specs.declared.faults.LogStartFault.TheVariants as start
 use Rattle.tb_keep_log.specs.Keeping.{Leads}
-use Rattle.tb_keep_log.specs.Restoring.{HasLogCause, IsLogCause, IsRestored, StopsAt, StopsBeginning, StopsReading}
+use Rattle.tb_keep_log.specs.Rereading.{HasLogCause, IsLogCause, IsRestored, StopsAt, StopsBeginning, StopsReading}
 use Rattle.tb_keep_log.specs.private.Steps.{Entered, EntersAll, EntersNext, EntersSome}
 use Rattle.tb_keep_log.proofs.Leading.{leads_none, leads_more}
 

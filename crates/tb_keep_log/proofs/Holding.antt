@@ -13,7 +13,7 @@ use Rattle.tb_log.specs.Follows.{Answers, Serves, Stops}
 use Rattle.tb_keep_log.specs.declared.faults.LogStartFault.{LogStartFault}
 use Rattle.tb_keep_log.specs.declared.faults.LogStartFault.TheVariants as start
 use Rattle.tb_keep_log.specs.Keeping.{record_bytes}
-use Rattle.tb_keep_log.specs.Restoring.{StopsAt, HasMark, RefusesContent, RefusesMark, fixed_bytes}
+use Rattle.tb_keep_log.specs.Rereading.{StopsAt, HasMark, RefusesContent, RefusesMark, fixed_bytes}
 use Rattle.tb_keep_log.specs.private.Steps.{in_memory, of_log, HoldsEntry, DropsEntry, Enters}
 
 pub holds_entry : (content held : List ℕ) (F G : Following) (start written : Output) → length content ≤ content_max → start.written ≡ Some [] → written.written ≡ Some held

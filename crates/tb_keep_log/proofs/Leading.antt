@@ -7,7 +7,7 @@ use Rattle.tb_log.specs.Format.{content_of}
 use Rattle.tb_log.specs.Following.{Following, Item, Entry, with_item, after_items, AllAnswered}
 use Rattle.tb_log.specs.Follows.{ItemFits}
 use Rattle.tb_keep_log.specs.Keeping.{record_bytes, record_of, records_from, Leads}
-use Rattle.tb_keep_log.specs.Restoring.{EntersRecord}
+use Rattle.tb_keep_log.specs.Rereading.{EntersRecord}
 
 pub answered_join : (F : Following) (xs ys : List Item) → AllAnswered F xs → AllAnswered (after_items F xs) ys → AllAnswered F (xs ++ ys)
 answered_join F [] ys all more = more

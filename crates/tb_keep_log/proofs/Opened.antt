@@ -15,15 +15,15 @@ use Rattle.tb_journal.proofs.Moments.{then, weaker}
 use Rattle.tb_journal.proofs.Opened.{is_told}
 use Rattle.tb_log.specs.Following.{Following}
 use Rattle.tb_keep.specs.declared.recovering.Rules.{Rules}
-use Rattle.tb_keep.specs.Opening.{IsUntouched}
-use Rattle.tb_keep.specs.Restoration.{torn_bytes}
+use Rattle.tb_keep.specs.Creating.{IsUntouched}
+use Rattle.tb_keep.specs.Recovering.{torn_bytes}
 use Rattle.tb_keep.proofs.Opened.{Counts, untouched_then}
 use Rattle.tb_keep_log.specs.declared.faults.LogStartFault.{LogStartFault}
 use Rattle.tb_keep_log.specs.declared.faults.LogStartFault.TheVariants as start
 use Rattle.tb_keep_log.specs.declared.beginning.NotStarted.{NotStarted}
 use Rattle.tb_keep_log.specs.Keeping.{Keeping, IsKept}
-use Rattle.tb_keep_log.specs.Restoring.{HasLogCause, IsLogCause, IsRestored, IsTornTooLong, StopsReading, StopsOpening}
-use Rattle.tb_keep_log.specs.Opening.{HasStartCause, IsCreatedCause, IsOpened, IsStartCause, IsStarted, IsStartRefused, IsRefused, MayBeOpened, MayBeStarted, OpensFile, StartsFile}
+use Rattle.tb_keep_log.specs.Rereading.{HasLogCause, IsLogCause, IsRestored, IsTornTooLong, StopsReading, StopsOpening}
+use Rattle.tb_keep_log.specs.Beginning.{HasStartCause, IsCreatedCause, IsOpened, IsStartCause, IsStarted, IsStartRefused, IsRefused, MayBeOpened, MayBeStarted, OpensFile, StartsFile}
 use Rattle.tb_keep_log.specs.private.Steps.{IsOfDevice, OpensAs}
 
 -- the keeper of a journal that was opened

@@ -7,7 +7,7 @@ use Rattle.tb_log.specs.declared.faults.LogFault.TheVariants as log
 use Rattle.tb_log.specs.Following.{Item}
 use Rattle.tb_keep_log.specs.declared.faults.KeepLogFault.{KeepLogFault}
 use Rattle.tb_keep_log.specs.declared.faults.KeepLogFault.TheVariants as keep
-use Rattle.tb_keep_log.specs.Serving.{Point, Turn, Turns, Halts, Served}
+use Rattle.tb_keep_log.specs.Items.{Point, Turn, Turns, Halts, Served}
 
 module _ (tells : Type 0) {D : Type 0} (disk : D → Disk) (profile : Profile) (clients_max : ℕ) where
   turns_snoc : (items : List Item) (item : Item) (a b c : Point D) → Turns tells disk profile clients_max items a b → Turn tells disk profile clients_max item b c

@@ -20,8 +20,8 @@ use Rattle.tb_keep.specs.Rounds.{Commits}
 use Rattle.tb_keep_log.specs.declared.faults.KeepLogFault.{KeepLogFault}
 use Rattle.tb_keep_log.specs.declared.faults.KeepLogFault.TheVariants as keep
 use Rattle.tb_keep_log.specs.Keeping.{record_bytes, record_of}
-use Rattle.tb_keep_log.specs.Restoring.{IsHaltedContent}
-use Rattle.tb_keep_log.specs.Serving.{point, IsHalted, RefusesItem, IsRead, Turn, IsUncommitted, Halts}
+use Rattle.tb_keep_log.specs.Rereading.{IsHaltedContent}
+use Rattle.tb_keep_log.specs.Items.{point, IsHalted, RefusesItem, IsRead, Turn, IsUncommitted, Halts}
 use Rattle.tb_keep_log.specs.private.Steps.{DropsEntry, TakesEntry, MissesEntry, TellsBytes, Answers, IsPut, IsUnput, PutsAndTells, ReadsWhole, KeepsEntry, FailsEntry, EntersEntry}
 
 -- an entry that is taken

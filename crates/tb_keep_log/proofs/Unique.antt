@@ -22,7 +22,7 @@ use Rattle.tb_log.specs.Follows.{ItemFits}
 use Rattle.tb_keep_log.specs.Keeping.{mark, record_bytes, records_from}
 use Rattle.tb_keep_log.specs.Dumping.{PairsOfLog}
 use Rattle.tb_keep_log.specs.Laws.{OneLog}
-use Rattle.tb_keep_log.specs.Restoring.{fixed_bytes}
+use Rattle.tb_keep_log.specs.Rereading.{fixed_bytes}
 
 -- the pairs of a content
 

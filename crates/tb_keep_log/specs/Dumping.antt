@@ -24,7 +24,7 @@ use Rattle.tb_keep_log.specs.declared.faults.DumpLogFault.{DumpLogFault}
 use Rattle.tb_keep_log.specs.declared.faults.DumpLogFault.TheVariants as dump
 use Rattle.tb_keep_log.specs.declared.faults.LogStartFault.TheVariants as start_faults
 use Rattle.tb_keep_log.specs.Keeping.{IsKept}
-use Rattle.tb_keep_log.specs.Restoring.{fixed_bytes, HasMark, RefusesMark, IsLogCause}
+use Rattle.tb_keep_log.specs.Rereading.{fixed_bytes, HasMark, RefusesMark, IsLogCause}
 
 -- the records have these pairs
 pub record HasPairs (records : List (List ℕ)) (ps : List Pair) : Type 0 where

@@ -12,7 +12,7 @@ use Rattle.tb_keep.specs.Rounds.{Commits}
 use Rattle.tb_log.specs.Following.{Following, begun, Item, after_items, bytes_of, given}
 use Rattle.tb_keep_log.specs.declared.faults.KeepLogFault.{KeepLogFault}
 use Rattle.tb_keep_log.specs.Keeping.{record_bytes, record_of, records_from, IsKept, Keeping, Keeps}
-use Rattle.tb_keep_log.specs.Serving.{Point, Turns, KeepsLog}
+use Rattle.tb_keep_log.specs.Items.{Point, Turns, KeepsLog}
 
 -- a follower that has read some items is answered further on as one that reads them all from the beginning
 abbrev pub GoesOn : Type 0

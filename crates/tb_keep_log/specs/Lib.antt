@@ -1,8 +1,8 @@
 pub mod Faults
 pub mod Keeping
-pub mod Restoring
-pub mod Opening
-pub mod Serving
+pub mod Rereading
+pub mod Beginning
+pub mod Items
 pub mod Dumping
 pub mod Laws
 pub mod private

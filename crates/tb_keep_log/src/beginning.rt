@@ -6,10 +6,10 @@ ghost use Rattle.tb_journal.specs.Creating.{MayBeCreated};
 ghost use Rattle.tb_journal.specs.Reading.{extent_of};
 ghost use Rattle.tb_journal.specs.Ready.{IsReady};
 ghost use Rattle.tb_keep.specs.private.Entering.{StaysKept};
-ghost use Rattle.tb_keep.specs.Restoration.{torn_bytes};
+ghost use Rattle.tb_keep.specs.Recovering.{torn_bytes};
 ghost use Rattle.tb_keep_log.specs.Keeping.{By, IfSound, IsUsable, OfHeld};
-ghost use Rattle.tb_keep_log.specs.Restoring.{HasLogCause, IsRestored};
-ghost use Rattle.tb_keep_log.specs.Opening.{CausedBy, HasStartCause, IsOpened, IsRefused, IsStartRefused, IsStarted, LeavesIfSound, MayBeOpened, MayBeStarted, OpensFile, Refuses, StartsFile, device_left};
+ghost use Rattle.tb_keep_log.specs.Rereading.{HasLogCause, IsRestored};
+ghost use Rattle.tb_keep_log.specs.Beginning.{CausedBy, HasStartCause, IsOpened, IsRefused, IsStartRefused, IsStarted, LeavesIfSound, MayBeOpened, MayBeStarted, OpensFile, Refuses, StartsFile, device_left};
 ghost use Rattle.tb_keep_log.specs.private.Steps.{CreatesIn, HasCreatedCause, IsCreated, IsNotCreated, IsReadTo, IsUsableBy, OpensAs};
 ghost use Rattle.tb_journal.specs.Opening.{LeavesSameRecords};
 

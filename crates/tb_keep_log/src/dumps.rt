@@ -4,7 +4,7 @@ ghost use Rattle.tb_journal.specs.Scans.{GoesFurther};
 ghost use Rattle.tb_log.specs.Format.{content_max};
 ghost use Rattle.tb_machine.specs.Runs.{is_new_in};
 ghost use Rattle.tb_keep.specs.private.Entering.{StaysKept};
-ghost use Rattle.tb_keep.specs.Opening.{IsUntouched};
+ghost use Rattle.tb_keep.specs.Creating.{IsUntouched};
 ghost use Rattle.tb_keep_log.specs.Dumping.{DumpsBy, HasDumpCause, no_pair};
 ghost use Rattle.tb_keep_log.specs.private.DumpSteps.{DumpsOne, DumpsPairsOf, DumpsRecord, ReadCause, DumpsNextOver, DumpsAllOver};
 ghost use Rattle.tb_keep_log.specs.Keeping.{By, OfEachRead, OfHeld, OfUnread};

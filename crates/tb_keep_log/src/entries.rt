@@ -3,7 +3,7 @@ ghost use Rattle.std.specs.Prelude.{◌≡◌, ◌≤◌, ◌+◌, true, nat_eq,
 ghost use Rattle.std.specs.List.{starts_with};
 ghost use Rattle.tb_log.specs.Format.{content_max};
 ghost use Rattle.tb_keep_log.specs.Keeping.{By, mark, record_bytes};
-ghost use Rattle.tb_keep_log.specs.Restoring.{fixed_bytes, IsOtherRecord};
+ghost use Rattle.tb_keep_log.specs.Rereading.{fixed_bytes, IsOtherRecord};
 ghost use Rattle.tb_keep_log.specs.private.Steps.{in_memory, of_log, HoldsEntry, DropsEntry, Enters};
 
 use crate::faults::LogStartFault;

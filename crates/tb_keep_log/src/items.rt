@@ -2,7 +2,7 @@
 ghost use Rattle.std.specs.Prelude.{◌≡◌, true, false, [], IfOk, IfErr, OnOk, OnErr};
 ghost use Rattle.tb_journal.specs.Ready.{IsReady};
 ghost use Rattle.tb_keep_log.specs.Keeping.{IsUsable};
-ghost use Rattle.tb_keep_log.specs.Serving.{KeepsLog};
+ghost use Rattle.tb_keep_log.specs.Items.{KeepsLog};
 ghost use Rattle.tb_keep_log.specs.private.Steps.{TakesFrom, MissesFrom, TellsBytes, Answers, Puts, PutsAndTells, EntersEntryOn, NextOn, ServedOn};
 
 use crate::entries::serve_entry;

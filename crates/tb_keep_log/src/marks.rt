@@ -3,7 +3,7 @@ ghost use Rattle.std.specs.Prelude.{◌≡◌, ◌≤◌, ◌+◌, true, false, 
 ghost use Rattle.std.specs.List.{starts_with};
 ghost use Rattle.tb_log.specs.Format.{content_max};
 ghost use Rattle.tb_keep_log.specs.Keeping.{By, mark, record_bytes};
-ghost use Rattle.tb_keep_log.specs.Restoring.{RefusesMark, fixed_bytes};
+ghost use Rattle.tb_keep_log.specs.Rereading.{RefusesMark, fixed_bytes};
 
 use crate::faults::LogStartFault;
 use std::alloc::{AllocError, Allocator, Global};

@@ -3,9 +3,9 @@ ghost use Rattle.std.specs.Prelude.{◌≡◌, ◌≤◌, true, IfOk, OnOk};
 ghost use Rattle.tb_journal.specs.Device.{IsOnDisk};
 ghost use Rattle.tb_journal.specs.Scans.{GoesFurther, ScanCause};
 ghost use Rattle.tb_keep.specs.private.Entering.{StaysKept};
-ghost use Rattle.tb_keep.specs.Opening.{IsUntouched};
+ghost use Rattle.tb_keep.specs.Creating.{IsUntouched};
 ghost use Rattle.tb_keep.specs.private.Sources.{IsNext};
-ghost use Rattle.tb_keep_log.specs.Restoring.{HasLogCause, Restores};
+ghost use Rattle.tb_keep_log.specs.Rereading.{HasLogCause, Restores};
 ghost use Rattle.tb_keep_log.specs.private.Steps.{ReadCause, EntersNextBy, EntersAllBy};
 ghost use Rattle.tb_keep_log.specs.Keeping.{By, IfSound, OfEachRead, OfHeld, OfUnread};
 

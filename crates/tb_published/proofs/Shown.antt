@@ -1,4 +1,4 @@
--- The steps of readers and of the writer keep the rule of the copies.
+-- The steps of readers and of the publisher keep the rule of the copies.
 use Rattle.std.proofs.Common.{◌≡◌, ◌≢◌, ℕ, ◌+◌, ◌≤◌, inl, inr, ⊎_elim, cond, eq-eqb, List, [], ◌∷◌, length, set, fold, Option, Some, None, IfSome, Result, Ok, Err, MatchResult, zero, suc, refl, sym, ap, ◌∙◌, subst, length-append}
 use mathlib.Core.Option.{some, some-injective}
 use lib.ListN.{get_elem?}
@@ -33,7 +33,7 @@ none_some x e = cc
 
 -- one step
 
--- a reader or the writer moves on to what is shown, which begins with all that was shown before
+-- a reader or the publisher moves on to what is shown, which begins with all that was shown before
 pub sees : (seat : ℕ) (v : Option Prefix) (x y : Prefix) → IsPrefixOf x y → TurnsAt Shows seat v x y Sees
 sees seat v x y up views shows at = (
   Some y,
@@ -59,7 +59,7 @@ pub starts : (x : Prefix) → Shows x (None ∷ [])
 starts x zero l at = absurd (none_some l (some-injective None (Some l) at))
 starts x (suc seat) l at = absurd cc
 
--- the writer tells what it has seen, and a place that has seen nothing takes it over
+-- the publisher tells what it has seen, and a place that has seen nothing takes it over
 pub forks : (seat : ℕ) (v : Option Prefix) → Forks Shows seat v v v
 forks seat v x views shows here j l at =
     ⊎_elim (λ e.
@@ -79,7 +79,7 @@ merges seat v other w x views shows here apart there j l at =
     (at_set views seat j w (Some l) t.1))
     (at_set (set views seat w) other j None (Some l) at)
 
--- what a writer posts
+-- what a publisher posts
 
 absorbed_next : (l : Prefix) (o : PostedEntry) → o.front ≡ with_entry l o.entry → absorbed l o ≡ o.front
 absorbed_next l o is = ap (λ b. cond b o.front l) (eq-eqb (length o.front.list) (length l.list + 1) (ap (λ (m : Prefix). length m.list) is ∙ length-append l.list (o.entry ∷ [])))

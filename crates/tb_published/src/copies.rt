@@ -1,4 +1,4 @@
-//! The two copies, and how the writer shows what they have taken in.
+//! The two copies, and how the publisher shows what they have taken in.
 ghost use Rattle.std.specs.Prelude.{◌≡◌, [], Some, IfOk, MatchResult};
 ghost use Rattle.left_right.specs.Sides.{view};
 ghost use Rattle.tb_published.specs.private.PostedEntries.{Follows, and_waiting, showing};
@@ -17,8 +17,8 @@ use std::alloc::{AllocError, Global};
 use std::marker::Model;
 use std::sync::Wait;
 
-/// The copies as their writer has them. Contracts see what they show, the posted entries that they have not taken in, and what
-/// the writer has seen. It is not Drop: `end` ends it.
+/// The copies as the publisher has them. Contracts see what they show, the posted entries that they have not taken in, and what
+/// the publisher has seen. It is not Drop: `end` ends it.
 pub struct Copies<J: Naming>
 where
     Replica<J>: Absorb<Posted<J>, State = Replica<J>>,

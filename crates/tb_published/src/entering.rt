@@ -1,4 +1,4 @@
-//! How the writer judges a request by its machine, and enters it.
+//! How the publisher judges a request by its machine, and enters it.
 ghost use Rattle.std.specs.Prelude.{◌≡◌, ◌<◌, true, false, IsTrue, MatchOption, OnOk, vec_len, vec_capacity};
 ghost use Rattle.tb_records.specs.Messages.{IsLawful};
 ghost use Rattle.tb_sessions.specs.Judged.{class_of};
@@ -37,7 +37,7 @@ pub(crate) fn known(machine: &Machine<Global>, request: &Request) -> Option<Take
     }
 }
 
-/// Makes capacity for an entry behind a history, and has its copies share the request's body: the history, the writer's machine
+/// Makes capacity for an entry behind a history, and has its copies share the request's body: the history, the publisher's machine
 /// and both copies have one body between them.
 fn make_ready(global: Global, history: &mut Vec<Entry>, entry: &mut Entry) -> Result<(), AllocError>
     ensures history { history.new.items ≡ history.old.items }

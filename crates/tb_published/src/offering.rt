@@ -1,4 +1,4 @@
-//! How the writer posts the history's entries.
+//! How the publisher posts the history's entries.
 ghost use Rattle.std.specs.Prelude.{◌≡◌};
 ghost use mathlib.Core.List.{IsPrefix};
 ghost use Rattle.tb_published.specs.Openings.{LegalIn};

@@ -1,4 +1,4 @@
-//! The writer: it enters requests into the history, and has the copies show it.
+//! The publisher: it enters requests into the history, and has the copies show it.
 ghost use Rattle.std.specs.Prelude.{◌≡◌, ◌↔◌, ◌<◌, ◌≤◌, [], length, IsTrue, IsFalse, IfOk};
 ghost use mathlib.Core.List.{IsPrefix};
 ghost use Rattle.tb_published.specs.Openings.{LegalIn, after_in, OneBegins};
@@ -24,7 +24,7 @@ use std::sync::Wait;
 use tb_machine::{Entry, Machine};
 use tb_records::Request;
 
-/// The one writer of an opening. Contracts see its history, and what the copies show of it. It is not Drop: a `HeldPublisher`
+/// The one publisher of an opening. Contracts see its history, and what the copies show of it. It is not Drop: a `HeldPublisher`
 /// closes it.
 pub struct Publisher<J: Naming>
 where

@@ -121,7 +121,7 @@ impl<J: Naming> Replica<J> {
         }
     }
 
-    /// Says that a posted entry is the one behind the copy's. The writer sends no other.
+    /// Says that a posted entry is the one behind the copy's. The publisher sends no other.
     fn comes_next(&self, posted: &Posted<J>) -> bool
         ensures one { result ≡ (length posted.now.front.list == length self.now.list + 1) }
         ensures fits { IsTrue result → IsTrue (fits (state_of self.now) posted.now.entry) }

@@ -3,6 +3,6 @@ pub mod Steps
 pub mod Flags
 pub mod Turns
 pub mod Serving
-pub mod Audit
+pub mod OwnPlaces
 pub mod Owners
 pub mod Told

@@ -54,22 +54,22 @@ place_stands p n (suc k) (q ∷ qs) lt is =
 -- each request taken was offered
 module _ (count : ℕ) (offered : ℕ → List Message) (taken : List Message) (owners : List ℕ) (ended : Ended) (have : HaveOwners count taken owners) where
   owner : ((p : ℕ) → p < count → IsOffered (offered p) taken (places_from p 1 owners) ended) → All (HasOwner count offered) taken
-  owner audits k d lt =
+  owner claims k d lt =
       let whole = have.whole in
       let here : k < length owners = omega arith in
       let p : ℕ = slice_index_or owners k 0 in
       let made : p < count = have.made k 0 here in
-      let audit = audits p made in
+      let claim = claims p made in
       let get : ℕ → Option Message = λ place. slice_get taken (place - 1) in
       let places : List ℕ = places_from p 1 owners in
       let r : Message = slice_index_or taken k d in
       let is : get (1 + k) ≡ Some r = ap (slice_get taken) (omega arith) ∙ slice_get-get_or taken k d lt in
-      let stands : Stands (get (1 + k)) (map get places ++ map Some audit.rest) =
-      stands_left (get (1 + k)) (map get places) (map Some audit.rest) (stands_map get (1 + k) places (place_stands p 1 k owners here refl)) in
+      let stands : Stands (get (1 + k)) (map get places ++ map Some claim.rest) =
+      stands_left (get (1 + k)) (map get places) (map Some claim.rest) (stands_map get (1 + k) places (place_stands p 1 k owners here refl)) in
       record {
         port = p;
         made = made;
-        offers = some_stands r (offered p) (subst (λ (t : Option Message × List (Option Message)). Stands t.0 t.1) (λ i. (is i, sym audit.whole i)) stands);
+        offers = some_stands r (offered p) (subst (λ (t : Option Message × List (Option Message)). Stands t.0 t.1) (λ i. (is i, sym claim.whole i)) stands);
       }
 
 -- what is accepted is entered
@@ -102,9 +102,9 @@ module _ (o : Opening) (Owned : Message → Type 0) where
       (kept_owned ts (All-tail Owned t.request (requests_at ts) all))
 
 pub none_invented : {M G : Type 0} (o : Opening) (tells : M → ℕ → M → Type 0) (passes : G → ℕ → G → Type 0) → NoneInvented o tells passes
-none_invented o tells passes before taken owners refused history count offered ended run have audits =
+none_invented o tells passes before taken owners refused history count offered ended run have claims =
     let Owned : Message → Type 0 = HasOwner count offered in
     let turns : List Turn = run.serves.turns in
-    let all : All Owned (requests_at turns) = subst (All Owned) (sym run.serves.served) (owner count offered taken owners ended have audits) in
+    let all : All Owned (requests_at turns) = subst (All Owned) (sym run.serves.served) (owner count offered taken owners ended have claims) in
     let grown = grows o Owned before.history (kept turns) (kept_owned o Owned turns all) in
     record { more = grown.0; grown = sym run.serves.history ∙ grown.1; owned = grown.2 }

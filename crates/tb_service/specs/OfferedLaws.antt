@@ -24,7 +24,7 @@ pub record GrowsByOffers (count : ℕ) (offered : ℕ → List Message) (before 
   pub grown : history ≡ before ++ more
   pub owned : All (λ (e : Entry). HasOwner count offered e.request) more
 
--- What a run says, and of each port what its audit says, make it so.
+-- What a run says, and of each port the places of its requests, make it so.
 abbrev pub NoneInvented : {M G : Type 0} → Opening → (M → ℕ → M → Type 0) → (G → ℕ → G → Type 0) → Type 0
 NoneInvented {M} {G} o tells passes =
     (before : ServerState M G) (taken : List Message) (owners : List ℕ) (refused : List (ℕ × TakeFault)) (history : List Entry) (count : ℕ) (offered : ℕ → List Message) (ended : Ended)

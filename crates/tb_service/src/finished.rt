@@ -1,4 +1,4 @@
-//! A run that has ended, and its audit.
+//! A run that has ended, and the places of each port's requests.
 ghost use Rattle.std.specs.Prelude.{◌≡◌, true, IfOk};
 ghost use Rattle.crossbeam_channel.specs.Claims.{view, IsSeatAt};
 ghost use Rattle.crossbeam_channel.specs.Ends.{sends_on};

@@ -1,4 +1,4 @@
-//! What follows of a run and its audits, over the definitions alone. A call does nothing; its promise is the law.
+//! What follows of a run and the places of its ports, over the definitions alone. A call does nothing; its promise is the law.
 ghost use Rattle.tb_service.specs.OfferedLaws.{NoneInvented};
 ghost use Rattle.tb_service.specs.ToldLaws.{IsOneWay, OneList, OneOutcome};
 

@@ -12,10 +12,10 @@
 //! - `inbox`: the server's end of the queue.
 //! - `clerk`: what the requests of an order do to the history, each in its turn.
 //! - `ends`: `Ended`, why a run ends.
-//! - `finished`: `Finished`, a run that has ended, and its audit.
+//! - `finished`: `Finished`, a run that has ended, and the places of each port's requests.
 //! - `server`: `Server`, the loop over orders.
 //! - `starting`: `service`, a server and its ports.
-//! - `laws`: what follows of a run and its audits: functions that do nothing.
+//! - `laws`: what follows of a run and the places of its ports: functions that do nothing.
 #![tactic(auto)]
 
 mod batches;

@@ -169,7 +169,7 @@ impl Port {
         ask(seat, request, turns, reply)
     }
 
-    /// Tells the server that no more requests come.
+    /// Lets the server know that no more requests come.
     pub fn close<R: Wait>(self, rt: &R) -> Closed
         ensures { result ≡ self }
     {

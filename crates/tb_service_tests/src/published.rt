@@ -11,7 +11,7 @@
 //! - `learning`: two seats, and what a seat learns.
 //! - `refusals`: what earlier requests have refused.
 //! - `times`: no time is left.
-//! - `threads`: seats next to the writer, in threads.
+//! - `threads`: seats next to the publisher, in threads.
 mod frames;
 mod learning;
 mod making;

@@ -4,15 +4,15 @@
 //!
 //! - `making`: what the rows are made of.
 //! - `handovers`: one port.
-//! - `audits`: places that audits name.
+//! - `places`: the places of each port's requests.
 //! - `gates`: a gate passed before a request has its moment.
 //! - `progress`: answers while the server still runs.
 //! - `seats`: seats next to a server.
 //! - `threads`: ports, a server and seats in threads.
-mod audits;
 mod gates;
 mod handovers;
 mod making;
+mod places;
 mod progress;
 mod seats;
 mod threads;

@@ -4,7 +4,7 @@
 use Rattle.std.specs.Prelude.{ℕ, ◌≡◌, ◌⊎◌, List, ◌++◌, Result, Ok, Err, IfOk, codes}
 use Rattle.std.specs.Fmt.{decimal}
 use Rattle.tb_records.specs.Transport.{Output, Sent, CutOff}
-use Rattle.tb_commands.specs.Statuses.{line_named, TellsLine}
+use Rattle.tb_commands.specs.ExitStatuses.{line_named, TellsLine}
 use Rattle.tb_published.specs.declared.faults.OpenFault.{OpenFault}
 use Rattle.tb_published.specs.declared.faults.OpenFault.TheVariants as opening
 use Rattle.tb_published.specs.declared.faults.SeatFault.{SeatFault}
@@ -14,9 +14,9 @@ use Rattle.tb_storm.specs.declared.faults.StormFault.TheVariants as storm
 use Rattle.tb_storm.specs.declared.totals.Totals.{Totals}
 use Rattle.tb_storm.specs.Totals.{AreTotals}
 
-abbrev pub storm_status : StormFault → ℕ
-storm_status storm.GaveUp = 3
-storm_status fault = 1
+abbrev pub storm_exit_status : StormFault → ℕ
+storm_exit_status storm.GaveUp = 3
+storm_exit_status fault = 1
 
 -- the fault of a storm whose opening is refused
 abbrev pub of_opening : OpenFault → StormFault
@@ -51,23 +51,23 @@ storm_lines clients totals =
 
 -- Lines were written, and nothing is reported; or as far as the writer took them, and the fault is Device.
 abbrev pub Writes : List ℕ → ℕ → Output → Output → Output → Output → Type 0
-Writes lines status start written quiet told = ((status ≡ 0) × Sent lines start written × (told ≡ quiet))
-    ⊎ ((status ≡ storm_status storm.Device) × CutOff lines start written × TellsLine (storm_line storm.Device) quiet told)
+Writes lines exit_status start written quiet told = ((exit_status ≡ 0) × Sent lines start written × (told ≡ quiet))
+    ⊎ ((exit_status ≡ storm_exit_status storm.Device) × CutOff lines start written × TellsLine (storm_line storm.Device) quiet told)
 
 -- of a storm that ended with totals its lines are written; of another nothing is, and its fault is reported
 abbrev pub Exits : ℕ → Result Totals StormFault → ℕ → Output → Output → Output → Output → Type 0
-Exits clients (Ok totals) status start written quiet told = Writes (storm_lines clients totals) status start written quiet told
-Exits clients (Err fault) status start written quiet told = (status ≡ storm_status fault) × (written ≡ start) × TellsLine (storm_line fault) quiet told
+Exits clients (Ok totals) exit_status start written quiet told = Writes (storm_lines clients totals) exit_status start written quiet told
+Exits clients (Err fault) exit_status start written quiet told = (exit_status ≡ storm_exit_status fault) × (written ≡ start) × TellsLine (storm_line fault) quiet told
 
 -- A storm of so many clients was played, and this is reported of it: its totals, or that there is no memory for their lines; or its
 -- fault, and nothing else.
 abbrev pub TellsOf : ℕ → Result Totals StormFault → ℕ → Output → Output → Output → Output → Type 0
-TellsOf clients (Ok totals) status start written quiet told =
-    Exits clients (Ok totals) status start written quiet told ⊎ Exits clients (Err storm.NoMemory) status start written quiet told
-TellsOf clients (Err fault) status start written quiet told = Exits clients (Err fault) status start written quiet told
+TellsOf clients (Ok totals) exit_status start written quiet told =
+    Exits clients (Ok totals) exit_status start written quiet told ⊎ Exits clients (Err storm.NoMemory) exit_status start written quiet told
+TellsOf clients (Err fault) exit_status start written quiet told = Exits clients (Err fault) exit_status start written quiet told
 
 -- A storm of so many clients, each with so many transfers, ended: with the totals of a history that has all that the clients saw, or
 -- with a fault.
 abbrev pub StormExits : ℕ → ℕ → ℕ → Output → Output → Output → Output → Type 0
-StormExits clients transfers status start written quiet told =
-    (outcome : Result Totals StormFault) × IfOk outcome (AreTotals clients transfers) × Exits clients outcome status start written quiet told
+StormExits clients transfers exit_status start written quiet told =
+    (outcome : Result Totals StormFault) × IfOk outcome (AreTotals clients transfers) × Exits clients outcome exit_status start written quiet told

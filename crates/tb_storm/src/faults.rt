@@ -1,7 +1,7 @@
 //! Why a storm does not end well.
 ghost use Rattle.std.specs.Prelude.{◌≡◌, ◌<◌};
-ghost use Rattle.tb_commands.specs.Statuses.{TellsLine};
-ghost use Rattle.tb_storm.specs.Storms.{storm_status, storm_fault_name, storm_line};
+ghost use Rattle.tb_commands.specs.ExitStatuses.{TellsLine};
+ghost use Rattle.tb_storm.specs.Storms.{storm_exit_status, storm_fault_name, storm_line};
 
 use std::alloc::{AllocError, AllocFailed};
 use tb_commands::{line_of, put_line};
@@ -25,8 +25,8 @@ pub enum StormFault {
 
 impl StormFault {
     /// 1 where a device, memory or a copy failed, 3 where a client gave up.
-    pub fn status(self) -> u8
-        ensures value { result ≡ storm_status self }
+    pub fn exit_status(self) -> u8
+        ensures value { result ≡ storm_exit_status self }
         ensures failing { 0 < result }
     {
         match self {
@@ -35,7 +35,7 @@ impl StormFault {
         }
     }
 
-    /// Writes the line `tbs: ` and the fault's name. A failure to write it changes no status.
+    /// Writes the line `tbs: ` and the fault's name. A failure to write it changes no exit status.
     pub fn tell<E: Sink>(self, faults: &mut E)
         ensures { TellsLine (storm_line self) (E.output faults.old) (E.output faults.new) }
     {

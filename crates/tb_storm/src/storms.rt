@@ -2,13 +2,13 @@
 ghost use Rattle.std.specs.Prelude.{◌≡◌, ◌<◌, ◌≤◌, IfOk};
 ghost use mathlib.Core.List.{IsPrefix};
 ghost use Rattle.tb_records.specs.Transport.{risen};
-ghost use Rattle.tb_commands.specs.Statuses.{TellsLine};
+ghost use Rattle.tb_commands.specs.ExitStatuses.{TellsLine};
 ghost use Rattle.tb_storm.specs.declared.totals.Totals.{Totals};
 ghost use Rattle.tb_storm.specs.declared.faults.StormFault.{StormFault};
 ghost use Rattle.tb_storm.specs.private.Found.{CountsTransfers, replies_of, credited_after, Totaled, TotaledIn};
 ghost use Rattle.tb_storm.specs.Totals.{first_credits, AreTotals};
 ghost use Rattle.tb_storm.specs.private.Outcomes.{Concludes, fared};
-ghost use Rattle.tb_storm.specs.Storms.{storm_status, storm_line, Writes, TellsOf, StormExits};
+ghost use Rattle.tb_storm.specs.Storms.{storm_exit_status, storm_line, Writes, TellsOf, StormExits};
 
 use crate::clients::Client;
 use crate::faults::StormFault;
@@ -286,12 +286,12 @@ fn play<R: Threads + Wait + Sync>(rt: &R, alloc: Global, scale: Scale) -> Result
 
 /// The exit status of a fault, whose line is reported.
 fn refuse<E: Sink>(fault: StormFault, faults: &mut E) -> u8
-    ensures status { result ≡ storm_status fault }
+    ensures exit_status { result ≡ storm_exit_status fault }
     ensures line { TellsLine (storm_line fault) (E.output faults.old) (E.output faults.new) }
     ensures failing { 0 < result }
 {
     fault.tell(faults);
-    fault.status()
+    fault.exit_status()
 }
 
 /// Writes the lines of a storm, and answers the exit status.

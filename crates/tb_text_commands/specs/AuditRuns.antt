@@ -29,10 +29,10 @@ use Rattle.tb_text_commands.specs.declared.faults.TextCommandFault.{TextCommandF
 use Rattle.tb_text_commands.specs.declared.faults.TextCommandFault.TheVariants.{Arguments, Device, Dump, NoMemory, TooLong}
 use Rattle.tb_text_commands.specs.AuditLines.{IsJsonLine}
 use Rattle.tb_text_commands.specs.Audits.{NoneIsDue, Waiting, waits_behind}
-use Rattle.tb_text_commands.specs.Ends.{outcome_status}
+use Rattle.tb_text_commands.specs.Ends.{outcome_exit_status}
 use Rattle.tb_text_commands.specs.Forms.{form_of}
 use Rattle.tb_text_commands.specs.Results.{result_at, results_in}
-use Rattle.tb_text_commands.specs.Statuses.{dump_fault_of}
+use Rattle.tb_text_commands.specs.ExitStatuses.{dump_fault_of}
 use Rattle.tb_text_commands.specs.Wanted.{Told, begins, enters, expires, is_wanted, moves, opening_of, settling_of, stands}
 use Rattle.tb_text_commands.specs.declared.wanted.Wanted.{Wanted}
 
@@ -304,16 +304,16 @@ module _ (IsLine : Told → List ℕ → Type 0) (wants : Told → Bool) where
 abbrev pub AuditRanFor : Wanted → Result (Unit {0}) TextCommandFault → Input → Input → Output → Output → Type 0
 AuditRanFor wanted result before after start written = AuditRan IsJsonLine (is_wanted wanted) result wanted.account before after start written
 
--- it ended with the status of its outcome
-pub record AuditedBy (wanted : Wanted) (status : ℕ) (before after : Input) (start written : Output) : Type 0 where
+-- it ended with the exit status of its outcome
+pub record AuditedBy (wanted : Wanted) (exit_status : ℕ) (before after : Input) (start written : Output) : Type 0 where
   pub outcome : Result (Unit {0}) TextCommandFault
-  pub status_is : status ≡ outcome_status outcome
+  pub exit_status_is : exit_status ≡ outcome_exit_status outcome
   pub ran : AuditRanFor wanted outcome before after start written
 
 -- a form that is an audit ran as one
 abbrev pub AuditsBy : Form → Result (Unit {0}) TextCommandFault → Input → Input → Output → Output → Type 0
 AuditsBy asked result before after start written = (wanted : Wanted) → asked ≡ form.Audit wanted → AuditRanFor wanted result before after start written
 
--- words that ask for an audit: it ended with a status
+-- words that ask for an audit: it ended with an exit status
 abbrev pub AuditedWhere : List (List ℕ) → ℕ → Input → Input → Output → Output → Type 0
-AuditedWhere words status before after start written = (wanted : Wanted) → form_of words ≡ Some (form.Audit wanted) → AuditedBy wanted status before after start written
+AuditedWhere words exit_status before after start written = (wanted : Wanted) → form_of words ≡ Some (form.Audit wanted) → AuditedBy wanted exit_status before after start written

@@ -2,7 +2,7 @@
 -- Cited by public contracts of: commands.
 use Rattle.std.specs.Prelude.{ℕ, Bool, true, false, ◌≡◌, ◌⊎◌, List, IfSome, OnOk, Option, Some, None, Result, Ok, Err, String, map, string_bytes}
 use Rattle.tb_records.specs.Transport.{Input, Output, risen, Refuses}
-use Rattle.tb_commands.specs.Statuses.{TellsLine}
+use Rattle.tb_commands.specs.ExitStatuses.{TellsLine}
 use Rattle.tb_text_commands.specs.declared.faults.TextCommandFault.{TextCommandFault}
 use Rattle.tb_text_commands.specs.declared.faults.TextCommandFault.TheVariants.{Device, Text, Late}
 use Rattle.tb_text_commands.specs.declared.arguments.Form.{Form}
@@ -12,7 +12,7 @@ use Rattle.tb_text_commands.specs.declared.kinds.Kind.{Kind}
 use Rattle.tb_text_commands.specs.Explanations.{Explained}
 use Rattle.tb_text_commands.specs.Forms.{form_of}
 use Rattle.tb_text_commands.specs.Kinds.{IsForeign, IsNotForeign, awaited_by, foreign_line, is_of_bytes}
-use Rattle.tb_text_commands.specs.Statuses.{device_named, fault_status, TellsOf}
+use Rattle.tb_text_commands.specs.ExitStatuses.{device_named, fault_exit_status, TellsOf}
 use Rattle.tb_text_commands.specs.Typed.{IsReadBy, is_typed}
 use Rattle.tb_text_commands.specs.Whole.{WasWhole}
 
@@ -80,9 +80,9 @@ is_passing (Late line) = true
 is_passing fault = false
 
 -- the exit status of an outcome
-abbrev pub outcome_status : Result (Unit {0}) TextCommandFault → ℕ
-outcome_status (Ok done) = 0
-outcome_status (Err fault) = fault_status fault
+abbrev pub outcome_exit_status : Result (Unit {0}) TextCommandFault → ℕ
+outcome_exit_status (Ok done) = 0
+outcome_exit_status (Err fault) = fault_exit_status fault
 
 -- a fault of what was read
 abbrev pub IsOfRead : Result (Unit {0}) TextCommandFault → Type 0
@@ -109,27 +109,27 @@ abbrev pub Tells : Option (Awaited × Kind) → Result (Unit {0}) TextCommandFau
 Tells foreign (Ok done) quiet told = told ≡ quiet
 Tells foreign (Err fault) quiet told = TellsAs foreign fault quiet told
 
--- a form of the program was done, or a fault ended it: the status is the outcome's, and a device failed exactly where that
--- says so; with status 0 a whole input was read, and `explain` says where `tbs` stops in it; where no statements are typed,
+-- a form of the program was done, or a fault ended it: the exit status is the outcome's, and a device failed exactly where that
+-- says so; with exit status 0 a whole input was read, and `explain` says where `tbs` stops in it; where no statements are typed,
 -- nothing but its line is reported, and the input is of another kind than the form reads where that line says so; `own` says
 -- little, since bytes may be of several kinds by how many of them are looked at
-pub record Exits (form : Form) (talks : Bool) (status : ℕ) (before after : Input) (start written quiet told : Output) : Type 0 where
+pub record Exits (form : Form) (talks : Bool) (exit_status : ℕ) (before after : Input) (start written quiet told : Output) : Type 0 where
   pub outcome : Result (Unit {0}) TextCommandFault
   pub ended : Ended outcome before after start written
-  pub status_is : status ≡ outcome_status outcome
-  pub whole : status ≡ 0 → WasWhole (IsReadBy form talks) before.left
+  pub exit_status_is : exit_status ≡ outcome_exit_status outcome
+  pub whole : exit_status ≡ 0 → WasWhole (IsReadBy form talks) before.left
   pub foreign : Option (Awaited × Kind)
   pub is_foreign : IfSome foreign (λ it. IsForeign form talks it.0 it.1 before.left)
   pub own : IsOfRead outcome → foreign ≡ None → IsNotForeign (awaited_by form talks) before.left
   pub line : is_typed form talks ≡ false → Tells foreign (named outcome before.failed after.failed) quiet told
-  pub explained : form ≡ forms.Explain → status ≡ 0 → Explained before start written
+  pub explained : form ≡ forms.Explain → exit_status ≡ 0 → Explained before start written
 
 -- so did the form that words ask for, by the states of a reader and of two writers
 abbrev pub ExitsBy : {R W E : Type 0} → List (List ℕ) → Bool → ℕ → (R → Input) → R → R → (W → Output) → W → W → (E → Output) → E → E → Type 0
-ExitsBy words talks status input before after output start written report quiet told =
+ExitsBy words talks exit_status input before after output start written report quiet told =
     (form : Form) → form_of words ≡ Some form
-    → Exits form talks status (input before) (input after) (output start) (output written) (report quiet) (report told)
+    → Exits form talks exit_status (input before) (input after) (output start) (output written) (report quiet) (report told)
 
 -- words that ask for no form are refused, and no device is touched
 abbrev pub RefusesWords : {A R W : Type 0} → List (String A) → ℕ → R → R → W → W → Type 0
-RefusesWords words status before after start written = form_of (map string_bytes words) ≡ None → (status ≡ 2) × (after ≡ before) × (written ≡ start)
+RefusesWords words exit_status before after start written = form_of (map string_bytes words) ≡ None → (exit_status ≡ 2) × (after ≡ before) × (written ≡ start)

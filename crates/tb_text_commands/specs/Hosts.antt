@@ -10,7 +10,7 @@ use Rattle.tb_text_commands.specs.declared.faults.TextCommandFault.TheVariants.{
 use Rattle.tb_text_commands.specs.AuditRuns.{AuditedWhere}
 use Rattle.tb_text_commands.specs.Ends.{ExitsBy}
 use Rattle.tb_text_commands.specs.Forms.{form_of}
-use Rattle.tb_text_commands.specs.Statuses.{Finishes, TellsOf}
+use Rattle.tb_text_commands.specs.ExitStatuses.{Finishes, TellsOf}
 
 abbrev pub input_of : {R : Type 0} → (R → Option (List ℕ)) → Counted (BufReader R Global) → Input
 input_of remaining r = record { left = reader_remaining remaining r.inner; failed = r.failures; halted = r.halted; at_hand = reader_buffer r.inner }
@@ -20,36 +20,36 @@ output_of contents w = record { written = writer_contents contents w.inner; fail
 
 -- there is no memory for the buffers: that is reported
 abbrev pub WantsMemory : ℕ → Output → Output → Type 0
-WantsMemory status quiet told = (status ≡ 1) × TellsOf NoMemory quiet told
+WantsMemory exit_status quiet told = (exit_status ≡ 1) × TellsOf NoMemory quiet told
 
 module _ {R W : Type 0} (remaining : R → Option (List ℕ)) (contents : W → Option (List ℕ)) (words : List (List ℕ)) where
-  -- the form that words ask for ended with a status, and what it reports was said; words that ask for none read and write nothing
-  pub record Commands (talks : Bool) (status : ℕ) (reader : Counted (BufReader R Global)) (writer : Counted (BufWriter W Global)) (last : Counted (BufReader R Global)) (final : Counted (BufWriter W Global)) (quiet said : Output) : Type 0 where
-    pub ended : ExitsBy words talks status (input_of remaining) reader last (output_of contents) writer final (λ o. o) quiet said
-    pub refused : form_of words ≡ None → (status ≡ 2) × (last ≡ reader) × (final ≡ writer)
-    pub audited : AuditedWhere words status (input_of remaining reader) (input_of remaining last) (output_of contents writer) (output_of contents final)
+  -- the form that words ask for ended with an exit status, and what it reports was said; words that ask for none read and write nothing
+  pub record Commands (talks : Bool) (exit_status : ℕ) (reader : Counted (BufReader R Global)) (writer : Counted (BufWriter W Global)) (last : Counted (BufReader R Global)) (final : Counted (BufWriter W Global)) (quiet said : Output) : Type 0 where
+    pub ended : ExitsBy words talks exit_status (input_of remaining) reader last (output_of contents) writer final (λ o. o) quiet said
+    pub refused : form_of words ≡ None → (exit_status ≡ 2) × (last ≡ reader) × (final ≡ writer)
+    pub audited : AuditedWhere words exit_status (input_of remaining reader) (input_of remaining last) (output_of contents writer) (output_of contents final)
 
   -- where statements are typed: what a command reports is said when it comes, and then the output is finished
   pub record ReportsAtOnce (result : ℕ) (reader : Counted (BufReader R Global)) (writer : Counted (BufWriter W Global)) (quiet told : Output) : Type 0 where
-    pub status : ℕ
+    pub exit_status : ℕ
     pub last : Counted (BufReader R Global)
     pub final : Counted (BufWriter W Global)
     pub said : Output
-    pub commands : Commands true status reader writer last final quiet said
-    pub finishes : Finishes status [] result said told
+    pub commands : Commands true exit_status reader writer last final quiet said
+    pub finishes : Finishes exit_status [] result said told
 
   -- else what a command reports is kept until all output is out
   pub record ReportsLast (result : ℕ) (reader : Counted (BufReader R Global)) (writer : Counted (BufWriter W Global)) (quiet told : Output) : Type 0 where
-    pub status : ℕ
+    pub exit_status : ℕ
     pub last : Counted (BufReader R Global)
     pub final : Counted (BufWriter W Global)
     pub line : List ℕ
     pub begun : Output
     pub kept : Output
     pub is_empty : begun.written ≡ Some []
-    pub commands : Commands false status reader writer last final begun kept
+    pub commands : Commands false exit_status reader writer last final begun kept
     pub holds : kept.written ≡ Some line
-    pub finishes : Finishes status line result quiet told
+    pub finishes : Finishes exit_status line result quiet told
 
   abbrev pub Reports : Bool → ℕ → Counted (BufReader R Global) → Counted (BufWriter W Global) → Output → Output → Type 0
   Reports true result reader writer quiet told = ReportsAtOnce result reader writer quiet told

@@ -12,7 +12,7 @@ pub mod Hosts
 pub mod Kinds
 pub mod Options
 pub mod Results
-pub mod Statuses
+pub mod ExitStatuses
 pub mod Wanted
 pub mod Typed
 pub mod Whole

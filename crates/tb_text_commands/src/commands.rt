@@ -135,8 +135,8 @@ fn tell<E: Sink>(fault: &TextCommandFault, foreign: Option<(Awaited, Kind)>, fau
 }
 
 /// Does what the words ask for, and answers the exit status: 0 done, 1 a device or memory failed, 2 the input or the
-/// arguments are wrong. With a status other than 0 one line goes to `faults`, with 0 nothing. Where `run` talks, prompts and
-/// mistakes go there as they come, and it ends with status 0 at the end of the input, `exit` or `quit`. Arguments that are
+/// arguments are wrong. With an exit status other than 0 one line goes to `faults`, with 0 nothing. Where `run` talks, prompts and
+/// mistakes go there as they come, and it ends with exit status 0 at the end of the input, `exit` or `quit`. Arguments that are
 /// none of the program's forms are found before any input is read. The clock is that of statements of `run` that leave out
 /// their moment. What `explain` writes is the line that says where and why `tbs` stops, or that it ends well.
 pub fn command<C: Clock, R: Source, W: Sink, E: Sink>(
@@ -148,7 +148,7 @@ pub fn command<C: Clock, R: Source, W: Sink, E: Sink>(
     writer: &mut W,
     faults: &mut E,
 ) -> u8
-    ensures status { result < 3 }
+    ensures exit_status { result < 3 }
     ensures quiet { result ≡ 0 → talks ≡ false → faults.new ≡ faults.old }
     ensures usage { RefusesWords words.now result reader.old reader.new writer.old writer.new }
     ensures ended { ExitsBy (map string_bytes words.now) talks result R.input reader.old reader.new
@@ -164,10 +164,10 @@ pub fn command<C: Clock, R: Source, W: Sink, E: Sink>(
     match perform_known(alloc, clock, form, talks, reader, writer, faults) {
         Ok(()) => 0,
         Err(Refused { fault, foreign }) => {
-            let status = fault.status();
+            let exit_status = fault.exit_status();
             let fault = fault.of_device(failures, reader.failures());
             tell(&fault, foreign, faults);
-            status
+            exit_status
         }
     }
 }

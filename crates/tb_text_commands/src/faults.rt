@@ -1,9 +1,9 @@
-//! Why the program ends with a status other than 0, and the line that says so.
+//! Why the program ends with an exit status other than 0, and the line that says so.
 ghost use Rattle.std.specs.Prelude.{◌≡◌, ◌<◌, ◌≤◌, length};
-ghost use Rattle.tb_commands.specs.Statuses.{TellsLine};
+ghost use Rattle.tb_commands.specs.ExitStatuses.{TellsLine};
 ghost use Rattle.tb_text_commands.specs.declared.faults.TextCommandFault.TheVariants.{NoMemory};
 ghost use Rattle.tb_text_commands.specs.Kinds.{is_of_bytes};
-ghost use Rattle.tb_text_commands.specs.Statuses.{device_named, dump_fault_of, fault_status, frame_fault_of, line_named, TellsOf};
+ghost use Rattle.tb_text_commands.specs.ExitStatuses.{device_named, dump_fault_of, fault_exit_status, frame_fault_of, line_named, TellsOf};
 
 use crate::help::USAGE;
 use crate::told_lines::Lines;
@@ -13,7 +13,7 @@ use tb_commands::{line_by, put_line};
 use tb_records::{DumpFault, FrameFault, Sink};
 use tb_text::{TextFault, Word, explain_fault};
 
-/// Why the program ends with a status other than 0.
+/// Why the program ends with an exit status other than 0.
 #[derive(Drop)]
 pub enum TextCommandFault {
     /// There are no arguments.
@@ -156,8 +156,8 @@ impl TextCommandFault {
     }
 
     /// 1 where a device or memory failed, 2 where the input or the arguments are wrong.
-    pub fn status(&self) -> u8
-        ensures status { result ≡ fault_status self.now }
+    pub fn exit_status(&self) -> u8
+        ensures exit_status { result ≡ fault_exit_status self.now }
         ensures failing { 0 < result }
         ensures known { result < 3 }
     {
@@ -173,7 +173,7 @@ impl TextCommandFault {
     }
 
     /// Writes what is wrong as one line, `tbt: ` and what it is, or the page of usage, in one go. A failure to write it
-    /// changes no status.
+    /// changes no exit status.
     pub fn tell<E: Sink>(&self, faults: &mut E)
         ensures { TellsOf self.now (E.output faults.old) (E.output faults.new) }
     {

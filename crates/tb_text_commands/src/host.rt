@@ -2,7 +2,7 @@
 ghost use Rattle.std.specs.Prelude.{◌≡◌, ◌<◌, ◌⊎◌, None, map, string_bytes};
 ghost use Rattle.tb_text_commands.specs.Forms.{form_of};
 ghost use Rattle.tb_text_commands.specs.Hosts.{ReportsLast, ServesOn};
-ghost use Rattle.tb_text_commands.specs.Statuses.{Finishes, TellsOf, fault_status};
+ghost use Rattle.tb_text_commands.specs.ExitStatuses.{Finishes, TellsOf, fault_exit_status};
 
 use crate::commands::command;
 use crate::faults::TextCommandFault;
@@ -20,27 +20,32 @@ pub fn fault_of(error: &io::Error) -> TextCommandFault {
     }
 }
 
-/// Prints a fault, and answers its status.
+/// Prints a fault, and answers its exit status.
 pub fn refuse<E: Sink>(fault: &TextCommandFault, faults: &mut E) -> u8
-    ensures value { result ≡ fault_status fault.now }
+    ensures value { result ≡ fault_exit_status fault.now }
     ensures known { result < 3 }
     ensures told { TellsOf fault.now (E.output faults.old) (E.output faults.new) }
 {
     fault.tell(faults);
-    fault.status()
+    fault.exit_status()
 }
 
-/// The status of a command whose output is left to its buffer. What is lost there is a fault that comes before any other.
-fn finish<W: Write + Drop, E: Sink>(mut output: W, status: u8, line: &[u8], faults: &mut E) -> u8
-    requires { status < 3 }
+/// The exit status of a command whose output is left to its buffer. What is lost there is a fault that comes before any other.
+fn finish<W: Write + Drop, E: Sink>(
+    mut output: W,
+    exit_status: u8,
+    line: &[u8],
+    faults: &mut E,
+) -> u8
+    requires { exit_status < 3 }
     ensures known { result < 3 }
-    ensures told { Finishes status line.now result (E.output faults.old) (E.output faults.new) }
+    ensures told { Finishes exit_status line.now result (E.output faults.old) (E.output faults.new) }
 {
     if output.flush().is_err() {
         return refuse(&TextCommandFault::Writer, faults);
     }
     put_line(line, faults);
-    status
+    exit_status
 }
 
 /// Serves the command that the words are: what it reports is kept until all output is out.
@@ -59,9 +64,9 @@ fn report_last<C: Clock, R: Read, W: Write + Drop, E: Sink>(
 {
     let mut writer = writer;
     let mut kept = Counting::new(Vec::new(alloc));
-    let status = command(alloc, clock, words, false, reader, &mut writer, &mut kept);
+    let exit_status = command(alloc, clock, words, false, reader, &mut writer, &mut kept);
     let line = kept.into_inner();
-    finish(writer.into_inner(), status, line.as_slice(), faults)
+    finish(writer.into_inner(), exit_status, line.as_slice(), faults)
 }
 
 /// Does what the words ask for between an input and an output, both buffered, and answers the exit status. Where
@@ -90,6 +95,6 @@ pub fn serve<C: Clock, R: Read + Drop, W: Write + Drop, E: Sink>(
     if !talks {
         return report_last(alloc, clock, words, &mut reader, writer, faults);
     }
-    let status = command(alloc, clock, words, true, &mut reader, &mut writer, faults);
-    finish(writer.into_inner(), status, &[], faults)
+    let exit_status = command(alloc, clock, words, true, &mut reader, &mut writer, faults);
+    finish(writer.into_inner(), exit_status, &[], faults)
 }

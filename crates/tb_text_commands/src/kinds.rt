@@ -1,7 +1,7 @@
 //! What an input is that a form does not read, by its first bytes.
 ghost use Rattle.std.specs.Prelude.{◌≡◌, drop, take};
 ghost use Rattle.std.specs.List.{list_all};
-ghost use Rattle.tb_commands.specs.Statuses.{TellsLine};
+ghost use Rattle.tb_commands.specs.ExitStatuses.{TellsLine};
 ghost use Rattle.tb_records.specs.Transport.{IsSent};
 ghost use Rattle.tb_text_commands.specs.Kinds.{Begins, LooksAt, awaited_by, begins_with, blame_text, foreign_line, is_foreign, is_text, kind_of, kind_text, register};
 

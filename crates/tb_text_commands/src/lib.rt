@@ -8,7 +8,7 @@
 //! - `arguments`: `read_form`, what the words of the command line ask for.
 //! - `help`: the page of usage, and what a terminal is shown.
 //! - `told_lines`: lines that may go to a terminal.
-//! - `faults`: why the program ends with a status other than 0, and its line.
+//! - `faults`: why the program ends with an exit status other than 0, and its line.
 //! - `kinds`: what an input is that a form does not read.
 //! - `intake`: bytes that were read and wait to be taken.
 //! - `heads`: what comes before the operation of a statement.

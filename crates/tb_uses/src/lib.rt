@@ -6,9 +6,9 @@
 //! - `ledgers`: of tb_ledger.
 //! - `sessions`: of tb_sessions.
 //! - `retries`: of tb_machine: a request entered once, its repeat answered.
-//! - `publishing`: of tb_published: a writer that takes and tells, a client thread that learns and asks.
+//! - `publishing`: of tb_published: a publisher that takes and tells, a client thread that learns and asks.
 //! - `seating`: of tb_published: two seats next to one history.
-//! - `serving`: of tb_service: one port, one request, and the audit.
+//! - `serving`: of tb_service: one port, one request, and the places of its requests.
 //! - `texts`: of tb_text.
 #![tactic(auto)]
 

@@ -1,4 +1,4 @@
-//! A caller of the published copies: a writer takes and tells, a client thread learns and asks.
+//! A caller of the published copies: a publisher takes and tells, a client thread learns and asks.
 ghost use Rattle.std.specs.Prelude.{◌≡◌, Ok, IfOk};
 ghost use Rattle.tb_published.specs.Openings.{IsAnswerIn, LegalIn};
 ghost use Rattle.tb_published.specs.Taking.{TakesRequest};

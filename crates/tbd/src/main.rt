@@ -46,9 +46,9 @@ fn main(rt: HostRuntime) -> ExitCode {
         faults: rt.stderr().is_terminal(),
     };
     let mut faults = Counting::new(lines(&rt));
-    let status = match words(&rt) {
+    let exit_status = match words(&rt) {
         Ok(words) => run(&rt, words.as_slice(), terminals, &mut faults),
         Err(error) => refuse(words_fault(&error), &mut faults),
     };
-    ExitCode::from(status)
+    ExitCode::from(exit_status)
 }

@@ -16,7 +16,7 @@ use tb_storm::storm;
 
 fn main(rt: HostRuntime) -> ExitCode {
     let mut faults = Counting::new(rt.stderr());
-    let status = match words(&rt) {
+    let exit_status = match words(&rt) {
         Ok(words) => match read_storm(words.as_slice()) {
             Some((clients, transfers)) => {
                 let mut writer = Counting::new(rt.stdout());
@@ -39,5 +39,5 @@ fn main(rt: HostRuntime) -> ExitCode {
         },
         Err(error) => refuse(fault_of(&error), &mut faults),
     };
-    ExitCode::from(status)
+    ExitCode::from(exit_status)
 }

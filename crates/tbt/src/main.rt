@@ -11,7 +11,7 @@ use tb_text_commands::{fault_of, refuse, serve};
 fn main(rt: HostRuntime) -> ExitCode {
     let talks = rt.stdin().is_terminal();
     let mut faults = Counting::new(rt.stderr());
-    let status = match words(&rt) {
+    let exit_status = match words(&rt) {
         Ok(words) => serve(
             rt.alloc(),
             &rt,
@@ -23,5 +23,5 @@ fn main(rt: HostRuntime) -> ExitCode {
         ),
         Err(error) => refuse(&fault_of(&error), &mut faults),
     };
-    ExitCode::from(status)
+    ExitCode::from(exit_status)
 }

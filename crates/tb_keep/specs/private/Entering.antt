@@ -11,8 +11,8 @@ use Rattle.tb_keep.specs.declared.faults.StartFault.{StartFault}
 use Rattle.tb_keep.specs.declared.faults.StartFault.TheVariants as start
 use Rattle.tb_keep.specs.declared.recovering.Rules.{Rules}
 use Rattle.tb_keep.specs.Keeping.{head_record}
-use Rattle.tb_keep.specs.Restoration.{RecordsLead, StopsAt, RestoresRecord, RestoresAll, StopsReading, HasStartCause, Restores}
-use Rattle.tb_keep.specs.Opening.{IsUntouched}
+use Rattle.tb_keep.specs.Recovering.{RecordsLead, StopsAt, RestoresRecord, RestoresAll, StopsReading, HasStartCause, Restores}
+use Rattle.tb_keep.specs.Creating.{IsUntouched}
 use Rattle.tb_keep.specs.Reading.{HasRules, RulesAnswer}
 use Rattle.tb_journal.specs.Reading.{extent_of}
 

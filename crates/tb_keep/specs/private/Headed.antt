@@ -12,8 +12,8 @@ use Rattle.tb_keep.specs.declared.faults.StartFault.{StartFault}
 use Rattle.tb_keep.specs.declared.faults.StartFault.TheVariants as start
 use Rattle.tb_keep.specs.declared.creating.NotKept.{NotKept}
 use Rattle.tb_keep.specs.Keeping.{head_record, Keeping, IsFresh, IsUsable}
-use Rattle.tb_keep.specs.Opening.{HasNoEntry, OpensFile}
-use Rattle.tb_keep.specs.Restoration.{IsRestoredFrom}
+use Rattle.tb_keep.specs.Creating.{HasNoEntry, OpensFile}
+use Rattle.tb_keep.specs.Recovering.{IsRestoredFrom}
 use Rattle.tb_keep.specs.declared.recovering.Rules.{Rules}
 use Rattle.tb_machine.specs.Histories.{State}
 use Rattle.tb_journal.specs.declared.reading.Extent.{Extent}

@@ -16,7 +16,7 @@ use Rattle.tb_keep.specs.declared.faults.StartFault.{StartFault}
 use Rattle.tb_keep.specs.declared.faults.StartFault.TheVariants as start
 use Rattle.tb_keep.specs.declared.recovering.Rules.{Rules}
 use Rattle.tb_keep.specs.Keeping.{Keeping}
-use Rattle.tb_keep.specs.Restoration.{RecordsLead, RestoresRecord, IsTornTooLong, torn_bytes}
+use Rattle.tb_keep.specs.Recovering.{RecordsLead, RestoresRecord, IsTornTooLong, torn_bytes}
 use Rattle.tb_keep.specs.Salvaging.{StopsBehind, IsUnsalvaged, IsWriteCause, old_part, new_part}
 use Rattle.tb_keep.specs.private.Entering.{head_of, OfExtent}
 

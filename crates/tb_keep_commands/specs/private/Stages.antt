@@ -68,8 +68,8 @@ module _ {O D E R W L : Type 0} (its : KnownEnds O D E R W L) where
       On its.source its.sink its.lines Does (old reader) (new reader) (old writer) (new writer) (old lines) (new lines)
 
   abbrev pub ExitsOn : Asked → Change O → ℕ → Change R → Change W → Change L → Type 0
-  ExitsOn asked opener status reader writer lines =
-      OnEnds (Exits its.files asked.ends (old opener) asked.file.now asked.new.now (new opener) (its.gone (new writer)) asked.form status)
+  ExitsOn asked opener exit_status reader writer lines =
+      OnEnds (Exits its.files asked.ends (old opener) asked.file.now asked.new.now (new opener) (its.gone (new writer)) asked.form exit_status)
       reader writer lines
 
   abbrev pub PerformsOn : Asked → Change O → Outcome → Change R → Change W → Change L → Type 0

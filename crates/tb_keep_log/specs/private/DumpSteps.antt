@@ -17,7 +17,7 @@ use Rattle.tb_keep.specs.Rounds.{entered, entries_from, state_from, IsUntimely}
 use Rattle.tb_keep_log.specs.declared.faults.DumpLogFault.{DumpLogFault}
 use Rattle.tb_keep_log.specs.declared.faults.DumpLogFault.TheVariants as dump
 use Rattle.tb_keep_log.specs.Dumping.{AreTimely, HasDumpCause, HasNoPair, StopsRecord, StopsDump}
-use Rattle.tb_keep_log.specs.Restoring.{fixed_bytes, HasMark}
+use Rattle.tb_keep_log.specs.Rereading.{fixed_bytes, HasMark}
 use Rattle.tb_keep.specs.declared.recovering.Rules.{Rules}
 
 -- the entry of a pair went out, if it makes one; or not

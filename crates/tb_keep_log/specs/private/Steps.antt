@@ -25,7 +25,7 @@ use Rattle.tb_log.specs.Entries.{IsPairs, ReadsEntry, RefusesEntry}
 use Rattle.tb_log.specs.Follows.{ItemFits}
 use Rattle.tb_log.specs.Steps.{TellsStanding}
 use Rattle.tb_keep.specs.declared.recovering.Rules.{Rules}
-use Rattle.tb_keep.specs.Opening.{IsUntouched}
+use Rattle.tb_keep.specs.Creating.{IsUntouched}
 use Rattle.tb_keep.specs.Rounds.{Commits, RefusesRecord}
 use Rattle.tb_keep_log.specs.declared.faults.KeepLogFault.{KeepLogFault}
 use Rattle.tb_keep_log.specs.declared.faults.KeepLogFault.TheVariants as keep
@@ -33,9 +33,9 @@ use Rattle.tb_keep_log.specs.declared.faults.LogStartFault.{LogStartFault}
 use Rattle.tb_keep_log.specs.declared.faults.LogStartFault.TheVariants as start
 use Rattle.tb_keep_log.specs.declared.beginning.NotStarted.{NotStarted}
 use Rattle.tb_keep_log.specs.Keeping.{By, IsUsable, Keeping, Keeps, Leads, record_bytes, record_of}
-use Rattle.tb_keep_log.specs.Restoring.{EntersRecord, HasLogCause, IsHaltedContent, IsRestored, StopsAt}
-use Rattle.tb_keep_log.specs.Opening.{IsCreatedCause, IsNotOfFile}
-use Rattle.tb_keep_log.specs.Serving.{Point, Turn, Halts, point, Served}
+use Rattle.tb_keep_log.specs.Rereading.{EntersRecord, HasLogCause, IsHaltedContent, IsRestored, StopsAt}
+use Rattle.tb_keep_log.specs.Beginning.{IsCreatedCause, IsNotOfFile}
+use Rattle.tb_keep_log.specs.Items.{Point, Turn, Halts, point, Served}
 
 -- a writer into memory fails only when out of memory
 abbrev pub in_memory : LogFault → LogFault

@@ -148,7 +148,7 @@ fn a_file_is_not_copied(rt: HostRuntime) {
     run_all(&rt, rt.alloc(), REFUSED);
 }
 
-/// Why a new file is not made, and what is told of it.
+/// Why a new file is not made, and what is reported of it.
 const UNMADE: &[Row] = both!(unmade:
     (OpeningFault::Exists, 2, "tbd: Usage: new exists\n"),
     (OpeningFault::Missing, 1, "tbd: Device: cannot find new\n"),

@@ -6,7 +6,7 @@ use std::io::{self, ErrorKind};
 use tb_journal::{FileFault, JournalFault};
 use tb_keep_commands::{KeepCommandFault, OpeningFault, USAGE, opening_fault, words_fault};
 
-// Words that are no form, and what is told of them.
+// Words that are no form, and what is reported of them.
 macro_rules! wrong {
     ($words:expr, $line:expr $(,)?) => {
         Row { words: $words, has: Has::Nothing, status: 2, line: $line, ..WELL }
@@ -210,14 +210,14 @@ fn texts_are_printed(rt: HostRuntime) {
     run_making(&rt, rt.alloc(), TEXTS, 0);
 }
 
-/// What is told of a fault.
+/// What is reported of a fault.
 fn told(fault: FileFault) -> OpeningFault {
     let told = opening_fault(&fault);
     drop(fault);
     told
 }
 
-/// What is told of words that the system gave this error for.
+/// What is reported of words that the system gave this error for.
 fn told_of_words(kind: ErrorKind) -> KeepCommandFault {
     let error = io::Error::from(kind);
     let told = words_fault(&error);
@@ -225,7 +225,7 @@ fn told_of_words(kind: ErrorKind) -> KeepCommandFault {
     told
 }
 
-/// What is told of the system's errors.
+/// What is reported of the system's errors.
 const ERRORS: &[(ErrorKind, OpeningFault)] = &[
     (ErrorKind::NotFound, OpeningFault::Missing),
     (ErrorKind::PermissionDenied, OpeningFault::Forbidden),

@@ -316,7 +316,7 @@ fn ended(rt: &impl Abort, alloc: Global, item: &[u8], line: &'static str) {
     drop(file);
 }
 
-/// Where in the log items are that are refused behind the first entry, and what is told then.
+/// Where in the log items are that are refused behind the first entry, and what is reported then.
 const ITEMS: &[(usize, usize, &str)] = &[
     (
         0,
@@ -358,7 +358,7 @@ fn openings_and_outputs_that_fail(rt: HostRuntime) {
     drop(log);
     expect(&rt, told.len() == 10);
     drop(told);
-    // What was not told whole is in the file.
+    // What was not reported whole is in the file.
     expect_ends(&rt, &mut file, FOLLOW, &[], ROOM, (0, AT_ONE));
     let full = "tbd: Device: standard output\n";
     expect_ends(&rt, &mut file, DUMP, &[], 10, (1, full));
@@ -368,7 +368,7 @@ fn openings_and_outputs_that_fail(rt: HostRuntime) {
     drop(file);
 }
 
-/// Words that are no form, and what is told of them.
+/// Words that are no form, and what is reported of them.
 const WRONG: &[Refusal] = &[
     refusal!(
         &["folow", "ledger", "2"],

@@ -28,7 +28,7 @@ Follows l (o ∷ os) = (o.front ≡ with_entry l o.entry) × Follows o.front os
 abbrev pub prefix_after : Prefix → List PostedEntry → Prefix
 prefix_after l os = fold (λ _ o. o.front) l os
 
--- the two copies as their writer has them: what they show, the posted entries that they have not taken in, and what the writer has seen
+-- the two copies as the publisher has them: what they show, the posted entries that they have not taken in, and what the publisher has seen
 pub record TwoCopies : Type 0 where
   pub shown : Prefix
   pub posted : List PostedEntry

@@ -7,7 +7,7 @@ use Rattle.tb_published.specs.Openings.{Opening, LegalIn}
 use Rattle.tb_published.specs.private.Prefixes.{Prefix, IsPrefixOf}
 use Rattle.tb_published.specs.private.PostedEntries.{TwoCopies, prefix_after, showing}
 
--- what the copies show begins with all that any reader and the writer have seen
+-- what the copies show begins with all that any reader and the publisher have seen
 abbrev pub Shows : Prefix → List (Option Prefix) → Type 0
 Shows x views = (seat : ℕ) (l : Prefix) → get_elem? views seat ≡ some (Some l) → IsPrefixOf l x
 
@@ -15,7 +15,7 @@ Shows x views = (seat : ℕ) (l : Prefix) → get_elem? views seat ≡ some (Som
 abbrev pub Sees : Option Prefix → Prefix → Prefix → Option Prefix → Type 0
 Sees v x y w = (w ≡ Some y) × IfSome v (λ l. IsPrefixOf l y)
 
--- a reader or the writer that has seen no more than the front
+-- a reader or the publisher that has seen no more than the front
 abbrev pub Knows : Option Prefix → Prefix → Type 0
 Knows v front = IfSome v (λ l. IsPrefixOf l front)
 

@@ -1,4 +1,4 @@
-//! Seats next to the writer, each in a thread of its own.
+//! Seats next to the publisher, each in a thread of its own.
 ghost use Rattle.std.specs.Prelude.{◌≡◌};
 
 use crate::comparing::holds;
@@ -142,7 +142,7 @@ fn take_many<J: Naming, R: Wait>(
     true
 }
 
-/// Four threads ask four seats next to the writer.
+/// Four threads ask four seats next to the publisher.
 fn watch_beside<J: Naming + Send + Sync, R: Threads + Wait + Sync>(
     rt: &R,
     alloc: Global,

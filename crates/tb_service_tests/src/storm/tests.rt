@@ -64,7 +64,7 @@ fn expect_device<R: Abort>(rt: &R, (status, told): (u8, Vec<u8>), written: &[u8]
     assert!(rt; written.len() == count && SMALL.as_bytes().starts_with(written));
 }
 
-/// A writer takes so many bytes of the lines, and no more: it has these, and the fault is told.
+/// A writer takes so many bytes of the lines, and no more: it has these, and the fault is reported.
 #[test]
 fn a_full_writer_ends_in_device(rt: HostRuntime) {
     let alloc = rt.alloc();

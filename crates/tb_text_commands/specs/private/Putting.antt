@@ -13,7 +13,7 @@ use Rattle.tb_machine.specs.declared.entries.Entry.{Entry}
 use Rattle.tb_text_commands.specs.declared.faults.TextCommandFault.{TextCommandFault}
 use Rattle.tb_text_commands.specs.declared.faults.TextCommandFault.TheVariants.{Device, NoMemory, TooLong}
 use Rattle.tb_text_commands.specs.AuditRuns.{PutsAll}
-use Rattle.tb_text_commands.specs.Statuses.{frame_fault_of}
+use Rattle.tb_text_commands.specs.ExitStatuses.{frame_fault_of}
 use Rattle.tb_text_commands.specs.private.Taken.{TakesParts}
 
 -- bytes of a kind were written, or the device cut them off, or there was no memory for them

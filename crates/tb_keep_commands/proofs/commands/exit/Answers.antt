@@ -9,7 +9,7 @@ returns-in-Ok g c = record {
   performs = c.perform-done.ensures;
   outcome = Ok tt;
   finishes = c.in-Ok.ensures;
-  status_is = refl;
+  exit_status_is = refl;
   line = refl;
 }
 
@@ -21,6 +21,6 @@ returns-in-Err g c = record {
   performs = c.perform-done.ensures;
   outcome = Err c.in-Err.fault;
   finishes = c.in-Err.ensures;
-  status_is = c.status.ensures.value;
+  exit_status_is = c.exit_status.ensures.value;
   line = rw c.path.ensures at c.tell.ensures;
 }

@@ -11,11 +11,11 @@ use Rattle.tb_keep_commands.specs.Hosts.{Commands, Hosted}
 use Rattle.tb_keep_commands.proofs.host.between.Goals as goal
 
 module _ {O D E : Type 0} (its : KnownFiles O D E) (ends : Terminals) (before left : O) {R W : Type 0} (remaining : R → Option (List ℕ)) (contents : W → Option (List ℕ))
-    (words : List (List ℕ)) (status : ℕ) (input : BufReader R Global) (output : BufWriter W Global) (quiet told : Output) where
+    (words : List (List ℕ)) (exit_status : ℕ) (input : BufReader R Global) (output : BufWriter W Global) (quiet told : Output) where
   by_form : (asked : Option Form)
-      → (asked ≡ None → Commands its ends before left remaining contents None words status input output quiet told)
-      → ((form : Form) → asked ≡ Some form → Hosted its ends before left remaining contents form (file_word words) (new_word words) status input output quiet told)
-      → Commands its ends before left remaining contents asked words status input output quiet told
+      → (asked ≡ None → Commands its ends before left remaining contents None words exit_status input output quiet told)
+      → ((form : Form) → asked ≡ Some form → Hosted its ends before left remaining contents form (file_word words) (new_word words) exit_status input output quiet told)
+      → Commands its ends before left remaining contents asked words exit_status input output quiet told
   by_form None none some = none refl
   by_form (Some form) none some = some form refl
 

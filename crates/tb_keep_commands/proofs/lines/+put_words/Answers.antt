@@ -1,6 +1,6 @@
 use Rattle.std.proofs.Common.{string_bytes, map, take, drop, length, ◌-◌}
 use Rattle.tb_records.proofs.Sendings.{sent_rest, sent_few}
-use Rattle.tb_keep_commands.specs.Statuses.{shown_words}
+use Rattle.tb_keep_commands.specs.ExitStatuses.{shown_words}
 use Rattle.tb_keep_commands.proofs.Lengths.{shown_front}
 use Rattle.tb_keep_commands.proofs.lines.+put_words.Goals as goal
 

@@ -1,5 +1,5 @@
 use Rattle.std.proofs.Common.{ℕ, List, drop, subst, Result, Ok, Err}
-use Rattle.tb_keep_log.specs.Restoring.{fixed_bytes, HasMark}
+use Rattle.tb_keep_log.specs.Rereading.{fixed_bytes, HasMark}
 use Rattle.tb_records.specs.declared.limits.Profile.{Profile}
 use Rattle.tb_records.specs.Transport.{Output}
 use Rattle.tb_machine.specs.Histories.{State}

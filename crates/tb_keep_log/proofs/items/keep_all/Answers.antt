@@ -1,6 +1,6 @@
 use Rattle.std.proofs.Common.{ℕ, Ok, ap, arith, subst, sym, ◌∙◌}
 use Rattle.tb_log.specs.Following.{Following}
-use Rattle.tb_keep_log.specs.Serving.{Served, point}
+use Rattle.tb_keep_log.specs.Items.{Served, point}
 use Rattle.tb_keep_log.proofs.ServedItems.{going_none, going_on, going_ends, going_too_long}
 use Rattle.tb_keep_log.proofs.items.keep_all.Goals as goal
 

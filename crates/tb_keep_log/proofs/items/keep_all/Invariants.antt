@@ -1,4 +1,4 @@
-use Rattle.tb_keep_log.specs.Serving.{point}
+use Rattle.tb_keep_log.specs.Items.{point}
 use Rattle.tb_keep_log.proofs.ServedItems.{Going}
 use Rattle.tb_keep_log.proofs.items.keep_all.Given as goal
 

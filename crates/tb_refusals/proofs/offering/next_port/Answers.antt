@@ -1,6 +1,6 @@
 use Rattle.std.proofs.Common.{Option, ap, ◌++◌, ◌∙◌}
 use Rattle.std.specs.Option.{option_to_list}
-use Rattle.tb_service.proofs.Audit.{numbered-last}
+use Rattle.tb_service.proofs.OwnPlaces.{numbered-last}
 use Rattle.tb_refusals.proofs.offering.next_port.Goals as goal
 
 pub returns-in-Some : goal.returns-in-Some

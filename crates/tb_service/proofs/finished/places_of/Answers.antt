@@ -1,5 +1,5 @@
 use Rattle.std.proofs.Common.{ℕ, Vec, Global, ap, ◌∙◌}
-use Rattle.tb_service.proofs.Audit.{place_added, place_passed}
+use Rattle.tb_service.proofs.OwnPlaces.{place_added, place_passed}
 use Rattle.tb_service.proofs.finished.places_of.Goals as goal
 use Rattle.tb_service.proofs.finished.places_of.Goals.{then-owner-port+in_ok-push, else-owner-port}
 

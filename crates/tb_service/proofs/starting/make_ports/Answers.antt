@@ -1,7 +1,7 @@
 use Rattle.std.proofs.Common.{◌+◌, ℕ, List, [], ◌∷◌, length, ap, sym, subst, ◌∙◌, length-append, arith}
 use Rattle.tb_service.specs.Names.{service_of}
 use Rattle.tb_service.specs.Ports.{Offers, AreNumbered}
-use Rattle.tb_service.proofs.Audit.{numbered-snoc}
+use Rattle.tb_service.proofs.OwnPlaces.{numbered-snoc}
 use Rattle.tb_service.proofs.starting.make_ports.Goals as goal
 
 pub loop-number-preserved : goal.loop-number-preserved

@@ -10,17 +10,17 @@ vec_output v = record { written = Some v.inner.items; failed = v.failures; stall
 
 pub returns-clause-reported : goal.returns-clause-reported
 returns-clause-reported g c = record {
-  status = c.command-status.result;
-  last = c.command-status.new.reader;
-  final = c.command-status.new.writer;
+  exit_status = c.command-exit_status.result;
+  last = c.command-exit_status.new.reader;
+  final = c.command-exit_status.new.writer;
   line = c.into_inner-line.result.items;
   begun = vec_output c.new-kept.result;
-  kept = vec_output c.command-status.new.faults;
+  kept = vec_output c.command-exit_status.new.faults;
   is_empty = ap Some (ap (λ (v : Counted (Vec ℕ Global)). v.inner.items) c.new-kept.ensures ∙ c.new.ensures.items);
   commands = record {
-    ended = c.command-status.ensures.ended;
-    refused = c.command-status.ensures.usage;
-    audited = c.command-status.ensures.audited;
+    ended = c.command-exit_status.ensures.ended;
+    refused = c.command-exit_status.ensures.usage;
+    audited = c.command-exit_status.ensures.audited;
   };
   holds = sym (ap (λ (v : Vec ℕ Global). Some v.items) c.into_inner-line.ensures);
   finishes = rw c.as_slice.ensures.value at c.finish.ensures.told;

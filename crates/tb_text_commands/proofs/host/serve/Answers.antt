@@ -21,14 +21,14 @@ returns-clause-served g c = inl (record {
   of_output = rw c.in-Ok-Ok.is-1 at c.with_capacity-output.ensures.inner;
   held_back = rw c.in-Ok-Ok.is-1 at c.with_capacity-output.ensures.empty;
   reports = rw (c.if-not-talks.false, ← c.new-reader.ensures, ← c.new-writer.ensures) (record {
-    status = c.command-status.result;
-    last = c.command-status.new.reader;
-    final = c.command-status.new.writer;
-    said = g.E.Sink.output c.command-status.new.faults;
+    exit_status = c.command-exit_status.result;
+    last = c.command-exit_status.new.reader;
+    final = c.command-exit_status.new.writer;
+    said = g.E.Sink.output c.command-exit_status.new.faults;
     commands = record {
-      ended = c.command-status.ensures.ended;
-      refused = c.command-status.ensures.usage;
-      audited = c.command-status.ensures.audited;
+      ended = c.command-exit_status.ensures.ended;
+      refused = c.command-exit_status.ensures.usage;
+      audited = c.command-exit_status.ensures.audited;
     };
     finishes = c.finish.ensures.told;
   });

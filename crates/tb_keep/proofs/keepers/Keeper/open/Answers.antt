@@ -1,5 +1,5 @@
 use Rattle.std.proofs.Common.{sym, subst, List, ℕ, ◌∙◌}
-use Rattle.tb_keep.specs.Restoration.{IsRestoredFrom}
+use Rattle.tb_keep.specs.Recovering.{IsRestoredFrom}
 use Rattle.tb_keep.proofs.Opened.{refused_still}
 use Rattle.tb_keep.proofs.keepers.Keeper.open.Goals as goal
 

@@ -1,5 +1,5 @@
 use Rattle.std.proofs.Common.{sym, subst, List, ℕ, ◌∙◌}
-use Rattle.tb_keep_log.specs.Restoring.{IsRestored}
+use Rattle.tb_keep_log.specs.Rereading.{IsRestored}
 use Rattle.tb_keep_log.proofs.Opened.{opened_ready, opens_still, refused_reading, refused_still, stops_opening, untouched_opens}
 use Rattle.tb_keep_log.proofs.keepers.LogKeeper.open.Goals as goal
 

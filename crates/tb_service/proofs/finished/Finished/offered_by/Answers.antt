@@ -5,7 +5,7 @@ use Rattle.tb_service.specs.Ports.{Offers}
 use Rattle.tb_service.specs.Places.{places_from}
 use Rattle.tb_service.specs.Finished.{Finish, IsOffered}
 use Rattle.tb_service.proofs.Steps.{merges, learns}
-use Rattle.tb_service.proofs.Audit.{accounted}
+use Rattle.tb_service.proofs.OwnPlaces.{accounted}
 use Rattle.tb_service.proofs.finished.Finished.offered_by.Goals as goal
 
 pub absorb-requires-clause-rule : goal.absorb-requires-clause-rule

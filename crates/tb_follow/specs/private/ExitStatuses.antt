@@ -4,7 +4,7 @@ use Rattle.std.specs.Prelude.{ℕ}
 use Rattle.tb_log.specs.declared.faults.LogFault.{LogFault}
 use Rattle.tb_log.specs.declared.faults.LogFault.TheVariants.{Device, NoMemory}
 
-abbrev pub fault_status : LogFault → ℕ
-fault_status Device = 1
-fault_status NoMemory = 1
-fault_status fault = 2
+abbrev pub fault_exit_status : LogFault → ℕ
+fault_exit_status Device = 1
+fault_exit_status NoMemory = 1
+fault_exit_status fault = 2

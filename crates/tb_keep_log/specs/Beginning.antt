@@ -9,13 +9,13 @@ use Rattle.tb_journal.specs.Contents.{Records, contents, recorded}
 use Rattle.tb_journal.specs.Opening.{IsAsBefore}
 use Rattle.tb_journal.specs.Creating.{is_blank, IsCreateCause, MayBeCreated}
 use Rattle.tb_log.specs.Following.{begun}
-use Rattle.tb_keep.specs.Opening.{IsUntouched}
-use Rattle.tb_keep.specs.Restoration.{torn_bytes}
+use Rattle.tb_keep.specs.Creating.{IsUntouched}
+use Rattle.tb_keep.specs.Recovering.{torn_bytes}
 use Rattle.tb_keep_log.specs.declared.faults.LogStartFault.{LogStartFault}
 use Rattle.tb_keep_log.specs.declared.faults.LogStartFault.TheVariants as start
 use Rattle.tb_keep_log.specs.declared.beginning.NotStarted.{NotStarted}
 use Rattle.tb_keep_log.specs.Keeping.{Keeping, Keeps, IsKept}
-use Rattle.tb_keep_log.specs.Restoring.{IsLogCause, StopsOpening}
+use Rattle.tb_keep_log.specs.Rereading.{IsLogCause, StopsOpening}
 
 -- the device of a keeper, or the one that is given back
 abbrev pub device_left : {D : Type 0} → Result (Keeping D) (NotStarted D) → D

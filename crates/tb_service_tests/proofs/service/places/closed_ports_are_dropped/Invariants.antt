@@ -1,4 +1,4 @@
-use Rattle.tb_service_tests.proofs.service.audits.closed_ports_are_dropped.Given as goal
+use Rattle.tb_service_tests.proofs.service.places.closed_ports_are_dropped.Given as goal
 
 -- the opening that was just made
 abbrev pub ghosts-fill_and_drop : goal.ghosts-fill_and_drop

@@ -17,7 +17,7 @@ use Rattle.tb_log.specs.Format.{content_max, content_of}
 use Rattle.tb_log.specs.Following.{Following, Entry, with_content, with_item, IsAnswered}
 use Rattle.tb_log.specs.Entries.{IsNoPairs}
 use Rattle.tb_log.specs.Follows.{ItemFits, Stops}
-use Rattle.tb_keep.specs.Restoration.{torn_bytes}
+use Rattle.tb_keep.specs.Recovering.{torn_bytes}
 use Rattle.tb_keep_log.specs.declared.faults.LogStartFault.{LogStartFault}
 use Rattle.tb_keep_log.specs.declared.faults.LogStartFault.TheVariants as start
 use Rattle.tb_keep_log.specs.Keeping.{By, mark, record_bytes, IsKept}

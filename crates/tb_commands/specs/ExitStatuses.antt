@@ -24,31 +24,31 @@ use Rattle.tb_commands.specs.Forms.{form_of}
 use Rattle.tb_commands.specs.declared.commands.CommandFault.{CommandFault}
 use Rattle.tb_commands.specs.declared.commands.CommandFault.TheVariants.{Usage, Serving, Replaying}
 
-abbrev pub frame_status : FrameFault → ℕ
-frame_status frame.Device = 1
-frame_status frame.NoMemory = 1
-frame_status fault = 2
+abbrev pub frame_exit_status : FrameFault → ℕ
+frame_exit_status frame.Device = 1
+frame_exit_status frame.NoMemory = 1
+frame_exit_status fault = 2
 
-abbrev pub run_status : RunFault → ℕ
-run_status (Frame fault) = frame_status fault
-run_status NoMemory = 1
-run_status TimeExhausted = 2
-run_status TooLong = 2
+abbrev pub run_exit_status : RunFault → ℕ
+run_exit_status (Frame fault) = frame_exit_status fault
+run_exit_status NoMemory = 1
+run_exit_status TimeExhausted = 2
+run_exit_status TooLong = 2
 
-abbrev pub dump_status : DumpFault → ℕ
-dump_status (dump.Frame fault) = frame_status fault
-dump_status dump.NoMemory = 1
-dump_status fault = 2
+abbrev pub dump_exit_status : DumpFault → ℕ
+dump_exit_status (dump.Frame fault) = frame_exit_status fault
+dump_exit_status dump.NoMemory = 1
+dump_exit_status fault = 2
 
-abbrev pub fault_status : CommandFault → ℕ
-fault_status Usage = 2
-fault_status (Serving fault) = run_status fault
-fault_status (Replaying fault) = dump_status fault
+abbrev pub fault_exit_status : CommandFault → ℕ
+fault_exit_status Usage = 2
+fault_exit_status (Serving fault) = run_exit_status fault
+fault_exit_status (Replaying fault) = dump_exit_status fault
 
--- the status of a form that was done, or not to its end
-abbrev pub outcome_status : Result ℕ CommandFault → ℕ
-outcome_status (Ok count) = 0
-outcome_status (Err fault) = fault_status fault
+-- the exit status of a form that was done, or not to its end
+abbrev pub outcome_exit_status : Result ℕ CommandFault → ℕ
+outcome_exit_status (Ok count) = 0
+outcome_exit_status (Err fault) = fault_exit_status fault
 
 -- a fault's name, as its line shows it
 abbrev pub fault_name : CommandFault → List ℕ
@@ -87,25 +87,25 @@ abbrev pub PerformsOn : {R W : Type 0} → sources.Ghosts R → sinks.Ghosts W �
 PerformsOn source sink form outcome before after start written =
     Performs form outcome (source.input before) (source.input after) (sink.output start) (sink.output written)
 
--- words that ask for no form: the status is 2, and nothing is read or written
+-- words that ask for no form: the exit status is 2, and nothing is read or written
 abbrev pub RefusesWords : {R W : Type 0} → List (String Global) → ℕ → R → R → W → W → Type 0
-RefusesWords words status before after start written = form_of (map string_bytes words) ≡ None → (status ≡ 2) × (after ≡ before) × (written ≡ start)
+RefusesWords words exit_status before after start written = form_of (map string_bytes words) ≡ None → (exit_status ≡ 2) × (after ≡ before) × (written ≡ start)
 
 -- and the line of usage is reported
 abbrev pub TellsUsage : {E : Type 0} → sinks.Ghosts E → List (String Global) → E → E → Type 0
 TellsUsage lines words quiet told = form_of (map string_bytes words) ≡ None → TellsLine (fault_line Usage) (lines.output quiet) (lines.output told)
 
 -- a form was served, and the exit status and the line are those of the outcome
-pub record Exits (form : Form) (status : ℕ) (before after : Input) (start written quiet told : Output) : Type 0 where
+pub record Exits (form : Form) (exit_status : ℕ) (before after : Input) (start written quiet told : Output) : Type 0 where
   pub outcome : Result ℕ CommandFault
   pub performed : Performs form outcome before after start written
-  pub status_is : status ≡ outcome_status outcome
+  pub exit_status_is : exit_status ≡ outcome_exit_status outcome
   pub line : Tells outcome quiet told
 
 -- the form that words ask for was served, where they ask for one
 abbrev pub ServesWords : List (List ℕ) → ℕ → Input → Input → Output → Output → Output → Output → Type 0
-ServesWords words status before after start written quiet told =
-    (form : Form) → form_of words ≡ Some form → Exits form status before after start written quiet told
+ServesWords words exit_status before after start written quiet told =
+    (form : Form) → form_of words ≡ Some form → Exits form exit_status before after start written quiet told
 
 -- of what a reader gave, and a writer and a writer of lines took, before and after a call
 abbrev pub On : {R W E : Type 0} → sources.Ghosts R → sinks.Ghosts W → sinks.Ghosts E

@@ -147,26 +147,26 @@ abbrev pub numbers_of : Rules → Numbers
 numbers_of rules = record { clients_max = rules.clients_max; profile = profile_number rules.profile }
 
 -- of a file that is not opened or made
-abbrev pub opening_status : OpeningFault → ℕ
-opening_status opening.Locked = 4
-opening_status opening.SyncFailed = 9
-opening_status opening.Exists = 2
-opening_status fault = 1
+abbrev pub opening_exit_status : OpeningFault → ℕ
+opening_exit_status opening.Locked = 4
+opening_exit_status opening.SyncFailed = 9
+opening_exit_status opening.Exists = 2
+opening_exit_status fault = 1
 
 -- 1 a device or memory failed, 2 the arguments are wrong or a request is none, and from 4 on why the file is not served
-abbrev pub fault_status : KeepCommandFault → ℕ
-fault_status (Device which) = 1
-fault_status NoMemory = 1
-fault_status (Opening fault) = opening_status fault
-fault_status (Making fault) = opening_status fault
-fault_status Usage = 2
-fault_status (Request fault) = 2
-fault_status (NotAJournal kind) = 5
-fault_status NoHead = 5
-fault_status (Damaged damage) = 6
-fault_status (OtherRules numbers) = 7
-fault_status Full = 8
-fault_status SyncFailed = 9
+abbrev pub fault_exit_status : KeepCommandFault → ℕ
+fault_exit_status (Device which) = 1
+fault_exit_status NoMemory = 1
+fault_exit_status (Opening fault) = opening_exit_status fault
+fault_exit_status (Making fault) = opening_exit_status fault
+fault_exit_status Usage = 2
+fault_exit_status (Request fault) = 2
+fault_exit_status (NotAJournal kind) = 5
+fault_exit_status NoHead = 5
+fault_exit_status (Damaged damage) = 6
+fault_exit_status (OtherRules numbers) = 7
+fault_exit_status Full = 8
+fault_exit_status SyncFailed = 9
 
 -- a number behind a text
 abbrev pub numbered : List ℕ → ℕ → List ℕ

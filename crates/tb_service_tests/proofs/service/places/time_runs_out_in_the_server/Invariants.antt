@@ -1,4 +1,4 @@
-use Rattle.tb_service_tests.proofs.service.audits.time_runs_out_in_the_server.Given as goal
+use Rattle.tb_service_tests.proofs.service.places.time_runs_out_in_the_server.Given as goal
 
 -- the opening that was just made
 abbrev pub ghosts-fill_and_drop : goal.ghosts-fill_and_drop

@@ -15,7 +15,7 @@ use Rattle.tb_keep.specs.declared.faults.StartFault.TheVariants as start
 use Rattle.tb_keep.specs.declared.creating.NotKept.{NotKept}
 use Rattle.tb_keep.specs.declared.recovering.Rules.{Rules}
 use Rattle.tb_keep.specs.Keeping.{History, records_of, head_record, Keeping, Keeps}
-use Rattle.tb_keep.specs.Restoration.{StopsOpening, IsRestored, IsStartCause, IsNotOfFile, torn_bytes}
+use Rattle.tb_keep.specs.Recovering.{StopsOpening, IsRestored, IsStartCause, IsNotOfFile, torn_bytes}
 
 -- a history of these rules
 abbrev pub history_of : Profile → ℕ → List Entry → History

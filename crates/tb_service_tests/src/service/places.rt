@@ -1,4 +1,4 @@
-//! Ports that offer and are closed before the server runs, and the places that their audits name.
+//! Ports that offer and are closed before the server runs, and the places of their requests.
 ghost use Rattle.std.specs.Prelude.{◌≡◌};
 
 use crate::service::making::{

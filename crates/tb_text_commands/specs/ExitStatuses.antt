@@ -9,7 +9,7 @@ use Rattle.tb_records.specs.declared.dumps.DumpFault.TheVariants as dump
 use Rattle.tb_records.specs.DumpFaults.{dump_fault_name}
 use Rattle.tb_records.specs.Faults.{fault_name}
 use Rattle.tb_records.specs.Transport.{Output}
-use Rattle.tb_commands.specs.Statuses.{frame_status, dump_status, TellsLine}
+use Rattle.tb_commands.specs.ExitStatuses.{frame_exit_status, dump_exit_status, TellsLine}
 use Rattle.tb_text_commands.specs.declared.faults.TextCommandFault.{TextCommandFault}
 use Rattle.tb_text_commands.specs.declared.faults.TextCommandFault.TheVariants.{Usage, Device, NoMemory, Reader, Writer, TimeExhausted, TooLong, Frame, Dump, Arguments, Text, Late}
 
@@ -34,16 +34,16 @@ device_named Device before after =
     else Device
 device_named fault before after = fault
 
--- statuses
+-- exit statuses
 
-abbrev pub fault_status : TextCommandFault → ℕ
-fault_status Device = 1
-fault_status Reader = 1
-fault_status Writer = 1
-fault_status NoMemory = 1
-fault_status (Frame fault) = frame_status fault
-fault_status (Dump fault) = dump_status fault
-fault_status fault = 2
+abbrev pub fault_exit_status : TextCommandFault → ℕ
+fault_exit_status Device = 1
+fault_exit_status Reader = 1
+fault_exit_status Writer = 1
+fault_exit_status NoMemory = 1
+fault_exit_status (Frame fault) = frame_exit_status fault
+fault_exit_status (Dump fault) = dump_exit_status fault
+fault_exit_status fault = 2
 
 -- lines
 
@@ -70,6 +70,6 @@ abbrev pub TellsOf : TextCommandFault → Output → Output → Type 0
 TellsOf Usage before after = (page : List ℕ) × TellsLine page before after
 TellsOf fault before after = TellsLine (fault_line fault) before after
 
--- a command's line is printed and its status is the program's, or what is left of the output is lost
+-- a command's line is printed and its exit status is the program's, or what is left of the output is lost
 abbrev pub Finishes : ℕ → List ℕ → ℕ → Output → Output → Type 0
-Finishes status line result before after = ((result ≡ status) × TellsLine line before after) ⊎ ((result ≡ 1) × TellsOf Writer before after)
+Finishes exit_status line result before after = ((result ≡ exit_status) × TellsLine line before after) ⊎ ((result ≡ 1) × TellsOf Writer before after)
