@@ -6,7 +6,7 @@ disk that is full.
 
 checks/keep/shim.c, which wants gcc, writes down each write, cut and sync of the file and each write
 of replies. From them the files are made that the disk may have at each moment: what was synced, and
-of what was written since then any bytes and any length. Each has to be a beginning of the history
+of what was written since then any bytes and any length. Each has to be a prefix of the history
 with all that was acknowledged until then, and each tenth is opened by the program. A disk that
 drops syncs and a program that answers first have to be caught. A small file system is filled where
 this user may mount one. Ends in 'N passed, M failed'.
@@ -271,7 +271,7 @@ class Images:
         self.commit, self.done, self.wrong, self.judged, self.opened = 0, {}, [], 0, 0
 
     def judge(self, image):
-        """A file has the entries of all replies that were written so far, and is a beginning of
+        """A file has the entries of all replies that were written so far, and is a prefix of
         the history."""
         self.judged += 1
         records = records_of(image)

@@ -5,7 +5,7 @@
 
 A program that holds a reply back, or does not end, for 20 seconds (KEEP_SECONDS) ends the script with that case failed.
 Clients retry as docs/use/CLIENTS.md says: each sends one request at a time, and the same bytes again until it has the reply. Calls of the
-program fail or lie by checks/keep/shim.c, which wants gcc. With --builds two wrong bodies are built too, unproved, by `rt try` in a copy, and run
+program fail or lie by checks/keep/shim.c, which wants gcc. With --builds two mutants are built too, unproved, by `rt try` in a copy, and run
 under strace: one that replies before it commits and one that does not sync have to be caught. Ends in 'N passed, M failed'.
 """
 import os

@@ -66,7 +66,7 @@ SCRIPTS = {
 # waits), and the megabytes of a file that it calls long.
 SLOW = {"KEEP_SECONDS": "50", "KEEP_STEP": "1"}
 
-# The programs' constant for these megabytes: its file, its text, and what stands there instead. The
+# The programs' constant for these megabytes: its file, its text, and what is there instead. The
 # tests are built before, with the text as it is.
 STEP = ("crates/tb_keep_commands/src/reports.rt", "usize = 64 * MEGABYTE;", "usize = MEGABYTE;")
 

@@ -260,7 +260,7 @@ def answers(wanted):
 
 
 def calls_answer(replies, history):
-    """As `answers`, or a server that ended since memory ran out, and a beginning of both."""
+    """As `answers`, or a server that ended since memory ran out, and a prefix of both."""
 
     def judge(ran):
         if set_up(ran) or (ran.status, ran.output) == (0, replies + history):
@@ -515,7 +515,7 @@ def each_read(refuser, name, words, script, written, starts):
 def each_write(refuser, name, words, script, kind, wanted, **most):
     """Each write fails in turn, or takes nothing, once: replies that are passed on before a read,
     and are not taken then, are offered again, and nothing is lost; else it is Device, and the
-    output is a beginning of the right one."""
+    output is a prefix of the right one."""
     whys, count, again = [], 0, 0
     for at, ran in refuser.in_turn(PROGRAM, words, script, kind, write=MOST, **most):
         count += ran.refused
@@ -530,7 +530,7 @@ def each_write(refuser, name, words, script, kind, wanted, **most):
 
 def writes_stop(refuser, name, words, script, kind, wanted, **most):
     """From the first write on, from the second, and so on, all fail or take nothing: Device, and
-    the output is a beginning of the right one."""
+    the output is a prefix of the right one."""
     whys, count = [], 0
     for at, ran in refuser.in_turn(PROGRAM, words, script, kind, write=MOST, on=1, **most):
         if ran.refused:

@@ -5,7 +5,7 @@
  *     requests  reads requests from standard input, as `read` does replies: the fault, or the operation, the client, the session, the
  *               number and the items of each; what is read is written again, and has the bytes that were read
  *     read      reads replies from standard input, each behind its length (u32), and prints the fault, the status, the commit and
- *               the items of each; the bytes stand in memory of just that length, so that AddressSanitizer tells a read behind it
+ *               the items of each; the bytes are in memory of just that length, so that AddressSanitizer tells a read behind it
  *
  * checks/embed.py compares what it prints with frames.rs and with tb_client. It is C11 and C++17. */
 #include "../../embed/tb_embed.h"
