@@ -7,7 +7,7 @@ use std::alloc::{AllocError, Global};
 use tb_machine::{Entry, Machine, answer_of, status_of};
 use tb_records::{Reply, ReplyBody};
 
-/// What an audit counts.
+/// What a comparison counts.
 #[derive(Clone, Copy)]
 pub struct Tally {
     pub answers: u64,

@@ -1,4 +1,4 @@
-//! What clients ask, in so few numbers that an auditor can make the same request again.
+//! What clients ask, in so few numbers that the same request can be made again.
 ghost use Rattle.std.specs.Prelude.{◌<◌};
 
 use crate::chances::Chances;

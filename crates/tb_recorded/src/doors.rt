@@ -11,7 +11,7 @@ use tb_service::{Closed, Port};
 /// An order has at most this many requests.
 pub const REQUESTS_MAX: u64 = 8;
 
-/// The service of ports, as a parameter of the types that hold one: the audit takes the ports of its own service alone.
+/// The service of ports, as a parameter of the types that hold one: the comparison takes the ports of its own service alone.
 pub trait Serving {
     ghost use Rattle.std.specs.Prelude.{Option};
     ghost use Rattle.tb_service.specs.Names.{Name};

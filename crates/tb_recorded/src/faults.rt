@@ -1,9 +1,9 @@
-//! Why a recorded run does not come to its audit's end.
+//! Why a recorded run does not come to its end.
 use std::alloc::AllocError;
 use tb_fixtures::is_taken;
 use tb_published::{OpenFault, SeatFault};
 
-/// Why a recorded run does not come to its audit's end.
+/// Why a recorded run does not come to its end.
 #[derive(Clone, Copy, Debug, thiserror::Error)]
 pub enum RecordedFault {
     #[error("no memory")]

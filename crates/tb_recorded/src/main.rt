@@ -9,8 +9,8 @@
 //! - `chances`: numbers drawn from a seed.
 //! - `rules`: the rules of a run's ledger.
 //! - `keys`: client, session and number of entries.
-//! - `faults`: why a run does not come to its audit's end.
-//! - `asked`: requests in so few numbers that the auditor makes them again.
+//! - `faults`: why a run does not come to its end.
+//! - `asked`: requests in so few numbers that the same ones can be made again.
 //! - `notes`: what each client lets its neighbours know.
 //! - `records`: what a client's thread writes down.
 //! - `doors`: ports of one service, which the type names.
@@ -18,7 +18,7 @@
 //! - `clients`: the hostile clients, a thread each.
 //! - `places`: what was offered, by place, makes the history again.
 //! - `answers`: each answer against a machine of one thread.
-//! - `auditing`: the audit of a run.
+//! - `comparing`: the answers of a run, compared with its history.
 //! - `running`: a run: the server's thread and the clients' threads.
 #![tactic(auto)]
 
@@ -26,9 +26,9 @@ ghost use Rattle.std.specs.Prelude.{◌≡◌};
 
 mod answers;
 mod asked;
-mod auditing;
 mod chances;
 mod clients;
+mod comparing;
 mod doors;
 mod faults;
 mod keys;
@@ -89,7 +89,7 @@ fn rules_of(scale: Scale) -> Result<Rules, Error> {
     })
 }
 
-/// Prints what the audit counted: the answers by status on standard error.
+/// Prints what the comparison counted: the answers by status on standard error.
 fn tell<R: Print + Eprint>(rt: &R, scale: Scale, tally: Tally) -> Result<(), Error> {
     println!(rt; "clients {}\nseed {}", scale.clients, scale.seed)?;
     println!(rt; "answers {}\n{} wrong", tally.answers, tally.wrong)?;
@@ -112,7 +112,7 @@ fn read_scale(rt: &HostRuntime) -> Result<Scale, Error> {
     scale
 }
 
-/// Plays a run of a scale, and prints what its audit counted.
+/// Plays a run of a scale, and prints what its comparison counted.
 fn play<R: Threads + Wait + Print + Eprint + Sync>(
     rt: &R,
     alloc: Global,

@@ -24,7 +24,7 @@ pub struct Record {
 #[derive(Drop)]
 pub struct Log {
     pub records: Vec<Record>,
-    /// How many of them an audit has checked.
+    /// How many of them have been compared.
     pub checked: usize,
     pub offered: Vec<Asked>,
 }

@@ -4,8 +4,8 @@ ghost use Rattle.tb_records.specs.Transport.{risen};
 ghost use Rattle.tb_service.specs.Ports.{AreNumbered};
 
 use crate::answers::Tally;
-use crate::auditing::audit;
 use crate::clients::{Client, Left};
+use crate::comparing::compare;
 use crate::doors::Serving;
 use crate::faults::{RecordedFault, add};
 use crate::notes::Note;
@@ -110,7 +110,7 @@ fn take_part<J: Naming + Send + Sync, S: Serving + Send + Sync, R: Threads + Wai
     whole(all, fared)
 }
 
-/// A run over a server and its ports, with a note for each client, and its audit.
+/// A run over a server and its ports, with a note for each client, and the comparison of its answers.
 fn run_over<J: Naming + Send + Sync, S: Serving + Send + Sync, R: Threads + Wait + Sync>(
     rt: &R,
     alloc: Global,
@@ -143,7 +143,7 @@ fn run_over<J: Naming + Send + Sync, S: Serving + Send + Sync, R: Threads + Wait
         || take_part(rt, alloc, begun, clients, notes, scale.steps),
     );
     let tally = match left {
-        Ok(left) => audit(alloc, rules, &mut finished, left),
+        Ok(left) => compare(alloc, rules, &mut finished, left),
         Err(fault) => Err(fault),
     };
     drop(finished.close(rt));

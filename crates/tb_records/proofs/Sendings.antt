@@ -24,7 +24,7 @@ module _ (xs ys : List ℕ) (old mid new : Output) where
     flowed = two.flowed ∙ one.flowed;
   }
 
-  -- the first part was sent, and a beginning of the second
+  -- the first part was sent, and a prefix of the second
   sent_some : Sent xs old mid → CutOff ys mid new → CutOff (xs ++ ys) old new
   sent_some one two = record {
     count = length xs + two.count;
@@ -43,7 +43,7 @@ module _ (xs ys : List ℕ) (old mid new : Output) where
 beginning : (n : ℕ) (xs ys : List ℕ) → take (min n (length xs)) (xs ++ ys) ≡ take n xs
 beginning n xs ys = grind (arith, common_steps, take-append-le, take-append_seam)
 
--- a beginning of the first part was sent
+-- a prefix of the first part was sent
 pub sent_few : (xs ys whole : List ℕ) (old new : Output) → xs ++ ys ≡ whole → CutOff xs old new → CutOff whole old new
 sent_few xs ys whole old new e one = subst (λ (l : List ℕ). CutOff l old new) e (record {
   count = min one.count (length xs);

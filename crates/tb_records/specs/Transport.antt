@@ -99,7 +99,7 @@ pub record Sent (bytes : List ℕ) (before after : Output) : Type 0 where
   pub counted : after.failed ≡ before.failed
   pub flowed : after.stalled ≡ before.stalled
 
--- a beginning of the bytes was written, and then the writer failed, or took nothing
+-- a prefix of the bytes was written, and then the writer failed, or took nothing
 pub record CutOff (bytes : List ℕ) (before after : Output) : Type 0 where
   pub count : ℕ
   pub grown : Appends before.written after.written (take count bytes)

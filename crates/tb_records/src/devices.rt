@@ -50,7 +50,7 @@ pub trait Sink {
     // The bytes written, where the writer reports them, its errors, and how often it took nothing of bytes that were offered.
     ghost output: { Self → Output };
 
-    /// Writes a beginning of the bytes, in the manner of std's `write`.
+    /// Writes a prefix of the bytes, in the manner of std's `write`.
     fn put(&mut self, bytes: &[u8]) -> io::Result<usize>
         ensures bound { WritesAtMost result bytes.now }
         ensures bytes { WriteAppends (output self.old).written (output self.new).written result bytes.now }

@@ -208,7 +208,7 @@ fn send_request_body<W: Sink>(sink: &mut W, body: &Body) -> Result<(), FrameFaul
 }
 
 /// Writes a request's frame to a sink. Device where the sink answers an error, or takes nothing of what is left: then a
-/// beginning of the frame went out. That the request's numbers fit, so that the frame is read as no other, is said of
+/// prefix of the frame went out. That the request's numbers fit, so that the frame is read as no other, is said of
 /// what was written.
 #[tactic(auto, using(crate::proofs::Sendings::request_sent))]
 pub fn send_request<W: Sink>(sink: &mut W, request: &Request) -> Result<(), FrameFault>
@@ -236,7 +236,7 @@ fn send_body<W: Sink>(sink: &mut W, body: &ReplyBody) -> Result<(), FrameFault>
 }
 
 /// Writes a reply's frame to a sink. Device where the sink answers an error, or takes nothing of what is left: then a
-/// beginning of the frame went out, and nothing more is offered. That the reply's numbers fit, so that the frame is read as
+/// prefix of the frame went out, and nothing more is offered. That the reply's numbers fit, so that the frame is read as
 /// no other, is said of what was written.
 #[tactic(auto, using(crate::proofs::Sendings::reply_sent))]
 pub fn send_reply<W: Sink>(sink: &mut W, reply: &Reply) -> Result<(), FrameFault>

@@ -3,11 +3,11 @@
 //!
 //! The forms `apply`, `take`, `offer` and `call` look at what a refused call left behind; `run`, `dump` and `replay` (which
 //! reads a dump) end at their first fault, and say of which kind it is. What was answered goes to standard output, a line for
-//! each refusal to standard error; Trouble::status gives the statuses.
+//! each refusal to standard error; Trouble::exit_status gives the exit statuses.
 //!
 //! Modules, each over those before it:
 //!
-//! - `troubles`: statuses, and the line of a refusal.
+//! - `troubles`: exit statuses, and the line of a refusal.
 //! - `scripts`: the pairs of a script, and what is written of a history.
 //! - `openings`: openings that may be refused.
 //! - `applying`: `apply`, one machine.
@@ -222,12 +222,12 @@ fn main(rt: HostRuntime) -> ExitCode {
         }
         Err(trouble) => Err(trouble),
     };
-    let status = match served {
+    let exit_status = match served {
         Ok(()) => 0,
         Err(trouble) => {
             let _ = eprintln!(&rt; "{trouble:?}");
-            trouble.status()
+            trouble.exit_status()
         }
     };
-    ExitCode::from(status)
+    ExitCode::from(exit_status)
 }

@@ -1,4 +1,4 @@
-//! Why the program ends with a status other than 0, and the line of a refusal.
+//! Why the program ends with an exit status other than 0, and the line of a refusal.
 use std::alloc::{AllocError, AllocFailed};
 use std::io;
 
@@ -43,7 +43,7 @@ pub enum Why {
     NoRoom,
 }
 
-/// Why the program ends with a status other than 0.
+/// Why the program ends with an exit status other than 0.
 #[derive(Clone, Copy, Debug, PartialEq, Eq)]
 pub enum Trouble {
     /// There is no memory for what the program itself needs, or it was given no such script.
@@ -56,7 +56,7 @@ pub enum Trouble {
 
 impl Trouble {
     /// 1 where a call was wrong, 3 where the program's own memory was refused, 4 where the server is gone.
-    pub fn status(self) -> u8 {
+    pub fn exit_status(self) -> u8 {
         match self {
             Trouble::Wrong(_) => 1,
             Trouble::SetUp => 3,

@@ -1,4 +1,4 @@
-//! `tb_script`: `tbs` without its storm, with the same forms, lines and statuses. It is built on the one-thread server alone, so it
+//! `tb_script`: `tbs` without its storm, with the same forms, lines and exit statuses. It is built on the one-thread server alone, so it
 //! is proved and built before the copies and ports are.
 #![tactic(auto)]
 
@@ -9,9 +9,9 @@ use tb_records::Counting;
 fn main(rt: HostRuntime) -> ExitCode {
     let mut faults = Counting::new(rt.stderr());
     let (alloc, input, output) = (rt.alloc(), rt.stdin(), rt.stdout());
-    let status = match words(&rt) {
+    let exit_status = match words(&rt) {
         Ok(words) => serve(alloc, words.as_slice(), input, output, &mut faults),
         Err(error) => refuse(fault_of(&error), &mut faults),
     };
-    ExitCode::from(status)
+    ExitCode::from(exit_status)
 }

@@ -267,16 +267,16 @@ fn lost_output_is_a_device(rt: HostRuntime) -> Result<(), AllocError> {
     expect_served(&rt, &["replay"], HEAD, flush, 1, "tbs: Device\n")
 }
 
-/// Words that cannot be had: out of memory is reported as that, with status 1, and a word that is no text as Usage.
+/// Words that cannot be had: out of memory is reported as that, with exit status 1, and a word that is no text as Usage.
 #[test]
 fn words_that_cannot_be_had(rt: HostRuntime) {
-    for (kind, status, name) in [
+    for (kind, exit_status, name) in [
         (ErrorKind::OutOfMemory, 1, "NoMemory"),
         (ErrorKind::InvalidData, 2, "Usage"),
         (ErrorKind::InvalidInput, 2, "Usage"),
     ] {
         let fault = fault_of(&Error::from(kind));
-        assert_eq!(rt; fault.status(), status);
+        assert_eq!(rt; fault.exit_status(), exit_status);
         assert_eq!(rt; fault.name(), name);
     }
 }

@@ -1,5 +1,5 @@
 use Rattle.std.proofs.Common.{◌≡◌, Some}
-use Rattle.tb_recorded.proofs.auditing.gather.Given as goal
+use Rattle.tb_recorded.proofs.comparing.gather.Given as goal
 
 -- the run stays one of the service
 abbrev pub invariant-loop-one : goal.invariant-loop-one

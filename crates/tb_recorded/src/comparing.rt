@@ -1,4 +1,4 @@
-//! The audit of a run, by an auditor who knows the history, the places of each port, and what the clients wrote down.
+//! The answers of a run, compared by one who knows the history, the places of each port, and what the clients wrote down.
 ghost use Rattle.std.specs.Prelude.{◌≡◌, Some, All};
 
 use crate::answers::{Tally, check_answers};
@@ -76,7 +76,7 @@ fn check(
 /// Checks what a run left: that each port's places are what its client offered, in order, and that all of it by place
 /// makes this history; that no key is there twice in it; and each answer, against a machine of one thread at the commit
 /// at which its seat was.
-pub fn audit<J: Naming, S: Serving>(
+pub fn compare<J: Naming, S: Serving>(
     alloc: Global,
     rules: Rules,
     finished: &mut Finished<J>,
