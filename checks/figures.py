@@ -73,14 +73,15 @@ def state() -> str:
     """What README.md says of its state."""
     runs = of_kind("ci")
     last, whole = runs[0], next(row for row in runs if is_whole(row))
-    first = next(row for row in of_kind("start") if "unproved" not in row["subject"])
+    first = {row["machine"]: row for row in of_kind("start") if "tb_script" in row["subject"]}
     # The note of a run that was not green ends with what failed.
     failed = "" if last["failed"] == "0" else f" ({last['note'].split('; ')[-1]})"
     return (
         f"Version {version()} (CHANGELOG.md). The last `rt ci` ({when(last)}) ended in "
         f"{outcome(last)}{failed}; the last whole one that was green\n"
-        f"({when(whole)}) took {whole['value']} minutes on four cores, and the first line "
-        f"({when(first)}) {first['value']} minutes (docs/work/PROVING.md).\n"
+        f"({when(whole)}) took {whole['value']} minutes on four cores. The first line took "
+        f"{first['fast']['value']} to {first['slow']['value']} minutes in an "
+        "earlier, shorter form (docs/work/PROVING.md).\n"
     )
 
 
