@@ -86,19 +86,23 @@ pub fn is_on(number: u32) -> bool {
 }
 """
 
-# Where the variable is not set a program waits at its beginning, so that it can be kept before
-# `rt try` removes it.
+# The variable is read once, at the beginning: some bugs are asked for at each byte. Where it is not
+# set a program waits there, so that it can be kept before `rt try` removes it.
 SWITCH_IN_C = f"""#include <stdlib.h>
 #include <unistd.h>
 
-__attribute__((constructor)) static void wait_to_be_kept(void) {{
-    if (!getenv("{SWITCH}"))
+static unsigned mutant;
+
+__attribute__((constructor)) static void read_the_switch(void) {{
+    const char *number = getenv("{SWITCH}");
+    if (number)
+        mutant = (unsigned)strtoul(number, 0, 10);
+    else
         sleep(5);
 }}
 
 unsigned tb_mutant_number(void) {{
-    const char *number = getenv("{SWITCH}");
-    return number ? (unsigned)strtoul(number, 0, 10) : 0;
+    return mutant;
 }}
 """
 
