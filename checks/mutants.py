@@ -64,7 +64,7 @@ SCRIPTS = {
 
 # Where the programs are slow: what a script waits for, in seconds (less than the minute that a bug
 # waits), how many times longer than else, and the megabytes of a file that it calls long.
-SLOW = {"KEEP_SECONDS": "50", "CHECK_PATIENCE": "10", "KEEP_STEP": "1"}
+SLOW = {"KEEP_SECONDS": "50", "CHECK_LONGER": "10", "KEEP_STEP": "1"}
 
 # The programs' constant for these megabytes: its file, its text, and what is there instead. The
 # tests are built before, with the text as it is.

@@ -446,7 +446,7 @@ PROMPTS = (b"> ", b". ")
 
 def shown_until_prompt(master):
     """What comes on a terminal until a prompt is at its end, or the program ends; 10 seconds at most."""
-    shown, end = b"", time.monotonic() + 10 * tried.PATIENCE
+    shown, end = b"", time.monotonic() + 10 * tried.LONGER
     while select.select([master], [], [], 0.1 if shown.endswith(PROMPTS) else max(0, end - time.monotonic()))[0]:
         try:
             shown += os.read(master, 65536)
@@ -469,7 +469,7 @@ def conversation(words, lines, echo=True, out=None):
     for line in lines:
         os.write(master, line)
         shown += shown_until_prompt(master)
-    status = it.wait(timeout=10 * tried.PATIENCE)
+    status = it.wait(timeout=10 * tried.LONGER)
     os.close(master)
     return shown, status
 

@@ -7,7 +7,7 @@ import sys
 
 passed = failed = 0
 # How many times longer than else a program may take: one that is built unproved is slow.
-PATIENCE = float(os.environ.get("CHECK_PATIENCE", "1"))
+LONGER = float(os.environ.get("CHECK_LONGER", "1"))
 
 
 def case(name, holds, said="", quietly=False):
@@ -30,7 +30,7 @@ def built(*programs, how="build it first, as the head of this file says"):
 def ran(words, given=b"", seconds=120, **how):
     """Runs a program on these bytes: its status, its output and its standard error."""
     how = {"stdout": subprocess.PIPE, "stderr": subprocess.PIPE, **how}
-    it = subprocess.run(list(map(str, words)), input=given, timeout=seconds * PATIENCE, **how)
+    it = subprocess.run(list(map(str, words)), input=given, timeout=seconds * LONGER, **how)
     return it.returncode, it.stdout or b"", it.stderr or b""
 
 
