@@ -8,6 +8,7 @@ Clients retry as docs/use/CLIENTS.md says: each sends one request at a time, and
 program fail or lie by checks/keep/shim.c, which wants gcc. With --builds two mutants are built too, unproved, by `rt try` in a copy, and run
 under strace: one that replies before it commits and one that does not sync have to be caught. Ends in 'N passed, M failed'.
 """
+import contextlib
 import os
 import pty
 import random
@@ -524,7 +525,22 @@ def told_by_check(tbd, folder):
 def rounds_until(ledger, process, stop):
     """Rounds of all clients, until they are to stop: no more than a hundred a second, so that a file stays short on a slow machine."""
     while not stop.is_set() and ledger.round(process, ledger.clients):
-        stop.wait(0.01)
+        stop.wait(0.01 * tried.LONGER)
+
+
+@contextlib.contextmanager
+def under_load(ledger):
+    """A server, and rounds of all clients until this ends, however it ends."""
+    process, stop = ledger.start(), threading.Event()
+    load = threading.Thread(target=rounds_until, args=(ledger, process, stop))
+    load.start()
+    try:
+        yield
+    finally:
+        stop.set()
+        load.join()
+        process.stdin.close()
+        ended(process)
 
 
 def dumped(tbd, folder, path, **how):
@@ -537,17 +553,11 @@ def looks(tbd, folder):
     """Dumps and checks next to a server under load: none is refused, and each dump is a prefix of the next."""
     ledger = Ledger(tbd, folder, "live")
     ledger.open_accounts()
-    process, stop = ledger.start(), threading.Event()
-    load = threading.Thread(target=rounds_until, args=(ledger, process, stop))
-    load.start()
     dumps, told = [], []
-    for _ in range(12):
-        dumps.append(dumped(tbd, folder, ledger.file))
-        told.append(check(tbd, ledger.file))
-    stop.set()
-    load.join()
-    process.stdin.close()
-    ended(process)
+    with under_load(ledger):
+        for _ in range(12):
+            dumps.append(dumped(tbd, folder, ledger.file))
+            told.append(check(tbd, ledger.file))
     dumps.append(dumped(tbd, folder, ledger.file))
     well = None not in dumps and dumps[0] != dumps[-1]
     case("dumps next to a server", well, [it and len(it) for it in dumps])
@@ -890,15 +900,9 @@ def backups(tbd, folder):
     """Backups of a file that is served are prefixes of it, the later ones longer, and can be served."""
     ledger = Ledger(tbd, folder, "backed")
     ledger.open_accounts()
-    process, stop = ledger.start(), threading.Event()
-    load = threading.Thread(target=rounds_until, args=(ledger, process, stop))
-    load.start()
     news = [os.path.join(folder, f"copy{number}.tbk") for number in range(5)]
-    told = [told_of(tbd, folder, ["backup", ledger.file, new]) for new in news]
-    stop.set()
-    load.join()
-    process.stdin.close()
-    ended(process)
+    with under_load(ledger):
+        told = [told_of(tbd, folder, ["backup", ledger.file, new]) for new in news]
     dumps = [dumped(tbd, folder, it) for it in [*news, ledger.file]]
     case("backups next to a server", all((it[0], it[2]) == (0, "") for it in told), told[:2])
     well = None not in dumps and dumps[0] != dumps[-1] and all(later.startswith(it) for it, later in zip(dumps, dumps[1:]))
