@@ -49,7 +49,7 @@ COLUMNS = (
 CLAUSES_OVER_100 = 0.089
 # Each figure with a bound: what it has today, and what is wanted.
 BOUNDS = {
-    "lines": (118749, 74500),
+    "lines": (118558, 74500),
     "imports": (11988, 4700),
     ">160": (0, 0),
     "ghost >160": (1, 0),

@@ -4,7 +4,6 @@
 //! Modules:
 //!
 //! - `steps`: what each test wants, and small files in memory.
-//! - `turns`: a reader that waits for answers, and a writer that holds them back.
 //! - `journal`: of tb_journal.
 //! - `log`: of tb_log.
 //! - `keep`: of tb_keep.
@@ -24,5 +23,3 @@ mod keep_log;
 mod log;
 #[cfg(test)]
 mod steps;
-#[cfg(test)]
-mod turns;

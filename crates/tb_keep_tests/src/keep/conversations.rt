@@ -1,17 +1,17 @@
 //! Replies leave before the next pair is waited for.
 use crate::keep::scripts::{created, replies_to, script};
 use crate::steps::{expect, expect_bytes, expect_same, sure};
-use crate::turns::{Holding, Waiting};
 use std::alloc::Global;
 use std::cell::Cell;
 use std::io::BufReader;
 use std::process::Abort;
+use tb_fixtures::{Holding, Turn, Waiting};
 use tb_keep::keep;
 use tb_records::{Buffered, Counting};
 
 /// Where a pair of the script ends, and how many bytes answer the pairs so far: a reply of 48 bytes to each but the last, which
 /// has an account of 128 too.
-const TURNS: &[(usize, usize)] = &[
+const TURNS: &[Turn] = &[
     (0, 0),
     (56, 48),
     (368, 96),

@@ -1,13 +1,7 @@
 //! What becomes of each form, over each file.
 use crate::keep_commands::files::Has;
-use crate::keep_commands::rows::{Out, Row, WELL, run_all, run_making};
+use crate::keep_commands::rows::{CHECK, DUMP, Out, RUN, Row, WELL, run_all, run_making};
 use tb_keep_commands::{OpeningFault, Terminals};
-
-const RUN: &[&str] = &["run", "ledger", "2"];
-
-const DUMP: &[&str] = &["dump", "ledger"];
-
-const CHECK: &[&str] = &["check", "ledger"];
 
 // A form over a file that is done, and what it reports.
 macro_rules! done {

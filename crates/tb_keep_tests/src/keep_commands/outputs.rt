@@ -1,7 +1,7 @@
 //! Outputs that fail at a byte, or at their flush, and calls on the file that fail.
 use crate::keep_commands::files::Has;
 use crate::keep_commands::pipes::{NoInput, Pipe};
-use crate::keep_commands::rows::{Out, Row, WELL, run_all, run_with};
+use crate::keep_commands::rows::{CHECK, DUMP, Out, RUN, Row, WELL, run_all, run_with};
 use crate::steps::{expect_bytes, expect_same, file_of, sure};
 use std::alloc::Global;
 use std::process::Abort;
@@ -50,31 +50,13 @@ const SUMMARY: &str =
     "records 3\nentries 2\nprofile 1\nclients_max 2\nlast time 11\nbytes behind 0\n";
 
 const CUT: &[Row] = &[
-    cut!(&["run", "ledger", "2"], Has::NoByte, 0, Out::Nothing, MADE),
-    cut!(
-        &["run", "ledger", "2"],
-        Has::NoByte,
-        95,
-        Out::SomeReplies,
-        MADE,
-    ),
-    cut!(
-        &["run", "ledger", "2"],
-        Has::NoRecord,
-        95,
-        Out::SomeReplies,
-        LOST,
-    ),
-    cut!(&["dump", "ledger"], Has::Entries, 0, Out::Nothing, LOST),
-    cut!(&["dump", "ledger"], Has::Entries, 159, Out::SomeDump, LOST),
-    cut!(&["check", "ledger"], Has::Entries, 0, Out::Nothing, LOST),
-    cut!(
-        &["check", "ledger"],
-        Has::Entries,
-        69,
-        Out::Prefix(SUMMARY),
-        LOST,
-    ),
+    cut!(RUN, Has::NoByte, 0, Out::Nothing, MADE),
+    cut!(RUN, Has::NoByte, 95, Out::SomeReplies, MADE,),
+    cut!(RUN, Has::NoRecord, 95, Out::SomeReplies, LOST,),
+    cut!(DUMP, Has::Entries, 0, Out::Nothing, LOST),
+    cut!(DUMP, Has::Entries, 159, Out::SomeDump, LOST),
+    cut!(CHECK, Has::Entries, 0, Out::Nothing, LOST),
+    cut!(CHECK, Has::Entries, 69, Out::Prefix(SUMMARY), LOST,),
     cut!(&["--help"], Has::Nothing, 0, Out::Nothing, LOST),
     cut!(
         &["--version"],
@@ -91,9 +73,9 @@ fn an_output_fails_at_a_byte(rt: HostRuntime) {
 }
 
 const UNFLUSHED: &[Row] = &[
-    unflushed!(&["run", "ledger", "2"], Has::NoByte, Out::Replies, MADE),
-    unflushed!(&["dump", "ledger"], Has::Entries, Out::Dump, LOST),
-    unflushed!(&["check", "ledger"], Has::Entries, Out::Text(SUMMARY), LOST),
+    unflushed!(RUN, Has::NoByte, Out::Replies, MADE),
+    unflushed!(DUMP, Has::Entries, Out::Dump, LOST),
+    unflushed!(CHECK, Has::Entries, Out::Text(SUMMARY), LOST),
     unflushed!(&["--version"], Has::Nothing, Out::Text("tbd 0.1.0\n"), LOST),
 ];
 
@@ -110,73 +92,17 @@ const MADE_SYNC: &str =
 
 /// The calls of a reading: a sync, and the file with its end. `run` and `check` ask for the length first, and `dump` reads twice.
 const BROKEN: &[Row] = &[
-    broken!(
-        &["check", "ledger"],
-        Has::Entries,
-        1,
-        1,
-        Out::Nothing,
-        FAILED,
-    ),
-    broken!(&["check", "ledger"], Has::Entries, 2, 9, Out::Nothing, SYNC),
-    broken!(
-        &["check", "ledger"],
-        Has::Entries,
-        3,
-        1,
-        Out::Nothing,
-        FAILED,
-    ),
-    broken!(&["dump", "ledger"], Has::Entries, 1, 9, Out::Nothing, SYNC),
-    broken!(
-        &["dump", "ledger"],
-        Has::Entries,
-        2,
-        1,
-        Out::Nothing,
-        FAILED,
-    ),
-    broken!(
-        &["dump", "ledger"],
-        Has::Entries,
-        3,
-        1,
-        Out::Nothing,
-        FAILED,
-    ),
-    broken!(&["dump", "ledger"], Has::Entries, 4, 9, Out::Nothing, SYNC),
-    broken!(
-        &["run", "ledger", "2"],
-        Has::NoByte,
-        1,
-        1,
-        Out::Nothing,
-        FAILED,
-    ),
-    broken!(
-        &["run", "ledger", "2"],
-        Has::Entries,
-        2,
-        1,
-        Out::Nothing,
-        FAILED,
-    ),
-    broken!(
-        &["run", "ledger", "2"],
-        Has::NoByte,
-        3,
-        9,
-        Out::Nothing,
-        SYNC,
-    ),
-    broken!(
-        &["run", "ledger", "2"],
-        Has::NoByte,
-        12,
-        9,
-        Out::Nothing,
-        MADE_SYNC,
-    ),
+    broken!(CHECK, Has::Entries, 1, 1, Out::Nothing, FAILED,),
+    broken!(CHECK, Has::Entries, 2, 9, Out::Nothing, SYNC),
+    broken!(CHECK, Has::Entries, 3, 1, Out::Nothing, FAILED,),
+    broken!(DUMP, Has::Entries, 1, 9, Out::Nothing, SYNC),
+    broken!(DUMP, Has::Entries, 2, 1, Out::Nothing, FAILED,),
+    broken!(DUMP, Has::Entries, 3, 1, Out::Nothing, FAILED,),
+    broken!(DUMP, Has::Entries, 4, 9, Out::Nothing, SYNC),
+    broken!(RUN, Has::NoByte, 1, 1, Out::Nothing, FAILED,),
+    broken!(RUN, Has::Entries, 2, 1, Out::Nothing, FAILED,),
+    broken!(RUN, Has::NoByte, 3, 9, Out::Nothing, SYNC,),
+    broken!(RUN, Has::NoByte, 12, 9, Out::Nothing, MADE_SYNC,),
 ];
 
 #[test]
@@ -185,7 +111,7 @@ fn a_call_on_the_file_fails(rt: HostRuntime) {
 }
 
 const NO_INPUT: Row = Row {
-    words: &["run", "ledger", "2"],
+    words: RUN,
     status: 1,
     line: "tbd: Device: standard input\n",
     ..WELL

@@ -1,6 +1,6 @@
 //! What a command is run on, and what it must answer.
 use crate::keep_commands::files::{Folder, Has, file_of};
-use crate::keep_commands::frames::{DUMP, EMPTY_DUMP, LATER, REPLIES, lines_of, script};
+use crate::keep_commands::frames::{self, EMPTY_DUMP, LATER, REPLIES, lines_of, script};
 use crate::keep_commands::news::{Disk, WELL_MADE};
 use crate::keep_commands::pipes::Pipe;
 use crate::steps::{copy_of, expect, expect_given, same, sure};
@@ -76,6 +76,13 @@ impl Row {
     }
 }
 
+/// The words of each form that most rows have.
+pub const RUN: &[&str] = &["run", "ledger", "2"];
+
+pub const DUMP: &[&str] = &["dump", "ledger"];
+
+pub const CHECK: &[&str] = &["check", "ledger"];
+
 /// Pipes and files.
 pub const NO_TERMINALS: Terminals = Terminals {
     input: false,
@@ -104,7 +111,7 @@ fn whole(rt: &impl Abort, alloc: Global, out: Out) -> Vec<u8> {
     match out {
         Out::Nothing => Vec::new(alloc),
         Out::Replies | Out::SomeReplies => lines_of(rt, alloc, REPLIES),
-        Out::Dump | Out::SomeDump => lines_of(rt, alloc, DUMP),
+        Out::Dump | Out::SomeDump => lines_of(rt, alloc, frames::DUMP),
         Out::Later => lines_of(rt, alloc, LATER),
         Out::EmptyDump => lines_of(rt, alloc, EMPTY_DUMP),
         Out::Text(text) | Out::Prefix(text) => copy_of(rt, alloc, text.as_bytes()),

@@ -162,18 +162,6 @@ fn expect_out(
     expect_given(rt, out, want);
 }
 
-/// The same, where anything may go out.
-fn expect_ends(
-    rt: &impl Abort,
-    file: &mut OneFile,
-    words: &[&str],
-    input: &[u8],
-    room: usize,
-    ends: Ends,
-) {
-    drop(ran(rt, file, words, input, room, ends));
-}
-
 /// The bytes that an output takes here.
 const ROOM: usize = 65536;
 
@@ -267,11 +255,11 @@ fn plain_ledgers_and_logs(rt: HostRuntime) {
 fn a_log_without_entries(rt: HostRuntime) {
     let alloc = rt.alloc();
     let mut file = OneFile::new(&rt, alloc, None);
-    expect_ends(&rt, &mut file, FOLLOW, &[], ROOM, (0, MADE));
+    drop(ran(&rt, &mut file, FOLLOW, &[], ROOM, (0, MADE)));
     // It has no record, so a ledger may begin in it, and then it is no log's.
     let run = &["run", "ledger", "2"];
     expect_out(&rt, &mut file, run, &[], (0, ""), &[]);
-    expect_ends(&rt, &mut file, FOLLOW, &[], ROOM, (5, PLAIN));
+    drop(ran(&rt, &mut file, FOLLOW, &[], ROOM, (5, PLAIN)));
     drop(file);
 }
 
@@ -309,10 +297,10 @@ fn logs_that_are_refused(rt: HostRuntime) {
 fn ended(rt: &impl Abort, alloc: Global, item: &[u8], line: &'static str) {
     let log = log(rt, alloc);
     let mut file = OneFile::new(rt, alloc, None);
-    expect_ends(rt, &mut file, FOLLOW, part(&log, 0, 385), ROOM, (0, MADE));
+    drop(ran(rt, &mut file, FOLLOW, part(&log, 0, 385), ROOM, (0, MADE)));
     drop(log);
     expect_out(rt, &mut file, FOLLOW, item, (2, line), &[]);
-    expect_ends(rt, &mut file, FOLLOW, &[], ROOM, (0, AT_ONE));
+    drop(ran(rt, &mut file, FOLLOW, &[], ROOM, (0, AT_ONE)));
     drop(file);
 }
 
@@ -352,19 +340,19 @@ fn openings_and_outputs_that_fail(rt: HostRuntime) {
     let alloc = rt.alloc();
     let mut file = OneFile::new(&rt, alloc, None);
     let missing = "tbd: Device: cannot find ledger\n";
-    expect_ends(&rt, &mut file, DUMP, &[], ROOM, (1, missing));
+    drop(ran(&rt, &mut file, DUMP, &[], ROOM, (1, missing)));
     let log = log(&rt, alloc);
     let told = ran(&rt, &mut file, FOLLOW, part(&log, 0, 385), 10, (1, LOST));
     drop(log);
     expect(&rt, told.len() == 10);
     drop(told);
     // What was not reported whole is in the file.
-    expect_ends(&rt, &mut file, FOLLOW, &[], ROOM, (0, AT_ONE));
+    drop(ran(&rt, &mut file, FOLLOW, &[], ROOM, (0, AT_ONE)));
     let full = "tbd: Device: standard output\n";
-    expect_ends(&rt, &mut file, DUMP, &[], 10, (1, full));
+    drop(ran(&rt, &mut file, DUMP, &[], 10, (1, full)));
     file.fault = Some(OpeningFault::Locked);
     let locked = "tbd: Locked: another program has the file open\n";
-    expect_ends(&rt, &mut file, FOLLOW, &[], ROOM, (4, locked));
+    drop(ran(&rt, &mut file, FOLLOW, &[], ROOM, (4, locked)));
     drop(file);
 }
 

@@ -1,16 +1,16 @@
 //! Answers leave before a follower waits.
 use crate::log::logs::{answers, log};
 use crate::steps::{expect, expect_given, expect_same, rules, sure};
-use crate::turns::{Holding, Waiting};
 use std::alloc::Global;
 use std::cell::Cell;
 use std::io::BufReader;
 use std::process::Abort;
+use tb_fixtures::{Holding, Turn, Waiting};
 use tb_log::follow;
 use tb_records::{Buffered, Counting};
 
 /// Where an item of the log ends, and the number of bytes that answer all items up to there.
-const ENDS: &[(usize, usize)] = &[(385, 122), (386, 195), (587, 256), (860, 506), (861, 579)];
+const ENDS: &[Turn] = &[(385, 122), (386, 195), (587, 256), (860, 506), (861, 579)];
 
 /// The lengths of the pieces in which a log comes: parts of an item, an item, and more than one.
 const PIECES: [usize; 7] = [1, 16, 385, 386, 387, 600, 1000];

@@ -5,12 +5,10 @@ use crate::machine::scripts::Script;
 use crate::machine::steps::{BEGIN, THIRD, script_of};
 use std::alloc::Global;
 use std::cell::Cell;
-use std::io::{self, BufReader, Error, ErrorKind, Read, Write};
+use std::io::BufReader;
 use std::process::Abort;
+use tb_fixtures::{Holding, Turn, Waiting};
 use tb_records::{Buffered, Counting};
-
-/// Where a part of the input ends, and how many bytes are to be passed on before more is asked for.
-type Turn = (usize, usize);
 
 /// A register, two accounts, and a lookup of both: the replies to each.
 const SERVED: [Turn; 4] = [(0, 0), (56, 48), (368, 96), (472, 400)];
@@ -25,61 +23,6 @@ const REPLAYED: [Turn; 6] = [(0, 0), (16, 0), (80, 48), (96, 48), (416, 96), (52
 /// The lengths of the pieces in which an input comes: parts of a pair, a pair, and more than one.
 const PIECES: [usize; 10] = [1, 7, 16, 55, 56, 57, 100, 368, 471, 1000];
 
-/// A reader whose bytes come in pieces. It is answered before it goes on: it fails where fewer or more bytes are passed on
-/// than what came so far is answered by.
-#[derive(Drop)]
-struct Waiting<'a> {
-    rest: &'a [u8],
-    piece: usize,
-    given: usize,
-    turns: &'a [Turn],
-    passed: &'a Cell<usize>,
-}
-
-impl Waiting<'_> {
-    /// How many bytes answer what came so far.
-    fn due(&self) -> usize {
-        let mut due = 0;
-        for turn in self.turns {
-            if turn.0 <= self.given {
-                due = turn.1;
-            }
-        }
-        due
-    }
-}
-
-impl Read for Waiting<'_> {
-    fn read(&mut self, buf: &mut [u8]) -> io::Result<usize> {
-        if self.passed.get() != self.due() {
-            return Err(Error::from(ErrorKind::TimedOut));
-        }
-        let most = buf.len().min(self.piece);
-        let count = self.rest.read(&mut buf[..most])?;
-        self.given = self.given.wrapping_add(count);
-        Ok(count)
-    }
-}
-
-/// A writer that holds back what it takes until it is flushed, and reports how much went out.
-#[derive(Drop)]
-struct Holding<'a> {
-    taken: Vec<u8>,
-    passed: &'a Cell<usize>,
-}
-
-impl Write for Holding<'_> {
-    fn write(&mut self, bytes: &[u8]) -> io::Result<usize> {
-        self.taken.extend_from_slice(bytes)?;
-        Ok(bytes.len())
-    }
-
-    fn flush(&mut self) -> io::Result<()> {
-        self.passed.set(self.taken.len());
-        Ok(())
-    }
-}
-
 /// Serves an input that comes in pieces. All is passed on at the end, and what was written is given back.
 fn converse(
     rt: &impl Abort,
@@ -90,23 +33,13 @@ fn converse(
     piece: usize,
 ) -> Vec<u8> {
     let passed = Cell::new(0);
-    let waiting = Waiting {
-        rest: input,
-        piece,
-        given: 0,
-        turns,
-        passed: &passed,
-    };
+    let waiting = Waiting::new(input, piece, turns, &passed);
     let mut reader = Buffered::new(BufReader::new(alloc, waiting).expect(rt, "memory"));
-    let taken = Vec::new(alloc);
-    let mut writer = Counting::new(Holding {
-        taken,
-        passed: &passed,
-    });
+    let mut writer = Counting::new(Holding::new(alloc, &passed));
     let outcome = serve(rt, alloc, form, &mut reader, &mut writer);
     drop(reader);
     holds_at(rt, outcome == Outcome::Done, &piece);
-    let Holding { taken, passed } = writer.into_inner();
+    let taken = writer.into_inner().taken;
     holds_at(rt, passed.get() == taken.len(), &piece);
     taken
 }

@@ -1,6 +1,6 @@
 //! A form of the program over bytes in memory, and what it left.
 use crate::text_commands::comparing::{holds, same};
-use std::io::{self, Error, ErrorKind};
+use std::io::{self, Error, ErrorKind, Read};
 use std::process::Abort;
 use std::time::{Clock, Duration};
 use tb_records::{Counting, Sink, Source};
@@ -65,13 +65,13 @@ pub fn status_where<R: Source, W: Sink, E: Sink>(
     status
 }
 
-/// The same of an input in memory.
-pub fn left_where(
+/// The same of an input that is read to its end, and outputs in memory.
+pub fn left_where<R: Read + Drop>(
     rt: &(impl Abort + AllocGlobal),
     clock: &Stopped,
     words: &[&str],
     talks: bool,
-    input: &[u8],
+    input: R,
 ) -> Left {
     let mut reader = Counting::new(input);
     let mut writer = Counting::new(Vec::new(rt.alloc()));
@@ -85,6 +85,7 @@ pub fn left_where(
         &mut writer,
         &mut faults,
     );
+    drop(reader);
     Left {
         status,
         output: writer.into_inner(),

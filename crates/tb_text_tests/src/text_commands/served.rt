@@ -2,11 +2,10 @@
 use crate::text_commands::comparing::{holds, same};
 use crate::text_commands::forms::{
     Left, Row, Stopped, done_by, each_leaves, expect_left, first_moment, leave_the_same, left_by,
-    left_where, status_where,
+    left_where,
 };
 use std::io::{self, Read};
 use std::process::Abort;
-use tb_records::Counting;
 
 /// A conversation: a register, a batch whose last account is there already, its repeat, a number that is too high.
 const TALK: &[u8] = b"at=10 client=7 register;
@@ -200,26 +199,8 @@ pub const BOTH: &str =
 fn serves_pieces(rt: &(impl Abort + AllocGlobal), place: usize) {
     let first = COMMENTED.get(..place).unwrap_or(COMMENTED);
     let second = COMMENTED.get(place..).unwrap_or(&[]);
-    let mut reader = Counting::new(InPieces { first, second });
-    let mut output = Counting::new(Vec::new(rt.alloc()));
-    let mut line = Counting::new(Vec::new(rt.alloc()));
-    let words = &["run", "2"];
-    let clock = first_moment();
-    let status = status_where(
-        rt,
-        &clock,
-        words,
-        false,
-        &mut reader,
-        &mut output,
-        &mut line,
-    );
-    let (output, line) = (output.into_inner(), line.into_inner());
-    let left = Left {
-        status,
-        output,
-        line,
-    };
+    let input = InPieces { first, second };
+    let left = left_where(rt, &first_moment(), &["run", "2"], false, input);
     expect_left(rt, left, 0, BOTH, "");
 }
 
@@ -326,7 +307,7 @@ fn written_moments(rt: HostRuntime) {
     };
     let text =
         b"at=5 client=7 create_accounts id=1 ledger=700 code=10, id=2 ledger=700 code=10; at=6 lookup_accounts id=2;";
-    let left = left_where(&rt, &clock, &["run", "2"], false, text);
+    let left = left_where(&rt, &clock, &["run", "2"], false, text.as_slice());
     expect_kept(&rt, left, 7);
 }
 

@@ -1,24 +1,23 @@
 //! Conversations on a terminal: statements and other words, line by line.
 use crate::text_commands::comparing::{holds, same};
-use crate::text_commands::forms::{Left, expect_left, first_moment, left_where, status_where};
+use crate::text_commands::forms::{Left, expect_left, first_moment, left_where};
 use crate::text_commands::served::BOTH;
 use std::io::{self, Read};
 use std::process::Abort;
-use tb_records::Counting;
 
 /// What is left by a conversation of two clients that is typed.
-fn typed(rt: &(impl Abort + AllocGlobal), text: &[u8]) -> Left {
-    left_where(rt, &first_moment(), &["run", "2"], true, text)
+fn typed<R: Read + Drop>(rt: &(impl Abort + AllocGlobal), input: R) -> Left {
+    left_where(rt, &first_moment(), &["run", "2"], true, input)
 }
 
 /// What a conversation begins with.
 const GREETING: &str = "A statement ends with `;`. `help` shows some, `exit` or Ctrl-D ends.\n";
 
 /// Says that a conversation leaves status 0, this output, and behind the greeting these prompts and lines.
-fn talks(rt: &(impl Abort + AllocGlobal), text: &[u8], output: &str, shown: &str) {
+fn talks<R: Read + Drop>(rt: &(impl Abort + AllocGlobal), input: R, output: &str, shown: &str) {
     let mut wanted = GREETING.to_string(rt.alloc()).expect(rt, "memory");
     wanted.push_str(shown).expect(rt, "memory");
-    expect_left(rt, typed(rt, text), 0, output, wanted.as_str());
+    expect_left(rt, typed(rt, input), 0, output, wanted.as_str());
     drop(wanted);
 }
 
@@ -32,7 +31,7 @@ const REGISTERED: &str =
 fn typed_statements(rt: HostRuntime) {
     talks(
         &rt,
-        b"at=10 client=7 register;\nat=10 client=0 register;\nat=18446744073709551615 client=9 register;\nat=10 client=8 register;\n",
+        b"at=10 client=7 register;\nat=10 client=0 register;\nat=18446744073709551615 client=9 register;\nat=10 client=8 register;\n".as_slice(),
         BOTH,
         "> tbt: line 2, column 15: client is not 0\n  at=10 client=0 register;\n                ^\n  expected a number from 1 to 2^128 - 1\ntbt: TimeExhausted: line 3, column 1\n> \n",
     );
@@ -55,31 +54,9 @@ impl Read for Terminal<'_> {
     }
 }
 
-/// Says that a conversation on a terminal leaves status 0, this output, and behind the greeting these prompts and lines.
+/// The same of a conversation on a terminal.
 fn talks_by_lines(rt: &(impl Abort + AllocGlobal), text: &[u8], output: &str, shown: &str) {
-    let mut wanted = GREETING.to_string(rt.alloc()).expect(rt, "memory");
-    wanted.push_str(shown).expect(rt, "memory");
-    let mut reader = Counting::new(Terminal { rest: text });
-    let mut writer = Counting::new(Vec::new(rt.alloc()));
-    let mut faults = Counting::new(Vec::new(rt.alloc()));
-    let words = &["run", "2"];
-    let clock = first_moment();
-    let status = status_where(
-        rt,
-        &clock,
-        words,
-        true,
-        &mut reader,
-        &mut writer,
-        &mut faults,
-    );
-    let left = Left {
-        status,
-        output: writer.into_inner(),
-        line: faults.into_inner(),
-    };
-    expect_left(rt, left, 0, output, wanted.as_str());
-    drop(wanted);
+    talks(rt, Terminal { rest: text }, output, shown);
 }
 
 /// A prompt comes before each line, another where a statement goes on. A word that ends the conversation ends it where it
@@ -145,7 +122,7 @@ fn expected(rt: HostRuntime) {
 /// `help` shows statements, and nothing is served by it.
 #[test]
 fn help(rt: HostRuntime) {
-    let left = typed(&rt, b"help\n");
+    let left = typed(&rt, b"help\n".as_slice());
     let shown = left.line.as_slice();
     let statement = b"  create_accounts id=1 ledger=700 code=10, id=2 ledger=700 code=10;\n";
     let found = shown

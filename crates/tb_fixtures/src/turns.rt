@@ -4,23 +4,25 @@ use std::alloc::Global;
 use std::cell::Cell;
 use std::io::{self, Error, ErrorKind, Read, Write};
 
+/// Where a part of the input ends, and how many bytes answer all up to there.
+pub type Turn = (usize, usize);
+
 /// A reader whose bytes come in pieces. It fails where fewer or more bytes are passed on than answer what came so far.
 #[derive(Drop)]
-pub(crate) struct Waiting<'a> {
+pub struct Waiting<'a> {
     rest: &'a [u8],
     piece: usize,
     given: usize,
-    /// Where each turn ends, and how many bytes answer all turns up to there.
-    turns: &'a [(usize, usize)],
+    turns: &'a [Turn],
     passed: &'a Cell<usize>,
 }
 
 impl<'a> Waiting<'a> {
     /// Nothing of these bytes has come yet.
-    pub(crate) fn new(
+    pub fn new(
         rest: &'a [u8],
         piece: usize,
-        turns: &'a [(usize, usize)],
+        turns: &'a [Turn],
         passed: &'a Cell<usize>,
     ) -> Waiting<'a> {
         Waiting {
@@ -53,14 +55,14 @@ impl Read for Waiting<'_> {
 
 /// A writer that holds back what it takes until it is flushed, and reports how much went out.
 #[derive(Drop)]
-pub(crate) struct Holding<'a> {
-    pub(crate) taken: Vec<u8>,
+pub struct Holding<'a> {
+    pub taken: Vec<u8>,
     passed: &'a Cell<usize>,
 }
 
 impl<'a> Holding<'a> {
     /// Nothing was taken yet.
-    pub(crate) fn new(alloc: Global, passed: &'a Cell<usize>) -> Holding<'a> {
+    pub fn new(alloc: Global, passed: &'a Cell<usize>) -> Holding<'a> {
         Holding {
             taken: Vec::new(alloc),
             passed,
