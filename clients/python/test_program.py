@@ -5,14 +5,29 @@
 import os
 import shlex
 import signal
+import subprocess
 import sys
 import tempfile
 import unittest
 
 import tb_client as tb
 from tb_client import Program, Session
-from test_listen import KEEPER
+from test_listen import HERE, KEEPER
 from test_tb_client import account, transfer
+
+# sends Ctrl-C to all processes of its terminal, and then asks the program
+INTERRUPTED = """
+import os, signal, sys, time
+from tb_client import Program, Session
+signal.signal(signal.SIGINT, signal.default_int_handler)
+with Program(sys.argv[1], file=sys.argv[2]) as program, Session.register(program) as session:
+    try:
+        os.killpg(0, signal.SIGINT)
+        time.sleep(60)
+    except KeyboardInterrupt:
+        time.sleep(0.5)
+        print(session.lookup_accounts([1]))
+"""
 
 
 class OverAFile(unittest.TestCase):
@@ -60,6 +75,13 @@ class OverAFile(unittest.TestCase):
             self.assertIsNone(session.in_doubt)
             program.timeout = 20
             self.assertEqual(session.lookup_accounts([1]), [])
+
+    def test_ctrl_c_at_a_terminal_is_not_the_program_s(self):
+        words = [sys.executable, "-B", "-c", INTERRUPTED, self.path, self.file]
+        it = subprocess.run(
+            words, cwd=HERE, capture_output=True, text=True, start_new_session=True, timeout=60
+        )
+        self.assertEqual((it.stdout, it.stderr, it.returncode), ("[]\n", "", 0))
 
     def test_tbd_without_a_file(self):
         path = os.path.join(self.folder.name, "tbd")

@@ -90,8 +90,10 @@ class Program(Closing):
     def _start(self) -> None:
         log.info("starts %s, and sends it %d requests", self.command[0], len(self.script))
         try:
+            piped = subprocess.PIPE
+            # in a session of its own: Ctrl-C at a terminal goes to all processes of that
             self.process = subprocess.Popen(
-                self.command, stdin=subprocess.PIPE, stdout=subprocess.PIPE, stderr=subprocess.PIPE
+                self.command, stdin=piped, stdout=piped, stderr=piped, start_new_session=True
             )
         except OSError as error:
             raise CannotStart(f"{self.command[0]} does not start: {error.strerror}") from None
