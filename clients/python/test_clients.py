@@ -171,11 +171,12 @@ def in_background(work, *arguments):
         except BaseException as fault:
             found.append((None, fault))
 
-    thread = threading.Thread(target=run)
+    thread = threading.Thread(target=run, daemon=True)
     thread.start()
 
     def answer():
         thread.join(60)
+        assert found, "it does not come back"
         said, fault = found[0]
         if fault:
             raise fault
@@ -442,6 +443,17 @@ class Lost(unittest.TestCase):
             server.unreachable = False
             self.assertEqual(waits(), [])
             self.assertEqual([it.id for it in client.lookup_transfers([11, 12])], [11])
+
+    def test_the_end_while_the_server_is_not_there(self):
+        """Who waits for it is told so, and waits no longer."""
+        server = InProcess()
+        with over(server) as client:
+            client.create_accounts([account(1), account(2)])
+            server.unreachable = True
+            waits = in_background(client.create_transfers, [transfer(11, 1, 2, 5)])
+            until(lambda: server.refused > 3)
+        with self.assertRaisesRegex(tb.Closed, "nothing of this call was sent"):
+            waits()
 
     def test_lost_and_then_not_there_for_a_while(self):
         server = InProcess(lost={3})

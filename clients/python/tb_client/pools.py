@@ -108,11 +108,13 @@ class Pool:
         return batch
 
     def give_back(self, batch: List[Call]) -> None:
-        """Puts calls back of which nothing was sent."""
+        """Puts calls back of which nothing was sent. At the client's end they are told so."""
         with self._changed:
             for call in reversed(batch):
                 call.may_be_sent = False
                 self._calls.appendleft(call)
+        if self._stopped.is_set():  # no worker looks for them any more
+            self._tell_end()
 
     def new_session(self, transport: Transport) -> Session:
         """A session that is to be registered. Each of its calls sends once."""
@@ -145,13 +147,19 @@ class Pool:
             return
         with self._changed:
             self._stopped.set()
-            left, workers = list(self._calls), list(self._workers)
-            self._calls.clear()
+            workers = list(self._workers)
             self._changed.notify_all()
-        for call in left:
-            call.tell(error=Closed("this client was closed, and nothing of this call was sent"))
+        self._tell_end()
         for worker in workers:
             worker.end()
+
+    def _tell_end(self) -> None:
+        """Tells those who wait that nothing of theirs was sent, and will not be."""
+        with self._changed:
+            left = list(self._calls)
+            self._calls.clear()
+        for call in left:
+            call.tell(error=Closed("this client was closed, and nothing of this call was sent"))
 
 
 def _may_join(last: Call, count: int, call: Call) -> bool:
