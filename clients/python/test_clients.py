@@ -455,6 +455,20 @@ class Lost(unittest.TestCase):
         with self.assertRaisesRegex(tb.Closed, "nothing of this call was sent"):
             waits()
 
+    def test_who_leaves_while_the_server_is_not_there(self):
+        """Nothing of theirs is kept, neither before the client has a session nor later."""
+        server = InProcess()
+        for is_there in (False, True):
+            with over(server) as client:
+                if is_there:
+                    client.create_accounts([account(1), account(2)])
+                client.timeout, server.unreachable = 0.02, True
+                for number in range(20):
+                    with self.assertRaisesRegex(tb.ClientError, "within 0.02 seconds"):
+                        client.create_transfers([transfer(number, 1, 2, 5)])
+                self.assertLess(queued(client), 2)
+                server.unreachable = False
+
     def test_lost_and_then_not_there_for_a_while(self):
         server = InProcess(lost={3})
         with over(server) as client:

@@ -109,7 +109,8 @@ class ClientSync(_Client, Closing):
             with contextlib.suppress(concurrent.futures.TimeoutError):
                 return call.future.result(self.timeout)
         finally:
-            call.future.cancel()  # nobody waits for it any more
+            if call.future.cancel():  # nobody waits for it any more
+                self._pool.forget(call)
         return self._late(call)
 
     def close(self) -> None:
@@ -151,7 +152,8 @@ class ClientAsync(_Client):
             with contextlib.suppress(asyncio.TimeoutError):
                 return await asyncio.wait_for(asyncio.wrap_future(call.future), self.timeout)
         finally:
-            call.future.cancel()  # nobody waits for it any more
+            if call.future.cancel():  # nobody waits for it any more
+                self._pool.forget(call)
         return self._late(call)
 
     async def close(self) -> None:

@@ -82,6 +82,11 @@ class Pool:
             self._changed.notify()
         return call
 
+    def forget(self, call: Call) -> None:
+        """Takes a call off the queue whose caller waits no longer."""
+        with self._changed, contextlib.suppress(ValueError):
+            self._calls.remove(call)
+
     # What workers call
 
     def wait(self) -> bool:
@@ -110,7 +115,7 @@ class Pool:
     def give_back(self, batch: List[Call]) -> None:
         """Puts calls back of which nothing was sent. At the client's end they are told so."""
         with self._changed:
-            for call in reversed(batch):
+            for call in reversed([it for it in batch if not it.future.cancelled()]):
                 call.may_be_sent = False
                 self._calls.appendleft(call)
         if self._stopped.is_set():  # no worker looks for them any more
