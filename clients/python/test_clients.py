@@ -469,6 +469,36 @@ class Lost(unittest.TestCase):
                 self.assertLess(queued(client), 2)
                 server.unreachable = False
 
+    def test_a_transport_that_tells_at_once_that_the_server_is_not_there(self):
+        """As where the server's certificate is not trusted. It is called with pauses, before the
+        client has a session, when it has one, and when a reply was lost."""
+        for lost in (set(), {3}, None):
+            server, calls = InProcess(lost=lost or ()), []
+            exchange = server.exchange
+
+            def away(moment, frame, calls=calls):
+                calls.append(frame)
+                raise tb.CannotConnect("on purpose")
+
+            def loses(moment, frame, server=server, exchange=exchange, away=away):
+                try:
+                    return exchange(moment, frame)
+                except tb.ReplyLost:
+                    server.exchange = away
+                    raise
+
+            with over(server) as client:
+                if lost is not None:
+                    client.create_accounts([account(1), account(2)])
+                server.exchange = loses if lost else away
+                waits = in_background(client.create_transfers, [transfer(11, 1, 2, 5)])
+                until(lambda: calls)
+                time.sleep(1)
+                self.assertTrue(2 < len(calls) < 9, len(calls))
+                self.assertEqual(len(set(calls)), 1)
+            with self.assertRaises(tb.ReplyLost if lost else tb.Closed):
+                waits()
+
     def test_lost_and_then_not_there_for_a_while(self):
         server = InProcess(lost={3})
         with over(server) as client:

@@ -20,6 +20,7 @@ from .sessions import PAUSE, Session, pauses_from
 from .transports import Transport, close_transport
 
 FORBIDDEN = ("NotAllowed", "ClientNotAllowed")  # what the server tells who may not come
+CLOSED = "this client was closed before the reply came"
 log = logging.getLogger("tb_client")
 
 
@@ -134,8 +135,12 @@ class Pool:
         if isinstance(why, ReplyLost) and why.told in FORBIDDEN:
             raise why
         log.info("sent again in %.2f s: %s", seconds, why)
-        if self._stopped.wait(seconds):
+        if self.rest(seconds):
             raise why
+
+    def rest(self, seconds: float) -> bool:
+        """Waits. Says whether the client ended meanwhile."""
+        return self._stopped.wait(seconds)
 
     def trouble(self) -> str:
         """Why there is no connection, where there is none."""
@@ -180,13 +185,14 @@ class Worker(threading.Thread):
         super().__init__(name="tb_client", daemon=True)
         self._pool, self.transport = pool, transport
         self._session: Optional[Session] = None
+        self._patience = _Patience()  # with a server that is not there
 
     def run(self) -> None:
         while self._pool.wait():
             try:
                 self._registered()
             except CannotConnect as why:
-                log.warning("%s", why)
+                self._rest(why)
                 continue
             except BaseException as why:
                 self._leave()
@@ -203,15 +209,23 @@ class Worker(threading.Thread):
             if is_doubtful and operation in CREATES:
                 said = settled(operation, b"".join(bodies), said, self._look_up)
             found = answers(operation, bodies, said)
-        except CannotConnect:
+        except CannotConnect as why:
             self._pool.give_back(batch)
+            self._rest(why)
         except BaseException as why:
             if not isinstance(why, NotSent):
                 self._leave()
             self._tell_all(batch, why)
         else:
+            self._patience = _Patience()
             for call, answer in zip(batch, found):
                 call.tell(answer)
+
+    def _rest(self, why: CannotConnect) -> bool:
+        """Waits before a server is called again that was not there: a transport may tell that at
+        once, as where it does not trust the server. Says whether the client ended meanwhile."""
+        log.warning("%s", why)
+        return self._pool.rest(self._patience.next(why))
 
     @staticmethod
     def _tell_all(batch: List[Call], why: BaseException) -> None:
@@ -243,11 +257,12 @@ class Worker(threading.Thread):
             except CannotConnect as why:
                 if not is_lost and not is_doubtful:
                     raise
-                log.warning("%s", why)
+                if self._rest(why):
+                    raise ReplyLost(CLOSED) from why
             except Closed as why:
                 if not is_lost and not is_doubtful:
                     raise
-                raise ReplyLost("this client was closed before the reply came") from why
+                raise ReplyLost(CLOSED) from why
             except (ReplyLost, NoMemory, NotYet) as why:
                 is_lost = is_lost or isinstance(why, ReplyLost) and not isinstance(why, Busy)
                 self._pool.pause(patience.next(why), why)
