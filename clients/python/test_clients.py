@@ -11,6 +11,7 @@ import tempfile
 import threading
 import time
 import unittest
+import unittest.mock
 
 import stand_in_tbd
 import tb_client as tb
@@ -531,6 +532,18 @@ class Lost(unittest.TestCase):
             with self.assertRaises(tb.CannotStart):
                 client.create_accounts([account(1)])
             is_there.append(True)
+            self.assertEqual(client.lookup_accounts([1]), [])
+
+    def test_a_thread_that_does_not_start(self):
+        """The client goes on where the system has one later."""
+        server, closed = InProcess(), []
+        server.close = lambda: closed.append(True)
+        with over(server, timeout=20) as client:
+            fault = RuntimeError("can't start new thread")
+            with unittest.mock.patch("threading.Thread.start", side_effect=fault):
+                with self.assertRaises(RuntimeError):
+                    client.create_accounts([account(1)])
+            self.assertEqual(len(closed), 1, "its transport is closed")
             self.assertEqual(client.lookup_accounts([1]), [])
 
     def test_a_bad_reply_is_told_and_the_client_goes_on(self):

@@ -77,11 +77,20 @@ class Pool:
             if self._stopped.is_set():
                 raise Closed("this client was closed")
             if self._idle <= len(self._calls) and len(self._workers) < self._sessions:
-                self._workers.append(Worker(self, self._connect()))
-                self._workers[-1].start()
+                self._workers.append(self._started())
             self._calls.append(call)
             self._changed.notify()
         return call
+
+    def _started(self) -> Worker:
+        """A worker whose thread runs: the system may have none for it."""
+        worker = Worker(self, self._connect())
+        try:
+            worker.start()
+        except BaseException:
+            close_transport(worker.transport)
+            raise
+        return worker
 
     def forget(self, call: Call) -> None:
         """Takes a call off the queue whose caller waits no longer."""
