@@ -546,6 +546,16 @@ class Lost(unittest.TestCase):
             self.assertEqual(len(closed), 1, "its transport is closed")
             self.assertEqual(client.lookup_accounts([1]), [])
 
+    def test_a_session_without_a_next_number(self):
+        """The client goes on in a new one."""
+        server = InProcess()
+        with over(server) as client:
+            client.create_accounts([account(1)])
+            (worker,) = client._pool._workers
+            first, worker._session.number = worker._session, tb.NUMBER_MAX
+            self.assertEqual([it.id for it in client.lookup_accounts([1])], [1])
+            self.assertNotEqual(worker._session.client, first.client)
+
     def test_a_bad_reply_is_told_and_the_client_goes_on(self):
         server = InProcess()
         exchange = server.exchange

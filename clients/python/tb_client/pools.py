@@ -14,7 +14,7 @@ from .errors import Busy, CannotConnect, Closed, Evicted, NoMemory, NotSent, Not
 from .frames import body_of
 from .ids import new_client
 from .joined import CREATES, answers, is_linked, settled
-from .layout import ITEM_SIZES, ITEMS_MAX, RECORD
+from .layout import ITEM_SIZES, ITEMS_MAX, NUMBER_MAX, RECORD
 from .names import Operation
 from .sessions import PAUSE, Session, pauses_from
 from .transports import Transport, close_transport
@@ -278,6 +278,9 @@ class Worker(threading.Thread):
 
     def _registered(self) -> Session:
         """The session, registered. `CannotConnect` where nothing answers."""
+        it = self._session
+        if it is not None and it.number == NUMBER_MAX and it.pending is None:
+            self._leave()  # it has no next number
         if self._session is None:
             self._session = self._pool.new_session(self.transport)
         session, patience = self._session, _Patience()
