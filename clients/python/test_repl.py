@@ -5,6 +5,7 @@ the repository. checks/repl.py runs the command over the built programs on a ter
 """
 import io
 import os
+import signal
 import tempfile
 import unittest
 from contextlib import redirect_stderr, redirect_stdout
@@ -250,6 +251,24 @@ class Completion(unittest.TestCase):
         wanted.update(it.name for flags in lines.FLAGS.values() for it in flags)
         with open(os.path.join(os.path.dirname(lines.__file__), "words")) as file:
             self.assertEqual(file.read().split(), sorted(wanted))
+
+
+class Pages(unittest.TestCase):
+    def shown(self, pager):
+        """What is shown by a pager, while Ctrl-C is an exception in this process."""
+        with tempfile.NamedTemporaryFile("r") as file:
+            words = {"PAGER": f"{pager} > {file.name}", "LINES": "5"}
+            before = signal.signal(signal.SIGINT, signal.default_int_handler)
+            try:
+                with mock.patch.dict(os.environ, words):
+                    lines.print_pages(map(str, range(9)), True)
+            finally:
+                signal.signal(signal.SIGINT, before)
+            return file.read()
+
+    def test_ctrl_c_is_the_pager_s(self):
+        wanted = "".join(f"{it}\n" for it in range(9))
+        self.assertEqual(self.shown("kill -INT $PPID; sleep 0.2; cat"), wanted)
 
 
 class Command(unittest.TestCase):

@@ -5,6 +5,7 @@ import contextlib
 import os
 import pathlib
 import shutil
+import signal
 import subprocess
 import sys
 from typing import Iterator, Optional
@@ -95,13 +96,23 @@ class Lines:
                 readline.write_history_file(history_path())
 
 
+@contextlib.contextmanager
+def left_to_others() -> Iterator[None]:
+    """Ctrl-C does nothing here meanwhile: it is for who has the terminal."""
+    before = signal.signal(signal.SIGINT, lambda *_: None)
+    try:
+        yield
+    finally:
+        signal.signal(signal.SIGINT, before or signal.SIG_DFL)
+
+
 def print_pages(lines: Iterator[str], by_pager: bool) -> None:
     """Prints lines; through a pager where they are more than the terminal shows."""
     text = list(lines)
     pager = os.environ.get("PAGER") or ("less -FRSX" if shutil.which("less") else "")
     height = shutil.get_terminal_size().lines
     if by_pager and pager and len(text) > height - 2:
-        with contextlib.suppress(BrokenPipeError):
+        with contextlib.suppress(BrokenPipeError), left_to_others():
             subprocess.run(pager, shell=True, input="\n".join(text) + "\n", text=True, check=False)
         return
     print("\n".join(text), flush=True)
