@@ -270,6 +270,13 @@ class Pages(unittest.TestCase):
         wanted = "".join(f"{it}\n" for it in range(9))
         self.assertEqual(self.shown("kill -INT $PPID; sleep 0.2; cat"), wanted)
 
+    def test_a_pager_that_is_not_there(self):
+        """What it was to show is printed."""
+        printed = io.StringIO()
+        with redirect_stdout(printed):
+            self.assertEqual(self.shown("/nowhere/at/all"), "")
+        self.assertEqual(printed.getvalue().split(), [str(it) for it in range(9)])
+
 
 class Command(unittest.TestCase):
     def fault(self, *words):

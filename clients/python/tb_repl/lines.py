@@ -28,6 +28,7 @@ FIELDS = {
 }
 FLAGS = {"create_accounts": AccountFlags, "create_transfers": TransferFlags}
 HISTORY_MAX = 10_000
+NOT_RUN = (126, 127)  # what a shell ends with where it cannot run a command
 
 
 def history_path() -> pathlib.Path:
@@ -113,6 +114,9 @@ def print_pages(lines: Iterator[str], by_pager: bool) -> None:
     height = shutil.get_terminal_size().lines
     if by_pager and pager and len(text) > height - 2:
         with contextlib.suppress(BrokenPipeError), left_to_others():
-            subprocess.run(pager, shell=True, input="\n".join(text) + "\n", text=True, check=False)
-        return
+            ran = subprocess.run(pager, shell=True, input="\n".join(text) + "\n", text=True)
+            if ran.returncode in NOT_RUN:  # the shell has said why
+                by_pager = False
+        if by_pager:
+            return
     print("\n".join(text), flush=True)
