@@ -111,6 +111,24 @@ class Statements(unittest.TestCase):
         text = "at=5 lookup_accounts id=1;"
         self.assertEqual(statements.with_moments(text), text)
 
+    def test_a_reader_that_fails(self):
+        """It is told as what is wrong with a statement."""
+        with tempfile.TemporaryDirectory() as folder:
+            path = os.path.join(folder, "tbt")
+            for text, mode, said in (
+                ("", 0o644, "Permission denied"),
+                ("#!/nowhere/at/all\n", 0o755, "No such file or directory"),
+                ("#!/bin/sh\nkill -9 $$\n", 0o755, "ended with status -9"),
+                ("#!/bin/sh\necho tbt: line 3, column 1: x >&2; exit 2\n", 0o755, "tbt: line 2, "),
+            ):
+                with open(path, "w", encoding="utf-8") as file:
+                    file.write(text)
+                os.chmod(path, mode)
+                with self.assertRaisesRegex(statements.Wrong, said):
+                    statements.Tbt(path).pair(statements.REGISTER, {"client": 1})
+                with self.assertRaises(statements.Wrong):
+                    statements.Tbt(path).spelled(b"")
+
     def test_fault_has_the_line_as_typed(self):
         told = "tbt: line 5, column 3: unknown field 'x'\n  x\n"
         self.assertEqual(
@@ -297,6 +315,19 @@ class Command(unittest.TestCase):
                 "name the program by --program",
                 self.fault("--tbt", program.name, "--program", "/nowhere"),
             )
+
+    def test_a_program_is_a_file_at_its_path(self):
+        """A folder is none, and a name without a slash is not looked for on PATH."""
+        with tempfile.TemporaryDirectory() as folder:
+            self.assertIn(f"{folder} is not there", self.fault("--tbt", folder))
+            with open(os.path.join(folder, "it"), "w", encoding="utf-8") as file:
+                os.chmod(file.name, 0o755)
+            before = os.getcwd()
+            os.chdir(folder)
+            try:
+                self.assertEqual(commands.found("tbt", "it", "--tbt"), "./it")
+            finally:
+                os.chdir(before)
 
     def test_a_kept_ledger_is_no_program_of_its_own(self):
         with tempfile.TemporaryDirectory() as folder:

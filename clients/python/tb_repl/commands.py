@@ -43,9 +43,10 @@ GIVEN_UP = """no reply is waited for: the statement may have been executed, or m
 def found(name: str, given: Optional[str], option: str) -> str:
     """The path of a program: the one that is given, else one of this name on PATH."""
     path = given or os.environ.get(name.upper()) or shutil.which(name)
-    if not path or not os.access(path, os.X_OK):
+    if not path or not os.path.isfile(path) or not os.access(path, os.X_OK):
         sys.exit(f"tb-repl: {path or name} is not there: name the program by {option}")
-    return path
+    # a name without a slash would be looked for on PATH
+    return path if os.path.dirname(path) else os.path.join(".", path)
 
 
 def address_of(text: str) -> "str | tuple[str, int]":

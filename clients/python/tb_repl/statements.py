@@ -102,21 +102,28 @@ class Tbt:
     def __init__(self, path: str) -> None:
         self.path = path
 
-    def run(self, form: str, given: bytes) -> subprocess.CompletedProcess[bytes]:
-        return subprocess.run([self.path, form], input=given, capture_output=True, timeout=60)
+    def run(self, form: str, given: bytes) -> bytes:
+        """What it writes. Raises `Wrong` with what it says where it refuses what it was given."""
+        try:
+            ran = subprocess.run([self.path, form], input=given, capture_output=True, timeout=60)
+        except (OSError, subprocess.TimeoutExpired) as why:
+            said = "does not end" if isinstance(why, subprocess.TimeoutExpired) else why.strerror
+            raise Wrong(f"tb-repl: {self.path}: {said}") from None
+        told = ran.stderr.decode("utf-8", "replace").rstrip("\n")
+        if ran.returncode:
+            raise Wrong(told or f"tb-repl: {self.path} ended with status {ran.returncode}")
+        return ran.stdout
 
     def pair(self, statement: Typed, filled: dict[str, int]) -> tuple[int, bytes]:
         """The moment and the frame of a statement, where these fields are filled in."""
         before = "".join(f"{field}={value}\n" for field, value in filled.items())
         text = before + statement.text.lstrip("\n")
-        ran = self.run("script", text.encode("utf-8", "surrogateescape"))
-        if ran.returncode != 0:
-            raise Wrong(shown_fault(ran.stderr.decode("utf-8", "replace"), len(filled)))
-        return int.from_bytes(ran.stdout[:8], "little"), ran.stdout[8:]
+        try:
+            written = self.run("script", text.encode("utf-8", "surrogateescape"))
+        except Wrong as why:
+            raise Wrong(shown_fault(str(why), len(filled))) from None
+        return int.from_bytes(written[:8], "little"), written[8:]
 
     def spelled(self, reply: bytes) -> str:
         """The JSON of a reply."""
-        ran = self.run("replies", reply)
-        if ran.returncode != 0:
-            raise Wrong(ran.stderr.decode("utf-8", "replace").strip())
-        return ran.stdout.decode().rstrip("\n")
+        return self.run("replies", reply).decode().rstrip("\n")
