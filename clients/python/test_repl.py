@@ -292,7 +292,7 @@ class Pages(unittest.TestCase):
         """What it was to show is printed."""
         printed = io.StringIO()
         with redirect_stdout(printed):
-            self.assertEqual(self.shown("/nowhere/at/all"), "")
+            self.assertEqual(self.shown("/nowhere/at/all 2> /dev/null"), "")
         self.assertEqual(printed.getvalue().split(), [str(it) for it in range(9)])
 
 
@@ -315,6 +315,23 @@ class Command(unittest.TestCase):
                 "name the program by --program",
                 self.fault("--tbt", program.name, "--program", "/nowhere"),
             )
+
+    def test_empty_words(self):
+        """As of a variable that is not set: no server of its own takes the place of another one,
+        and nothing goes out without TLS."""
+        for option in ("--connect", "--ca", "--certificate", "--key", "--program", "--tbt"):
+            self.assertIn(f"argument {option}: is empty", self.fault(option, ""))
+
+    def test_files_of_tls(self):
+        given = ("--connect", "localhost:1", "--tbt", "/bin/sh")
+        self.assertIn(
+            "tb-repl: /nowhere: No such file", self.fault(*given, "--ca", "/nowhere")
+        )
+        self.assertIn(
+            "tb-repl: /nowhere and /no: No such file",
+            self.fault(*given, "--certificate", "/nowhere", "--key", "/no"),
+        )
+        self.assertRegex(self.fault(*given, "--ca", "/bin/sh"), "tb-repl: /bin/sh: [A-Z_]")
 
     def test_a_program_is_a_file_at_its_path(self):
         """A folder is none, and a name without a slash is not looked for on PATH."""
@@ -356,6 +373,8 @@ class Command(unittest.TestCase):
         self.assertEqual(commands.address_of("/run/a:7"), "/run/a:7")
         self.assertEqual(commands.address_of("localhost:3000"), ("localhost", 3000))
         self.assertEqual(commands.address_of("[::1]:3000"), ("::1", 3000))
+        for path in ("localhost:\u00b2", "localhost:" + 5000 * "3"):
+            self.assertEqual(commands.address_of(path), path)
 
 
 if __name__ == "__main__":

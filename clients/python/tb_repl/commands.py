@@ -52,7 +52,7 @@ def found(name: str, given: Optional[str], option: str) -> str:
 def address_of(text: str) -> "str | tuple[str, int]":
     """A Unix socket's path, or a host and a port."""
     host, colon, port = text.rpartition(":")
-    if colon and "/" not in text and port.isdigit():
+    if colon and "/" not in text and port.isascii() and port.isdigit() and len(port) < 10:
         return host.strip("[]"), int(port)
     return text
 
@@ -60,9 +60,15 @@ def address_of(text: str) -> "str | tuple[str, int]":
 def context_of(given: argparse.Namespace) -> Optional[ssl.SSLContext]:
     if not (given.ca or given.certificate):
         return None
-    context = ssl.create_default_context(cafile=given.ca)
-    if given.certificate:
-        context.load_cert_chain(given.certificate, given.key)
+    files = given.ca
+    try:
+        context = ssl.create_default_context(cafile=given.ca)
+        if given.certificate:
+            files = " and ".join(filter(None, (given.certificate, given.key)))
+            context.load_cert_chain(given.certificate, given.key)
+    except OSError as why:
+        reason = why.reason if isinstance(why, ssl.SSLError) else why.strerror
+        sys.exit(f"tb-repl: {files}: {reason or 'no certificate'}")
     return context
 
 
@@ -153,22 +159,33 @@ class Repl:
         print_pages(answer_shown(served, width), self.lines.is_terminal)
 
 
+def word(text: str) -> str:
+    """A word that says something: an empty one would be taken for an option that was left out."""
+    if not text:
+        raise argparse.ArgumentTypeError("is empty")
+    return text
+
+
 def arguments() -> argparse.ArgumentParser:
     parser = argparse.ArgumentParser(
         prog="tb-repl",
         description="A ledger at a terminal. Without --connect it runs a server of its own, whose "
         "ledger ends with it.",
     )
-    parser.add_argument(
-        "--connect",
-        metavar="ADDRESS",
-        help="a server that listens: a Unix socket's path or HOST:PORT; several with commas",
+    texts = (
+        (
+            "--connect",
+            "ADDRESS",
+            "a server that listens: a Unix socket's path or HOST:PORT; several with commas",
+        ),
+        ("--ca", "FILE", "over TLS: who signs the server's certificate"),
+        ("--certificate", "FILE", "over TLS: this client's certificate"),
+        ("--key", "FILE", "over TLS: its key"),
+        ("--program", "FILE", "the server to run (tbs on PATH)"),
+        ("--tbt", "FILE", "what reads statements (tbt on PATH)"),
     )
-    parser.add_argument("--ca", metavar="FILE", help="over TLS: who signs the server's certificate")
-    parser.add_argument("--certificate", metavar="FILE", help="over TLS: this client's certificate")
-    parser.add_argument("--key", metavar="FILE", help="over TLS: its key")
-    parser.add_argument("--program", metavar="FILE", help="the server to run (tbs on PATH)")
-    parser.add_argument("--tbt", metavar="FILE", help="what reads statements (tbt on PATH)")
+    for option, metavar, said in texts:
+        parser.add_argument(option, metavar=metavar, type=word, help=said)
     parser.add_argument(
         "--clients-max",
         metavar="N",
