@@ -111,6 +111,19 @@ class Statements(unittest.TestCase):
         text = "at=5 lookup_accounts id=1;"
         self.assertEqual(statements.with_moments(text), text)
 
+    def test_what_is_no_date(self):
+        """It is left as it is: a digit behind one would be taken for its moment's last digit."""
+        for text in (
+            "at=1970-01-025 register;",
+            "at=1970-01-02T10:00:00Z7 register;",
+            "at=1970-01-02T10:00:00 register;",
+            "at=1970-01-0\u0662 register;",
+            "# at=2026-13-01 was no date\nregister; # at=2026-13-01",
+        ):
+            self.assertEqual(statements.with_moments(text), text)
+        text = "# at=1970-01-01\nat=1970-01-01 register;"
+        self.assertEqual(statements.with_moments(text)[:20], "# at=1970-01-01\nat=0")
+
     def test_a_reader_that_fails(self):
         """It is told as what is wrong with a statement."""
         with tempfile.TemporaryDirectory() as folder:
@@ -162,6 +175,13 @@ class Ledger(unittest.TestCase):
         with self.assertRaises(statements.Wrong):
             serve(it, "lookup_accounts wrong ;")
         self.assertEqual(server.frames, [])
+
+    def test_a_client_of_too_many_digits(self):
+        """It is for `tbt` to refuse: Python reads no number of 5000 digits."""
+        it, _ = ledger(Server())
+        for number in ("9" * 5000, "0x" + "9" * 5000):
+            self.assertEqual(it._client_of(statements.typed(f"client={number} register;")), 5)
+        self.assertEqual(it._client_of(statements.typed("client=0x10 register;")), 16)
 
     def test_a_lost_reply_sends_the_same_bytes_again(self):
         server = Server(lost=[2, 3])

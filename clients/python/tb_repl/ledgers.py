@@ -59,7 +59,7 @@ class Ledger:
         """The client that a statement names, else the one named last. A number that is none is
         left to `tbt`, which tells its place."""
         head = bare(statement.text).split(statement.operation or ";")[0]
-        named = re.search(r"\bclient\s*=\s*(0x[0-9a-fA-F]+|[0-9]+)\b", head)
+        named = re.search(r"\bclient\s*=\s*(0x[0-9a-fA-F]{1,99}|[0-9]{1,99})\b", head)
         return int(named[1], 0 if named[1].startswith("0x") else 10) if named else self.client
 
     def _pair(self, statement: Typed, filled: dict[str, int]) -> tuple[int, bytes]:

@@ -15,7 +15,8 @@ OPERATIONS = (
 )
 HEAD_FIELDS = ("at", "client", "session", "request")
 DATE = re.compile(
-    r"\bat(\s*)=(\s*)(\d{4})-(\d\d)-(\d\d)(?:T(\d\d):(\d\d)(?::(\d\d)(?:\.(\d{1,9}))?)?Z)?"
+    r"\bat(\s*)=(\s*)(\d{4})-(\d\d)-(\d\d)(?:T(\d\d):(\d\d)(?::(\d\d)(?:\.(\d{1,9}))?)?Z)?\b",
+    re.ASCII,
 )
 
 
@@ -80,11 +81,13 @@ def moment_of(date: re.Match[str]) -> str:
 
 def with_moments(text: str) -> str:
     """A statement whose dates are moments."""
-    head = typed(text)
-    end = len(text)
-    if head.operation:
-        end = re.search(rf"\b{head.operation}\b", bare(text)).start()  # type: ignore[union-attr]
-    return DATE.sub(moment_of, text[:end]) + text[end:]
+    operation, plain = typed(text).operation, bare(text)
+    end, made, done = len(text), "", 0
+    if operation:
+        end = re.search(rf"\b{operation}\b", plain).start()  # type: ignore[union-attr]
+    for date in DATE.finditer(plain, 0, end):
+        made, done = made + text[done : date.start()] + moment_of(date), date.end()
+    return made + text[done:]
 
 
 def shown_fault(told: str, lines: int) -> str:
