@@ -5,7 +5,10 @@ the repository. checks/repl.py runs the command over the built programs on a ter
 """
 import io
 import os
+import shlex
 import signal
+import subprocess
+import sys
 import tempfile
 import unittest
 from contextlib import redirect_stderr, redirect_stdout
@@ -314,6 +317,65 @@ class Pages(unittest.TestCase):
         with redirect_stdout(printed):
             self.assertEqual(self.shown("/nowhere/at/all 2> /dev/null"), "")
         self.assertEqual(printed.getvalue().split(), [str(it) for it in range(9)])
+
+
+class Files(unittest.TestCase):
+    """The command as a process, over programs that stand in for `tbt` and `tbs`."""
+
+    TBT = """
+import struct, sys
+given = sys.stdin.buffer.read()
+if b"\\xe9" in given:
+    sys.exit("tbt: no text")
+if sys.argv[1] == "script":
+    sys.stdout.buffer.write(struct.pack("<Q16sQIB19x", 0, b"\\1", 0, 0, 2))
+else:
+    print('{"status":"reply","operation":"register","client":"1","session":"1"}')
+"""
+    TBS = """
+import struct, sys
+while len(sys.stdin.buffer.read(56)) == 56:
+    sys.stdout.buffer.write(struct.pack("<16sQIBB2xIQ4x", b"\\1", 1, 0, 2, 0, 0, 1))
+    sys.stdout.flush()
+"""
+
+    def ran(self, script, given=b"", **more):
+        """The status of the command in a shell, and what it tells."""
+        with tempfile.TemporaryDirectory() as folder:
+            words = [sys.executable, "-B", "-m", "tb_repl"]
+            for name, text in (("tbt", self.TBT), ("tbs", self.TBS)):
+                path = os.path.join(folder, name)
+                with open(path, "w", encoding="utf-8") as file:
+                    file.write(f"#!{sys.executable} -SE{text}")
+                os.chmod(path, 0o755)
+                words += ["--tbt" if name == "tbt" else "--program", path]
+            it = subprocess.run(
+                ["bash", "-c", f"{shlex.join(words)} {script}"],
+                input=given,
+                capture_output=True,
+                cwd=os.path.dirname(os.path.abspath(__file__)),
+                env={**os.environ, **more},
+                timeout=60,
+            )
+            return it.returncode, it.stderr.decode()
+
+    def test_bytes_that_are_no_text(self):
+        given = b"register;\nregister # \xe9\n;\n"
+        found = self.ran("", given, PYTHONIOENCODING="utf-8:strict")
+        self.assertEqual(found, (2, "tbt: no text\n"))
+
+    def test_output_that_is_lost(self):
+        said = "tb-repl: standard input or output: "
+        full = (1, f"{said}No space left on device\n")
+        self.assertEqual(self.ran("> /dev/full", b"register;\n"), full)
+        broken = (1, f"{said}Broken pipe\n")
+        script = "| exit 0; exit ${PIPESTATUS[0]}"
+        self.assertEqual(self.ran(f"< <(sleep 0.3; echo 'register;') {script}"), broken)
+
+    def test_files_that_are_closed(self):
+        for script in ("<&-", ">&-"):
+            said = "tb-repl: standard input or output is closed\n"
+            self.assertEqual(self.ran(script), (1, said))
 
 
 class Command(unittest.TestCase):

@@ -216,6 +216,8 @@ def drawn_client(given: argparse.Namespace) -> int:
 def main() -> int:
     parser = arguments()
     given = parser.parse_args()
+    if sys.stdin is None or sys.stdout is None:
+        sys.exit("tb-repl: standard input or output is closed")
     if given.key and not given.certificate:
         parser.error("--key comes with --certificate")
     if given.client is not None and not 0 < given.client < 2**128:
@@ -240,6 +242,11 @@ def main() -> int:
     except KeyboardInterrupt:
         print()
         return 130
+    except OSError as why:
+        tell(f"standard input or output: {why.strerror}")
+        # else it is tried again at the end to write what is left
+        os.dup2(os.open(os.devnull, os.O_WRONLY), sys.stdout.fileno())
+        return 1
     finally:
         lines.close()
         ledger.close()

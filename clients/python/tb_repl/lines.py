@@ -2,6 +2,7 @@
 from __future__ import annotations
 
 import contextlib
+import io
 import os
 import pathlib
 import shutil
@@ -58,6 +59,8 @@ class Lines:
     def __init__(self) -> None:
         self.before = ""
         self.is_terminal = sys.stdin.isatty() and sys.stdout.isatty()
+        if isinstance(sys.stdin, io.TextIOWrapper):  # bytes that are no text are for `tbt` to tell
+            sys.stdin.reconfigure(errors="surrogateescape")
         if readline and self.is_terminal:
             self._prepare()
 
