@@ -3,6 +3,7 @@
 import argparse
 import asyncio
 import contextlib
+import errno
 import importlib.util
 import io
 import json
@@ -429,9 +430,31 @@ class OverALog(unittest.IsolatedAsyncioTestCase):
             await it.begin()
         return found.exception.name
 
+    async def filled(self, call, path, **more):
+        """A call fails as on a full disk. It ends the replica with a line that names the file, and
+        a new start goes on."""
+        it = await self.began()
+        await self.asked(it, 6)
+        full = OSError(errno.ENOSPC, os.strerror(errno.ENOSPC))
+        with mock.patch.multiple(os, **{call: mock.Mock(side_effect=full), **more}):
+            with contextlib.suppress(Told):
+                await self.asked(it, 7)
+            with self.assertRaises(Ended) as found:
+                await asyncio.wait_for(self.running, 20)
+        self.assertEqual(str(found.exception), f"{path}: No space left on device")
+        self.copy.close()
+        os.dup2(os.open(os.devnull, os.O_RDONLY), self.copy.file)
+        it = await self.began()
+        await self.asked(it, 8)
+        await self.closed(it)
+
 
 class Replicas(OverALog):
     """Before a server that keeps its ledger in memory."""
+
+    async def test_a_disk_that_is_full(self):
+        for call, more in (("pwritev", {}), ("pwrite", {"pwritev": lambda *_: 9}), ("fsync", {})):
+            await self.filled(call, f"{self.folder}/log", **more)
 
     async def test_requests_and_their_replies(self):
         it = await self.began()
@@ -826,6 +849,9 @@ class Kept(OverALog):
         os.truncate(self.path, 0)
         it.follower.kill()
         self.assertEqual(await self.ended(), "Damaged")
+
+    async def test_a_disk_that_is_full(self):
+        await self.filled("fsync", f"{self.folder}/checkpoint")
 
     async def test_it_waits_for_room(self):
         self.addCleanup(setattr, backlog, "ENTRIES", backlog.ENTRIES)

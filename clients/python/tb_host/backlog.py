@@ -59,14 +59,19 @@ def checkpoint_of(folder: str) -> Optional[bytes]:
 
 def put_checkpoint(folder: str, data: bytes) -> None:
     path = os.path.join(folder, "checkpoint")
-    with open(path + ".new", "wb") as file:
-        file.write(data)
-        file.flush()
-        os.fsync(file.fileno())
-    os.replace(path + ".new", path)
-    at = os.open(folder, os.O_RDONLY)
-    os.fsync(at)
-    os.close(at)
+    try:
+        with open(path + ".new", "wb") as file:
+            file.write(data)
+            file.flush()
+            os.fsync(file.fileno())
+        os.replace(path + ".new", path)
+        at = os.open(folder, os.O_RDONLY)
+        try:
+            os.fsync(at)
+        finally:
+            os.close(at)
+    except OSError as error:
+        raise Ended(f"{path}: {error.strerror}", 1) from None
 
 
 def copied_checkpoint(source: str, folder: str) -> Optional[Tuple[int, int]]:

@@ -148,11 +148,14 @@ class Copy(Taken):
         """Appends an entry. It is synced later."""
         head = RECORD.pack(self.position + 1, place, len(data))
         head += SUM.pack(zlib.crc32(data, zlib.crc32(head)))
-        done = os.pwritev(self.file, [head, data], self.end)
         end = self.end_of(data)
-        while self.end + done < end:
-            rest = memoryview(head + data)[done:]
-            done += os.pwrite(self.file, rest, self.end + done)
+        try:
+            done = os.pwritev(self.file, [head, data], self.end)
+            while self.end + done < end:
+                rest = memoryview(head + data)[done:]
+                done += os.pwrite(self.file, rest, self.end + done)
+        except OSError as error:
+            raise Ended(f"{self.path}: {error.strerror}", 1) from None
         self.count(place, entry)
         self.end = end
         if not is_given:
@@ -164,10 +167,14 @@ class Copy(Taken):
 
     def sync(self, end: int, mark: Tuple[int, int]) -> None:
         """Syncs the records up to a mark. It may run in another thread."""
-        os.fsync(self.file)
-        path = os.path.join(self.folder, "synced")
-        with open(path, "r+b" if os.path.exists(path) else "wb") as file:
-            file.write(SYNCED.pack(end))
+        path = self.path
+        try:
+            os.fsync(self.file)
+            path = os.path.join(self.folder, "synced")
+            with open(path, "r+b" if os.path.exists(path) else "wb") as file:
+                file.write(SYNCED.pack(end))
+        except OSError as error:
+            raise Ended(f"{path}: {error.strerror}", 1) from None
         self.synced_end, self.synced = end, mark
 
     def end_of(self, data: bytes) -> int:
