@@ -311,6 +311,33 @@ class Copies(unittest.TestCase):
             Copy(self.folder)
         self.assertIn("is in use", str(found.exception))
 
+    def script(self, folder, to=""):
+        """The status, the script and the last line of `tb-replica script`."""
+        words = [sys.executable, "-B", "-m", "tb_host.machines", "script", "--copy", folder]
+        ran = subprocess.run(
+            f"{shlex.join(words)} {to}", shell=True, capture_output=True, cwd=HERE, timeout=60
+        )
+        return ran.returncode, ran.stdout, ran.stderr.decode()
+
+    def test_the_script_of_a_copy(self):
+        """One that is damaged is told behind what is right. One that lacks its end, as where it was
+        copied while it was in use, is not."""
+        pairs = [pair(number, register(number)) for number in range(1, 6)]
+        self.assertEqual(self.script(self.folder), (0, b"".join(pairs), ""))
+        said = "tb_replica: standard output: No space left on device\n"
+        self.assertEqual(self.script(self.folder, "> /dev/full"), (1, b"", said))
+        self.assertEqual(self.script(self.folder, "| true"), (0, b"", ""))
+        path, size = os.path.join(self.folder, "log"), (self.end - 8) // 5
+        with open(path, "r+b") as file:
+            file.truncate(self.end - 1)
+        self.assertEqual(self.script(self.folder), (0, b"".join(pairs[:4]), ""))
+        with open(path, "r+b") as file:
+            file.truncate(self.end)
+            file.seek(8 + 3 * size + 40)
+            file.write(b"x")
+        said = f"tb_replica: Damaged: the record at byte {8 + 3 * size} of {path}\n"
+        self.assertEqual(self.script(self.folder), (24, b"".join(pairs[:3]), said))
+
     def test_a_copy_of_a_peer(self):
         kept(self.folder, "head", b"the log")
         other = self.folder + "2"

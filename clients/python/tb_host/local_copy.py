@@ -95,17 +95,11 @@ class Copy(Taken):
         self.sync(*self.mark())
 
     def _cut(self, length: int) -> None:
-        if self.end < self._synced_before():
+        if self.end < synced_of(self.folder):
             said = f"the record behind position {self.position}, at byte {self.end} of {self.path}"
             raise Fault("Damaged", said)
         self.cut_off = length - self.end
         os.ftruncate(self.file, self.end)
-
-    def _synced_before(self) -> int:
-        with contextlib.suppress(OSError, struct.error):
-            with open(os.path.join(self.folder, "synced"), "rb") as file:
-                return int(SYNCED.unpack(file.read())[0])
-        return 0
 
     def records(self, start: int, end: int) -> Iterator[Record]:
         """The records from a place of the file on, up to the first that is not right."""
@@ -197,6 +191,14 @@ class Copy(Taken):
         os.close(self.file)
 
 
+def synced_of(folder: str) -> int:
+    """The length up to which the records of a copy were synced."""
+    with contextlib.suppress(OSError, struct.error):
+        with open(os.path.join(folder, "synced"), "rb") as file:
+            return int(SYNCED.unpack(file.read())[0])
+    return 0
+
+
 def records_of(folder: str) -> Iterator[Record]:
     """The records of a copy, which may be in use, up to the first that is not whole."""
     path = os.path.join(folder, "log")
@@ -209,8 +211,22 @@ def records_of(folder: str) -> Iterator[Record]:
         if os.pread(reading.file, len(MAGIC), 0) != MAGIC:
             raise Fault("Damaged", f"{path} is no copy of a log")
         yield from reading.records(len(MAGIC), os.fstat(reading.file).st_size)
+    except OSError as error:
+        raise Ended(f"{path}: {error.strerror}", 1) from None
     finally:
         os.close(reading.file)
+
+
+def all_records_of(folder: str) -> Iterator[Record]:
+    """The same. Raises `Damaged` behind them where a record comes that was synced and is not what
+    was written. A folder that was copied while it was in use may have less than was synced."""
+    synced, end = synced_of(folder), len(MAGIC)
+    for record in records_of(folder):
+        yield record
+        end = record.end
+    path = os.path.join(folder, "log")
+    if end < synced <= os.stat(path).st_size:
+        raise Fault("Damaged", f"the record at byte {end} of {path}")
 
 
 def copied(source: str, folder: str) -> Tuple[int, int]:

@@ -7,7 +7,7 @@ import contextlib
 import json
 import sys
 import time
-from typing import Any, Dict
+from typing import Any, BinaryIO, Dict, Iterator
 
 from tb_client.frames import reply_length
 from tb_client.layout import HEADER
@@ -15,7 +15,7 @@ from tb_client.layout import HEADER
 from .entries import NOTHING, Entry, chained, cut
 from .faults import Fault
 from .lines import Ended
-from .local_copy import records_of
+from .local_copy import all_records_of
 from .log import Log, LogFull, NoLog
 from .moments import SECOND
 from .process import end_of, exited, last_line, started, tail
@@ -89,11 +89,28 @@ async def trim(given: argparse.Namespace, log: Log) -> int:
 
 def script(given: argparse.Namespace) -> int:
     """Writes the script that a copy has: the pairs of all its entries."""
-    with contextlib.suppress(BrokenPipeError):
-        for record in records_of(given.copy):
-            sys.stdout.buffer.write(Entry.from_bytes(record.entry).pairs)
-        sys.stdout.buffer.flush()
+    with contextlib.suppress(BrokenPipeError), _output() as output:
+        for record in all_records_of(given.copy):
+            output.write(Entry.from_bytes(record.entry).pairs)
     return 0
+
+
+@contextlib.contextmanager
+def _output() -> Iterator[BinaryIO]:
+    """Standard output, of which all has left at the end. What is lost is told once, and is not
+    written again."""
+    output = open(sys.stdout.fileno(), "wb", closefd=False)
+    try:
+        try:
+            yield output
+        finally:
+            output.flush()
+    except BrokenPipeError:
+        raise
+    except OSError as error:
+        raise Ended(f"standard output: {error.strerror}", 1) from None
+    finally:
+        output.raw.close()
 
 
 async def hashes(given: argparse.Namespace) -> int:
@@ -102,7 +119,7 @@ async def hashes(given: argparse.Namespace) -> int:
     telling = asyncio.ensure_future(tail(process.stderr))
     log = replies = NOTHING
     position = 0
-    for record in records_of(given.copy):
+    for record in all_records_of(given.copy):
         pairs = Entry.from_bytes(record.entry).pairs
         process.stdin.write(pairs)
         log = chained(log, pairs)
