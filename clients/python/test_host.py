@@ -947,6 +947,24 @@ class Words(unittest.TestCase):
                 (status, line), (1, f"tb_replica: {folder}/a/log: No such file or directory")
             )
 
+    def test_a_copy_of_a_part(self):
+        """Nothing is made of a folder without the log's head, or where nothing can be made."""
+        with tempfile.TemporaryDirectory() as folder:
+            source, to = f"{folder}/a", f"{folder}/b"
+            copy = Copy(source)
+            copy.scan()
+            copy.close()
+            said = "tb_replica: {}/head: No such file or directory"
+            for name in ("log", "checkpoint"):
+                if name == "checkpoint":
+                    it = Checkpoint(7, 70, "00" * 32, 5, {})
+                    backlog.put_checkpoint(source, it.to_bytes())
+                found = self.ended("copy-from", source, "--copy", to)
+                self.assertEqual((found, os.path.exists(to)), ((1, said.format(source)), False))
+            kept(source, "head", b"{}")
+            found = self.ended("copy-from", source, "--copy", "/proc/nowhere")
+            self.assertEqual(found, (1, "tb_replica: /proc/nowhere: No such file or directory"))
+
     def test_the_parts_of_a_log(self):
         self.assertEqual(
             log.parts("etcd://a,b:1,[::1]:2/x/y"),

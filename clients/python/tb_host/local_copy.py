@@ -236,6 +236,7 @@ def copied(source: str, folder: str) -> Tuple[int, int]:
         raise Ended(f"{folder} has a copy already", 1)
     records = records_of(source)
     record = next(records, None)
+    head = head_in(source)
     target = Copy(folder)
     try:
         target.scan()
@@ -243,11 +244,20 @@ def copied(source: str, folder: str) -> Tuple[int, int]:
             target.append(record.place, Entry.from_bytes(record.entry), record.entry)
             record = next(records, None)
         target.sync(*target.mark())
-        with open(os.path.join(source, "head"), "rb") as file:
-            kept(folder, "head", file.read())
+        kept(folder, "head", head)
         return target.synced
     finally:
         target.close()
+
+
+def head_in(folder: str) -> bytes:
+    """The log's head, as a folder has it."""
+    path = os.path.join(folder, "head")
+    try:
+        with open(path, "rb") as file:
+            return file.read()
+    except OSError as error:
+        raise Ended(f"{path}: {error.strerror}", 1) from None
 
 
 def kept(folder: str, name: str, made: bytes) -> bytes:

@@ -247,6 +247,11 @@ def main() -> int:
     except Ended as ended:
         say(str(ended))
         return ended.status
+    except OSError as error:
+        if error.filename is None:
+            raise
+        say(f"{error.filename}: {error.strerror}")
+        return 1
 
 
 if __name__ == "__main__":
