@@ -923,10 +923,29 @@ class Words(unittest.TestCase):
             (("status",), "the following arguments are required: --log"),
             (("copy-from", "a"), "the following arguments are required: --copy"),
             (("trim", "--log", "etcd://a:x/b"), "argument --log: 'a:x' is no HOST or HOST:PORT"),
+            (("--standbys", "-1", *run, "t", "run", "1"), "--standbys: '-1' is no number from 0"),
+            (("--name", "\udcff", *run, "t", "run", "1"), "argument --name: '\\udcff' is no name"),
+            (("trim", "--log", "etcd://a/b", "--forget", "\n"), "argument --forget: '\\n' is no"),
         ):
             status, line = self.ended(*given)
             self.assertEqual(status, 2)
             self.assertIn(said, line)
+
+    def test_files_of_tls_that_would_be_passed_over(self):
+        """Without --log-ca etcd is spoken to without TLS."""
+        both = ("--log-certificate", "c", "--log-key", "k")
+        for words in (machines._status_words, machines._trim_words):
+            for files in (both, both[:2], both[2:], ("--log-ca", "a", *both[2:])):
+                told = io.StringIO()
+                with self.assertRaises(SystemExit), contextlib.redirect_stderr(told):
+                    words(["--log", "etcd://a/b", *files])
+                self.assertIn("come together, and with --log-ca", told.getvalue())
+            for files in ((), ("--log-ca", "a"), ("--log-ca", "a", *both)):
+                words(["--log", "etcd://a/b", *files])
+            words(["--log", "postgresql://a/b/c", *both])
+        for text, number in (("0", 0), ("1", 1), ("65535", 65535)):
+            found = machines._status_words(["--log", "postgresql://a/b/c", "--standbys", text])
+            self.assertEqual(found.standbys, number)
 
     def test_the_words_of_units(self):
         taken = {"tb_host.machines": machines._run_words, "tb_host.listen": listen.words}

@@ -34,6 +34,7 @@ from .arguments import (
     add_places,
     add_times,
     ahead,
+    is_number,
     path,
     seconds,
     settle_places,
@@ -100,6 +101,18 @@ def _log(text: str) -> str:
     return text
 
 
+def _standbys(text: str) -> int:
+    if not (is_number(text) and int(text) < 1 << 16):
+        raise argparse.ArgumentTypeError(f"{text!r} is no number from 0 to 65535")
+    return int(text)
+
+
+def _name(text: str) -> str:
+    if not text.isprintable():  # which bytes that are no text are not
+        raise argparse.ArgumentTypeError(f"{text!r} is no name")
+    return text
+
+
 def add_log(parser: argparse.ArgumentParser) -> None:
     parser.add_argument("--log", metavar="LOG", type=_log, required=True, help="the agreed log")
     files = (
@@ -114,10 +127,18 @@ def add_log(parser: argparse.ArgumentParser) -> None:
     parser.add_argument(
         "--standbys",
         metavar="N",
-        type=int,
+        type=_standbys,
         default=1,
         help="PostgreSQL: standbys that have to have flushed what is read (1; 0 is one machine)",
     )
+
+
+def _test_log(parser: argparse.ArgumentParser, given: argparse.Namespace) -> None:
+    """Ends the program where a file of TLS would be passed over: etcd is then spoken to without
+    TLS, and told the password."""
+    files = (given.log_certificate, given.log_key)
+    if parts(given.log)[0] == "etcd" and any(files) and not (given.log_ca and all(files)):
+        parser.error("--log-certificate and --log-key come together, and with --log-ca")
 
 
 def _parser(usage: str) -> argparse.ArgumentParser:
@@ -134,7 +155,8 @@ def _run_words(given: Sequence[str]) -> argparse.Namespace:
     parser = _parser("%(prog)s [OPTIONS] --log LOG --copy FOLDER -- COMMAND [WORD ..]")
     add_log(parser)
     parser.add_argument("--copy", metavar="FOLDER", type=path, required=True, help="the copy")
-    parser.add_argument("--name", help="this replica's name in the log (made where none is given)")
+    named = "this replica's name in the log (made where none is given)"
+    parser.add_argument("--name", type=_name, help=named)
     add_places(parser)
     add_tls(parser)
     add_access(parser)
@@ -159,6 +181,7 @@ def _run_words(given: Sequence[str]) -> argparse.Namespace:
     )
     add_command(parser)
     found = parser.parse_args(given)
+    _test_log(parser, found)
     try:
         head_of(found.command, found.positions)
     except ValueError as error:
@@ -171,7 +194,9 @@ def _run_words(given: Sequence[str]) -> argparse.Namespace:
 def _status_words(given: Sequence[str]) -> argparse.Namespace:
     parser = _parser("%(prog)s status --log LOG [OPTIONS]")
     add_log(parser)
-    return parser.parse_args(given)
+    found = parser.parse_args(given)
+    _test_log(parser, found)
+    return found
 
 
 def _trim_words(given: Sequence[str]) -> argparse.Namespace:
@@ -180,11 +205,14 @@ def _trim_words(given: Sequence[str]) -> argparse.Namespace:
     parser.add_argument(
         "--forget",
         metavar="NAME",
+        type=_name,
         action="append",
         default=[],
         help="take a replica off the list that is there no more",
     )
-    return parser.parse_args(given)
+    found = parser.parse_args(given)
+    _test_log(parser, found)
+    return found
 
 
 def _copy_words(given: Sequence[str]) -> argparse.Namespace:
