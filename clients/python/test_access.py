@@ -327,6 +327,24 @@ class Reports(unittest.TestCase):
                 listener.end()
             self.assertFalse(os.path.exists(path))
 
+    def test_the_status_of_another_listener(self):
+        """One that took the place meanwhile keeps it."""
+        with tempfile.TemporaryDirectory() as folder:
+            path = os.path.join(folder, "status")
+            with Running("--status", path) as first:
+                os.unlink(path)
+                with Running("--status", path):
+                    self.assertEqual(first.end(), 0)
+                    self.assertEqual(self.counts(path)["state"], "ready")
+                self.assertFalse(os.path.exists(path))
+
+    def test_a_path_that_is_too_long(self):
+        path = "x" * 108
+        found = (1, f"tb_listen: {path}: AF_UNIX path too long")
+        with tempfile.TemporaryDirectory() as folder:
+            unix = os.path.join(folder, "it")
+            self.assertEqual(ended("--unix", unix, "--status", path), found)
+
     def test_metrics(self):
         try:
             import prometheus_client  # noqa: F401

@@ -44,8 +44,9 @@ async def reported(
             return
         try:
             place = unix_socket(given.status)
+            mine = os.stat(given.status)
         except OSError as error:
-            raise Ended(f"{given.status}: {error.strerror}", 1) from None
+            raise Ended(f"{given.status}: {error.strerror or error}", 1) from None
 
         async def tell(_: asyncio.StreamReader, writer: asyncio.StreamWriter) -> None:
             with contextlib.suppress(OSError):
@@ -59,7 +60,8 @@ async def reported(
         finally:
             server.close()
             with contextlib.suppress(OSError), folder_of(given.status):
-                os.unlink(given.status)
+                if os.path.samestat(mine, os.lstat(given.status)):  # else another one is there
+                    os.unlink(given.status)
 
 
 @contextlib.contextmanager
