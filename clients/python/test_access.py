@@ -13,6 +13,7 @@ import shutil
 import signal
 import socket
 import ssl
+import struct
 import subprocess
 import sys
 import tempfile
@@ -521,6 +522,18 @@ class Systemd(unittest.TestCase):
 
 
 class Places(unittest.TestCase):
+    def test_a_connection_that_was_gone_before_it_was_taken(self):
+        """Nothing is said of it."""
+        with Running("--tcp", "127.0.0.1:0") as listener:
+            listener.process.send_signal(signal.SIGSTOP)
+            with socket.create_connection(listener.address) as it:
+                it.setsockopt(socket.SOL_SOCKET, socket.SO_LINGER, struct.pack("ii", 1, 0))
+            listener.process.send_signal(signal.SIGCONT)
+            Session.register(Socket(listener.address)).close()
+            said = len(listener.said)
+            self.assertEqual(listener.end(), 0)
+            self.assertEqual(listener.said[said:], [])
+
     def test_unix_and_tcp_at_once(self):
         with tempfile.TemporaryDirectory() as folder:
             path = os.path.join(folder, "it")

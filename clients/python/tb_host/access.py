@@ -68,7 +68,10 @@ class Access:
                 raise Told("NotAllowed", f"user {uid}")
             found = Peer(f"user {uid}", ("user", uid))
         else:
-            host, port = transport.get_extra_info("peername")[:2]
+            place = transport.get_extra_info("peername")
+            if place is None:
+                raise Told("")  # it was gone before it was taken
+            host, port = place[:2]
             name = _common_name(transport.get_extra_info("peercert"))
             found = Peer(f"{host}:{port}{name and f' ({name})'}", ("certificate", name))
         if self.ranges is not None and found.key not in self.ranges:
