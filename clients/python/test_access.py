@@ -6,6 +6,7 @@ systemd passes, counts and evictions. Certificates are made by openssl for one r
 import concurrent.futures
 import contextlib
 import fcntl
+import io
 import json
 import os
 import pwd
@@ -20,10 +21,12 @@ import tempfile
 import termios
 import time
 import unittest
+import unittest.mock
 import urllib.request
 
 import tb_client as tb
 from tb_client import Session, Socket
+from tb_host import lines
 from test_listen import HERE, KEEPER, Running, register, told
 from test_tb_client import PROGRAM
 
@@ -468,6 +471,18 @@ class Reports(unittest.TestCase):
             self.assertIn("tbd: made", made["text"])
             self.assertIn("listens on", it["text"])
             self.assertRegex(it["time"], r"^\d{4}-\d\d-\d\dT\d\d:\d\d:\d\d\.\d{3}\+00:00$")
+
+    def test_a_long_line_as_json(self):
+        """It is cut, and stays an object."""
+        for text in ("x" * 9999, "\U0001f600" * 999, "\n" * 5000):
+            told = io.StringIO()
+            with unittest.mock.patch.object(lines, "as_json", True):
+                with contextlib.redirect_stderr(told):
+                    lines.say(text, "warning", "somebody")
+            self.assertLessEqual(len(told.getvalue()), lines.LINES)
+            found = json.loads(told.getvalue())
+            self.assertTrue(found["text"] and text.startswith(found["text"]))
+            self.assertEqual((found["level"], found["peer"]), ("warning", "somebody"))
 
 
 class Systemd(unittest.TestCase):

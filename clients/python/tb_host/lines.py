@@ -34,8 +34,10 @@ def say(text: str, level: str = "info", peer: str = "") -> None:
     up no client."""
     with contextlib.suppress(OSError, ValueError):
         if sys.stderr is not None and _takes_a_line():
-            line = _as_object(text, level, peer) if as_json else f"{program}: {text}"
-            print(line[: LINES // 4], file=sys.stderr, flush=True)
+            line = f"{program}: {text}"[: LINES // 4]
+            if as_json:
+                line = _as_object(text, level, peer)
+            print(line, file=sys.stderr, flush=True)
 
 
 def say_of(peer: str, text: str, level: str = "warning") -> None:
@@ -56,7 +58,8 @@ def say_of(peer: str, text: str, level: str = "warning") -> None:
 def _as_object(text: str, level: str, peer: str) -> str:
     now = datetime.datetime.now(datetime.timezone.utc).isoformat(timespec="milliseconds")
     found = {"time": now, "level": level, "program": program, "peer": peer, "text": text}
-    return json.dumps({name: it for name, it in found.items() if it})
+    line = json.dumps({name: it for name, it in found.items() if it})
+    return line if len(line) < LINES else _as_object(text[: len(text) // 2], level, peer[:99])
 
 
 def _takes_a_line() -> bool:
