@@ -645,6 +645,20 @@ class Replicas(OverALog):
         self.assertEqual(reply[0], 8)
         await self.closed(it)
 
+    async def test_who_was_told_is_kept_no_longer(self):
+        """Memory does not grow with those who ask again while there is no log."""
+        it = await self.began(patience=0.1)
+        await self.asked(it, 6)
+        self.log.failing = NoLog("away")
+        for _ in range(3):
+            many = (self.asked(it, client) for client in range(7, 27))
+            found = await asyncio.gather(*many, return_exceptions=True)
+            self.assertEqual([str(why) for why in found], ["NoLog"] * 20)
+        self.assertEqual(len(it.queue), 0)
+        self.log.failing = None
+        self.assertEqual((await self.asked(it, 30))[0], 30)
+        await self.closed(it)
+
     async def test_what_must_not_start(self):
         it = self.made()
         self.log.failing = NoLog("away")

@@ -202,6 +202,10 @@ class Replica:
             for pair in [*self.queue, *(it for sent in self.sent.values() for it in sent.pairs)]:
                 if pair.since < late or self.is_full:
                     pair.tell(b"", name)
+            for _ in range(len(self.queue)):  # who asks again has another place
+                pair = self.queue.popleft()
+                if not pair.is_done:
+                    self.queue.append(pair)
 
     # the log
 
