@@ -222,11 +222,13 @@ class Face(unittest.TestCase):
             ("3000,3001", [("127.0.0.1", 3000), ("127.0.0.1", 3001)]),
             ("10.0.0.1:3000, db.example:3001", [("10.0.0.1", 3000), ("db.example", 3001)]),
             ("[::1]:3000", [("::1", 3000)]),
+            ("0003001", [("127.0.0.1", 3001)]),
             ("./ledger.sock", ["./ledger.sock"]),
         ):
             self.assertEqual(addresses_of(text), wanted)
         self.assertEqual(addresses_of(("127.0.0.1", 3000)), ("127.0.0.1", 3000))
-        for text in ("", "localhost", "3000,", "localhost:x", "0", "65536", "localhost:0", "-1"):
+        wrong = "", "localhost", "3000,", "localhost:x", "0", "65536", "localhost:0", "-1", "000"
+        for text in wrong:
             with self.assertRaises(tb.InvalidValue, msg=text):
                 ClientSync(0, text)
         for wrong in (3000, None, b"3000"):

@@ -191,5 +191,5 @@ def _address(text: str) -> Address:
             "replica_addresses",
             f"has {text!r:.60}: write a port, HOST:PORT, or a path with a slash",
         )
-    number = whole("port", int(port[:6]), U16, 1)
+    number = whole("port", int(port.lstrip("0")[:6] or "0"), U16, 1)
     return host.strip("[]") or HOST, number
