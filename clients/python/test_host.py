@@ -21,6 +21,7 @@ from unittest import mock
 from tb_client.frames import asker, reply_fault, request_frame
 from tb_client.names import Operation
 from tb_host import backlog, checksums, faults, listen, log, machines
+from tb_host import status as parts_of_status
 from tb_host.backlog import Backlog, Checkpoint
 from tb_host.entries import MOMENT_MAX, NOTHING, Claim, Entry, askers, chained, test_pairs
 from tb_host.faults import Fault
@@ -727,6 +728,24 @@ class Replicas(OverALog):
         said = {"clock": time.time_ns() - 100 * 10**9, "heard": heard}
         await self.log.report("r1", json.dumps(said).encode())
         self.assertEqual(await self.ended(), "Ahead")
+
+    async def test_reports_that_are_none(self):
+        """A replica passes them over. `status` and `trim` tell whose it is."""
+        it = await self.began()
+        given = argparse.Namespace(log="etcd://a/b", forget=[])
+        self.log.full = mock.AsyncMock(return_value="")
+        clocks = b'{"heard": []}', b'{"clock": "x"}', b'{"fault": 5}'
+        for data in (b"", b"[]", b"5", b"null", b"{}", b"\xff", *clocks):
+            await self.log.report("r1", data)
+            for part in (parts_of_status.status, parts_of_status.trim):
+                with self.assertRaisesRegex(Ended, "the report of r1 is none"):
+                    await part(given, self.log)
+        await self.asked(it, 6)
+        del self.log.kept["r1"]
+        with contextlib.redirect_stdout(io.StringIO()) as said:
+            self.assertEqual(await parts_of_status.status(given, self.log), 0)
+        self.assertIn("replica r0 at x position", said.getvalue())
+        await self.closed(it)
 
     async def test_reports_from_before_say_nothing_of_the_clock(self):
         said = {"clock": 0, "heard": {"r0": 5}, "hello": 3}

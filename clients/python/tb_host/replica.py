@@ -409,7 +409,7 @@ class Replica:
         if report.name == self.name:
             self._test_name(report.data)
             return
-        with contextlib.suppress(ValueError, TypeError, KeyError):
+        with contextlib.suppress(ValueError, TypeError, KeyError, AttributeError):
             said = json.loads(report.data)
             if said.get("heard", {}).get(self.name) == self.hello:
                 self.ahead[report.name] = self.hello - int(said["clock"])

@@ -20,14 +20,20 @@ from .log import Log, LogFull, NoLog
 from .moments import SECOND
 from .process import end_of, exited, last_line, started, tail
 
+# of a report
+NUMBERS, TEXTS = ("position", "place", "answered", "clock"), ("replies", "writer", "address")
+
 
 async def _reports(log: Log) -> Dict[str, Dict[str, Any]]:
     found = {}
     for name, data in sorted((await log.reports()).items()):
         try:
-            found[name] = dict(json.loads(data))
-        except ValueError:
-            raise Ended(f"the report of {name} is none: forget it", 1) from None
+            found[name] = said = dict(json.loads(data))
+        except (ValueError, TypeError):
+            said = {}
+        is_one = all(isinstance(said.get(field), int) for field in NUMBERS)
+        if not (is_one and all(isinstance(said.get(field), str) for field in TEXTS)):
+            raise Ended(f"the report of {name} is none: forget it", 1)
     return found
 
 
