@@ -26,7 +26,8 @@ import urllib.request
 
 import tb_client as tb
 from tb_client import Session, Socket
-from tb_host import lines
+from tb_host import lines, listen, sockets
+from tb_host.lines import Ended
 from test_listen import HERE, KEEPER, Running, register, told
 from test_tb_client import PROGRAM
 
@@ -548,6 +549,21 @@ class Places(unittest.TestCase):
             said = len(listener.said)
             self.assertEqual(listener.end(), 0)
             self.assertEqual(listener.said[said:], [])
+
+    def test_a_name_that_has_no_address_at_first(self):
+        """What it is later is held to the same rule: only who was allowed gets in."""
+        kind, place = (socket.AF_INET, socket.SOCK_STREAM, 6, ""), ("0.0.0.0", 0)
+        for options, is_allowed in (((), False), (("--insecure",), True)):
+            away = unittest.mock.patch("socket.getaddrinfo", side_effect=socket.gaierror(-3, "no"))
+            with away:
+                given = listen.words(["--tcp", "ledger.example:0", *options, "--", "true"])
+            later = [[(*kind, place)], [(*kind, place)]]
+            with unittest.mock.patch("socket.getaddrinfo", side_effect=later):
+                with contextlib.ExitStack() as held:
+                    if not is_allowed:
+                        held.enter_context(self.assertRaisesRegex(Ended, "is no loopback address"))
+                    (found,) = held.enter_context(sockets.bound(given))
+                    self.assertEqual(found.socket.getsockname()[0], "0.0.0.0")
 
     def test_unix_and_tcp_at_once(self):
         with tempfile.TemporaryDirectory() as folder:

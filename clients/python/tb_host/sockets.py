@@ -116,6 +116,7 @@ def bound(given: argparse.Namespace) -> Iterator[List[Place]]:
         if given.tcp:
             with _faults_of(shown(*given.tcp)):
                 it = places.enter_context(tcp_socket(*given.tcp))
+            _test_address(it, given)  # its name may have had no address before
             found.append(Place(it, shown(*it.getsockname()), tls))
         yield found
 
@@ -125,10 +126,15 @@ def _passed(it: socket.socket, given: argparse.Namespace, tls: Optional[ssl.SSLC
     not loopback is held to the same rule as one of the options."""
     if it.family == socket.AF_UNIX:
         return Place(it, str(it.getsockname()), None)
+    _test_address(it, given)
+    return Place(it, shown(*it.getsockname()), tls)
+
+
+def _test_address(it: socket.socket, given: argparse.Namespace) -> None:
+    """Raises `Ended` where a socket's address is not loopback and was not allowed."""
     host, port = it.getsockname()[:2]
     if not (given.client_ca or given.insecure or is_loopback(host)):
         raise Ended(f"{shown(host, port)} is no loopback address: give --client-ca FILE", 2)
-    return Place(it, shown(host, port), tls)
 
 
 @contextlib.contextmanager
