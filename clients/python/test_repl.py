@@ -237,6 +237,15 @@ class Ledger(unittest.TestCase):
         )
         self.assertIn("no session any more", told[0])
 
+    def test_the_client_named_last_may_be_one_that_was_refused(self):
+        """As in `tbt run`."""
+        server = Server(statuses=[0, 0, 1])
+        it, _ = ledger(server)
+        serve(it, "lookup_accounts ;")
+        serve(it, "client=9 request=1 lookup_accounts ;")
+        serve(it, "lookup_accounts ;")
+        self.assertEqual([asked[0] for asked in server.asked()], [5, 5, 9, 9, 9])
+
     def test_a_refused_number_is_not_kept(self):
         server = Server(statuses=[0, 0, 6])
         it, _ = ledger(server)

@@ -93,8 +93,8 @@ class Ledger:
         """Keeps the session and the number of a request that was answered, and drops a session
         that ended."""
         client, known = request.client, self.sessions.get(request.client)
+        self.client = client  # also where it is refused, as in `tbt run`
         if reply.status == Status.Reply:
-            self.client = client
             last = known.last if known and known.number == reply.session else 0
             self.sessions[client] = Session(reply.session, max(last, request.number))
         elif reply.status == Status.Collision and known and known.number == request.session:
