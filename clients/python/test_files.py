@@ -224,6 +224,13 @@ class Saving(InAFolder):
                 resource.setrlimit(resource.RLIMIT_FSIZE, before)
             self.is_old()
 
+    def test_permissions_stay(self):
+        """Who may not read the file may not read the next one either."""
+        for mode in (0o600, 0o640):
+            os.chmod(self.path, mode)
+            self.later.save(self.path)
+            self.assertEqual(os.stat(self.path).st_mode & 0o777, mode)
+
     def test_what_a_crash_left_beside_it(self):
         with open(f"{self.path}.new", "w") as file:
             file.write("the half of a session" * 10_000)

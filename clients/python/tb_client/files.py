@@ -6,7 +6,7 @@ import fcntl
 import json
 import os
 import stat
-from typing import Any, Union
+from typing import Any, Optional, Union
 
 from .errors import InvalidValue
 
@@ -62,21 +62,27 @@ def _one_of_each(pairs: list[tuple[str, Any]]) -> dict[str, Any]:
 
 
 def write_whole(path: str, data: bytes) -> None:
-    """Puts a file at this path, with these bytes. Where that fails the old file is left, and
-    nothing next to it."""
+    """Puts a file at this path, with these bytes, and with the old one's permissions. Where that
+    fails the old file is left, and nothing next to it."""
+    mode: Optional[int] = None
     with contextlib.suppress(FileNotFoundError):
-        _test_is_file(os.stat(path))
+        status = os.stat(path)
+        _test_is_file(status)
+        mode = stat.S_IMODE(status.st_mode)
     folder = os.open(os.path.dirname(os.path.abspath(path)), os.O_RDONLY | os.O_CLOEXEC)
     try:
-        _replace(path, f"{path}.new", data)
+        _replace(path, f"{path}.new", data, mode)
         os.fsync(folder)
     finally:
         os.close(folder)
 
 
-def _replace(path: str, beside: str, data: bytes) -> None:
+def _replace(path: str, beside: str, data: bytes, mode: Optional[int]) -> None:
     it = _begun(beside)
     try:
+        if mode is not None:
+            with contextlib.suppress(OSError):  # a file system without permissions
+                os.fchmod(it, mode)
         _fill(it, data)
         os.replace(beside, path)
     except BaseException:
