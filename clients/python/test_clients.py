@@ -495,9 +495,9 @@ class Lost(unittest.TestCase):
                     client.create_accounts([account(1), account(2)])
                 server.exchange = loses if lost else away
                 waits = in_background(client.create_transfers, [transfer(11, 1, 2, 5)])
-                until(lambda: calls)
+                until(lambda: len(calls) > 2)
                 time.sleep(1)
-                self.assertTrue(2 < len(calls) < 9, len(calls))
+                self.assertLess(len(calls), 9)
                 self.assertEqual(len(set(calls)), 1)
             with self.assertRaises(tb.ReplyLost if lost else tb.Closed):
                 waits()
