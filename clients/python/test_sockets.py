@@ -83,6 +83,24 @@ class Addresses(unittest.TestCase):
             it.exchange(0, register(7))
         self.assertGreaterEqual(time.monotonic() - began, 0.3, "it calls for all of its time")
 
+    def test_a_long_time(self):
+        """It is no short one: Python cuts its milliseconds to 32 bits."""
+        listening = socket.socket(socket.AF_UNIX)
+        listening.bind(self.path("a"))
+        listening.listen()
+
+        def answer_late():
+            with listening, listening.accept()[0] as it:
+                it.recv(48, socket.MSG_WAITALL)
+                time.sleep(1)
+                it.sendall(registered(7))
+
+        answering = threading.Thread(target=answer_late)
+        answering.start()
+        with Socket(self.path("a"), timeout=4294968) as it:
+            self.assertEqual(it.exchange(0, register(7)), registered(7))
+        answering.join()
+
     def test_wrong_lists(self):
         for wrong, error in (
             ([], tb.InvalidValue),

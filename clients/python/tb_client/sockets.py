@@ -22,6 +22,7 @@ Address = Union[str, "os.PathLike[str]", Tuple[str, int]]
 
 FIRST_PAUSE = 0.02  # seconds, before the server is called again; doubled each time
 LAST_PAUSE = 0.5
+WAIT_MAX = 2_000_000.0  # seconds: Python cuts the milliseconds of a longer wait to 32 bits
 # begins what a server says before it closes a connection: fewer bytes than a frame has
 TOLD = b"tb_listen: "
 UNTRUSTED = " (over TLS it may not take this client's certificate, or wants one)"
@@ -199,7 +200,7 @@ class Socket(Closing):
         left = deadline - time.monotonic()
         if left <= 0:
             raise socket.timeout()
-        it.settimeout(left)
+        it.settimeout(min(left, WAIT_MAX))
 
     def _hang_up(self) -> None:
         it, self._socket = self._socket, None
@@ -289,6 +290,7 @@ def _is_host(name: str) -> bool:
 
 def _call(address: Place, timeout: float, tls: Optional[ssl.SSLContext] = None) -> socket.socket:
     """A new connection, over TLS where there is a context."""
+    timeout = min(timeout, WAIT_MAX)
     if isinstance(address, tuple):
         it = socket.create_connection(address, timeout)
         it.setsockopt(socket.IPPROTO_TCP, socket.TCP_NODELAY, 1)
