@@ -20,9 +20,10 @@ from unittest import mock
 
 from tb_client.frames import asker, reply_fault, request_frame
 from tb_client.names import Operation
-from tb_host import backlog, checksums, faults, listen, log, machines
+from tb_host import backlog, checksums, connections, faults, listen, log, machines
 from tb_host import status as parts_of_status
 from tb_host.backlog import Backlog, Checkpoint
+from tb_host.connections import Connection
 from tb_host.entries import MOMENT_MAX, NOTHING, Claim, Entry, askers, chained, test_pairs
 from tb_host.faults import Fault
 from tb_host.follower import Follower
@@ -350,6 +351,17 @@ class Copies(unittest.TestCase):
         self.assertEqual(kept(other, "head", b"another"), b"the log")
         with self.assertRaises(Ended):
             copied(self.folder, other)
+
+
+class Pieces(unittest.TestCase):
+    def test_pieces_of_a_few_bytes(self):
+        """They are put together: an object for each takes many times its length."""
+        it = Connection(mock.Mock())
+        it.phase, it.need = connections.BODY, 1 << 20
+        for _ in range(100_000):
+            it.data_received(b"ab")
+        self.assertEqual(b"".join(it.parts), b"ab" * 100_000)
+        self.assertLess(len(it.parts), 60)
 
 
 class Replies(unittest.IsolatedAsyncioTestCase):

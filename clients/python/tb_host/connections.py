@@ -20,6 +20,7 @@ from .lines import TOLD, Told, say_of
 from .process import came
 
 READ_AHEAD = 1 << 16  # bytes that are read of a connection beyond the request that is answered
+PIECE = 1 << 12  # bytes, of which those that come in smaller pieces are put together
 # seconds for which a client that is told why may still send, so that it reads why and is not cut
 # off before
 LAST_READ = 1.0
@@ -74,7 +75,10 @@ class Connection(asyncio.Protocol):
     def data_received(self, data: bytes) -> None:
         if self.phase >= LEAVING:
             return
-        self.parts.append(data)
+        if self.parts and len(self.parts[-1]) < PIECE:
+            self.parts[-1] += data  # an object for each byte takes 40 times its length
+        else:
+            self.parts.append(data)
         self.have += len(data)
         if self.phase <= BODY:
             self._look()
