@@ -56,7 +56,9 @@ class SqliteStore:
         self.path = path
         self.is_new = False
         try:
-            self._connection = sqlite3.connect(path, timeout=PATIENCE, isolation_level=None)
+            # by its whole path: of "", ":memory:" and "file:.." SQLite would keep nothing
+            whole = os.path.abspath(path)
+            self._connection = sqlite3.connect(whole, timeout=PATIENCE, isolation_level=None)
             self._connection.execute("PRAGMA journal_mode = WAL")
             self._connection.execute("PRAGMA synchronous = NORMAL")
             self._connection.execute(f"PRAGMA cache_size = -{CACHE_KIB}")

@@ -478,6 +478,20 @@ class Words(Tables):
                 self.assertEqual((status, said.count("\n")), (wanted, 1), said)
                 self.assertTrue(said.startswith("tb-sql: "), said)
 
+    def test_names_that_sqlite_takes_for_others(self):
+        """What is said to be in a file is there."""
+        for name, wanted in (("", 1), (":memory:", 0), ("file:x.sqlite?mode=memory", 0)):
+            with self.subTest(name):
+                ran = subprocess.run(
+                    [*COMMAND, "load", name],
+                    input=Audit().register().bytes,
+                    capture_output=True,
+                    timeout=120,
+                    cwd=self.room,
+                )
+                self.assertEqual(ran.returncode, wanted, ran.stderr)
+                self.assertEqual((self.room / name).is_file(), not wanted)
+
     def test_streams_that_are_closed_or_full(self):
         audit = Audit().register()
         words = " ".join([*COMMAND, "load", self.path])
