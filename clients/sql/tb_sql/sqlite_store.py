@@ -59,10 +59,10 @@ class SqliteStore:
             # by its whole path: of "", ":memory:" and "file:.." SQLite would keep nothing
             whole = os.path.abspath(path)
             self._connection = sqlite3.connect(whole, timeout=PATIENCE, isolation_level=None)
+            self._look()  # first: another program's database is left as it is
             self._connection.execute("PRAGMA journal_mode = WAL")
             self._connection.execute("PRAGMA synchronous = NORMAL")
             self._connection.execute(f"PRAGMA cache_size = -{CACHE_KIB}")
-            self._look()
         except sqlite3.Error as error:
             raise Failed(f"{path}: {error}") from None
 

@@ -2,6 +2,7 @@
 
 import contextlib
 import io
+import pathlib
 import subprocess
 import time
 import unittest
@@ -381,8 +382,10 @@ class OtherHistories(Tables):
 
     def test_another_database(self):
         self.change("CREATE TABLE mine (id)")
+        before = pathlib.Path(self.path).read_bytes()
         status, _, said = self.command("load", self.path, input=Audit().register().bytes)
         self.assertEqual((status, "no database of tb-sql" in said), (2, True), said)
+        self.assertEqual(pathlib.Path(self.path).read_bytes(), before)
 
     def test_no_database(self):
         text = self.room / "notes.txt"
