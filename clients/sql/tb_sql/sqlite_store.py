@@ -90,6 +90,8 @@ class SqliteStore:
         return Position(*row, *(sums or (0, 0, 0)))
 
     def account(self, id: Number) -> Optional[Account]:
+        if self.is_new:
+            return None
         row = self._connection.execute(
             "SELECT debits_pending, debits_posted, credits_pending, credits_posted, flags, postings"
             " FROM accounts WHERE id = ?",
@@ -98,6 +100,8 @@ class SqliteStore:
         return Account(id, None, *map(int, row)) if row else None
 
     def pending_transfer(self, id: Number) -> Optional[PendingTransfer]:
+        if self.is_new:
+            return None
         row = self._connection.execute(
             "SELECT amount, debit_account_id, credit_account_id, flags FROM transfers"
             " WHERE id = ? AND state = 'pending'",

@@ -366,6 +366,19 @@ class OtherHistories(Tables):
             with self.subTest(line):
                 self.refused(head + line, "no line of an audit")
 
+    def test_records_that_were_not_made(self):
+        """Also where no table is there yet."""
+        for event, words in (
+            (transfer(11, 1, 9, 5), "account 9 was not created"),
+            (transfer(11, 1, 2, 5, ["void_pending_transfer"], 8), "transfer 8 is not pending"),
+        ):
+            audit = Audit().register().accounts(account(1), account(2))
+            audit.transfers(event)
+            with self.subTest(words):
+                with self.assertRaises(Refused) as raised:
+                    self.load(audit, str(self.room / "new.sqlite"))
+                self.assertIn(words, str(raised.exception))
+
     def test_no_head(self):
         path = str(self.room / "new.sqlite")
         for data in (b"", Audit().register().bytes.split(b"\n", 1)[1]):
