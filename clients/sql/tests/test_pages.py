@@ -107,6 +107,23 @@ class Shown(Pages):
             page, r'href="/account/1\?from=2026-09-01&amp;to=2026-10-01&amp;before=\d+"'
         )
 
+    def test_the_end_of_time(self):
+        """What has the last time that there is, 2^63 - 1, is shown and counted."""
+        end = (1 << 63) - 1
+        audit = Audit(time=end - 6).register().accounts(account(1), account(2))
+        audit.transfers(*(transfer(id, 1, 2, 7) for id in (11, 12, 13)))
+        self.assertEqual(audit.time, end)
+        self.load(audit)
+        said = self.words("/account/1")
+        for part in ("Debits 21", "Balance after 21 debit", "Postings 1 to 3 of 3"):
+            self.assertIn(part, said)
+        self.assertIn("16.854775807 13", self.words("/transfers"))
+        self.assertIn("/transfer/13", self.get(f"/transfers?after={end - 1}"))
+        self.assertIn("3 in all, from", self.get("/"))
+        self.assertEqual(len(self.csv("/csv/statement.csv?account=1")), 4)
+        self.assertIn("There are no transfers", self.words(f"/transfers?after={end}"))
+        self.assertIn("no postings on this page", self.words(f"/account/1?after={end}"))
+
     def test_great_values(self):
         big = MAX - 1
         audit = Audit().register()

@@ -18,7 +18,7 @@ Row = sqlite3.Row
 
 
 class Range(NamedTuple):
-    """Times from the first one on, up to and without the last one."""
+    """Times from the first one to the last one, both included."""
 
     start: int = 0
     end: int = LAST
@@ -109,7 +109,7 @@ class Tables:
     def activity(self, range: Range) -> List[Bar]:
         """Transfers and refused events by spans of time of one length."""
         first, last = self.times()
-        start, end = max(range.start, first), min(range.end, last + 1)
+        start, end = max(range.start, first), min(range.end, last) + 1
         if start >= end:
             return []
         step = max(1, -(-(end - start) // BARS))
@@ -123,9 +123,9 @@ class Tables:
     def _so_far(self, time: int) -> Tuple[int, int]:
         """Transfers and refused events of the entries before a time."""
         row = self.one(
-            "SELECT transfers_so_far, refused_so_far FROM entries WHERE time < ?"
+            "SELECT transfers_so_far, refused_so_far FROM entries WHERE time <= ?"
             " ORDER BY time DESC LIMIT 1",
-            min(time, LAST),
+            min(time - 1, LAST),
         )
         return (row[0], row[1]) if row else (0, 0)
 
@@ -162,7 +162,7 @@ class Tables:
 
     def summary(self, id: Number, range: Range) -> Optional[Summary]:
         """The account's postings within a range; nothing where there are none."""
-        within = "FROM postings WHERE account_id = ? AND timestamp >= ? AND timestamp < ?"
+        within = "FROM postings WHERE account_id = ? AND timestamp >= ? AND timestamp <= ?"
         first = self.one(f"SELECT * {within} ORDER BY timestamp LIMIT 1", id, *range)
         last = self.one(f"SELECT * {within} ORDER BY timestamp DESC LIMIT 1", id, *range)
         if first is None or last is None:
@@ -178,10 +178,10 @@ class Tables:
             int(last["balance"]),
         )
 
-    def balance_before(self, id: Number, time: int) -> int:
-        """The posted balance before a time."""
+    def balance_at(self, id: Number, time: int) -> int:
+        """The posted balance at the end of a time."""
         row = self.one(
-            "SELECT balance FROM postings WHERE account_id = ? AND timestamp < ?"
+            "SELECT balance FROM postings WHERE account_id = ? AND timestamp <= ?"
             " ORDER BY timestamp DESC LIMIT 1",
             id,
             time,
@@ -216,12 +216,14 @@ class Tables:
         key: str = "timestamp",
     ) -> Page:
         """A page of rows by a key: those before one of it, those after one, or the newest."""
-        start, end = range.start, range.end
+        start, end = range
         if after is not None:
             order, start = "ASC", max(start, after + 1)
         else:
-            order, end = "DESC", min(end, before) if before is not None else end
-        asked = f"{text.format(f'{key} >= ? AND {key} < ?')} ORDER BY {key} {order} LIMIT ?"
+            order, end = "DESC", min(end, before - 1) if before is not None else end
+        if start > end:
+            return Page([], None, None)
+        asked = f"{text.format(f'{key} >= ? AND {key} <= ?')} ORDER BY {key} {order} LIMIT ?"
         rows = self.all(asked, *values, start, end, ROWS + 1)
         is_more, rows = len(rows) > ROWS, rows[:ROWS]
         if after is not None:
@@ -239,7 +241,7 @@ class Tables:
         found = self.summary(id, range)
         if found is None:
             return [], True
-        within = "account_id = ? AND timestamp >= ? AND timestamp < ?"
+        within = "account_id = ? AND timestamp >= ? AND timestamp <= ?"
         if found.last - found.first < POINTS:
             rows = self.all(
                 f"SELECT timestamp, balance FROM postings WHERE {within} ORDER BY timestamp",

@@ -141,8 +141,8 @@ def asked_range() -> Range:
     try:
         start = request.args.get("from", "").strip()
         end = request.args.get("to", "").strip()
-        first, last = time_of(start) if start else 0, time_of(end, is_end=True) if end else LAST
-        return Range(max(0, min(first, LAST)), max(0, min(last, LAST)))
+        first, last = time_of(start) if start else 0, time_of(end, is_end=True) - 1 if end else LAST
+        return Range(max(0, min(first, LAST)), max(-1, min(last, LAST)))
     except (ValueError, OverflowError) as error:
         return abort(400, str(error))
 
@@ -218,7 +218,7 @@ def account(site: Site, id: str) -> str:
         balance=int(row["debits_posted"]) - int(row["credits_posted"]),
         range=range,
         summary=summary,
-        standing=summary.closing if summary else tables.balance_before(found, range.end),
+        standing=summary.closing if summary else tables.balance_at(found, range.end),
         page=tables.statement(found, range, *asked_page()),
         chart=charts.steps("balance", title, drawn, is_whole) if drawn else None,
         is_whole=is_whole,
@@ -301,7 +301,7 @@ def table_csv(site: Site, name: str) -> Response:
     text = f"SELECT * FROM {name}"
     values: List[Number] = []
     if name in ("statement", "postings"):
-        tests = ["timestamp >= ?", "timestamp < ?"]
+        tests = ["timestamp >= ?", "timestamp <= ?"]
         values = list(asked_range())
         if "account" in request.args:
             tests.append("account_id = ?")
