@@ -98,6 +98,12 @@ class Shown(Pages):
             self.assertEqual(sorted(map(int, met)), list(range(100, 330)))
             self.assertEqual(pages, 5)
 
+    def test_the_oldest_page_is_the_last_one(self):
+        self.load(history())
+        for address in ("/transfers", "/accounts", "/account/1", "/sessions"):
+            page = self.get(f"{address}?after=0")
+            self.assertFalse(">Older</a>" in page, address)
+
     def test_paging_keeps_the_dates(self):
         audit = Audit().register().accounts(account(1), account(2))
         audit.transfers(*(transfer(100 + it, 1, 2, 1) for it in range(120)))

@@ -232,7 +232,7 @@ class Tables:
             return Page([], None, None)
         newest, oldest = rows[0][key], rows[-1][key]
         is_newer = is_more if after is not None else before is not None
-        is_older = after is not None or is_more
+        is_older = after > 0 if after is not None else is_more
         return Page(rows, newest if is_newer else None, oldest if is_older else None)
 
     def balances(self, id: Number, range: Range) -> Tuple[List[Tuple[int, int]], bool]:
