@@ -36,7 +36,7 @@ class PostgresStore:
             self._connection = self._psycopg.connect(url, autocommit=True)
             self._look()
         except self._psycopg.Error as error:
-            raise Failed(f"{self.path}: {str(error).strip()}") from None
+            raise self._failed(error) from None
 
     def _look(self) -> None:
         found = self._connection.execute("SELECT to_regclass('position')").fetchone()
@@ -55,14 +55,24 @@ class PostgresStore:
     def close(self) -> None:
         self._connection.close()
 
+    def _asked(self, text: str, *values: Any) -> Any:
+        """The rows that the database answers."""
+        try:
+            return self._connection.execute(text, values)
+        except self._psycopg.Error as error:
+            raise self._failed(error) from None
+
+    def _failed(self, error: Exception) -> Failed:
+        return Failed(f"{self.path}: {str(error).strip()}")
+
     def position(self) -> Optional[Position]:
         """How far the tables are; nothing where there are none."""
         if self.is_new:
             return None
-        row = self._connection.execute(
+        row = self._asked(
             "SELECT head, profile, commit_number, time, hash FROM position"
         ).fetchone()
-        sums = self._connection.execute(
+        sums = self._asked(
             "SELECT accounts_so_far, transfers_so_far, refused_so_far FROM entries"
             " ORDER BY commit_number DESC LIMIT 1"
         ).fetchone()
@@ -71,20 +81,20 @@ class PostgresStore:
     def account(self, id: Number) -> Optional[Account]:
         if self.is_new:
             return None
-        row = self._connection.execute(
+        row = self._asked(
             "SELECT debits_pending, debits_posted, credits_pending, credits_posted, flags, postings"
             " FROM accounts WHERE id = %s",
-            (int(id),),
+            int(id),
         ).fetchone()
         return Account(id, None, *map(int, row)) if row else None
 
     def pending_transfer(self, id: Number) -> Optional[PendingTransfer]:
         if self.is_new:
             return None
-        row = self._connection.execute(
+        row = self._asked(
             "SELECT amount, debit_account_id, credit_account_id, flags FROM transfers"
             " WHERE id = %s AND state = 'pending'",
-            (int(id),),
+            int(id),
         ).fetchone()
         if row is None:
             return None
@@ -94,7 +104,7 @@ class PostgresStore:
     def open_sessions(self) -> List[OpenSession]:
         if self.is_new:
             return []
-        rows = self._connection.execute(
+        rows = self._asked(
             "SELECT session, client, requests, last_commit FROM sessions WHERE evicted_by IS NULL"
         )
         return [
@@ -110,7 +120,7 @@ class PostgresStore:
                 cursor.execute("SELECT pg_advisory_xact_lock(%s)", (LOCK,))
                 self._write(cursor, changes, position, before)
         except self._psycopg.Error as error:
-            raise Failed(f"{self.path}: {str(error).strip()}") from None
+            raise self._failed(error) from None
         self.is_new = False
 
     def _write(

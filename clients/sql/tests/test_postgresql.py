@@ -17,7 +17,7 @@ from audits import MAX, Audit, account, transfer
 from sample import sample
 from test_load import history
 from tb_sql.audits import Loading
-from tb_sql.errors import Refused
+from tb_sql.errors import Failed, Refused
 from tb_sql.postgres_store import PostgresStore
 from tb_sql.schema import TABLES, VIEWS, columns
 
@@ -122,6 +122,24 @@ class PostgreSQL(Tables):
         with self.assertRaises(Refused) as raised:
             self.load_there(Audit().register().accounts(account(2)).bytes)
         self.assertIn("entry 2 is another one", str(raised.exception))
+
+    def test_lost_connection(self):
+        """One that breaks while rows are read, as where the server is stopped, is one line."""
+        audit = Audit().register().accounts(account(1), account(2))
+        self.load_there(audit.bytes)
+        store = PostgresStore(self.url)
+        loading = Loading(store)
+        with contextlib.closing(psycopg.connect(self.url, autocommit=True)) as it:
+            it.execute(
+                "SELECT pg_terminate_backend(pid, 60000) FROM pg_stat_activity"
+                " WHERE datname = current_database() AND pid <> pg_backend_pid()"
+            )
+        audit.transfers(transfer(11, 1, 2, 5))
+        with self.assertRaises(Failed):
+            loading.read(iter(audit.bytes.splitlines(keepends=True)))
+        store.close()
+        self.load_both(audit)
+        self.assertSame()
 
     def test_command(self):
         status, said, fault = self.said("load", self.address("none"), "--quiet")
