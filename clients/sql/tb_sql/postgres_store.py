@@ -33,7 +33,8 @@ class PostgresStore:
         self.path = url.partition("?")[0].rpartition("@")[2]
         self.is_new = False
         try:
-            self._connection = self._psycopg.connect(url, autocommit=True)
+            # of a database in SQL_ASCII, whose texts would else come as bytes
+            self._connection = self._psycopg.connect(url, autocommit=True, client_encoding="UTF8")
             self._look()
         except self._psycopg.Error as error:
             raise self._failed(error) from None

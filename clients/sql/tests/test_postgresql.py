@@ -58,9 +58,13 @@ class PostgreSQL(Tables):
     def setUp(self):
         super().setUp()
         self.name = f"test_{self.id().rpartition('.')[2]}"[:60]
+        self.url = self.made(self.name)
+
+    def made(self, name, options=""):
+        """The address of a new database."""
         with contextlib.closing(psycopg.connect(self.address("postgres"), autocommit=True)) as it:
-            it.execute(f"CREATE DATABASE {self.name}")
-        self.url = self.address(self.name)
+            it.execute(f"CREATE DATABASE {name} {options}")
+        return self.address(name)
 
     def address(self, name):
         return f"postgresql://postgres@/{name}?host={self.folder}"
@@ -80,7 +84,7 @@ class PostgreSQL(Tables):
         return loading
 
     def there(self, text):
-        with contextlib.closing(psycopg.connect(self.url)) as connection:
+        with contextlib.closing(psycopg.connect(self.url, client_encoding="UTF8")) as connection:
             return [plain(row) for row in connection.execute(text).fetchall()]
 
     def assertSame(self):
@@ -116,6 +120,20 @@ class PostgreSQL(Tables):
         self.load_both(audit)
         self.assertSame()
         self.assertEqual(self.there("SELECT debits_posted FROM trial_balance"), [(str(2 * MAX),)])
+
+    def test_encodings(self):
+        """A load goes on in a database of any encoding, as that of initdb in the locale C."""
+        audit = Audit().register().accounts(account(1), account(2))
+        longer = Audit().register().accounts(account(1), account(2))
+        longer.transfers(transfer(11, 1, 2, 5, result="exceeds_credits"))
+        self.load(longer)
+        for encoding in ("SQL_ASCII", "LATIN1"):
+            with self.subTest(encoding):
+                options = f"ENCODING '{encoding}' TEMPLATE template0 LOCALE 'C'"
+                self.url = self.made(f"test_{encoding.lower()}", options)
+                self.load_there(audit.bytes)
+                self.assertEqual(self.load_there(longer.bytes).entries, 1)
+                self.assertSame()
 
     def test_another_history(self):
         self.load_there(Audit().register().accounts(account(1)).bytes)
