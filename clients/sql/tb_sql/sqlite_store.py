@@ -21,18 +21,18 @@ def connect_read_only(path: str) -> sqlite3.Connection:
     as one that nobody changes."""
     if not os.path.exists(path):
         raise Failed(f"there is no file {path}: tb-sql load makes it")
-    address = pathlib.Path(path).resolve().as_uri()
+    whole = pathlib.Path(path).resolve()  # the WAL lies next to what a link names
     for mode in ("mode=ro", "immutable=1"):
         try:
             connection = sqlite3.connect(
-                f"{address}?{mode}", uri=True, timeout=PATIENCE, check_same_thread=False
+                f"{whole.as_uri()}?{mode}", uri=True, timeout=PATIENCE, check_same_thread=False
             )
             connection.execute("PRAGMA query_only = 1")
             connection.execute("SELECT 1 FROM sqlite_master").fetchone()
             return connection
         except sqlite3.DatabaseError as error:
             fault = str(error)
-        if os.path.exists(f"{path}-wal"):
+        if os.path.exists(f"{whole}-wal"):
             break
     raise Failed(f"{path}: {fault}")
 

@@ -4,14 +4,18 @@ import contextlib
 import csv
 import html
 import io
+import os
 import re
 import sqlite3
+import time
 import unittest
 
 from support import Tables  # noqa: I001
 from audits import MAX, START, Audit, account, transfer
 from test_load import history
+from tb_sql.audits import Loading
 from tb_sql.pages.server import make_app
+from tb_sql.sqlite_store import SqliteStore
 
 HERE = "http://127.0.0.1:8642"
 
@@ -182,15 +186,30 @@ class Shown(Pages):
         site = make_app(self.path, str(ledger)).test_client()
         self.assertIn("There is no file", site.get("/", base_url=HERE).get_data(as_text=True))
         ledger.write_bytes(b"x")
-        import os
-        import time
-
         os.utime(ledger, (time.time() + 500, time.time() + 500))
         page = site.get("/", base_url=HERE).get_data(as_text=True)
         self.assertIn("8 minutes after that: load it again", page)
         os.utime(ledger, (5, 5))
         page = site.get("/", base_url=HERE).get_data(as_text=True)
         self.assertIn("has not changed since", page)
+
+    def test_written_through_a_link(self):
+        """What a load that goes on wrote is in the WAL, next to the file that the link names."""
+        ledger = self.room / "ledger.tbk"
+        ledger.write_bytes(b"x")
+        (self.room / "link").symlink_to(self.path)
+        store = SqliteStore(self.path)
+        try:
+            loading = Loading(store)
+            loading.read(iter(history().bytes.splitlines(keepends=True)))
+            for path, moment in ((self.path, 5), (ledger, 10), (f"{self.path}-wal", 15)):
+                os.utime(path, (moment, moment))
+            for name in (self.path, str(self.room / "link")):
+                site = make_app(name, str(ledger)).test_client()
+                page = site.get("/", base_url=HERE).get_data(as_text=True)
+                self.assertTrue("file has not changed since" in page, name)
+        finally:
+            store.close()
 
 
 class Tabled(Pages):

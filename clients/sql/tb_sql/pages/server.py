@@ -118,9 +118,10 @@ class Site:
     def freshness(self) -> Dict[str, Any]:
         """How far behind the tables may be."""
         position = self.tables().position()
+        path = os.path.realpath(self.path)  # the WAL lies next to what a link names
         written = max(
             os.path.getmtime(it)
-            for it in (self.path, f"{self.path}-wal")
+            for it in (path, f"{path}-wal")
             if os.path.exists(it) and os.path.getsize(it)
         )
         behind = None
