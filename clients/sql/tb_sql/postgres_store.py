@@ -56,6 +56,9 @@ class PostgresStore:
     def close(self) -> None:
         self._connection.close()
 
+    def read_whole(self, began: int) -> None:
+        """Nothing: pages are of a file."""
+
     def _asked(self, text: str, *values: Any) -> Any:
         """The rows that the database answers."""
         try:

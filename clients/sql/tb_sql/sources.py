@@ -9,6 +9,7 @@ import re
 import shutil
 import signal
 import subprocess
+import time
 from typing import IO, Callable, List, Optional, Tuple, Union
 
 from .audits import Loading, lines_of
@@ -56,7 +57,7 @@ class Ledger:
     def read(self, loading: Loading, tell: Callable[[], None], follow: bool = False) -> None:
         """Enters what the file holds, and what comes later where it is followed. Of the entries
         that the tables have only the last one is read, to be compared."""
-        kept = loading.commit_number
+        kept, began = loading.commit_number, time.time_ns()
         if follow and kept and self._entries() < kept:
             loading.ends_before()
         try:
@@ -88,6 +89,7 @@ class Ledger:
                 if process.returncode != 0:
                     raise Failed(words or f"{process.args!r} ended with {process.returncode}")
             loading.ended()
+            loading.store.read_whole(began)
 
     def _entries(self) -> int:
         """How many entries the file has now: the number of the last one."""

@@ -2,6 +2,7 @@
 
 from __future__ import annotations
 
+import contextlib
 import os
 import pathlib
 import sqlite3
@@ -75,6 +76,13 @@ class SqliteStore:
 
     def close(self) -> None:
         self._connection.close()
+
+    def read_whole(self, began: int) -> None:
+        """Says that all that the ledger's file had at a time is in the tables, by their file's
+        time: where nothing was new, that is of the write before."""
+        with contextlib.suppress(OSError):
+            found = os.stat(self.path).st_mtime_ns
+            os.utime(self.path, ns=(began, max(found, began)))
 
     def position(self) -> Optional[Position]:
         """How far the tables are; nothing where there are none."""

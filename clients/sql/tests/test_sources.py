@@ -103,6 +103,16 @@ class Sources(Tables):
         self.assertEqual(self.words(), ["tbd dump FILE", "tbt audit --after 6"])
         self.assertEqual(self.contents(), before)
 
+    def test_nothing_new(self):
+        """A load of a file that changed and has no new entry, as one that a server was started
+        over again, makes the tables newer than the file."""
+        self.write(history())
+        self.assertEqual(self.loaded(), (0, ""))
+        os.utime(self.path, (5, 5))
+        os.utime(self.file, (10, 10))
+        self.assertEqual(self.loaded(), (0, ""))
+        self.assertGreater(os.path.getmtime(self.path), 10)
+
     def test_what_is_followed(self):
         """A load that is ended amid an entry goes on where it was."""
         audit = history()
