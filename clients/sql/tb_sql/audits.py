@@ -57,7 +57,8 @@ class Loading:
     def __init__(self, store: Store, until: Optional[int] = None) -> None:
         self.store = store
         self.until = until  # the last commit that is entered
-        self.entries = self.events = 0  # that were entered
+        self.entries = self.events = 0  # that came to the tables
+        self._entered = [0, 0]  # the same, with those that are not written yet
         self.line = 0
         self._before = store.position()
         self._books = Books(store, _copy(self._before)) if self._before else None
@@ -68,16 +69,19 @@ class Loading:
 
     @property
     def commit_number(self) -> int:
-        return self._books.position.commit_number if self._books else 0
+        """The last entry that is in the tables."""
+        return self._before.commit_number if self._before else 0
 
     @property
     def is_done(self) -> bool:
         """Says that the last commit that is wanted was entered."""
-        return self.until is not None and self.commit_number >= self.until
+        if self.until is None or self._books is None:
+            return False
+        return self._books.position.commit_number >= self.until
 
     @property
     def time(self) -> int:
-        return self._books.position.time if self._books else 0
+        return self._before.time if self._before else 0
 
     def read(
         self, lines: Iterator[Optional[bytes]], tell: Callable[[], None] = lambda: None
@@ -130,6 +134,7 @@ class Loading:
         self.store.write(changes, books.position, self._before)
         books.written(changes)
         self._before = _copy(books.position)
+        self.entries, self.events = self._entered
 
     def _is_ahead(self, books: Books) -> bool:
         before = self._before
@@ -233,8 +238,8 @@ class Loading:
             raise Refused(f"entry {commit - 1} is not in the input: it cannot be compared")
         else:
             books.enter(entry, expired)
-            self.entries += 1
-            self.events += len(entry["events"])
+            self._entered[0] += 1
+            self._entered[1] += len(entry["events"])
 
     def _meet(self, entry: Dict[str, Any], commit: int) -> None:
         """Compares the entry that was the last one with what is kept of it."""

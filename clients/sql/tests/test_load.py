@@ -275,6 +275,27 @@ class GoingOn(Tables):
             self.load(b"".join(lines))
         self.assertIn("event 1 of entry 2 is missing", str(raised.exception))
 
+    def test_what_is_told_is_written(self):
+        """Where a signal ends a load that follows, what is not written yet is not counted."""
+        lines = history().bytes.splitlines(keepends=True)
+
+        def interrupted():
+            yield from lines[:20]
+            yield None  # so far all is written
+            yield from lines[20:60]
+            raise KeyboardInterrupt
+
+        store = SqliteStore(self.path)
+        loading = Loading(store)
+        with self.assertRaises(KeyboardInterrupt):
+            loading.read(interrupted())
+        store.close()
+        count, events, last, at = self.row(
+            "SELECT count(*), sum(events), max(commit_number), max(time) FROM entries"
+        )
+        told = loading.entries, loading.events, loading.commit_number, loading.time
+        self.assertEqual(told, (count, events, last, at))
+
     def test_what_waits_is_written(self):
         """Lines that come slowly are in the tables while more are awaited."""
         audit = history()
