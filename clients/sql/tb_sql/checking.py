@@ -46,7 +46,7 @@ def check_tables(given: argparse.Namespace) -> int:
         connection.execute("BEGIN")
         print(Tables(connection).check(), flush=True)
         connection.execute("COMMIT")
-        if given.server:
+        if given.server is not None:
             print(Server(given, connection).compare(), flush=True)
     finally:
         connection.close()
@@ -316,8 +316,8 @@ class Server:
         ids = [row[0] for row in self.connection.execute("SELECT id FROM accounts ORDER BY 1")]
         host, colon, port = self.given.server.rpartition(":")
         is_tcp = bool(colon) and port.isdigit() and "/" not in self.given.server
-        address = (host.strip("[]"), int(port)) if is_tcp else self.given.server
         try:
+            address = (host.strip("[]"), int(port)) if is_tcp else self.given.server
             self.transport = tb_client.Socket(address)
             session = tb_client.Session.register(self)
             for first in range(0, len(ids), LOOKED_UP):

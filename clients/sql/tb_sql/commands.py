@@ -60,9 +60,10 @@ class Progress:
 
 def load(given: argparse.Namespace) -> int:
     """Loads, and says how far the tables are."""
-    if given.follow and not given.ledger:
+    if given.follow and given.ledger is None:
         raise_usage("--follow goes with --ledger; an audit on standard input is followed anyway")
-    ledger = Ledger(given.ledger, given.tbd, given.tbt) if given.ledger else None
+    is_file = given.ledger is not None
+    ledger = Ledger(given.ledger, given.tbd, given.tbt) if is_file else None
     gc.set_threshold(GARBAGE)
     store = store_of(given.file)
     try:
@@ -131,6 +132,13 @@ def port(text: str) -> int:
     return int(text)
 
 
+def seconds(text: str) -> float:
+    value = float(text)
+    if not value >= 0:
+        raise argparse.ArgumentTypeError("seconds are 0 at least")
+    return value
+
+
 def add_ledger(parser: argparse.ArgumentParser, what: str) -> None:
     parser.add_argument("--ledger", metavar="FILE", help=what)
     parser.add_argument("--tbd", metavar="PROGRAM", help="the program tbd (or the variable TBD)")
@@ -167,7 +175,7 @@ def words() -> argparse.ArgumentParser:
     it.add_argument("--server", metavar="ADDRESS", help="a Unix socket's path, or HOST:PORT")
     it.add_argument(
         "--wait",
-        type=float,
+        type=seconds,
         default=10.0,
         metavar="SECONDS",
         help="how long to wait for a load to reach the server's answer (%(default)g)",

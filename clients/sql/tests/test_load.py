@@ -496,14 +496,28 @@ class Words(Tables):
     """The words of the command."""
 
     def test_usage(self):
-        for words in ([], ["load"], ["serve", "x", "--port", "99999"], ["sing"]):
+        for words in (
+            [],
+            ["load"],
+            ["serve", "x", "--port", "99999"],
+            ["sing"],
+            ["check", "x", "--wait", "nan"],
+            ["check", "x", "--wait", "-1"],
+        ):
             with self.subTest(words):
                 status, _, said = self.command(*words)
                 self.assertEqual(status, 2, said)
                 self.assertNotIn("Traceback", said)
 
     def test_faults_are_one_line(self):
+        self.load(Audit().register().accounts(account(1)))
+        check = ["check", self.path, "--server"]
         for words, wanted in (
+            ([*check, ""], 1),  # a variable that is not set is no address
+            ([*check, "host:\u00b2"], 1),
+            ([*check, "host:" + 5000 * "9"], 1),
+            (["load", self.path, "--ledger", ""], 1),
+            (["load", self.path, "--ledger", "", "--follow"], 1),
             (["check", str(self.room / "none.sqlite")], 1),
             (["load", str(self.room / "no" / "folder.sqlite")], 1),
             (["load", self.path, "--follow"], 2),
