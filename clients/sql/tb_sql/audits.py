@@ -175,7 +175,7 @@ class Loading:
     def _parsed(self, line: bytes) -> Dict[str, Any]:
         try:
             shown = json.loads(line)
-        except ValueError:
+        except (ValueError, RecursionError):
             shown = None
         if not isinstance(shown, dict):
             raise Refused(f"line {self.line}: no line of an audit: {line[:60]!r}")

@@ -2,6 +2,7 @@
 
 import contextlib
 import io
+import os
 import pathlib
 import subprocess
 import time
@@ -376,6 +377,7 @@ class OtherHistories(Tables):
         head = Audit().register().bytes
         for line in (
             b"hello\n",
+            b"[" * 200_000 + b"\n",
             b"[]\n",
             b"{}\n",
             b'{"commit":"x"}\n',
@@ -542,6 +544,18 @@ class Words(Tables):
                 )
                 self.assertEqual(ran.returncode, wanted, ran.stderr)
                 self.assertEqual((self.room / name).is_file(), not wanted)
+
+    def test_names_that_cannot_be_shown(self):
+        path = os.fsencode(self.room) + b"/b\xfccher.sqlite"
+        ran = subprocess.run(
+            [*COMMAND, "load", path],
+            input=Audit().register().bytes,
+            capture_output=True,
+            timeout=120,
+            env={**os.environ, "PYTHONIOENCODING": "utf-8:strict"},
+        )
+        self.assertEqual((ran.returncode, ran.stderr), (0, b""))
+        self.assertIn(rb"b\udcfccher.sqlite; its last entry is 1", ran.stdout)
 
     def test_streams_that_are_closed_or_full(self):
         audit = Audit().register()
