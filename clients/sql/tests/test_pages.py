@@ -2,13 +2,16 @@
 
 import contextlib
 import csv
+import errno
 import html
 import io
 import os
 import re
+import socket
 import sqlite3
 import time
 import unittest
+import unittest.mock
 
 from support import Tables  # noqa: I001
 from audits import MAX, START, Audit, account, transfer
@@ -237,6 +240,25 @@ class Tabled(Pages):
             self.assertEqual(len(rows), count + 1, name)
         self.get("/csv/sqlite_master.csv", 404)
         self.get("/csv/accounts;.csv", 404)
+
+
+class Ports(Pages):
+    """A port that cannot be listened on: one line, with the reason."""
+
+    def test_taken(self):
+        self.load(Audit())
+        with socket.create_server(("127.0.0.1", 0)) as other:
+            port = other.getsockname()[1]
+            status, _, said = self.command("serve", self.path, "--port", str(port))
+        wanted = f"tb-sql: port {port} of 127.0.0.1 is taken: choose another one by --port\n"
+        self.assertEqual((status, said), (1, wanted))
+
+    def test_not_allowed(self):
+        self.load(Audit())
+        fault = PermissionError(errno.EACCES, "Permission denied")
+        with unittest.mock.patch("socket.socket.bind", side_effect=fault):
+            status, _, said = self.said("serve", self.path, "--port", "80")
+        self.assertEqual((status, said), (1, "tb-sql: port 80 of 127.0.0.1: Permission denied\n"))
 
 
 class Refused(Pages):

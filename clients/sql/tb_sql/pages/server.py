@@ -3,9 +3,11 @@
 from __future__ import annotations
 
 import csv
+import errno
 import io
 import os
 import signal
+import socket
 import sqlite3
 import sys
 import time
@@ -419,17 +421,24 @@ class Quiet(WSGIRequestHandler):
         pass
 
 
+def listen(port: int) -> socket.socket:
+    """A socket that listens. Werkzeug would end the program, with lines of its own."""
+    try:
+        return socket.create_server((HOST, port))
+    except OSError as error:
+        if error.errno != errno.EADDRINUSE:
+            raise Failed(f"port {port} of {HOST}: {os.strerror(error.errno or 0)}") from None
+        raise Failed(f"port {port} of {HOST} is taken: choose another one by --port") from None
+
+
 def serve_pages(path: str, port: int, ledger: Optional[str]) -> int:
     """Serves until a signal."""
     Tables(path).close()
-    try:
-        server = make_server(
-            HOST, port, make_app(path, ledger), threaded=True, request_handler=Quiet
-        )
-    except (OSError, SystemExit):
-        raise Failed(f"port {port} of {HOST} is taken: choose another one by --port") from None
+    listening = listen(port)
+    app, place = make_app(path, ledger), listening.fileno()
+    server = make_server(HOST, port, app, threaded=True, request_handler=Quiet, fd=place)
     signal.signal(signal.SIGTERM, signal.default_int_handler)
-    print(f"http://{HOST}:{server.server_port}/ shows {path}; Ctrl-C ends it", flush=True)
+    print(f"http://{HOST}:{server.port}/ shows {path}; Ctrl-C ends it", flush=True)
     try:
         server.serve_forever()
     except KeyboardInterrupt:
