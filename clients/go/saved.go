@@ -87,12 +87,17 @@ func fieldsOf(data []byte) (map[string]json.RawMessage, error) {
 	return fields, nil
 }
 
+const digitsMax = 60 // no number has so many
+
 // numberOf is the integer in a field, of so many bits at most.
 func numberOf(fields map[string]json.RawMessage, name string, bits int) (Uint128, error) {
 	field := "saved." + name
 	text, isThere := fields[name]
 	if !isThere {
 		return Uint128{}, invalid(field, "is missing")
+	}
+	if len(text) > digitsMax {
+		text = text[:digitsMax] // too large is too large; a whole file of digits would take minutes
 	}
 	value, isInteger := new(big.Int).SetString(string(text), 10)
 	if !isInteger {

@@ -7,6 +7,7 @@ import (
 	"path/filepath"
 	"strings"
 	"testing"
+	"time"
 
 	tb "ledger.example/tbclient"
 )
@@ -48,6 +49,16 @@ func TestSavedRefusals(t *testing.T) {
 		if err := saved.UnmarshalJSON([]byte(text)); !errors.As(err, &fault) || fault.Field != field {
 			t.Errorf("%.60s is answered %v", text, err)
 		}
+	}
+}
+
+func TestSavedOfManyDigits(t *testing.T) {
+	begin := time.Now()
+	var saved tb.Saved
+	var fault *tb.InvalidError
+	err := saved.UnmarshalJSON([]byte(`{"client":` + strings.Repeat("9", 4_000_000) + `,"session":1,"number":0,"pending":""}`))
+	if took := time.Since(begin); !errors.As(err, &fault) || fault.Field != "saved.client" || took > 10*time.Second {
+		t.Errorf("%v after %v", err, took)
 	}
 }
 
