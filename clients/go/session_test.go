@@ -7,6 +7,7 @@ import (
 	"errors"
 	"os"
 	"path/filepath"
+	"strings"
 	"sync"
 	"testing"
 	"time"
@@ -245,6 +246,11 @@ func TestOptionsAreTested(t *testing.T) {
 	for _, address := range []tb.Address{{}, tb.Unix(""), tb.Unix("a\x00b"), tb.TCP("", 1), tb.TCP("a", 0), tb.TCP("a", -1)} {
 		if err := socketOf(address); !errors.Is(err, tb.ErrInvalid) {
 			t.Errorf("%#v is answered %v", address, err)
+		}
+	}
+	for _, host := range []string{"[::1]", "a]"} { // what is wrong is not the port
+		if err := socketOf(tb.TCP(host, 3001)); !errors.Is(err, tb.ErrInvalid) || !strings.Contains(err.Error(), "host") {
+			t.Errorf("%s is answered %v", host, err)
 		}
 	}
 	if _, err := tb.Resume(socket, saved, tb.WithClient(tb.ToUint128(8))); !errors.Is(err, tb.ErrInvalid) {

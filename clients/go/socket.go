@@ -54,7 +54,10 @@ func (it Address) test(field string) error {
 		return invalid(field, "has no host")
 	}
 	_, port, err := net.SplitHostPort(it.name)
-	if number, _ := strconv.Atoi(port); it.network == "tcp" && (err != nil || number < 1 || number > 65535) {
+	if it.network == "tcp" && err != nil {
+		return invalid(field, "has no name or number of a host: %.40q", it.host) // as "[::1]"
+	}
+	if number, _ := strconv.Atoi(port); it.network == "tcp" && (number < 1 || number > 65535) {
 		return invalid(field, "must have a port from 1 to 65535")
 	}
 	return nil
