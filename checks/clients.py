@@ -375,6 +375,7 @@ def scenarios():
     kit = [sys.executable, "-B"]
     done("scenarios", [*kit, f"{TOP}/clients/conformance/make_scenarios.py"])
     done("wrong clients", [*kit, f"{TOP}/clients/conformance/wrong_clients.py", "--texts"])
+    tests("the tests of the kit's words", f"{TOP}/clients/conformance")
 
 
 def examples():

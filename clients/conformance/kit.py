@@ -167,6 +167,8 @@ def words():
     given = parser.parse_args()
     if not given.list and not given.command:
         parser.error("no COMMAND of a runner is given")
+    if given.jobs < 1:
+        parser.error("--jobs is 1 or more: with none no scenario would run")
     return parser, given
 
 

@@ -55,26 +55,27 @@ class Listening:
             "--ahead",
             "60",
             "--unix",
-            "ledger.sock",
+            f"{self.folder}/ledger.sock",
             "--",
         ]
+        said = ""
         deadline = time.monotonic() + CALL
         while time.monotonic() < deadline:
             self.process = subprocess.Popen(
-                [*listener, *self.server, "run", "ledger.journal", "64"],
-                cwd=self.folder,
+                [*listener, *self.server, "run", f"{self.folder}/ledger.journal", "64"],
                 stderr=subprocess.PIPE,
                 text=True,
             )
             line = self.process.stderr.readline()
             while line and "listens on" not in line:
+                said = line.strip()
                 line = self.process.stderr.readline()
             if line:
                 return
             self.process.wait()
             self.process.stderr.close()
             time.sleep(0.02)
-        raise Wrong("the listener does not start")
+        raise Wrong(f"the listener does not start: {said}")
 
     def kill(self):
         self.process.kill()
@@ -280,14 +281,16 @@ def words():
 def main():
     given = words()
     with tempfile.TemporaryDirectory(prefix="money") as folder:
-        money = Money(given, folder)
+        money = None
         try:
+            money = Money(given, folder)
             money.run()
-        except (Wrong, Ended) as why:
+        except (Wrong, Ended, OSError) as why:
             print(f"FAILED: {why}")
             return 1
         finally:
-            money.stop()
+            if money is not None:
+                money.stop()
     killed = ", ".join(f"the {kind} {count} times" for kind, count in money.killed.items())
     print(f"killed: {killed}")
     print(
