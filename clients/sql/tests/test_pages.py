@@ -17,6 +17,7 @@ from support import Tables  # noqa: I001
 from audits import MAX, START, Audit, account, transfer
 from test_load import history
 from tb_sql.audits import Loading
+from tb_sql.pages import queries
 from tb_sql.pages.server import make_app
 from tb_sql.sqlite_store import SqliteStore
 
@@ -174,6 +175,42 @@ class Shown(Pages):
         self.assertIn("Postings 999,951 to 1,000,000 of 1,000,000", said)
         self.assertIn("at 241 moments", said)
         self.assertIn("Postings 1 to 50 of", self.words("/account/1?after=0"))
+
+    def test_steps(self):
+        """What a page asks takes no longer with a longer history, or with more accounts."""
+        self.load(Audit().register().accounts(account(1), account(2)))
+        count = 100_000
+        made = "WITH RECURSIVE at(n) AS (SELECT 9 UNION ALL SELECT n + 1 FROM at WHERE n < ?)"
+        rows = {
+            "postings": "1, n + ?, n, n, 2, 1, 0, n, 0, n",
+            "entries": "n, n + ?, 7, 1, n, 'lookup_accounts', 0, 0, 2, 0, 0",
+            "accounts": "n + ?, n, 0, 0, 0, 0, 0, 0, 0, 700 + n % 3, 1, 0, 0, 2",
+        }
+        for table, row in rows.items():
+            self.change(f"INSERT INTO {table} {made} SELECT {row} FROM at", count, START + 9)
+        tables = queries.Tables(self.path)
+        self.addCleanup(tables.close)
+        self.assertEqual(tables.ledgers(), [700, 701, 702])
+        for name, asked in (
+            ("overview", lambda: tables.activity(queries.Range())),
+            ("account", lambda: tables.balances(1, queries.Range())),
+            ("accounts", tables.ledgers),
+            ("search", lambda: self.assertEqual(len(tables.sessions_of(7)), 1)),
+        ):
+            steps = []
+            tables._connection.set_progress_handler(lambda: steps.append(100), 100)
+            asked()
+            tables._connection.set_progress_handler(None, 0)
+            self.assertLess(sum(steps), count / 10, name)
+
+    def test_sessions_of_a_client(self):
+        audit = Audit(clients_max=1)
+        for _ in range(3):
+            audit.register(7).accounts(account(audit.commit))
+            audit.register(8)
+        self.load(audit)
+        said = self.words("/search?id=7")
+        self.assertIn("A client with 3 sessions: 7, 1 requests, evicted; 4, 1 requests", said)
 
     def test_bars_count_each_transfer_once(self):
         self.load(history())

@@ -100,7 +100,8 @@ class Tables:
 
     def times(self) -> Tuple[int, int]:
         """The first entry's time and the last one's."""
-        row = self.one("SELECT min(time), max(time) FROM entries")
+        # apart: of both in one question SQLite would read each entry
+        row = self.one("SELECT (SELECT min(time) FROM entries), (SELECT max(time) FROM entries)")
         return (row[0], row[1]) if row and row[0] is not None else (0, 0)
 
     def trial_balance(self) -> List[Row]:
@@ -152,13 +153,22 @@ class Tables:
         )
 
     def sessions_of(self, client: Number) -> List[Row]:
-        return self.all(
-            "SELECT DISTINCT s.* FROM entries AS e JOIN session_list AS s"
-            " ON s.session = e.commit_number WHERE e.client = ? AND e.operation = 'register'"
-            " ORDER BY s.session DESC LIMIT ?",
-            client,
-            ROWS,
-        )
+        """The sessions of a client, the latest first: before the first entry of each the last one
+        of the session before it."""
+        found: List[Row] = []
+        before = LAST
+        while len(found) < ROWS:
+            row = self.one(
+                "SELECT commit_number, session FROM entries WHERE client = ? AND commit_number < ?"
+                " ORDER BY commit_number DESC LIMIT 1",
+                client,
+                before,
+            )
+            if row is None:
+                break
+            before = row["session"] or row["commit_number"]
+            found += self.all("SELECT * FROM session_list WHERE session = ?", before)
+        return found
 
     def summary(self, id: Number, range: Range) -> Optional[Summary]:
         """The account's postings within a range; nothing where there are none."""
@@ -206,6 +216,16 @@ class Tables:
             "SELECT * FROM accounts WHERE ledger = ? AND {}", [ledger], Range(), before, after
         )
 
+    def ledgers(self) -> List[int]:
+        """The first ledgers, each found behind the one before it."""
+        rows = self.all(
+            "WITH RECURSIVE found(ledger) AS (SELECT min(ledger) FROM accounts UNION ALL"
+            " SELECT (SELECT min(ledger) FROM accounts AS a WHERE a.ledger > f.ledger)"
+            " FROM found AS f WHERE f.ledger IS NOT NULL)"
+            " SELECT ledger FROM found WHERE ledger IS NOT NULL LIMIT 1000"
+        )
+        return [it["ledger"] for it in rows]
+
     def _page(
         self,
         text: str,
@@ -250,7 +270,9 @@ class Tables:
             )
             return [(it[0], int(it[1])) for it in rows], True
         ends = self.one(
-            f"SELECT min(timestamp), max(timestamp) FROM postings WHERE {within}", id, *range
+            f"SELECT (SELECT min(timestamp) FROM postings WHERE {within}),"
+            f" (SELECT max(timestamp) FROM postings WHERE {within})",
+            *(id, *range, id, *range),
         )
         assert ends is not None
         first, last = ends

@@ -198,7 +198,7 @@ def overview(site: Site) -> str:
 def accounts(site: Site) -> str:
     ledger = asked_number("ledger")
     page = site.tables().accounts(ledger, *asked_page())
-    ledgers = site.tables().all("SELECT DISTINCT ledger FROM accounts ORDER BY ledger LIMIT 1000")
+    ledgers = site.tables().ledgers()
     return render_template("accounts.html", page=page, ledger=ledger, ledgers=ledgers)
 
 
