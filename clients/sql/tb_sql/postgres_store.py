@@ -40,8 +40,7 @@ class PostgresStore:
             raise self._failed(error) from None
 
     def _look(self) -> None:
-        found = self._connection.execute("SELECT to_regclass('position')").fetchone()
-        self.is_new = found[0] is None
+        self.is_new = self._is_empty(self._connection)
         if self.is_new:
             return
         try:
@@ -52,6 +51,10 @@ class PostgresStore:
             raise Refused(
                 f"{self.path} has the tables of another version: drop them, and load again"
             )
+
+    @staticmethod
+    def _is_empty(asked: Any) -> bool:
+        return asked.execute("SELECT to_regclass('position')").fetchone()[0] is None
 
     def close(self) -> None:
         self._connection.close()
@@ -131,6 +134,8 @@ class PostgresStore:
         self, cursor: Any, changes: Changes, position: Position, before: Optional[Position]
     ) -> None:
         if before is None:
+            if not self._is_empty(cursor):
+                raise Failed(f"{self.path}: another load writes to it")
             for statement in postgres_schema():
                 cursor.execute(statement)
         self._move(cursor, position, before)

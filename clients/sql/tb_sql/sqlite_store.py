@@ -68,11 +68,13 @@ class SqliteStore:
             raise Failed(f"{path}: {error}") from None
 
     def _look(self) -> None:
-        tables = self._connection.execute("SELECT name FROM sqlite_master WHERE type = 'table'")
-        names = {name for (name,) in tables}
-        self.is_new = not names
+        self.is_new = self._is_empty()
         if not self.is_new:
             check_schema(self._connection, self.path)
+
+    def _is_empty(self) -> bool:
+        found = self._connection.execute("SELECT 1 FROM sqlite_master WHERE type = 'table' LIMIT 1")
+        return found.fetchone() is None
 
     def close(self) -> None:
         self._connection.close()
@@ -142,6 +144,8 @@ class SqliteStore:
 
     def _write(self, changes: Changes, position: Position, before: Optional[Position]) -> None:
         if before is None:
+            if not self._is_empty():
+                raise Failed(f"{self.path}: another load writes to it")
             for statement in sqlite_schema():
                 self._connection.execute(statement)
         self._move(position, before)

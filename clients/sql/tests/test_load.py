@@ -456,6 +456,18 @@ class OtherHistories(Tables):
         first.stderr.close()
         self.assertEqual(self.contents(), whole)
 
+    def test_two_first_loads_at_once(self):
+        audit = Audit().register().accounts(account(1))
+        store = SqliteStore(self.path)
+        loading = Loading(store)
+        self.load(audit)
+        before = self.contents()
+        with self.assertRaises(Failed) as raised:
+            loading.read(iter(audit.bytes.splitlines(keepends=True)))
+        store.close()
+        self.assertIn("another load writes to it", str(raised.exception))
+        self.assertEqual(self.contents(), before)
+
     def test_load_that_is_behind(self):
         """One that began before another one wrote is refused before it writes a row."""
         first, second = Audit().register(), Audit().register().accounts(account(1))

@@ -159,6 +159,17 @@ class PostgreSQL(Tables):
         self.load_both(audit)
         self.assertSame()
 
+    def test_two_first_loads_at_once(self):
+        audit = Audit().register().accounts(account(1))
+        store = PostgresStore(self.url)
+        loading = Loading(store)
+        self.load_both(audit)
+        with self.assertRaises(Failed) as raised:
+            loading.read(iter(audit.bytes.splitlines(keepends=True)))
+        store.close()
+        self.assertIn("another load writes to it", str(raised.exception))
+        self.assertSame()
+
     def test_command(self):
         status, said, fault = self.said("load", self.address("none"), "--quiet")
         self.assertEqual((status, said, fault.count("\n")), (1, "", 1), fault)
