@@ -21,6 +21,8 @@ RARELY = 20  # a write comes no sooner than after so many times the time that th
 IDLE = 0.2  # seconds without a line, after which what is whole is written
 CHUNK = 1 << 20
 ENTRY = b'{"commit":"'
+# where a value is missing, or is not one that an audit has there
+WRONG = (AttributeError, KeyError, OverflowError, TypeError, ValueError)
 
 
 def lines_of(input: int) -> Iterator[Optional[bytes]]:
@@ -130,8 +132,11 @@ class Loading:
         books = self._books
         if books is None or (self._before and not self._is_ahead(books)):
             return
-        changes = books.take()
-        self.store.write(changes, books.position, self._before)
+        try:
+            changes = books.take()
+            self.store.write(changes, books.position, self._before)
+        except WRONG as error:
+            raise Refused(f"no audit up to line {self.line}: {error}") from None
         books.written(changes)
         self._before = _copy(books.position)
         self.entries, self.events = self._entered
@@ -163,7 +168,7 @@ class Loading:
                 self._take_entry(shown)
             elif "account" not in shown:
                 raise Refused(f"line {self.line}: no line of an audit: {line[:60]!r}")
-        except (KeyError, TypeError, ValueError):
+        except WRONG:
             raise Refused(f"line {self.line}: no line of an audit: {line[:60]!r}") from None
 
     def _commit_of(self, line: bytes) -> int:

@@ -2,6 +2,7 @@
 
 import contextlib
 import io
+import json
 import os
 import pathlib
 import subprocess
@@ -401,6 +402,26 @@ class OtherHistories(Tables):
                 with self.assertRaises(Refused) as raised:
                     self.load(audit, str(self.room / "new.sqlite"))
                 self.assertIn(words, str(raised.exception))
+
+    def test_values_that_no_audit_has(self):
+        """Also those that are met where an entry is written."""
+        audit = Audit().register()
+        self.load(audit)
+        for change in (
+            {"operation": 5},
+            {"operation": None},
+            {"operation": "\ud800"},
+            {"events": [1]},
+            {"events": [{}]},
+            {"time": "9" * 20},
+            {"session": "9" * 30},
+            {"request": 1 << 70},
+        ):
+            line = json.loads(Audit().register().later(5).register(7).lines[-1])
+            line.update(operation="lookup_accounts", session="1", request=1)
+            with self.subTest(change):
+                lines = audit.bytes + json.dumps({**line, **change}).encode() + b"\n"
+                self.refused(lines, "no audit")
 
     def test_no_head(self):
         path = str(self.room / "new.sqlite")
