@@ -1,7 +1,10 @@
 """The words of the kit and of the money: what they name, and what is wrong."""
 import os
+import shutil
+import signal
 import subprocess
 import sys
+import tempfile
 import unittest
 
 HERE = os.path.dirname(os.path.abspath(__file__))
@@ -34,6 +37,46 @@ class Money(unittest.TestCase):
         self.assertEqual((status, faults), (1, ""), said)
         self.assertIn("FAILED: ", said)
         self.assertIn("no/such/client", said)
+
+
+class Throughput(unittest.TestCase):
+    """What measures the clients in Go and Node, by a server's relative path."""
+
+    def begun(self, words, server):
+        """What it says of a server that does not start, or first of one that does."""
+        room = tempfile.mkdtemp()
+        self.addCleanup(shutil.rmtree, room)
+        it = subprocess.Popen(
+            [*words, *server],
+            cwd=TOP,
+            env={**os.environ, "TMPDIR": room},
+            stdout=subprocess.PIPE,
+            stderr=subprocess.STDOUT,
+            text=True,
+            start_new_session=True,
+        )
+        try:
+            said = it.stdout.read() if server[-1] == "no/such/tbd" else it.stdout.readline()
+        finally:
+            os.killpg(it.pid, signal.SIGKILL)
+            it.wait()
+            it.stdout.close()
+        return said, os.listdir(room)
+
+    def test_in_go(self):
+        words = [sys.executable, "-B", "clients/go/throughput.py", "--server"]
+        said, left = self.begun(words, ["no/such/tbd"])
+        self.assertRegex(said, "the server does not start: .*no/such/tbd")
+        self.assertEqual(left, [])
+
+    @unittest.skipUnless(shutil.which("node"), "there is no Node")
+    def test_in_node(self):
+        words = ["node", "clients/node/throughput.js"]
+        said, left = self.begun(words, ["no/such/tbd"])
+        self.assertRegex(said, "the listener ended: .*no/such/tbd")
+        self.assertEqual(left, [])
+        said, _ = self.begun(words, [sys.executable, "-SE", STAND_IN])
+        self.assertIn("| | 1 connection, requests/s |", said)
 
 
 class Kit(unittest.TestCase):

@@ -21,6 +21,7 @@ import time
 HERE = os.path.dirname(os.path.abspath(__file__))
 PYTHON = os.path.join(os.path.dirname(HERE), "python")
 STAND_IN = f"{sys.executable} -SE {PYTHON}/stand_in_tbd.py"
+FOLDER = "$FOLDER"  # in a server's words: that of one measuring
 SHAPES = ((1, 1), (24, 1), (1, 8190))  # connections, transfers in a request
 sys.dont_write_bytecode = True
 sys.path.insert(0, PYTHON)
@@ -31,12 +32,15 @@ import tb_client as tb  # noqa: E402
 @contextlib.contextmanager
 def serving(words, folder):
     """A server at ledger.sock, until the end of the block."""
+    words = [it.replace(FOLDER, folder) for it in words]
     with subprocess.Popen(
-        words, cwd=folder, stdout=subprocess.PIPE, stderr=subprocess.STDOUT, text=True
+        words, stdout=subprocess.PIPE, stderr=subprocess.STDOUT, text=True
     ) as process:
-        line = process.stdout.readline()
+        said, line = "", process.stdout.readline()
         while line and "listens on" not in line:
-            line = process.stdout.readline()
+            said, line = line.strip(), process.stdout.readline()
+        if not line:
+            raise SystemExit(f"the server does not start: {said}")
         try:
             yield os.path.join(folder, "ledger.sock")
         finally:
@@ -75,10 +79,11 @@ def in_go(path, connections, items, seconds):
 
 def servers(server):
     listener = [sys.executable, "-B", f"{PYTHON}/tb_listen.py", "--ahead", "60"]
-    listener += ["--unix", "ledger.sock", "--", *shlex.split(server), "run", "ledger.journal", "64"]
+    listener += ["--unix", f"{FOLDER}/ledger.sock", "--", *shlex.split(server)]
+    listener += ["run", f"{FOLDER}/ledger.journal", "64"]
     return {
         "the listener": listener,
-        "one that keeps nothing": [f"{HERE}/out/throughput", "serve", "ledger.sock"],
+        "one that keeps nothing": [f"{HERE}/out/throughput", "serve", f"{FOLDER}/ledger.sock"],
     }
 
 

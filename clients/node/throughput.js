@@ -139,15 +139,18 @@ async function listening(folder, place) {
   const server = process.argv.slice(2);
   const listener = ["-B", path.join(PYTHON, "tb_listen.py"), "--unix", place, "--", ...server];
   const words = server.length
-    ? ["python3", ...listener, "run", "ledger.journal", "64"]
+    ? ["python3", ...listener, "run", path.join(folder, "ledger.journal"), "64"]
     : [process.execPath, __filename, ANSWER, place];
-  const options = { cwd: folder, stdio: ["ignore", "ignore", "pipe"] };
-  const it = spawn(words[0], words.slice(1), options);
+  const it = spawn(words[0], words.slice(1), { stdio: ["ignore", "ignore", "pipe"] });
   await new Promise((resolve, reject) => {
-    it.stderr.on("data", (said) => String(said).includes("listens on") && resolve());
-    it.on("exit", () => reject(new Error("the listener ended")));
+    let said = "";
+    it.stderr.on("data", (data) => {
+      said += data;
+      if (said.includes("listens on")) resolve();
+    });
+    it.on("close", () => reject(new Error(`the listener ended: ${said.trim()}`)));
   });
-  it.removeAllListeners("exit");
+  it.removeAllListeners("close");
   return it;
 }
 
@@ -160,8 +163,9 @@ function row(name, figures) {
 async function main() {
   const folder = mkdtempSync(path.join(tmpdir(), "tb-throughput-"));
   const place = path.join(folder, "ledger.sock");
-  const listener = await listening(folder, place);
+  let listener;
   try {
+    listener = await listening(folder, place);
     const session = await tb.Session.register(new tb.Socket(place));
     await session.createAccounts([1n, 2n].map((id) => ({ id, ledger: 700, code: 10 })));
     session.close();
@@ -172,7 +176,7 @@ async function main() {
     console.log(row("Python", inPython(place)));
     console.log(row(`Node ${process.versions.node}, again`, await here(place)));
   } finally {
-    listener.kill();
+    listener?.kill();
     rmSync(folder, { recursive: true });
   }
 }
