@@ -76,7 +76,11 @@ public class ReadmeTest {
         BufferedReader said =
                 new BufferedReader(
                         new InputStreamReader(it.getInputStream(), StandardCharsets.UTF_8));
-        assertEquals("tb_listen: listens on ledger.sock", said.readLine());
+        String line = said.readLine();
+        while (line != null && line.contains("tbd: made")) { // the server may be the first
+            line = said.readLine();
+        }
+        assertEquals("tb_listen: listens on ledger.sock", line);
         return it;
     }
 
