@@ -10,7 +10,8 @@
   there, in the crate that comes before it; so is each file that docs/work/ARCHITECTURE.md names,
   with the names in brackets behind it, or before it as `name of` it.
 - Each definition that docs/trust/BELIEVE.md lists is in the file that it names.
-- Each file that a page names by its path from the top is there, but for what is built.
+- Each file that a page names by its path from the top is there, but for what is built; and each
+  script of checks/ and bench/ that a page names may be run as it is written there.
 - Each name that docs/work/GLOSSARY.md gives a word in the code is in the sources, the
   definitions or the Python client, and where it gives a crate with the name, there.
 
@@ -18,6 +19,7 @@ Usage: checks/pages.py. Ends in 'N passed, 0 failed'. checks/blocks.py looks at 
 """
 
 import functools
+import os
 import pathlib
 import re
 
@@ -33,6 +35,7 @@ PATH = re.compile(
 # Of a folder out/, and what a page says may not be there.
 ABSENT = re.compile(r"/out(?:/|$)|^checks/mutants\.py$|^crates/NAME")
 FILE = re.compile(r"`([\w./-]+\.(?:antt|rt|py|rs|h|md|txt))`")
+COMMAND = re.compile(r"(?:checks|bench)/\w+\.py")
 
 
 def without_imports(block: str) -> str:
@@ -168,6 +171,9 @@ def paths():
             if not ABSENT.search(path):
                 there = (ROOT / path).exists()
                 yield page.relative_to(ROOT), None if there else f"{path} is not there"
+                if there and COMMAND.fullmatch(path):
+                    runs = os.access(ROOT / path, os.X_OK)
+                    yield page.relative_to(ROOT), None if runs else f"{path} may not be run"
 
 
 def first_statements():
