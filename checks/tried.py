@@ -2,6 +2,7 @@
 there and their runs, the arguments of a script, and its end."""
 import argparse
 import os
+import select
 import subprocess
 import sys
 
@@ -55,16 +56,26 @@ def progress(what, done, total):
         print(f"\r{what}: {done} of {total}\x1b[K", end=end, file=sys.stderr, flush=True)
 
 
+def is_read():
+    """Whether there is still somebody to read the output."""
+    output = select.poll()
+    output.register(sys.stdout, 0)
+    return not output.poll(0)
+
+
 def main(run):
     """Ends the script with the status that `run` answers. What its user can mend is printed in a
-    line and no traceback: a file or program that is not there, a command that failed or did not
-    end, an interrupt. Where nobody reads the output the script ends without a word."""
+    line and no traceback: a file or program that is not there, a command that failed, did not end
+    or took no more input, an interrupt. Where nobody reads the output the script ends without a
+    word."""
     try:
         sys.exit(run())
     except KeyboardInterrupt:
         print("interrupted", file=sys.stderr)
         sys.exit(130)
     except BrokenPipeError:
+        if is_read():
+            sys.exit("a program ended before it took its input")
         os.dup2(os.open(os.devnull, os.O_WRONLY), sys.stdout.fileno())
         sys.exit(141)
     except (FileNotFoundError, PermissionError) as why:
