@@ -9,8 +9,10 @@ of replies. From them the files are made that the disk may have at each moment: 
 of what was written since then any bytes and any length. Each has to be a prefix of the history
 with all that was acknowledged until then, and each tenth is opened by the program. A disk that
 drops syncs and a program that answers first have to be caught. A small file system is filled where
-this user may mount one. Ends in 'N passed, M failed'.
+this user may mount one. Ends in 'N passed, M failed', or with a line where the program holds a
+reply back, or does not end, for two minutes (CHECK_LONGER times as long).
 """
+import contextlib
 import functools
 import os
 import random
@@ -19,6 +21,7 @@ import struct
 import subprocess
 import sys
 import tempfile
+import threading
 
 import tried
 
@@ -38,6 +41,7 @@ from tb_client import (  # noqa: E402
 
 CLIENTS = 24
 CASH, SALES = 1, 2
+SECONDS = 120 * tried.LONGER  # that a reply, an end and a check may take
 MAGIC, FIRST = b"TBJRNL01", b"TBJRNL01\0"
 
 
@@ -86,6 +90,20 @@ def records_of(data):
 
 
 # A run
+
+
+@contextlib.contextmanager
+def in_time(process):
+    """Ends the script where a program does not go on in time."""
+    late = threading.Event()
+    timer = threading.Timer(SECONDS, lambda: (late.set(), process.kill()))
+    timer.start()
+    try:
+        yield
+    finally:
+        timer.cancel()
+        if late.is_set():
+            raise subprocess.TimeoutExpired(process.args, SECONDS)
 
 
 class Run:
@@ -139,16 +157,20 @@ class Run:
             process.stdin.flush()
         except BrokenPipeError:
             return []
-        replies = []
-        for _ in frames:
+        with in_time(process):
+            return list(self.replies(process, len(frames)))
+
+    @staticmethod
+    def replies(process, count):
+        """The next replies, so many or fewer where the program ends."""
+        for _ in range(count):
             header = process.stdout.read(HEADER)
             body = (
                 process.stdout.read(reply_length(header) - HEADER) if len(header) == HEADER else b""
             )
             if len(header) < HEADER or len(header + body) < reply_length(header):
                 break
-            replies.append(header + body)
-        return replies
+            yield header + body
 
     def take(self, reply):
         """Takes the first reply to a request, or the same again."""
@@ -183,10 +205,11 @@ def ended(process):
         process.stdin.close()
     except BrokenPipeError:
         pass
-    process.stdout.read()
-    process.stdout.close()
-    process.stderr.close()
-    return process.wait()
+    with in_time(process):
+        process.stdout.read()
+        process.stdout.close()
+        process.stderr.close()
+        return process.wait()
 
 
 def lives(run, shim, rounds, fault=""):
@@ -293,7 +316,8 @@ class Images:
         self.opened += 1
         with open(self.path, "wb") as file:
             file.write(image)
-        told = subprocess.run([self.run.tbd, "check", self.path], capture_output=True, text=True)
+        words = [self.run.tbd, "check", self.path]
+        told = subprocess.run(words, capture_output=True, text=True, timeout=SECONDS)
         if told.returncode or f"entries {entries}\n" not in told.stdout:
             self.wrong.append(
                 f"check of {entries} entries: {told.returncode}, {told.stdout!r}, {told.stderr!r}"
@@ -355,7 +379,7 @@ def losses(tbd, folder, shim, rounds, count, rng):
 def dumped(run):
     """The dump has each acknowledged request once, at the commit that its reply gave, and its
     replay gives each reply."""
-    got = subprocess.run([run.tbd, "dump", run.file], capture_output=True)
+    got = subprocess.run([run.tbd, "dump", run.file], capture_output=True, timeout=SECONDS)
     with open(run.file, "rb") as file:
         records = records_of(file.read())
     wrong = (
@@ -374,9 +398,7 @@ def dumped(run):
     if not os.access(tbs, os.X_OK):
         print("passed over: the replay of the dump, tbs is not built")
         return
-    replies = list(
-        replies_in(subprocess.run([tbs, "replay"], input=got.stdout, capture_output=True).stdout)
-    )
+    replies = list(replies_in(tried.ran([tbs, "replay"], got.stdout)[1]))
     wrong = [
         key
         for key, reply in run.first.items()
@@ -428,7 +450,8 @@ def full(tbd, folder, rng):
         for _ in range(1000):
             if not run.round(process, run.some()):
                 break
-        told = process.stderr.read()
+        with in_time(process):
+            told = process.stderr.read()
         lines = f"tbd: made {run.file}\ntbd: Full\n".encode()
         case(
             "a full file system ends in Full and status 8",
