@@ -3,11 +3,12 @@
 
     checks/keep.py [--tbd PROGRAM] [--kills N] [--flips N] [--cuts N] [--seed N] [--builds]
 
-A program that holds a reply back, or does not end, for 20 seconds (KEEP_SECONDS) ends the script with that case failed.
+A program that holds a reply back, or does not end, for 20 seconds (KEEP_SECONDS) ends the script, with that case failed or a line that names it.
 Clients retry as docs/use/CLIENTS.md says: each sends one request at a time, and the same bytes again until it has the reply. Calls of the
 program fail or lie by checks/keep/shim.c, which wants gcc. With --builds two mutants are built too, unproved, by `rt try` in a copy, and run
 under strace: one that replies before it commits and one that does not sync have to be caught. Ends in 'N passed, M failed'.
 """
+import atexit
 import contextlib
 import os
 import pty
@@ -732,7 +733,10 @@ def more_of(process, count):
 def followers(tbd, folder, path, after):
     """A dump of a file that goes on, with a head and without one."""
     words = [[tbd, "dump", path, "--follow"], [tbd, "dump", path, "--after", str(after), "--follow"]]
-    return [subprocess.Popen(it, cwd=folder, stdout=subprocess.PIPE, stderr=subprocess.PIPE) for it in words]
+    going = [subprocess.Popen(it, cwd=folder, stdout=subprocess.PIPE, stderr=subprocess.PIPE) for it in words]
+    for it in going:
+        atexit.register(it.kill)  # where the script ends before them
+    return going
 
 
 def follows(tbd, folder):
