@@ -14,7 +14,6 @@ bench/samples.py.
 import csv
 import functools
 import pathlib
-import sys
 from typing import Optional
 from unittest import mock
 
@@ -417,4 +416,4 @@ def main() -> int:
 
 
 if __name__ == "__main__":
-    sys.exit(main())
+    tried.main(main)

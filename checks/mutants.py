@@ -39,6 +39,7 @@ import time
 import zlib
 
 import repository
+import tried
 
 ROOT = os.path.dirname(os.path.dirname(os.path.abspath(__file__)))
 FOLDER = f"{ROOT}/checks/mutants"
@@ -665,4 +666,4 @@ def main():
 
 
 if __name__ == "__main__":
-    sys.exit(main())
+    tried.main(main)
