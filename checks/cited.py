@@ -282,6 +282,8 @@ def main():
     for crate in crates():
         every |= definitions(crate)
     if given.who:
+        if not any(f"{it[0]}/{it[1]}" == given.who for it in every):
+            parser.error(f"no file of specs/ with definitions is {given.who}")
         return who(every, given.who)
     if given.heads:
         return int(check_heads(every, given.write) > 0)

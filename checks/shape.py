@@ -226,6 +226,9 @@ def main():
     with tempfile.TemporaryDirectory() as room:
         if given.at:
             TOP = unpacked(given.at, room)
+        for crate in given.crates:
+            if not os.path.isdir(f"{TOP}/crates/{crate}"):
+                parser.error(f"there is no crate {crate}")
         if given.bounds:
             return check_bounds()
         print_rows(given.crates or crates_listed(), given.list)
