@@ -5,7 +5,8 @@
 
 Each has two minutes. Prints a line for each, and what a failed one printed; ends in 'N passed, 0
 failed'. flake8 is left out, with a word, where it is not installed; and so is `refusals`, the quick
-form of checks/refusals.py, where a program of its is not built or is older than its sources.
+form of checks/refusals.py, where a program of its is not built or is older than its sources. Where
+nothing is run the status is 1.
 """
 import concurrent.futures
 import pathlib
@@ -85,7 +86,9 @@ def main() -> int:
             tried.case(
                 name, status == 0, f"{last} ({seconds:.0f} s)" if status == 0 else said[-4000:]
             )
-    return tried.status()
+    if not commands:
+        print("no check was run")
+    return tried.status() or int(not commands)
 
 
 if __name__ == "__main__":
