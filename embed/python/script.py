@@ -14,14 +14,14 @@ sys.path.append(
 )
 
 from tb_client import ClientError  # noqa: E402
-from tb_embed import Server  # noqa: E402
+from tb_embed import REPLY_MAX, Server  # noqa: E402
 
 
 def serve(server: Server) -> None:
     script, replies = sys.stdin.buffer, sys.stdout.buffer
     while head := script.read(56):
         length = struct.unpack_from("<I", head, 40)[0] if len(head) == 56 else 0
-        body = script.read(length)
+        body = script.read(min(length, REPLY_MAX))  # no request is longer
         if len(head) < 56 or len(body) < length:
             sys.exit("script: a cut script")
         replies.write(server.serve(struct.unpack_from("<Q", head)[0], head[8:] + body))

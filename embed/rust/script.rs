@@ -24,14 +24,18 @@ fn read_pair(script: &mut impl Read, frame: &mut Vec<u8>) -> io::Result<Option<u
     Ok(Some(u64::from_le_bytes(moment)))
 }
 
-fn number(word: Option<String>, default: u32) -> u32 {
-    word.and_then(|word| word.parse().ok()).unwrap_or(default)
+fn number(word: Option<String>, default: u32) -> Result<u32, std::num::ParseIntError> {
+    word.map_or(Ok(default), |word| word.parse())
 }
 
 fn main() -> Result<(), Box<dyn std::error::Error>> {
     let mut words = std::env::args().skip(1);
-    let clients_max = number(words.next(), 2);
-    let mut server = Server::open(number(words.next(), 1), clients_max)?;
+    let clients_max = number(words.next(), 2)?;
+    let profile = number(words.next(), 1)?;
+    if words.next().is_some() {
+        return Err("too many words".into());
+    }
+    let mut server = Server::open(profile, clients_max)?;
     let mut script = BufReader::new(io::stdin().lock());
     let mut replies = BufWriter::new(io::stdout().lock());
     let (mut frame, mut room) = (Vec::new(), vec![0; REPLY_MAX]);
