@@ -472,8 +472,10 @@ def full(tbd, folder, rng):
 def main():
     parser = tried.arguments(__doc__)
     parser.add_argument("--tbd", default=os.path.join(ROOT, "crates", "tbd", "out", "tbd"))
-    parser.add_argument("--rounds", type=int, default=120)
-    parser.add_argument("--images", type=int, default=20, help="files that are made at each write")
+    parser.add_argument("--rounds", type=tried.count, default=120)
+    parser.add_argument(
+        "--images", type=tried.count, default=20, help="files that are made at each write"
+    )
     parser.add_argument("--seed", type=int, default=1)
     given = parser.parse_args()
     tried.built(given.tbd)

@@ -946,9 +946,9 @@ def flips(tbd, folder, data, latches, entries, count, rng):
 def main():
     parser = tried.arguments(__doc__)
     parser.add_argument("--tbd", default=os.path.join(ROOT, "crates", "tbd", "out", "tbd"))
-    parser.add_argument("--kills", type=int, default=1000)
-    parser.add_argument("--flips", type=int, default=10000)
-    parser.add_argument("--cuts", type=int, default=1000)
+    parser.add_argument("--kills", type=tried.count, default=1000)
+    parser.add_argument("--flips", type=tried.count, default=10000)
+    parser.add_argument("--cuts", type=tried.count, default=1000)
     parser.add_argument("--seed", type=int, default=1)
     parser.add_argument("--builds", action="store_true", help="builds that are wrong, too")
     asked = parser.parse_args()
