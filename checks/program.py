@@ -23,6 +23,7 @@ from frames import account, dump_entry, dump_head, ids, mark, pair, reply, resul
 TOP = os.path.dirname(os.path.dirname(os.path.abspath(__file__)))
 PROGRAM = f"{TOP}/crates/tbs/out/tbs"
 RUN = ["run", "2"]
+SECONDS = 60 * tried.LONGER  # that one run may take
 MAX_TIME = 2**63 - 1
 
 
@@ -62,7 +63,7 @@ def with_file(script, words=RUN, **how):
             stdin=file,
             stdout=subprocess.PIPE,
             stderr=subprocess.PIPE,
-            timeout=60,
+            timeout=SECONDS,
             **how,
         )
         return (ran.returncode, ran.stdout, ran.stderr), file.tell()
@@ -96,16 +97,20 @@ def inputs():
         program.stdin.write(bytes([byte]))
         program.stdin.flush()
         time.sleep(0.0005)
-    got = program.communicate()
+    got = program.communicate(timeout=SECONDS)
     case("a pipe, byte by byte", (program.returncode, *got), (0, REPLIES, b""))
     case("an empty file", with_file(b"")[0], (0, b"", b""))
     case("an empty pipe", ended(b""), (0, b"", b""))
-    closed = subprocess.run([PROGRAM, *RUN], capture_output=True, preexec_fn=closing(0))
+    closed = subprocess.run(
+        [PROGRAM, *RUN], capture_output=True, preexec_fn=closing(0), timeout=SECONDS
+    )
     case(
         "closed input", (closed.returncode, closed.stdout, closed.stderr), (1, b"", line("Device"))
     )
     folder = os.open(TOP, os.O_RDONLY)
-    read_folder = subprocess.run([PROGRAM, *RUN], stdin=folder, capture_output=True)
+    read_folder = subprocess.run(
+        [PROGRAM, *RUN], stdin=folder, capture_output=True, timeout=SECONDS
+    )
     case(
         "a directory as input",
         (read_folder.returncode, read_folder.stdout, read_folder.stderr),
@@ -115,7 +120,7 @@ def inputs():
 
 def taken(program, length):
     """So many bytes of the program's replies, or those that come within ten seconds."""
-    got, end = b"", time.monotonic() + 10
+    got, end = b"", time.monotonic() + 10 * tried.LONGER
     while len(got) < length:
         ready, _, _ = select.select([program.stdout], [], [], max(0, end - time.monotonic()))
         more = os.read(program.stdout.fileno(), length - len(got)) if ready else b""
@@ -139,7 +144,7 @@ def conversation(sendings):
     for sent, length in sendings:
         program.stdin.write(sent)
         got.append(taken(program, length))
-    rest, fault = program.communicate(timeout=10)
+    rest, fault = program.communicate(timeout=SECONDS)
     return got, rest, fault, program.returncode
 
 
@@ -379,7 +384,9 @@ def wrong_words():
     ]:
         got, at = with_file(SCRIPT, words)
         case(f"the arguments {words}", (*got, f"read {at}"), (2, b"", line("Usage"), "read 0"))
-    closed = subprocess.run([PROGRAM, "run", "0"], capture_output=True, preexec_fn=closing(0))
+    closed = subprocess.run(
+        [PROGRAM, "run", "0"], capture_output=True, preexec_fn=closing(0), timeout=SECONDS
+    )
     case(
         "wrong arguments, and closed input",
         (closed.returncode, closed.stdout, closed.stderr),
@@ -515,7 +522,9 @@ def dumps(long_script):
                 ended(script, words, stdout=full),
                 (1, b"", line("Device")),
             )
-        closed = subprocess.run([PROGRAM, *words], capture_output=True, preexec_fn=closing(0))
+        closed = subprocess.run(
+            [PROGRAM, *words], capture_output=True, preexec_fn=closing(0), timeout=SECONDS
+        )
         case(f"{name}, and closed input", (closed.returncode, closed.stderr), (1, line("Device")))
 
 
@@ -552,14 +561,24 @@ def storms():
 def lines():
     """The line cannot be written: the status is the same."""
     with open("/dev/full", "wb") as full:
-        ran = subprocess.run([PROGRAM, "run", "0"], input=b"", stdout=subprocess.PIPE, stderr=full)
+        ran = subprocess.run(
+            [PROGRAM, "run", "0"],
+            input=b"",
+            stdout=subprocess.PIPE,
+            stderr=full,
+            timeout=SECONDS,
+        )
     case(
         "wrong arguments, and a full standard error",
         (ran.returncode, ran.stdout, b""),
         (2, b"", b""),
     )
     ran = subprocess.run(
-        [PROGRAM, *RUN], input=SCRIPT[:-1], stdout=subprocess.PIPE, preexec_fn=closing(2)
+        [PROGRAM, *RUN],
+        input=SCRIPT[:-1],
+        stdout=subprocess.PIPE,
+        preexec_fn=closing(2),
+        timeout=SECONDS,
     )
     case(
         "a cut script, and a closed standard error",
