@@ -417,11 +417,10 @@ def answers(words, parts):
     for part in parts:
         it.stdin.write(part)
         it.stdin.flush()
-        ready = select.select([it.stdout], [], [], 10)[0]
+        ready = select.select([it.stdout], [], [], 10 * tried.LONGER)[0]
         told.append(os.read(it.stdout.fileno(), 65536) if ready else None)
-    it.stdin.close()
-    rest = it.stdout.read()
-    return told, rest, it.wait()
+    rest = it.communicate(timeout=60 * tried.LONGER)[0]
+    return told, rest, it.returncode
 
 
 statements = [it + b";" for it in run(TBT, ["requests"], SCRIPT)[1].split(b";")[:-1]]
