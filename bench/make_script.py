@@ -33,6 +33,8 @@ parser.add_argument("size", metavar="SIZE", type=int, help="how many events")
 parser.add_argument("seed", metavar="SEED", type=int, help="of its random numbers")
 parser.add_argument("--accounts", metavar="N", type=int, default=10000, help="accounts (10000)")
 given = parser.parse_args()
+if given.size < 0 or given.accounts < 2:
+    parser.error("SIZE is from 0 on, and there are two accounts at least")
 workload, size, many = given.workload, given.size, given.accounts
 rng = random.Random(given.seed)
 out = sys.stdout.buffer

@@ -47,11 +47,12 @@ def run(program, words):
         stderr=subprocess.PIPE,
         text=True,
     )
-    told = dict(line.split() for line in child.stderr.read().splitlines())
+    said = child.stderr.read()
     _, status, usage = os.wait4(child.pid, 0)
-    child.returncode = 0
-    if status != 0:
-        sys.exit(f"{program} {words}: status {status}")
+    child.returncode = os.waitstatus_to_exitcode(status)
+    if child.returncode != 0:
+        sys.exit(f"{program} {words}: status {child.returncode}: {said.strip()}")
+    told = dict(line.split() for line in said.splitlines())
     return {name: int(value) for name, value in told.items()}, usage.ru_maxrss * 1024
 
 
