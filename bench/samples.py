@@ -156,6 +156,19 @@ def of_takes(name, _scale, _folder, data):
 WHOLE = {"run": of_file, "start": of_file, "audit": of_audit, "ports": of_ports, "takes": of_takes}
 
 
+def is_load(name):
+    """Whether there is a load of this name."""
+    kind, _, rest = name.partition("-")
+    if WHOLE.get(kind) in (of_file, of_audit):
+        return rest in keep.LOADS
+    if kind == "ports":
+        return bool(re.fullmatch(r"[1-9]\d*-[18]-[1-9]\d*", rest))
+    if kind == "takes":
+        forms = "|".join(form for (form, _), *_ in threads.TAKES)
+        return bool(re.fullmatch(rf"(?:{forms})-[1-9]\d*", rest))
+    return name in compare.LOADS
+
+
 def profile(name, scale, folder):
     """Prints the parts of a load; its row."""
     data = os.path.join(folder, "samples")
@@ -174,6 +187,9 @@ def main():
     parser.add_argument("--work", metavar="FOLDER", help="keeps scripts there")
     parser.add_argument("--rows", action="store_true", help="write rows of docs/work/runs.csv")
     given = parser.parse_args()
+    for name in given.loads:
+        if not is_load(name):
+            parser.error(f"there is no load {name}: {', '.join(compare.LOADS)}, or as --help says")
     tried.built(measure.TBS)
     with measure.work_folder(given.work) as folder:
         found = [profile(it, given.scale, folder) for it in given.loads or ["single"]]
