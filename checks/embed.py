@@ -8,8 +8,8 @@ and the client with the definitions and with each other. First build the library
     checks/embed.py
 
 checks/embed/names.py and checks/embed/wrappers.py are the parts that need neither. Prints a line
-for each case, and 'N passed, M failed'. Needs cc, c++, rustc and Linux; what is not there is named
-and passed over. KIT is the toolchain's folder (else `rt doc` prints it).
+for each case, and 'N passed, M failed'. Needs cc and Linux; c++ and rustc are passed over by name
+where they are not there. KIT is the toolchain's folder (else `rt doc` prints it).
 """
 import os
 import random
@@ -30,6 +30,7 @@ sys.path[:0] = [f"{TOP}/checks/embed", f"{EMBED}/python", f"{TOP}/clients/python
 
 import names  # noqa: E402
 import wrappers  # noqa: E402
+from tb_client import ClientError  # noqa: E402
 
 # What first.c, first.rs and first.py print, as docs/use/EMBEDDING.md shows it.
 FIRST = """\
@@ -480,8 +481,11 @@ def main():
             leaks(folder)
         threads(folder, *mixed)
         errors(folder)
-        client(f"{folder}/libtb_embed.so")
-        damaged(f"{folder}/libtb_embed.so")
+        for part in (client, damaged):
+            try:
+                part(f"{folder}/libtb_embed.so")
+            except ClientError as error:
+                case(f"the part {part.__name__}", False, repr(error))
         calls_a_second(found, folder)
     return tried.status()
 
