@@ -504,18 +504,23 @@ def checked_by_server(ledger, path, socket):
     words += ["--tbd", program("tbd"), "--tbt", program("tbt"), "--wait", str(PATIENCE)]
     plain = [it for it, row in rows(path, "accounts").items() if not row["flags"] & 0b100110]
     moved = 0
-    with tb_client.Session.register(tb_client.Socket(socket, timeout=PATIENCE)) as session:
-        checking = subprocess.Popen(
-            words, stdout=subprocess.PIPE, stderr=subprocess.STDOUT, text=True
-        )
-        while checking.poll() is None:
-            it = Transfer((1 << 101) + moved, *plain[:2], 5, ledger=700, code=10)
-            tb_client.require_ok(session.create_transfers([it]))
-            moved += 1
-            time.sleep(0.02)
-        said = checking.communicate(timeout=PATIENCE)[0]
-    listener.send_signal(signal.SIGTERM)
-    listener.wait(PATIENCE)
+    try:
+        with tb_client.Session.register(tb_client.Socket(socket, timeout=PATIENCE)) as session:
+            checking = subprocess.Popen(
+                words, stdout=subprocess.PIPE, stderr=subprocess.STDOUT, text=True
+            )
+            try:
+                while checking.poll() is None:
+                    it = Transfer((1 << 101) + moved, *plain[:2], 5, ledger=700, code=10)
+                    tb_client.require_ok(session.create_transfers([it]))
+                    moved += 1
+                    time.sleep(0.02)
+                said = checking.communicate(timeout=PATIENCE)[0]
+            finally:
+                checking.kill()
+    finally:
+        listener.send_signal(signal.SIGTERM)
+        listener.wait(PATIENCE)
     return (checking.returncode, said.strip()), moved
 
 
