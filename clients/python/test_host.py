@@ -421,6 +421,40 @@ class Etcd(unittest.IsolatedAsyncioTestCase):
         await it.close()
 
 
+@unittest.skipUnless(importlib.util.find_spec("psycopg"), "python3-psycopg is not there")
+class PostgreSQL(unittest.IsolatedAsyncioTestCase):
+    async def _primary(self, reader, writer):
+        """What a primary says to who connects."""
+        await reader.readexactly(struct.unpack(">I", await reader.readexactly(4))[0] - 4)
+        names = ("server_version", "client_encoding", "in_hot_standby")
+        facts = zip((*names, "default_transaction_read_only"), ("15.4", "UTF8", "off", "off"))
+        said = [(b"R", bytes(4)), *((b"S", f"{a}\0{b}\0".encode()) for a, b in facts), (b"Z", b"I")]
+        writer.write(b"".join(it + struct.pack(">I", 4 + len(more)) + more for it, more in said))
+        await reader.read()
+        writer.close()
+
+    async def test_an_address_that_does_not_answer(self):
+        """The next one is tried: a machine that is lost refuses nothing."""
+        from tb_host.postgresql import PostgresLog
+
+        held = []
+        lost = await asyncio.start_server(lambda *it: held.append(it[1]), "127.0.0.1", 0)
+        primary = await asyncio.start_server(self._primary, "127.0.0.1", 0)
+        places = [it.sockets[0].getsockname() for it in (lost, lost, primary)]
+        with mock.patch.dict(os.environ, PGSSLMODE="disable", PGGSSENCMODE="disable"):
+            it = PostgresLog(places, "postgres/bank", Access(user="u"), 0)
+            for _ in range(2):
+                it.writing, before = None, it.writing
+                self.assertEqual(await it._call(self._port), places[2][1])
+                await it._lose(before)
+        await it.close()
+        for some in (lost, primary, *held):
+            some.close()
+
+    async def _port(self, connection):
+        return connection.info.port
+
+
 class OverALog(unittest.IsolatedAsyncioTestCase):
     """A replica over a log in memory, before a server that answers each pair."""
 

@@ -84,6 +84,7 @@ class PostgresLog:
         if not re.fullmatch(r"[a-z][a-z0-9_]{0,40}", table):
             raise Ended(f"{name!r} is no DATABASE/NAME: small letters, digits and _", 1)
         self.addresses, self.database, self.access = addresses, database, access
+        self.address = 0  # which one is tried next
         self.standbys = standbys
         self.names = {it: sql.Identifier(f"{table}_{it}") for it in ("log", "keys", "at")}
         self.writing: Optional[Any] = None
@@ -96,11 +97,11 @@ class PostgresLog:
 
     # connections
 
-    def _words(self) -> Dict[str, Any]:
+    def _words(self, host: str, port: int) -> Dict[str, Any]:
         access = self.access
         words = {
-            "host": ",".join(host for host, _ in self.addresses),
-            "port": ",".join(str(port) for _, port in self.addresses),
+            "host": host,
+            "port": str(port),
             "dbname": self.database,
             "user": access.user,
             "password": access.password(),
@@ -115,13 +116,31 @@ class PostgresLog:
         return {name: it for name, it in words.items() if it is not None}
 
     async def _connected(self) -> Any:
-        it = await psycopg.AsyncConnection.connect(autocommit=True, **self._words())
+        it = await self._first_connected()
         said: List[str] = []
         it.add_notice_handler(
             lambda notice: said.append(f"{notice.severity_nonlocalized}: {notice.message_primary}")
         )
         self.said[id(it)] = said
         return it
+
+    async def _first_connected(self) -> Any:
+        """A connection to the primary, from the last good address on. Each address is tried by
+        itself: libpq, given all of them, goes on from none that does not answer."""
+        fault: Optional[psycopg.Error] = None
+        count = len(self.addresses)
+        for at in [(self.address + it) % count for it in range(count)]:
+            self.address = (at + 1) % count  # where this is waited for no longer
+            words = self._words(*self.addresses[at])
+            try:
+                found = await psycopg.AsyncConnection.connect(autocommit=True, **words)
+            except psycopg.Error as error:
+                fault = error
+            else:
+                self.address = at
+                return found
+        assert fault is not None
+        raise fault
 
     def _query(self, text: str) -> Any:
         return sql.SQL(text).format(**self.names, page=sql.Literal(PAGE))
