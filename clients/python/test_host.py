@@ -308,6 +308,18 @@ class Copies(unittest.TestCase):
         with self.assertRaises(Fault), self.opened():
             pass
 
+    def test_a_first_start_on_a_full_disk(self):
+        full = mock.Mock(side_effect=OSError(errno.ENOSPC, os.strerror(errno.ENOSPC)))
+        self.folder += "2"
+        with mock.patch("os.pwrite", full), self.assertRaises(Ended) as found:
+            with self.opened():
+                pass
+        self.assertEqual(str(found.exception), f"{self.folder}/log: No space left on device")
+        with mock.patch("os.fsync", full), self.assertRaises(Ended) as found:
+            kept(self.folder, "name", b"m1")
+        self.assertEqual(str(found.exception), f"{self.folder}/name: No space left on device")
+        self.assertEqual(kept(self.folder, "name", b"m2"), b"m2")
+
     def test_it_is_one_replica_s(self):
         with self.opened(), self.assertRaises(Ended) as found:
             Copy(self.folder)

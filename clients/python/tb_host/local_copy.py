@@ -56,6 +56,15 @@ def _is_right(data: bytes, at: int, record: Record) -> bool:
     return bool(zlib.crc32(record.entry, zlib.crc32(head)) == wanted)
 
 
+@contextlib.contextmanager
+def faults_of(path: str) -> Iterator[None]:
+    """Tells the file of a fault."""
+    try:
+        yield
+    except OSError as error:
+        raise Ended(f"{path}: {error.strerror}", 1) from None
+
+
 def opened_alone(folder: str, name: str) -> int:
     """A file of a folder, which is made where it is not there, and is one replica's alone."""
     path = os.path.join(folder, name)
@@ -82,16 +91,17 @@ class Copy(Taken):
 
     def scan(self) -> None:
         """Reads what is there, cuts off what a crash left torn, and goes on behind it."""
-        length = os.fstat(self.file).st_size
-        if length < len(MAGIC):
-            os.ftruncate(self.file, 0)
-            os.pwrite(self.file, MAGIC, 0)
-        elif os.pread(self.file, len(MAGIC), 0) != MAGIC:
-            raise Fault("Damaged", f"{self.path} is no copy of a log")
-        for record in self.records(len(MAGIC), length):
-            self._take(record)
-        if self.end < length:
-            self._cut(length)
+        with faults_of(self.path):
+            length = os.fstat(self.file).st_size
+            if length < len(MAGIC):
+                os.ftruncate(self.file, 0)
+                os.pwrite(self.file, MAGIC, 0)
+            elif os.pread(self.file, len(MAGIC), 0) != MAGIC:
+                raise Fault("Damaged", f"{self.path} is no copy of a log")
+            for record in self.records(len(MAGIC), length):
+                self._take(record)
+            if self.end < length:
+                self._cut(length)
         self.sync(*self.mark())
 
     def _cut(self, length: int) -> None:
@@ -263,12 +273,13 @@ def head_in(folder: str) -> bytes:
 def kept(folder: str, name: str, made: bytes) -> bytes:
     """What a file of the folder has; made where it is not there."""
     path = os.path.join(folder, name)
-    with contextlib.suppress(FileNotFoundError):
-        with open(path, "rb") as file:
-            return file.read()
-    with open(path + ".new", "wb") as file:
-        file.write(made)
-        file.flush()
-        os.fsync(file.fileno())
-    os.replace(path + ".new", path)
+    with faults_of(path):
+        with contextlib.suppress(FileNotFoundError):
+            with open(path, "rb") as file:
+                return file.read()
+        with open(path + ".new", "wb") as file:
+            file.write(made)
+            file.flush()
+            os.fsync(file.fileno())
+        os.replace(path + ".new", path)
     return made
