@@ -566,6 +566,17 @@ class Replicas(OverALog):
         self.assertIn("is started again", self.told.getvalue())
         await self.closed(it)
 
+    async def test_a_copy_that_cannot_be_read(self):
+        """It ends the replica: a new server process was given nothing, and each client waited."""
+        it = await self.began()
+        await self.asked(it, 6)
+        bad = OSError(errno.EIO, os.strerror(errno.EIO))
+        with mock.patch("os.pread", side_effect=bad):
+            it.kill()
+            with self.assertRaises(Ended) as found:
+                await asyncio.wait_for(self.running, 10)
+        self.assertEqual(str(found.exception), f"{self.folder}/log: Input/output error")
+
     async def test_a_server_that_writes_unasked(self):
         """Also where what it started keeps its output open."""
         start = "import os, subprocess, time\n"

@@ -190,10 +190,11 @@ class Copy(Taken):
 
     def items(self, start: int) -> Iterator[Item]:
         is_read = False
-        for record in self.records(start, self.end):
-            pairs = Entry.from_bytes(record.entry).pairs
-            yield Item(record.position, pairs, askers(pairs), record.end)
-            is_read = True
+        with faults_of(self.path):
+            for record in self.records(start, self.end):
+                pairs = Entry.from_bytes(record.entry).pairs
+                yield Item(record.position, pairs, askers(pairs), record.end)
+                is_read = True
         if not is_read and start < self.end:
             raise Fault("Damaged", f"the record at byte {start} of {self.path}")
 
