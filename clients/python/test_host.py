@@ -437,7 +437,8 @@ class Etcd(unittest.IsolatedAsyncioTestCase):
 class PostgreSQL(unittest.IsolatedAsyncioTestCase):
     async def _primary(self, reader, writer):
         """What a primary says to who connects."""
-        await reader.readexactly(struct.unpack(">I", await reader.readexactly(4))[0] - 4)
+        length = struct.unpack(">I", await reader.readexactly(4))[0]
+        self.asked = await reader.readexactly(length - 4)
         names = ("server_version", "client_encoding", "in_hot_standby")
         facts = zip((*names, "default_transaction_read_only"), ("15.4", "UTF8", "off", "off"))
         said = [(b"R", bytes(4)), *((b"S", f"{a}\0{b}\0".encode()) for a, b in facts), (b"Z", b"I")]
@@ -465,6 +466,20 @@ class PostgreSQL(unittest.IsolatedAsyncioTestCase):
 
     async def _port(self, connection):
         return connection.info.port
+
+    async def test_who_waits_in_the_server_ends_there(self):
+        """The server sees no end of a connection while a call waits for another's lock. Without a
+        standby each try left one more, until it took no connections."""
+        from tb_host.postgresql import PostgresLog
+
+        primary = await asyncio.start_server(self._primary, "127.0.0.1", 0)
+        with mock.patch.dict(os.environ, PGSSLMODE="disable", PGGSSENCMODE="disable"):
+            place = primary.sockets[0].getsockname()
+            it = PostgresLog([place], "postgres/bank", Access(user="u"), 0)
+            await it._call(self._port)
+        self.assertRegex(self.asked, rb"\0options\0[^\0]*-c lock_timeout=[1-9][0-9]{3}\0")
+        await it.close()
+        primary.close()
 
 
 class OverALog(unittest.IsolatedAsyncioTestCase):

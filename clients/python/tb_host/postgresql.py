@@ -36,6 +36,7 @@ T = TypeVar("T")
 TRY = 3.0  # seconds for which one answer is waited for
 ALL = 10.0  # seconds after which a call is not tried again
 AGAIN = 0.1  # seconds before it is
+LOCKED = 4000  # milliseconds for which a call that is tried again waits, in the server, for others
 LATEST = 0.05  # seconds after which it is looked for entries of others
 PAGE = 16  # entries that are read at a time
 REPORTS = 0.2  # seconds after which it is looked for reports
@@ -107,7 +108,7 @@ class PostgresLog:
             "password": access.password(),
             "target_session_attrs": "read-write",
             "connect_timeout": 2,
-            "options": "-c synchronous_commit=on",
+            "options": f"-c synchronous_commit=on -c lock_timeout={LOCKED}",
             "sslrootcert": access.authority,
             "sslmode": "verify-full" if access.authority else None,
             "sslcert": access.certificate,
