@@ -432,6 +432,38 @@ class Etcd(unittest.IsolatedAsyncioTestCase):
             self.assertEqual(it.writing, at)
         await it.close()
 
+    async def test_a_machine_that_is_lost_while_nothing_is_written(self):
+        """Its connection has no end. What others write is then read at the next address."""
+        import grpc.aio
+        from tb_host import etcd
+
+        async def lost(reader, writer):
+            writer.write(bytes([0, 0, 0, 4]) + bytes(5))  # the settings of HTTP/2, and no more
+            await reader.read()
+            writer.close()
+
+        async def watch(*_):
+            said = etcd.rpc.WatchResponse()
+            pair = said.events.add().kv
+            pair.mod_revision, pair.key, pair.value = 3, b"bank/log/0", b"an entry"
+            yield said
+            await asyncio.sleep(60)
+
+        first = await asyncio.start_server(lost, "127.0.0.1", 0)
+        other = grpc.aio.server()
+        etcd.rpc.add_WatchServicer_to_server(mock.Mock(Watch=watch), other)
+        places = [first.sockets[0].getsockname(), ("127.0.0.1", other.add_insecure_port("[::]:0"))]
+        await other.start()
+        sooner = [(name, it // 20 if it >= 5_000 else it) for name, it in etcd.OPTIONS]
+        with mock.patch.object(etcd, "OPTIONS", sooner):
+            it = etcd.EtcdLog(places, "bank", Access())
+        reading = it.read(0)
+        self.assertEqual(await asyncio.wait_for(reading.__anext__(), 10), Written(3, b"an entry"))
+        await reading.aclose()
+        await it.close()
+        await other.stop(None)
+        first.close()
+
 
 @unittest.skipUnless(importlib.util.find_spec("psycopg"), "python3-psycopg is not there")
 class PostgreSQL(unittest.IsolatedAsyncioTestCase):

@@ -28,6 +28,11 @@ OPTIONS = (
     ("grpc.initial_reconnect_backoff_ms", 100),
     ("grpc.min_reconnect_backoff_ms", 200),
     ("grpc.max_reconnect_backoff_ms", 1000),
+    # a watch sends nothing: without these it sees no end where a machine or its link is lost
+    ("grpc.keepalive_time_ms", 10_000),
+    ("grpc.keepalive_timeout_ms", 5_000),
+    ("grpc.http2.max_pings_without_data", 0),
+    ("grpc.http2.min_time_between_pings_ms", 10_000),
 )
 # python3-etcd3 knows no `fragment` of a watch, field 8: a response is then cut at the size that a
 # request may have, so that a long log is not held in memory whole
