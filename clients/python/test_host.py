@@ -1108,6 +1108,13 @@ class Words(unittest.TestCase):
                 found = taken[start[1]](shlex.split(start[2]))
                 self.assertTrue(found.log_json and found.status)
 
+    def test_a_part_that_is_interrupted(self):
+        """It ends without a traceback, as tb-repl does."""
+        words = ["tb-replica", "status", "--log", "etcd://127.0.0.1:1/bank"]
+        with mock.patch.object(sys, "argv", words), mock.patch.object(machines, "speak_as"):
+            with mock.patch.object(machines, "_with_log", mock.Mock(side_effect=KeyboardInterrupt)):
+                self.assertEqual(machines.main(), 130)
+
     def test_a_copy_of_nothing(self):
         with tempfile.TemporaryDirectory() as folder:
             status, line = self.ended("copy-from", f"{folder}/a", "--copy", f"{folder}/b")

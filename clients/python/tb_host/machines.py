@@ -275,6 +275,8 @@ def main() -> int:
     except Ended as ended:
         say(str(ended))
         return ended.status
+    except KeyboardInterrupt:  # of a part that serves nothing
+        return 130
     except OSError as error:
         if error.filename is None:
             raise
