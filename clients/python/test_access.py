@@ -27,6 +27,7 @@ import urllib.request
 import tb_client as tb
 from tb_client import Session, Socket
 from tb_host import lines, listen, sockets
+from tb_host.evictions import Evictions
 from tb_host.lines import Ended
 from test_listen import HERE, KEEPER, Running, register, told
 from test_tb_client import PROGRAM
@@ -452,6 +453,14 @@ class Reports(unittest.TestCase):
                 self.assertEqual(self.counts(path)["evictions"], 1)
                 listener.end()
             self.assertIn("client 11 was evicted by client 13", "".join(listener.said))
+
+    def test_who_is_evicted_after_a_reply_that_was_lost(self):
+        """The server was killed before it told commit 3, which is told when it is sent again."""
+        it = Evictions(2)
+        for client, is_register, commit in ((11, True, 1), (12, True, 2), (12, False, 4)):
+            it.learn(client, is_register, commit)
+        it.learn(11, False, 3)
+        self.assertEqual(it.learn(13, True, 5), 11)
 
     def test_lines_as_json(self):
         with Running("--log-json", "--unix", "{folder}/it") as _:

@@ -17,7 +17,7 @@ def clients_max_of(words: Sequence[str]) -> Optional[int]:
 
 
 class Evictions:
-    """Follows the table of sessions: each client with its last commit, in their order.
+    """Follows the table of sessions: each client with its last commit.
 
     Where the ledger began before this host, clients that have sent nothing since are not known.
     Their commits are the least, so they are the ones that go first, and an eviction is only told
@@ -33,10 +33,8 @@ class Evictions:
         if self.clients_max is None or commit <= self.rows.get(client, 0):
             return None
         evicted = None
-        if client in self.rows:
-            del self.rows[client]
-        elif is_register and len(self.rows) == self.clients_max:
-            evicted = next(iter(self.rows))
+        if is_register and client not in self.rows and len(self.rows) == self.clients_max:
+            evicted = min(self.rows, key=self.rows.__getitem__)
             del self.rows[evicted]
             self.count += 1
         self.rows[client] = commit
