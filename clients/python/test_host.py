@@ -499,6 +499,24 @@ class PostgreSQL(unittest.IsolatedAsyncioTestCase):
     async def _port(self, connection):
         return connection.info.port
 
+    async def test_it_is_said_that_the_standbys_do_not_have_what_is_to_be_read(self):
+        """Once, until they have. Nothing said why each client was told NoLog."""
+        from tb_host import postgresql
+
+        it = postgresql.PostgresLog([("127.0.0.1", 1)], "postgres/bank", Access(), 2)
+        it.reading, row, told = mock.Mock(), (1, b"an entry", "0/1"), io.StringIO()
+
+        async def rows(_, text, *given):
+            return [row] if text == postgresql.READ else [(count,)]
+
+        with mock.patch.object(postgresql, "TRY", 0.02), mock.patch.object(it, "_rows", rows):
+            with contextlib.redirect_stderr(told):
+                for count in (1, 1, 2, 0):
+                    with contextlib.suppress(asyncio.TimeoutError):
+                        await asyncio.wait_for(it._page(0), 0.2)
+        found = re.findall("NoLog: ([0-9] of [0-9])", told.getvalue())
+        self.assertEqual(found, ["1 of 2", "0 of 2"])
+
     async def test_who_waits_in_the_server_ends_there(self):
         """The server sees no end of a connection while a call waits for another's lock. Without a
         standby each try left one more, until it took no connections."""

@@ -27,7 +27,7 @@ from typing import (
 import psycopg
 from psycopg import errors, sql
 
-from .lines import Ended
+from .lines import Ended, say
 from .log import Access, LogFull, LogGone, NoLog, Report, Written
 from .round_trips import results_of
 
@@ -94,6 +94,7 @@ class PostgresLog:
         self.appending: Optional[Any] = None  # the connection whose appends are prepared
         self.place = 0  # up to which all was read
         self.flushed = 0  # the place of an own entry that the standbys have
+        self.is_behind = False  # whether it was said that they do not have what is to be read
         self.wanted = asyncio.Event()
 
     # connections
@@ -277,12 +278,23 @@ class PostgresLog:
         if self.reading is None:
             self.reading = await self._connected()
         rows = await self._rows(self.reading, READ, place)
+        late = asyncio.get_running_loop().time() + TRY
         while rows and self.standbys:
             count = (await self._rows(self.reading, FLUSHED, rows[0][2]))[0][0]
             if count >= self.standbys:
+                self.is_behind = False
                 break
+            if asyncio.get_running_loop().time() > late:
+                self._say_behind(count)
             await asyncio.sleep(0.002)
         return rows
+
+    def _say_behind(self, count: int) -> None:
+        """Says why nothing is read, once: appends may go on without the standbys."""
+        if not self.is_behind:
+            said = f"NoLog: {count} of {self.standbys} standbys have flushed what is to be read"
+            say(f"{said}; a member of pg_monitor alone sees them")
+        self.is_behind = True
 
     async def _said(self) -> List[Tuple[str, bytes]]:
         rows = await self._rows(self.reading, "SELECT name, value FROM {at}")
