@@ -780,6 +780,14 @@ class Replicas(OverALog):
         self.assertEqual(reply[0], 8)
         await self.closed(it)
 
+    async def test_a_log_that_is_away_at_the_end(self):
+        """The last report leaves the server time to end: else that is killed, and said to be it."""
+        it = await self.began(slow=3.0)
+        await self.asked(it, 6)
+        with mock.patch.object(self.log, "report", lambda *_: asyncio.sleep(60)):
+            it.close()
+            await asyncio.wait_for(self.running, 3)
+
     async def test_who_was_told_is_kept_no_longer(self):
         """Memory does not grow with those who ask again while there is no log."""
         it = await self.began(patience=0.1)

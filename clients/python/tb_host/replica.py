@@ -601,7 +601,8 @@ class Replica:
                     await self.report(fault=str(fault))
                 raise fault
         self.copy.sync(*self.copy.mark())
-        await self.report()
+        with contextlib.suppress(asyncio.TimeoutError):  # what is left is the server's, to end in
+            await asyncio.wait_for(self.report(), self.given.slow / 2)
         self.follower.close()
         if self.serving is not None:
             await asyncio.wait([self.serving], timeout=self.given.slow)
