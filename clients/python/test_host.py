@@ -352,6 +352,14 @@ class Copies(unittest.TestCase):
         said = f"tb_replica: Damaged: the record at byte {8 + 3 * size} of {path}\n"
         self.assertEqual(self.script(self.folder), (24, b"".join(pairs[:3]), said))
 
+    def test_the_hashes_of_a_server_that_answers_nothing(self):
+        """Its last line is told, as that of wrong arguments."""
+        for words, line in (("echo wrong >&2", "wrong"), ("", "the command ended before it had")):
+            given = argparse.Namespace(copy=self.folder, at=0, command=["sh", "-c", words])
+            with self.assertRaises(Ended) as found:
+                asyncio.run(parts_of_status.hashes(given))
+            self.assertTrue(str(found.exception).startswith(line), found.exception)
+
     def test_a_copy_of_a_peer(self):
         kept(self.folder, "head", b"the log")
         other = self.folder + "2"

@@ -18,7 +18,8 @@ from .lines import Ended
 from .local_copy import all_records_of
 from .log import Log, LogFull, NoLog
 from .moments import SECOND
-from .process import end_of, exited, last_line, started, tail
+from .pipes import Process
+from .process import LAST_WORDS, end_of, exited, last_line, started, tail
 
 # of a report
 NUMBERS, TEXTS = ("position", "place", "answered", "clock"), ("replies", "writer", "address")
@@ -130,7 +131,7 @@ async def hashes(given: argparse.Namespace) -> int:
         process.stdin.write(pairs)
         log = chained(log, pairs)
         for _ in cut(pairs):
-            replies = chained(replies, await _reply(process.stdout))
+            replies = chained(replies, await _reply(process, telling))
         position = record.position
         if position == given.at:
             break
@@ -143,9 +144,12 @@ async def hashes(given: argparse.Namespace) -> int:
     return 0
 
 
-async def _reply(stdout: asyncio.StreamReader) -> bytes:
+async def _reply(process: Process, telling: asyncio.Task[bytes]) -> bytes:
     try:
-        header = await stdout.readexactly(HEADER)
-        return header + await stdout.readexactly(reply_length(header) - HEADER)
+        header = await process.stdout.readexactly(HEADER)
+        return header + await process.stdout.readexactly(reply_length(header) - HEADER)
     except asyncio.IncompleteReadError:
-        raise Ended("the command ended before it had answered all", 1) from None
+        await asyncio.wait([telling], timeout=LAST_WORDS)
+        telling.cancel()  # it answers what has come
+        said = last_line(await telling) or "the command ended before it had answered all"
+        raise Ended(said, 1) from None
