@@ -21,7 +21,7 @@ TRY = 2.0  # seconds for which one address is waited for
 ALL = 10.0  # seconds after which no address is tried any more
 AGAIN = 0.1  # seconds before all addresses are tried again
 LEADER = 5.0  # seconds after which it is looked again which address is the leader's
-PAGE = 64  # keys that are listed at a time
+REMOVED = 10_000  # entries that are removed at a time: more may take longer than one answer
 OPTIONS = (
     ("grpc.max_receive_message_length", -1),
     ("grpc.max_send_message_length", -1),
@@ -361,22 +361,38 @@ class EtcdLog:
         return True
 
     async def _numbers_up_to(self, place: int) -> List[Tuple[bytes, bytes]]:
-        """The first and the last key of each writer's entries up to a place."""
-        prefix = self.prefix + b"log/"
-        at = prefix
-        found: Dict[bytes, Tuple[bytes, bytes]] = {}
+        """The first and the last key of each writer's entries up to a place, in parts. A writer's
+        numbers have no gap. So the last one is looked for by halves: etcd goes over all keys for
+        each page of a list."""
+        prefix = at = self.prefix + b"log/"
+        found: List[Tuple[bytes, bytes]] = []
         while True:
-            request = rpc.RangeRequest(
-                key=at, range_end=_end_of(prefix), limit=PAGE, keys_only=True, serializable=True
-            )
+            request = rpc.RangeRequest(key=at, range_end=_end_of(prefix), limit=1, keys_only=True)
             page = await self._call("keys", "Range", request)
-            for it in page.kvs:
-                if it.create_revision <= place:
-                    writer = it.key.rpartition(b"/")[0]
-                    found[writer] = (found.get(writer, (it.key,))[0], it.key)
-            if not page.more:
-                return list(found.values())
-            at = page.kvs[-1].key + b"\0"
+            if not page.kvs:
+                return found
+            writer, _, number = page.kvs[0].key.rpartition(b"/")
+            first, at = int(number), writer + b"0"  # behind its last key
+            end = first + await self._count_up_to(writer, first, place)
+            for it in range(first, end, REMOVED):
+                last = min(it + REMOVED, end) - 1
+                found.append((b"%s/%020d" % (writer, it), b"%s/%020d" % (writer, last)))
+
+    async def _count_up_to(self, writer: bytes, first: int, place: int) -> int:
+        """How many entries a writer has up to a place, from this number on."""
+        count, step = 0, 1
+        while await self._is_up_to(b"%s/%020d" % (writer, first + count + step - 1), place):
+            count, step = count + step, 2 * step
+        while step > 1:
+            step //= 2
+            if await self._is_up_to(b"%s/%020d" % (writer, first + count + step - 1), place):
+                count += step
+        return count
+
+    async def _is_up_to(self, key: bytes, place: int) -> bool:
+        request = rpc.RangeRequest(key=key, keys_only=True)
+        found = (await self._call("keys", "Range", request)).kvs
+        return bool(found) and found[0].create_revision <= place
 
     async def _alarms(self) -> List[Any]:
         """The alarms for want of space, of each member that raised one."""
