@@ -10,6 +10,7 @@ import json
 import os
 import re
 import shlex
+import signal
 import struct
 import subprocess
 import sys
@@ -359,6 +360,15 @@ class Copies(unittest.TestCase):
             with self.assertRaises(Ended) as found:
                 asyncio.run(parts_of_status.hashes(given))
             self.assertTrue(str(found.exception).startswith(line), found.exception)
+
+    def test_the_hashes_of_a_server_that_closes_its_output(self):
+        """It is ended. It ran on, with nobody to end it."""
+        command = ["sh", "-c", "echo $$ >&2; exec sleep 60 >&-"]
+        with self.assertRaises(Ended) as found:
+            given = argparse.Namespace(copy=self.folder, at=0, command=command)
+            asyncio.run(parts_of_status.hashes(given))
+        with self.assertRaises(ProcessLookupError):
+            os.kill(int(str(found.exception)), signal.SIGKILL)
 
     def test_a_copy_of_a_peer(self):
         kept(self.folder, "head", b"the log")

@@ -19,7 +19,7 @@ from .local_copy import all_records_of
 from .log import Log, LogFull, NoLog
 from .moments import SECOND
 from .pipes import Process
-from .process import LAST_WORDS, end_of, exited, last_line, started, tail
+from .process import LAST_WORDS, end_of, exited, kill, last_line, started, tail
 
 # of a report
 NUMBERS, TEXTS = ("position", "place", "answered", "clock"), ("replies", "writer", "address")
@@ -152,4 +152,6 @@ async def _reply(process: Process, telling: asyncio.Task[bytes]) -> bytes:
         await asyncio.wait([telling], timeout=LAST_WORDS)
         telling.cancel()  # it answers what has come
         said = last_line(await telling) or "the command ended before it had answered all"
+        kill(process)  # it may have closed its output alone
+        await exited(process)
         raise Ended(said, 1) from None
