@@ -480,6 +480,25 @@ class Etcd(unittest.IsolatedAsyncioTestCase):
             self.assertLess(len(asked), 99)
         await it.close()
 
+    async def test_a_trim_that_was_cut_short(self):
+        """The next one ends it. It said that there is nothing to trim, and the entries stayed."""
+        from tb_host.etcd import EtcdLog
+
+        it = EtcdLog([("127.0.0.1", 1)], "bank", Access())
+        said = dict(position=5, place=9, answered=5, clock=1, replies="", writer="", address="")
+        reports = mock.AsyncMock(return_value={"r0": json.dumps(said)})
+        full, done = mock.AsyncMock(return_value=""), mock.AsyncMock(return_value=["done"])
+        for left, told in (([(b"a", b"b")], "done\n"), ([], "nothing to trim: ")):
+            some = mock.AsyncMock(return_value=left)
+            trimmed = mock.AsyncMock(return_value=(5, 9))
+            calls = dict(reports=reports, full=full, trimmed=trimmed, trim=done)
+            with mock.patch.multiple(it, **calls, _numbers_up_to=some):
+                with contextlib.redirect_stdout(io.StringIO()) as output:
+                    await parts_of_status.trim(argparse.Namespace(forget=[]), it)
+            self.assertTrue(output.getvalue().startswith(told), output.getvalue())
+        done.assert_awaited_once_with(5, 9)
+        await it.close()
+
     async def test_a_machine_that_is_lost_while_nothing_is_written(self):
         """Its connection has no end. What others write is then read at the next address."""
         import grpc.aio

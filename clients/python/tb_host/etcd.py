@@ -339,6 +339,9 @@ class EtcdLog:
             said.append("etcd is still full: raise --quota-backend-bytes")
         return said
 
+    async def has_removed(self, place: int) -> bool:
+        return not await self._numbers_up_to(place)
+
     async def _remove(self, place: int) -> None:
         """Deletes the entries up to a place, and then their history: etcd keeps what is deleted
         until the revision that deleted it is compacted."""

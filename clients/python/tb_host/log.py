@@ -94,6 +94,9 @@ class Log(Protocol):
     async def trim(self, position: int, place: int) -> List[str]:
         """Removes the entries up to this place. Answers what was done, line by line."""
 
+    async def has_removed(self, place: int) -> bool:
+        """Whether no entry up to this place is left, as one is where a trim was cut short."""
+
     async def full(self) -> str:
         """Why the engine takes no more. Empty where it does."""
 

@@ -331,6 +331,9 @@ class PostgresLog:
         await self._call(work)
         return [f"entries up to position {position} are removed; vacuum the table"]
 
+    async def has_removed(self, place: int) -> bool:
+        return True  # one transaction trims
+
     async def full(self) -> str:
         return ""
 

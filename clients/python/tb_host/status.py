@@ -82,7 +82,7 @@ async def trim(given: argparse.Namespace, log: Log) -> int:
         least = min(reports.values(), key=lambda it: int(it["position"]))
         before = await log.trimmed()
         to = max(before, (int(least["position"]), int(least["place"])))
-        if to == before and not await log.full():
+        if to == before and await log.has_removed(to[1]) and not await log.full():
             print(f"nothing to trim: the log is trimmed to position {before[0]}")
             return 0
         for line in await log.trim(*to):
