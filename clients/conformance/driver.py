@@ -226,10 +226,16 @@ class Run:
             os.mkfifo(path)
         if "link" in step:
             os.link(path, os.path.join(self.folder, step["link"]))
+        if "chmod" in step:
+            os.chmod(path, int(step["chmod"], 8))
         if "copy" in step:
             write(os.path.join(self.folder, step["copy"]), read(path))
         if "is" in step:
             self.is_file(path, step["is"])
+        if "mode" in step:
+            found = f"{os.stat(path).st_mode & 0o777:o}"
+            if found != step["mode"]:
+                raise Failed(f"the file has the permissions {found}, not {step['mode']}")
         if step.get("alone"):
             beside = sorted(os.listdir(self.folder))
             kept = [it for it in beside if not it.endswith(".sock")]

@@ -31,10 +31,11 @@ func testRegular(info fs.FileInfo, err error) error {
 	return err
 }
 
-// writeWhole puts a file at this path, with these bytes. Where that fails the old file is left, and
-// nothing next to it.
+// writeWhole puts a file at this path, with these bytes, and with the old one's permissions. Where
+// that fails the old file is left, and nothing next to it.
 func writeWhole(path string, data []byte) error {
-	if err := testRegular(os.Stat(path)); err != nil && !errors.Is(err, fs.ErrNotExist) {
+	old, err := os.Stat(path)
+	if err := testRegular(old, err); err != nil && !errors.Is(err, fs.ErrNotExist) {
 		return err
 	}
 	folder, err := os.Open(filepath.Dir(path))
@@ -42,19 +43,23 @@ func writeWhole(path string, data []byte) error {
 		return err
 	}
 	defer folder.Close()
-	if err := replace(path, path+".new", data); err != nil {
+	if err := replace(path, path+".new", data, old); err != nil {
 		return err
 	}
 	return folder.Sync()
 }
 
-// replace writes the new file under a name of its own, and puts it in place by a rename.
-func replace(path, fresh string, data []byte) error {
+// replace writes the new file under a name of its own, and puts it in place of the old one, or of
+// none (nil), by a rename.
+func replace(path, fresh string, data []byte, old fs.FileInfo) error {
 	file, err := openFresh(fresh)
 	if err != nil {
 		return err
 	}
 	defer file.Close() // which gives the lock back
+	if old != nil {
+		file.Chmod(old.Mode().Perm()) // a file system without permissions does without
+	}
 	if err = fill(file, data); err == nil {
 		err = os.Rename(fresh, path)
 	}

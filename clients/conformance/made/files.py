@@ -86,6 +86,20 @@ def saving():
         {"file": "session.json", "is": WAITING},
     )
     yield scenario(
+        "save-permissions",
+        "The new file has the permissions of the old one, more of them or fewer.",
+        [
+            step
+            for mode in ("600", "666", "400")
+            for step in (
+                save(),
+                {"file": "session.json", "chmod": mode},
+                save(),
+                {"file": "session.json", "mode": mode, "is": PLAIN},
+            )
+        ],
+    )
+    yield scenario(
         "save-alone",
         "Nothing is left next to the file.",
         save(),

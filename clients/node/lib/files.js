@@ -90,16 +90,16 @@ function readText(name) {
 }
 
 /**
- * Puts a file at this path, with this text. Where that fails the old file is left, and nothing
- * next to it.
+ * Puts a file at this path, with this text, and with the old one's permissions. Where that fails
+ * the old file is left, and nothing next to it.
  */
 function writeWhole(name, text) {
   return system(name, async () => {
-    await testMayBeReplaced(name);
+    const mode = await modeOf(name);
     await sweep(name);
     const beside = `${name}.${process.pid}-${randomBytes(8).toString("hex")}.new`;
     try {
-      await writeSynced(beside, text);
+      await writeSynced(beside, text, mode);
       await fs.rename(beside, name);
     } catch (fault) {
       await fs.rm(beside, { force: true });
@@ -109,17 +109,22 @@ function writeWhole(name, text) {
   });
 }
 
-async function testMayBeReplaced(name) {
+/** The permissions of the file that is to be replaced, or undefined where there is none. */
+async function modeOf(name) {
   try {
-    testIsFile(await fs.stat(name));
+    const status = await fs.stat(name);
+    testIsFile(status);
+    return status.mode & 0o777;
   } catch (fault) {
     if (fault.code !== "ENOENT") throw fault;
+    return undefined;
   }
 }
 
-async function writeSynced(name, text) {
+async function writeSynced(name, text, mode) {
   const it = await fs.open(name, "wx", 0o666);
   try {
+    if (mode !== undefined) await it.chmod(mode).catch(() => {}); // a file system without
     await it.writeFile(text, "latin1");
     await it.sync();
   } finally {

@@ -94,8 +94,9 @@ final class SavedFile {
     // Writing
 
     /**
-     * Puts a file at this path. Where that fails the old file is left, and nothing next to it. Only
-     * a kill may leave the new one next to it, which nobody reads.
+     * Puts a file at this path, with the old one's permissions. Where that fails the old file is
+     * left, and nothing next to it. Only a kill may leave the new one next to it, which nobody
+     * reads.
      */
     static void write(Path path, Saved saved) {
         try {
@@ -145,11 +146,21 @@ final class SavedFile {
             try (FileChannel file =
                     FileChannel.open(
                             beside, StandardOpenOption.CREATE_NEW, StandardOpenOption.WRITE)) {
+                keepPermissions(path, beside);
                 fill(file, beside, data);
                 return beside;
             } catch (FileAlreadyExistsException left) {
                 // by an earlier process of this number, that was killed
             }
+        }
+    }
+
+    /** Gives a new file the permissions of the old one, where there is one and it has any. */
+    private static void keepPermissions(Path old, Path fresh) {
+        try {
+            Files.setPosixFilePermissions(fresh, Files.getPosixFilePermissions(old));
+        } catch (IOException | UnsupportedOperationException why) {
+            // the first time, or a file system without permissions
         }
     }
 
