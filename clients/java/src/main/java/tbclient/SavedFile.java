@@ -4,6 +4,7 @@ import java.io.IOException;
 import java.io.InputStream;
 import java.math.BigInteger;
 import java.nio.ByteBuffer;
+import java.nio.channels.ClosedByInterruptException;
 import java.nio.channels.FileChannel;
 import java.nio.charset.StandardCharsets;
 import java.nio.file.FileAlreadyExistsException;
@@ -111,9 +112,28 @@ final class SavedFile {
                         + ", \"number\": " + saved.number() + ", \"pending\": \""
                         + saved.pending() + "\"}";
         try {
-            replace(path.toAbsolutePath(), text.getBytes(StandardCharsets.US_ASCII));
+            replaceWhole(path.toAbsolutePath(), text.getBytes(StandardCharsets.US_ASCII));
         } catch (IOException why) {
             throw new FileException(path + " cannot be written: " + why, why);
+        }
+    }
+
+    /** Replaces a file. An interrupt, which closes a file that is written, is kept for the caller. */
+    private static void replaceWhole(Path path, byte[] data) throws IOException {
+        boolean isInterrupted = false;
+        try {
+            while (true) {
+                try {
+                    replace(path, data);
+                    return;
+                } catch (ClosedByInterruptException why) {
+                    isInterrupted |= Thread.interrupted();
+                }
+            }
+        } finally {
+            if (isInterrupted) {
+                Thread.currentThread().interrupt();
+            }
         }
     }
 

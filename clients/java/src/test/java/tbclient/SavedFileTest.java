@@ -2,12 +2,15 @@ package tbclient;
 
 import static org.junit.Assert.assertEquals;
 import static org.junit.Assert.assertThrows;
+import static org.junit.Assert.assertTrue;
 
 import java.io.IOException;
 import java.math.BigInteger;
 import java.nio.file.Files;
 import java.nio.file.Path;
 import java.util.List;
+import java.util.concurrent.atomic.AtomicBoolean;
+import java.util.concurrent.locks.LockSupport;
 import org.junit.Before;
 import org.junit.Rule;
 import org.junit.Test;
@@ -74,6 +77,43 @@ public class SavedFileTest {
     public void textsMayBeEscaped() throws IOException {
         Files.writeString(path, TEXT.replace("client", "cl\\u0069ent").replace(" ", "\n\t "));
         assertEquals(SAVED, SavedFile.read(path));
+    }
+
+    @Test
+    public void anInterruptIsKeptForTheCallerAndTheFileWritten() throws IOException {
+        Thread.currentThread().interrupt();
+        try {
+            SavedFile.write(path, SAVED);
+            assertEquals(SAVED, SavedFile.read(path));
+        } finally {
+            assertTrue(Thread.interrupted());
+        }
+        assertEquals(1, folder.getRoot().list().length);
+    }
+
+    @Test(timeout = 120_000)
+    public void anInterruptWhileAFileIsWrittenIsNoFault() throws Exception {
+        Thread writer = Thread.currentThread();
+        AtomicBoolean ended = new AtomicBoolean();
+        Thread interrupts =
+                new Thread(
+                        () -> {
+                            for (int count = 0; count < 100; count++) {
+                                LockSupport.parkNanos(100_000);
+                                writer.interrupt();
+                            }
+                            ended.set(true);
+                        });
+        interrupts.start();
+        try {
+            while (!ended.get()) {
+                SavedFile.write(path, SAVED);
+            }
+        } finally {
+            Thread.interrupted();
+        }
+        assertEquals(TEXT, Files.readString(path));
+        assertEquals(1, folder.getRoot().list().length);
     }
 
     @Test
