@@ -226,6 +226,8 @@ class Run:
             os.mkfifo(path)
         if "link" in step:
             os.link(path, os.path.join(self.folder, step["link"]))
+        if "symlink" in step:
+            os.symlink(step["symlink"], path)
         if "chmod" in step:
             os.chmod(path, int(step["chmod"], 8))
         if "copy" in step:

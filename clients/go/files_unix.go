@@ -31,9 +31,28 @@ func testRegular(info fs.FileInfo, err error) error {
 	return err
 }
 
-// writeWhole puts a file at this path, with these bytes, and with the old one's permissions. Where
-// that fails the old file is left, and nothing next to it.
+const linksMax = 40 // that the system follows
+
+// linked is where the symbolic links at a path lead, whether a file is there or not.
+func linked(path string) string {
+	for left := linksMax; left > 0; left-- {
+		to, err := os.Readlink(path)
+		if err != nil {
+			break // it is no link
+		}
+		if !filepath.IsAbs(to) {
+			folder, _ := filepath.Split(path)
+			to = folder + to // as it is: ".." behind a link is not the name before it
+		}
+		path = to
+	}
+	return path
+}
+
+// writeWhole puts a file at this path, or where a link there leads, with these bytes, and with the
+// old one's permissions. Where that fails the old file is left, and nothing next to it.
 func writeWhole(path string, data []byte) error {
+	path = linked(path)
 	old, err := os.Stat(path)
 	if err := testRegular(old, err); err != nil && !errors.Is(err, fs.ErrNotExist) {
 		return err

@@ -100,6 +100,18 @@ def saving():
         ],
     )
     yield scenario(
+        "save-symbolic-link",
+        "Where the path is a symbolic link the file that it names is written, at first and again.",
+        {"file": "links", "folder": True},
+        {"file": "links/session.json", "symlink": "other.json"},
+        {"file": "links/other.json", "symlink": "../kept.json"},
+        save("links/session.json"),
+        {"file": "kept.json", "is": PLAIN},
+        prepare(TRANSFERS, SALE),
+        save("links/session.json"),
+        {"file": "kept.json", "is": WAITING},
+    )
+    yield scenario(
         "save-alone",
         "Nothing is left next to the file.",
         save(),

@@ -14,6 +14,7 @@ const FILE_MAX = 1 << 22; // bytes: the largest request takes half of that, in h
 const FIELDS = ["client", "session", "number", "pending"];
 const LEFT = /^\.\d+-[0-9a-f]{16}\.new$/; // the rest of a name of what a crash left
 const LEFT_MAX = 60_000; // milliseconds: no writing takes so long
+const LINKS_MAX = 40; // that the system follows
 const swept = new Set();
 
 // As text
@@ -90,11 +91,12 @@ function readText(name) {
 }
 
 /**
- * Puts a file at this path, with this text, and with the old one's permissions. Where that fails
- * the old file is left, and nothing next to it.
+ * Puts a file at this path, or where a link there leads, with this text, and with the old one's
+ * permissions. Where that fails the old file is left, and nothing next to it.
  */
-function writeWhole(name, text) {
-  return system(name, async () => {
+function writeWhole(given, text) {
+  return system(given, async () => {
+    const name = await linked(given);
     const mode = await modeOf(name);
     await sweep(name);
     const beside = `${name}.${process.pid}-${randomBytes(8).toString("hex")}.new`;
@@ -107,6 +109,17 @@ function writeWhole(name, text) {
     }
     await syncFolder(path.dirname(name));
   });
+}
+
+/** Where the symbolic links at a path lead, whether a file is there or not. */
+async function linked(name) {
+  let found = name;
+  for (let left = LINKS_MAX; left > 0; left -= 1) {
+    const to = await fs.readlink(found).catch(() => undefined);
+    if (to === undefined) break; // it is no link
+    found = path.isAbsolute(to) ? to : `${path.dirname(found)}/${to}`;
+  }
+  return found;
 }
 
 /** The permissions of the file that is to be replaced, or undefined where there is none. */

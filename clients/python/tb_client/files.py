@@ -62,8 +62,9 @@ def _one_of_each(pairs: list[tuple[str, Any]]) -> dict[str, Any]:
 
 
 def write_whole(path: str, data: bytes) -> None:
-    """Puts a file at this path, with these bytes, and with the old one's permissions. Where that
-    fails the old file is left, and nothing next to it."""
+    """Puts a file at this path, or where a link there leads, with these bytes, and with the old
+    one's permissions. Where that fails the old file is left, and nothing next to it."""
+    path = os.path.realpath(path)
     mode: Optional[int] = None
     with contextlib.suppress(FileNotFoundError):
         status = os.stat(path)

@@ -21,6 +21,7 @@ import java.util.concurrent.atomic.AtomicLong;
 final class SavedFile {
     private static final int SIZE_MAX = 1 << 22; // bytes: the largest request takes half, in hex
     private static final int DIGITS_MAX = 40; // more than a number of 128 bits has
+    private static final int LINKS_MAX = 40; // that the system follows
     private static final AtomicLong COUNT = new AtomicLong();
 
     private SavedFile() {}
@@ -95,9 +96,9 @@ final class SavedFile {
     // Writing
 
     /**
-     * Puts a file at this path, with the old one's permissions. Where that fails the old file is
-     * left, and nothing next to it. Only a kill may leave the new one next to it, which nobody
-     * reads.
+     * Puts a file at this path, or where a link there leads, with the old one's permissions. Where
+     * that fails the old file is left, and nothing next to it. Only a kill may leave the new one
+     * next to it, which nobody reads.
      */
     static void write(Path path, Saved saved) {
         try {
@@ -112,10 +113,20 @@ final class SavedFile {
                         + ", \"number\": " + saved.number() + ", \"pending\": \""
                         + saved.pending() + "\"}";
         try {
-            replaceWhole(path.toAbsolutePath(), text.getBytes(StandardCharsets.US_ASCII));
+            replaceWhole(
+                    linked(path.toAbsolutePath()), text.getBytes(StandardCharsets.US_ASCII));
         } catch (IOException why) {
             throw new FileException(path + " cannot be written: " + why, why);
         }
+    }
+
+    /** Where the symbolic links at a path lead, whether a file is there or not. */
+    private static Path linked(Path path) throws IOException {
+        Path found = path;
+        for (int left = LINKS_MAX; left > 0 && Files.isSymbolicLink(found); left--) {
+            found = found.resolveSibling(Files.readSymbolicLink(found));
+        }
+        return found;
     }
 
     /** Replaces a file. An interrupt, which closes a file that is written, is kept for the caller. */
