@@ -239,6 +239,7 @@ function shownAddress(address) {
 class Socket {
   #addresses;
   #at = 0;
+  #gone; // the address that was given up last
   #timeout;
   #secure;
   #connection;
@@ -278,7 +279,7 @@ class Socket {
           // a server that still reads its ledger takes no request
           if (fault.told !== STARTING) throw fault;
           if (deadline - performance.now() <= pause) {
-            throw new CannotConnect(`${shownAddress(this.address)}: ${fault.message}`, { cause: fault });
+            throw new CannotConnect(`${shownAddress(this.#gone)}: ${fault.message}`, { cause: fault });
           }
         }
         await paused(pause, signal, false);
@@ -313,7 +314,7 @@ class Socket {
       const left = deadline - performance.now();
       if (left <= 0 || fault.isDistrust) {
         const why = fault.message || fault.code;
-        throw new CannotConnect(`${shownAddress(this.address)}: ${why}`, { cause: fault });
+        throw new CannotConnect(`${shownAddress(this.#gone)}: ${why}`, { cause: fault });
       }
       await paused(Math.min(pause, left), signal, false);
       this.#testOpen();
@@ -351,6 +352,7 @@ class Socket {
   }
 
   #next() {
+    this.#gone = this.address;
     this.#at = (this.#at + 1) % this.#addresses.length;
   }
 

@@ -80,6 +80,24 @@ test("nobody listens: CannotConnect, with the system's error", async () => {
   });
 });
 
+test("of several addresses the one is named whose fault is told", async () => {
+  const none = path.join(folder, "none.sock");
+  const other = path.join(folder, "other-none.sock");
+  const starts = await listening("starts.sock", (it) => it.end("tb_listen: Starting\n"));
+  for (const [addresses, named, told] of [
+    [[none, starts], starts, /Starting|in time/],
+    [[none, other], other, /other-none|in time/],
+  ]) {
+    const socket = new tb.Socket(addresses, { timeout: 100 });
+    await assert.rejects(tb.Session.register(socket), ({ name, message, cause }) => {
+      assert.equal(name, "CannotConnect");
+      assert.ok(message.startsWith(`${named}: ${cause.message}`), message);
+      assert.match(cause.message, told);
+      return true;
+    });
+  }
+});
+
 test("a flood while nothing is asked ends the connection: the next call makes one", async () => {
   let count = 0;
   const place = await listening("flood.sock", (it) => {

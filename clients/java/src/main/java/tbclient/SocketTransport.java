@@ -36,6 +36,7 @@ public final class SocketTransport implements Transport {
     private final SSLContext tls;
     private final ReentrantLock lock = new ReentrantLock(true);
     private int at;
+    private Address gone; // the one that was given up last
     private Link link;
     private boolean closed;
 
@@ -120,7 +121,7 @@ public final class SocketTransport implements Transport {
         if (limit.isOver()) {
             throw Deadline.late(false);
         }
-        throw new CannotConnectException(addresses.get(at) + ": " + why.getMessage(), why);
+        throw new CannotConnectException(gone + ": " + why.getMessage(), why);
     }
 
     private byte[] exchanged(byte[] frame, Deadline until, Deadline limit) {
@@ -162,7 +163,7 @@ public final class SocketTransport implements Transport {
                         throw Deadline.late(false);
                     }
                     String why = fault.getMessage() == null ? fault.toString() : fault.getMessage();
-                    throw new CannotConnectException(addresses.get(at) + ": " + why, fault);
+                    throw new CannotConnectException(gone + ": " + why, fault);
                 }
                 pause = Math.min(2 * pause, LAST_PAUSE);
             } catch (InterruptedIOException | InterruptedException why) {
@@ -216,6 +217,7 @@ public final class SocketTransport implements Transport {
     }
 
     private void next() {
+        gone = addresses.get(at);
         at = (at + 1) % addresses.size();
     }
 

@@ -1,5 +1,6 @@
 package tbclient;
 
+import static java.nio.charset.StandardCharsets.US_ASCII;
 import static org.junit.Assert.assertEquals;
 import static org.junit.Assert.assertFalse;
 import static org.junit.Assert.assertThrows;
@@ -166,6 +167,36 @@ public class SocketTransportTest {
                                     Session.register(
                                             transport, Ids.id(), ONCE, Duration.ofMillis(50)));
             assertFalse(why.mayHaveSent());
+        }
+    }
+
+    @Test(timeout = 30_000)
+    public void theAddressIsNamedWhoseFaultIsTold() throws IOException {
+        Address none = Address.unix("/nowhere/ledger.sock");
+        Address other = Address.unix("/nowhere/other.sock");
+        CannotConnectException why =
+                assertThrows(
+                        CannotConnectException.class,
+                        () ->
+                                registered(
+                                        new SocketTransport(List.of(other, none), SHORT, null)));
+        assertTrue(why.getMessage(), why.getMessage().startsWith(none + ": "));
+        try (ServerSocket starts = new ServerSocket(0, 50, InetAddress.getLoopbackAddress())) {
+            start(
+                    () -> {
+                        while (true) {
+                            try (Socket it = starts.accept()) {
+                                it.getInputStream().readNBytes(Layout.HEADER_SIZE);
+                                byte[] told = "tb_listen: Starting\n".getBytes(US_ASCII);
+                                it.getOutputStream().write(told);
+                            }
+                        }
+                    });
+            Address place = Address.tcp("127.0.0.1", starts.getLocalPort());
+            SocketTransport both = new SocketTransport(List.of(place, none), SHORT, null);
+            why = assertThrows(CannotConnectException.class, () -> registered(both));
+            String told = why.getMessage();
+            assertEquals(told, told.contains("Starting"), told.startsWith(place + ": "));
         }
     }
 
