@@ -7,6 +7,7 @@ import (
 	"fmt"
 	"io"
 	"math/big"
+	"strings"
 )
 
 // Saved is what outlives a client: its id, its session, the number of its last request that was
@@ -153,10 +154,21 @@ func (it Saved) test() error {
 	return nil
 }
 
+// testPath refuses what is no path.
+func testPath(path string) error {
+	if path == "" || strings.Contains(path, "\x00") {
+		return invalid("path", "is no path")
+	}
+	return nil
+}
+
 const savedMax = 1 << 22 // bytes of a file: the largest request takes half of that, in hex
 
 // readSaved reads a session from a file.
 func readSaved(path string) (Saved, error) {
+	if err := testPath(path); err != nil {
+		return Saved{}, err
+	}
 	file, err := openRegular(path)
 	if err != nil {
 		return Saved{}, err

@@ -52,6 +52,38 @@ func TestSavedRefusals(t *testing.T) {
 	}
 }
 
+func TestEmptyPath(t *testing.T) {
+	before, err := os.Getwd()
+	if err != nil {
+		t.Fatal(err)
+	}
+	defer os.Chdir(before)
+	if err := os.Chdir(t.TempDir()); err != nil {
+		t.Fatal(err)
+	}
+	if err := os.WriteFile(".new", []byte("another file"), 0o600); err != nil {
+		t.Fatal(err)
+	}
+	socket, err := tb.NewSocket([]tb.Address{tb.Unix("none.sock")})
+	if err != nil {
+		t.Fatal(err)
+	}
+	session, err := tb.NewSession(socket)
+	if err != nil {
+		t.Fatal(err)
+	}
+	var fault *tb.InvalidError
+	if err := session.Save(""); !errors.As(err, &fault) || fault.Field != "path" {
+		t.Errorf("Save is answered %v", err)
+	}
+	if _, err := tb.Load(socket, ""); !errors.As(err, &fault) || fault.Field != "path" {
+		t.Errorf("Load is answered %v", err)
+	}
+	if data, err := os.ReadFile(".new"); err != nil || string(data) != "another file" {
+		t.Errorf("another file is %q, %v", data, err)
+	}
+}
+
 func TestSavedOfManyDigits(t *testing.T) {
 	begin := time.Now()
 	var saved tb.Saved

@@ -158,6 +158,9 @@ func (it *Session) Saved() Saved {
 // Where Save fails the file is as it was before, or as it is now where only its folder could not be
 // synced.
 func (it *Session) Save(path string) error {
+	if err := testPath(path); err != nil {
+		return err
+	}
 	it.saving.Lock()
 	defer it.saving.Unlock()
 	data, err := it.Saved().MarshalJSON()
