@@ -21,6 +21,7 @@ const { bytesOf, kindOf, milliseconds, narrow, optionsOf, pathOf } = require("./
 const TIMEOUT = 5000; // milliseconds
 const FIRST_PAUSE = 20; // milliseconds, before the server is called again; doubled each time
 const LAST_PAUSE = 500;
+const PATH_MAX = { linux: 107, win32: 255 }[process.platform] ?? 103; // bytes of a socket's path
 const CLOSED = "this Socket was closed";
 // begins what a server says before it closes a connection: fewer bytes than a frame has
 const TOLD = "tb_listen: ";
@@ -155,7 +156,11 @@ class Connection {
 
 /** Begins to connect: over TLS where there are options for it. */
 function begun(address, secure) {
-  if (typeof address === "string") return net.connect({ path: address });
+  if (typeof address === "string") {
+    // Node would cut it, to the path of another socket
+    if (Buffer.byteLength(address) > PATH_MAX) throw new Error("the path is too long for a socket");
+    return net.connect({ path: address });
+  }
   const place = { ...address, noDelay: true, autoSelectFamily: true };
   if (secure === undefined) return net.connect(place);
   const name = net.isIP(address.host) ? {} : { servername: address.host };

@@ -98,6 +98,18 @@ test("of several addresses the one is named whose fault is told", async () => {
   }
 });
 
+test("a path that is too long for a socket is not cut to that of another one", async () => {
+  const long = path.join(folder, "x".repeat(120));
+  let count = 0;
+  await listening(path.basename(long).slice(0, 108 - folder.length - 1), (it) => {
+    count += 1;
+    it.destroy();
+  });
+  const socket = new tb.Socket(long, { timeout: 50 });
+  await assert.rejects(tb.Session.register(socket), { name: "CannotConnect" });
+  assert.equal(count, 0);
+});
+
 test("a flood while nothing is asked ends the connection: the next call makes one", async () => {
   let count = 0;
   const place = await listening("flood.sock", (it) => {
