@@ -16,7 +16,7 @@ final class TlsLink implements Link {
     private final PlainLink link;
     private final SSLEngine engine;
     private final ByteBuffer out; // what was wrapped, to be sent
-    private final ByteBuffer in; // what came, from its beginning to its position
+    private ByteBuffer in; // what came, from its beginning to its position
     private ByteBuffer plain; // what was unwrapped, to be read
     private SSLEngineResult.Status last = SSLEngineResult.Status.OK; // of an unwrap
 
@@ -98,6 +98,9 @@ final class TlsLink implements Link {
         }
         if (last == SSLEngineResult.Status.BUFFER_OVERFLOW) {
             plain = ByteBuffer.allocate(2 * plain.capacity()).put(plain).flip();
+        }
+        if (isCut() && !in.hasRemaining()) { // a record may be twice as long as most are
+            in = ByteBuffer.allocate(2 * in.capacity()).put(in.flip());
         }
         return last;
     }

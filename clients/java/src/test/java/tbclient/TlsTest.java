@@ -2,11 +2,19 @@ package tbclient;
 
 import static org.junit.Assert.assertNotNull;
 import static org.junit.Assert.assertThrows;
+import static org.junit.Assert.assertTrue;
 
 import java.io.IOException;
+import java.lang.management.ManagementFactory;
+import java.math.BigInteger;
+import java.net.InetAddress;
+import java.net.ServerSocket;
+import java.net.Socket;
 import java.nio.file.Files;
 import java.nio.file.Path;
+import java.time.Duration;
 import java.util.List;
+import javax.net.ssl.SSLContext;
 import org.junit.Before;
 import org.junit.Rule;
 import org.junit.Test;
@@ -52,6 +60,41 @@ public class TlsTest {
             Files.writeString(key, String.join(end, KEY));
             assertNotNull(Tls.context(certificate, certificate, key));
         }
+    }
+
+    /** Answers each connection with the beginning of a record of 20,000 bytes, and no more. */
+    private static void beginRecords(ServerSocket server) {
+        byte[] record = new byte[5 + 19_999];
+        System.arraycopy(new byte[] {22, 3, 3, 0x4e, 0x20}, 0, record, 0, 5);
+        while (!server.isClosed()) {
+            try (Socket it = server.accept()) {
+                it.getOutputStream().write(record);
+                it.getInputStream().readAllBytes();
+            } catch (IOException why) {
+                continue; // the client is gone, or the server closed
+            }
+        }
+    }
+
+    @Test(timeout = 60_000)
+    public void aLongRecordIsWaitedFor() throws Exception {
+        Files.write(key, KEY);
+        SSLContext tls = Tls.context(certificate, certificate, key);
+        Thread serving;
+        try (ServerSocket server = new ServerSocket(0, 9, InetAddress.getLoopbackAddress())) {
+            serving = new Thread(() -> beginRecords(server));
+            serving.start();
+            Address address = Address.tcp("127.0.0.1", server.getLocalPort());
+            Duration timeout = Duration.ofSeconds(3);
+            long begin = ManagementFactory.getThreadMXBean().getCurrentThreadCpuTime();
+            try (SocketTransport it = new SocketTransport(List.of(address), timeout, tls)) {
+                byte[] frame = Frames.request(BigInteger.ONE, 0, 0, Operation.REGISTER, new byte[0]);
+                assertThrows(CannotConnectException.class, () -> it.exchange(frame, timeout.multipliedBy(9)));
+            }
+            long took = ManagementFactory.getThreadMXBean().getCurrentThreadCpuTime() - begin;
+            assertTrue("CPU time of " + took + " ns", took < 1_000_000_000L);
+        }
+        serving.join();
     }
 
     @Test
