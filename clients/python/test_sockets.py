@@ -83,6 +83,17 @@ class Addresses(unittest.TestCase):
             it.exchange(0, register(7))
         self.assertGreaterEqual(time.monotonic() - began, 0.3, "it calls for all of its time")
 
+    def test_the_address_is_named_whose_fault_is_told(self):
+        folder = self.path("folder")
+        os.mkdir(folder)
+        for places, wanted in (
+            ([folder, self.path("none")], f"{self.path('none')}: No such file"),
+            ([self.path("none"), folder], f"{folder}: Connection refused"),
+        ):
+            with Socket(places, timeout=0.1) as it, self.assertRaises(tb.CannotConnect) as found:
+                it.exchange(0, register(7))
+            self.assertTrue(str(found.exception).startswith(wanted), found.exception)
+
     def test_a_long_time(self):
         """It is no short one: Python cuts its milliseconds to 32 bits."""
         listening = socket.socket(socket.AF_UNIX)

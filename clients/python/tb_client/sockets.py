@@ -48,6 +48,7 @@ class Socket(Closing):
     ) -> None:
         self._addresses = _addresses_of(address)
         self._at = 0
+        self._gone = self.address  # the one that was given up last
         self.timeout = seconds("timeout", timeout, 0.001)
         self._tls = _context_of(tls, self._addresses)
         self._socket: Optional[socket.socket] = None
@@ -87,7 +88,7 @@ class Socket(Closing):
                 except Starting as why:
                     # a server that still reads its ledger takes no request
                     if deadline - time.monotonic() <= pause:
-                        raise CannotConnect(f"{_shown(self.address)}: {why}") from None
+                        raise CannotConnect(f"{_shown(self._gone)}: {why}") from None
                     time.sleep(pause)
                     pause = min(2 * pause, LAST_PAUSE)
 
@@ -122,7 +123,7 @@ class Socket(Closing):
             left = deadline - time.monotonic()
             if left <= 0 or isinstance(fault, ssl.SSLCertVerificationError):
                 raise CannotConnect(
-                    f"{_shown(self.address)}: {fault.strerror or fault}{_hint(self.address)}"
+                    f"{_shown(self._gone)}: {fault.strerror or fault}{_hint(self._gone)}"
                 ) from None
             time.sleep(min(pause, left))
             pause = min(2 * pause, LAST_PAUSE)
@@ -148,6 +149,7 @@ class Socket(Closing):
         return fault
 
     def _next(self) -> None:
+        self._gone = self.address
         self._at = (self._at + 1) % len(self._addresses)
 
     def _lose(self) -> None:
