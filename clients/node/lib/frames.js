@@ -81,10 +81,13 @@ function operationOf(value) {
 
 // Requests
 
-/** The frame of a request with these items, whose client, session and number are still 0. */
+/**
+ * The frame of a request with these items, whose client, session and number are still 0. A
+ * register alone may leave them out.
+ */
 function framed(operation, items) {
   if (operation === Operation.register) {
-    if (listed("items", items).length !== 0) {
+    if (items !== undefined && listed("items", items).length !== 0) {
       throw new InvalidValue("items", "of a register must be empty");
     }
     return headed(operation, 0);

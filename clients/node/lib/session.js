@@ -228,7 +228,7 @@ class Session {
   }
 
   /** Makes the next request, which is in doubt from then on: keep `saved`, then `retry`. */
-  prepare(operation, items = []) {
+  prepare(operation, items) {
     this.#testNotInDoubt();
     const kind = frames.operationOf(operation);
     this.#begin(kind, frames.framed(kind, items));

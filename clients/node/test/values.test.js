@@ -211,6 +211,18 @@ test("a caller's limit ends a call that waits for its turn: nothing is sent", as
   await assert.rejects(session.lookupAccounts([1n], { within: -1 }), { field: "within" });
 });
 
+test("a prepared request without items is refused, but for a register", () => {
+  const session = resumed(direct(serving));
+  for (const [operation, name] of [["create_transfers", "transfers"], ["lookup_accounts", "ids"]]) {
+    assert.throws(() => session.prepare(operation), { name: "InvalidType", field: name });
+    assert.throws(() => session.prepare(operation, undefined), { field: name });
+  }
+  assert.equal(session.inDoubt, null);
+  const fresh = new tb.Session(direct(serving));
+  fresh.prepare("register");
+  assert.equal(fresh.inDoubt.operation, "register");
+});
+
 test("a transport that throws something else leaves the request in doubt", async () => {
   const session = resumed(direct(() => {
     throw new TypeError("of its own");
