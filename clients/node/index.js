@@ -39,10 +39,10 @@ const {
   ReplyLost,
   SessionTooLow,
 } = require("./lib/errors.js");
-const { decodeSaved, encodeSaved } = require("./lib/files.js");
+const { decodeSaved } = require("./lib/files.js");
 const { id } = require("./lib/ids.js");
 const { account, flagNames, transfer } = require("./lib/records.js");
-const { Session, requireOk } = require("./lib/session.js");
+const { Session, encodeSaved, requireOk } = require("./lib/session.js");
 const { Socket } = require("./lib/socket.js");
 
 module.exports = {

@@ -20,7 +20,7 @@ const swept = new Set();
 // As text
 
 /** What was saved, as the JSON of a file. */
-function encodeSaved({ client, session, number, pending }) {
+function savedText({ client, session, number, pending }) {
   return (
     `{"client": ${client}, "session": ${session}, "number": ${number}, ` +
     `"pending": "${pending}"}`
@@ -172,4 +172,4 @@ async function sweep(name) {
   swept.add(place);
 }
 
-module.exports = { decodeSaved, encodeSaved, readText, writeWhole };
+module.exports = { decodeSaved, readText, savedText, writeWhole };

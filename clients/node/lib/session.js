@@ -18,7 +18,7 @@ const {
   REFUSALS,
   ReplyLost,
 } = require("./errors.js");
-const { decodeSaved, encodeSaved, readText, writeWhole } = require("./files.js");
+const { decodeSaved, readText, savedText, writeWhole } = require("./files.js");
 const frames = require("./frames.js");
 const { id } = require("./ids.js");
 const { Turns, limited, paused, testLimit } = require("./limits.js");
@@ -95,6 +95,12 @@ function savedOf(saved) {
   };
   testPending(state.pending, state);
   return state;
+}
+
+/** What was saved, as the JSON of a file, each value tested. */
+function encodeSaved(saved) {
+  savedOf(saved);
+  return savedText(saved);
 }
 
 const RESUMED = Symbol("resumed");
@@ -193,7 +199,7 @@ class Session {
    */
   async save(path) {
     const name = pathOf("path", path);
-    const saving = this.#saving.then(() => writeWhole(name, encodeSaved(this.saved)));
+    const saving = this.#saving.then(() => writeWhole(name, savedText(this.saved)));
     this.#saving = saving.catch(() => {});
     await saving;
   }
@@ -385,4 +391,4 @@ function requireOk(results) {
   if (failed.length > 0) throw new EventsFailed(failed);
 }
 
-module.exports = { Session, requireOk };
+module.exports = { Session, encodeSaved, requireOk };

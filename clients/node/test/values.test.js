@@ -127,6 +127,21 @@ test("JSON with exact integers", () => {
   assert.deepEqual(tb.decodeSaved(tb.encodeSaved(saved)), saved);
 });
 
+test("encodeSaved refuses what decodeSaved could not give back", () => {
+  const session = resumed(direct(serving));
+  session.prepare("create_transfers", [SALE]);
+  for (const [saved, field] of [
+    [session, "saved.pending"], // in place of session.saved
+    [undefined, "saved"],
+    [{ ...session.saved, client: 7 }, "saved.client"],
+    [{ ...session.saved, number: -1 }, "saved.number"],
+    [{ ...session.saved, pending: undefined }, "saved.pending"],
+  ]) {
+    assert.throws(() => tb.encodeSaved(saved), { sent: false, field });
+  }
+  assert.deepEqual(tb.decodeSaved(tb.encodeSaved(session.saved)), session.saved);
+});
+
 test("a reply of another request is no reply, whatever carried it", async () => {
   const others = [
     (frame) => reply(frame.fill(8, 0, 1)),
