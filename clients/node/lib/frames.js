@@ -216,8 +216,8 @@ function replyFault(header) {
 function testReply(header) {
   const fault = replyFault(header);
   if (fault === undefined) return;
-  const line = header.toString("latin1").split("\n")[0];
-  const text = /^[ -~]{8,}/.test(line) ? `: ${line}` : "";
+  const [line] = /^[ -~]{8,}/.exec(header.toString("latin1")) ?? []; // it may go to a terminal
+  const text = line === undefined ? "" : `: ${line}`;
   throw new BadReply(`what came is no frame of a reply (${fault})${text}`);
 }
 

@@ -49,7 +49,7 @@ function after(ms, call) {
 function lost(said, how) {
   const text = said.toString("latin1");
   if (!text.startsWith(TOLD)) return new ReplyLost(how);
-  const told = text.slice(TOLD.length).trim();
+  const told = text.slice(TOLD.length).trim().replace(/[^ -~]/g, "?"); // it may go to a terminal
   const Kind = told === "Busy" ? Busy : ReplyLost;
   return new Kind(`the server closed the connection: ${told}`, told);
 }

@@ -98,6 +98,22 @@ test("of several addresses the one is named whose fault is told", async () => {
   }
 });
 
+test("what a server says is shown without its control characters", async () => {
+  const page = `HTTP/1.1 400 \x1b[2J${"x".repeat(40)}`;
+  for (const [name, said, shown] of [
+    ["told.sock", "tb_listen: \x1b[2J\x9bIdle\n", /closed the connection: \?\[2J\?Idle$/],
+    ["page.sock", page, /HTTP\/1\.1 400 $/],
+  ]) {
+    const place = await listening(name, (it) => it.on("data", () => it.end(said, "latin1")));
+    const session = tb.Session.register(new tb.Socket(place), { attempts: 1 });
+    await assert.rejects(session, ({ message, told = "" }) => {
+      assert.match(message, shown);
+      assert.doesNotMatch(message + told, /[^ -~]/);
+      return true;
+    });
+  }
+});
+
 test("a path that is too long for a socket is not cut to that of another one", async () => {
   const long = path.join(folder, "x".repeat(120));
   let count = 0;
