@@ -2,6 +2,8 @@
 
 // The caller's own limits of a call, and calls that go one after another.
 
+const { setMaxListeners } = require("node:events");
+
 const { Cancelled, InvalidType } = require("./errors.js");
 const { kindOf, milliseconds, optionsOf } = require("./values.js");
 
@@ -10,6 +12,8 @@ function signalOf(value) {
   if (typeof value?.aborted !== "boolean" || typeof value.addEventListener !== "function") {
     throw new InvalidType("signal", `must be an AbortSignal, not ${kindOf(value)}`);
   }
+  // any number of calls may wait for one: Node would warn of a leak from the eleventh on
+  if (value instanceof EventTarget) setMaxListeners(0, value);
   return value;
 }
 

@@ -1,6 +1,7 @@
 "use strict";
 
 const assert = require("node:assert/strict");
+const { getEventListeners } = require("node:events");
 const { test } = require("node:test");
 
 const tb = require("../index.js");
@@ -236,6 +237,19 @@ test("a prepared request without items is refused, but for a register", () => {
   const fresh = new tb.Session(direct(serving));
   fresh.prepare("register");
   assert.equal(fresh.inDoubt.operation, "register");
+});
+
+test("many calls wait for one signal: no warning of a leak, and no listener is left", async () => {
+  const session = resumed(direct(async (frame) => reply(frame)));
+  const { signal } = new AbortController();
+  const warned = [];
+  const take = (warning) => warned.push(warning.message);
+  process.on("warning", take);
+  const call = (id) => session.lookupAccounts([id], { signal });
+  await Promise.all(Array.from({ length: 20 }, (_, at) => call(BigInt(at + 1))));
+  await new Promise(setImmediate);
+  process.off("warning", take);
+  assert.deepEqual([warned, getEventListeners(signal, "abort")], [[], []]);
 });
 
 test("a transport that throws something else leaves the request in doubt", async () => {
