@@ -175,7 +175,7 @@ WRONG = {
     ),
     "bytes of another session are loaded": (
         "sessions.py",
-        "    if (asked.client, asked.session, asked.number) != wanted:\n",
+        "    if (asked.client, asked.session) != (client, session) or not is_next:\n",
         "    if asked.client != client:\n",
     ),
     "two fields of one name: the last one counts": (

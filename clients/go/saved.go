@@ -143,12 +143,12 @@ func (it Saved) test() error {
 	if err != nil {
 		return invalid("saved.pending", "is no request: %v", err)
 	}
-	number := uint64(it.Number) + 1
-	if asked.operation == OperationRegister {
-		number = 0
+	isRegister, number := asked.operation == OperationRegister, uint64(it.Number)
+	if !isRegister {
+		number++
 	}
 	if asked.client != it.Client || asked.session != it.Session || uint64(asked.number) != number ||
-		asked.operation == OperationRegister && it.Number != 0 {
+		isRegister != (it.Session == 0) {
 		return invalid("saved.pending", "is not the next request of this session")
 	}
 	return nil

@@ -52,6 +52,30 @@ func TestSavedRefusals(t *testing.T) {
 	}
 }
 
+func TestBytesInDoubtThatAreNotTheNextRequest(t *testing.T) {
+	register := append(append([]byte{7}, make([]byte, 27)...), append([]byte{2}, make([]byte, 19)...)...)
+	lookup := append([]byte(nil), register...)
+	lookup[24], lookup[28] = 1, 131
+	transport := scripted(func([]byte) ([]byte, error) { return nil, tb.ErrClosed })
+	client := tb.ToUint128(7)
+	for _, row := range []struct {
+		saved tb.Saved
+		isOne bool
+	}{
+		{tb.Saved{Client: client, Pending: register}, true},
+		{tb.Saved{Client: client, Number: 5, Pending: register}, false},
+		{tb.Saved{Client: client, Session: 1, Pending: register}, false},
+		{tb.Saved{Client: client, Pending: lookup}, false}, // it is not registered
+		{tb.Saved{Client: client, Session: 1, Pending: lookup}, false},
+	} {
+		var fault *tb.InvalidError
+		_, err := tb.Resume(transport, row.saved)
+		if (err == nil) != row.isOne || err != nil && (!errors.As(err, &fault) || fault.Field != "saved.pending") {
+			t.Errorf("%+v is answered %v", row.saved, err)
+		}
+	}
+}
+
 func TestEmptyPath(t *testing.T) {
 	before, err := os.Getwd()
 	if err != nil {

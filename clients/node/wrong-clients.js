@@ -169,8 +169,8 @@ const WRONG = {
   ],
   "bytes of another session are loaded": [
     "lib/session.js",
-    "if (asked.client !== client || asked.session !== session || asked.request !== next) {",
-    "if (asked.client !== client) {",
+    "  if (!isSame || isRegister !== (session === 0n)) {",
+    "  if (asked.client !== client) {",
   ],
   "an amount is a double": [
     "lib/values.js",

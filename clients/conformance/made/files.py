@@ -403,10 +403,18 @@ def resuming():
         )
     yield scenario(
         "resume-wrong-pending",
-        "Bytes in doubt of another session.",
-        resume(
-            {**as_answer(PLAIN), "pending": frame_of(1, TRANSFERS, session=2).hex()},
-            error("Invalid", field="pending", sent=False),
-        ),
+        "Bytes in doubt of another session, of one that is not registered, and a register where"
+        " the number is not 0.",
+        [
+            resume(
+                {**as_answer({**PLAIN, **it}), "pending": pending.hex()},
+                error("Invalid", field="pending", sent=False),
+            )
+            for it, pending in (
+                ({}, frame_of(1, TRANSFERS, session=2)),
+                ({"session": 0}, frame_of(1, TRANSFERS, session=0)),
+                ({"session": 0, "number": 5}, request(0, 2, session=0)),
+            )
+        ],
         begin="connected",
     )

@@ -67,7 +67,10 @@ function pendingOf(text) {
   return text === "" ? undefined : Buffer.from(text, "hex");
 }
 
-/** Refuses bytes in doubt that are not the next request of just this session. */
+/**
+ * Refuses bytes in doubt that are not the next request of just this session: a register where
+ * session and number are 0, and no register where the session is not 0.
+ */
 function testPending(frame, { client, session, number }) {
   if (frame === undefined) return;
   try {
@@ -76,8 +79,10 @@ function testPending(frame, { client, session, number }) {
     throw new InvalidValue("saved.pending", `is no request: ${fault.message}`);
   }
   const asked = frames.headerOf(frame);
-  const next = asked.operation === Operation.register ? 0 : number + 1;
-  if (asked.client !== client || asked.session !== session || asked.request !== next) {
+  const isRegister = asked.operation === Operation.register;
+  const next = isRegister ? number : number + 1;
+  const isSame = asked.client === client && asked.session === session && asked.request === next;
+  if (!isSame || isRegister !== (session === 0n)) {
     throw new InvalidValue("saved.pending", "is not the next request of this session");
   }
 }

@@ -495,8 +495,12 @@ def _test_pending(
         raise InvalidValue(field, f"is no request: {fault}") from None
     except TypeError:
         raise InvalidType(field, f"must be bytes, not {kind_of(pending)}") from None
-    wanted = (client, session, 0 if asked.operation == Operation.register else number + 1)
-    if (asked.client, asked.session, asked.number) != wanted:
+    is_next = (
+        session == number == 0
+        if asked.operation == Operation.register
+        else session > 0 and asked.number == number + 1
+    )
+    if (asked.client, asked.session) != (client, session) or not is_next:
         raise InvalidValue(field, "is not the next request of this session")
 
 
