@@ -19,6 +19,10 @@
 //
 // After a crash, wherever it came, [Load] reads the session, and Retry sends the same bytes first.
 //
+// A lookup takes a number too. Where the file has an older number than the session had, the next
+// request gets the reply to an old one, or is refused. So a session that is saved makes its lookups
+// the same way, or leaves them to another session.
+//
 // # Errors
 //
 // Each error of a call is one of the Err values by errors.Is. ErrNotSent says that the call sent

@@ -7,10 +7,12 @@ import (
 	"regexp"
 	"testing"
 	"time"
+
+	tb "ledger.example/tbclient"
 )
 
 // TestProgramOfTheREADME builds the program as printed, kills it while its transfer has no reply, and
-// runs it twice more.
+// runs it twice more, with a transfer of another client between the two.
 func TestProgramOfTheREADME(t *testing.T) {
 	program := built(t)
 	it := newLedger(t, t.TempDir())
@@ -27,16 +29,23 @@ func TestProgramOfTheREADME(t *testing.T) {
 	}
 	first.Wait()
 	release()
-	for run := 0; run < 2; run++ {
+	other, err := tb.Register(background, newSocket(t, it))
+	if err != nil {
+		t.Fatal(err)
+	}
+	for _, wanted := range []string{"credited: 100\n", "credited: 105\n"} {
 		again := exec.Command(program)
 		again.Dir = folder
 		output, err := again.CombinedOutput()
-		if err != nil || string(output) != "credited: 100\n" {
-			t.Errorf("run %d prints %q, %v", run, output, err)
+		if err != nil || string(output) != wanted {
+			t.Errorf("it prints %q, not %q, %v", output, wanted, err)
+		}
+		if _, err := other.CreateTransfers(background, []tb.Transfer{sale(5)}); err != nil {
+			t.Fatal(err)
 		}
 	}
-	if len(it.transfers) != 1 {
-		t.Errorf("%d transfers were made", len(it.transfers))
+	if len(it.transfers) != 3 {
+		t.Errorf("%d transfers were made", len(it.transfers)-2)
 	}
 }
 

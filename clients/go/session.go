@@ -198,13 +198,15 @@ func (it *Session) CreateTransfers(ctx context.Context, transfers []Transfer) (T
 	return answer.TransferResults, err
 }
 
-// LookupAccounts returns the accounts with these ids that exist, in the order of the ids.
+// LookupAccounts returns the accounts with these ids that exist, in the order of the ids. It takes a
+// number: where the session is kept in a file, use Prepare, Save, Retry and Save.
 func (it *Session) LookupAccounts(ctx context.Context, ids []Uint128) ([]Account, error) {
 	answer, err := it.ask(ctx, LookupAccounts(ids))
 	return answer.Accounts, err
 }
 
-// LookupTransfers returns the transfers with these ids that exist, in the order of the ids.
+// LookupTransfers returns the transfers with these ids that exist, in the order of the ids. It takes
+// a number: where the session is kept in a file, use Prepare, Save, Retry and Save.
 func (it *Session) LookupTransfers(ctx context.Context, ids []Uint128) ([]Transfer, error) {
 	answer, err := it.ask(ctx, LookupTransfers(ids))
 	return answer.Transfers, err
