@@ -143,6 +143,14 @@ func newSession(transport Transport, saved Saved, options []SessionOption) (*Ses
 	return it, nil
 }
 
+// testMade refuses the zero value, whose calls would wait forever.
+func (it *Session) testMade() error {
+	if it.transport == nil {
+		return invalid("session", "is none: NewSession, Register, Resume and Load make one")
+	}
+	return nil
+}
+
 // Client is the client's id.
 func (it *Session) Client() Uint128 { return it.client }
 
@@ -158,6 +166,9 @@ func (it *Session) Saved() Saved {
 // Where Save fails the file is as it was before, or as it is now where only its folder could not be
 // synced.
 func (it *Session) Save(path string) error {
+	if err := it.testMade(); err != nil {
+		return err
+	}
 	if err := testPath(path); err != nil {
 		return err
 	}
@@ -232,6 +243,9 @@ func (it *Session) ask(ctx context.Context, request Request) (Answer, error) {
 
 // begin waits until no other call sends.
 func (it *Session) begin(ctx context.Context) error {
+	if err := it.testMade(); err != nil {
+		return err
+	}
 	select {
 	case it.turn <- struct{}{}:
 		return nil
@@ -246,6 +260,9 @@ func (it *Session) end() { <-it.turn }
 // Retry. Values that may not be there are an [InvalidError]; while another request is in doubt
 // it is an ErrInDoubt.
 func (it *Session) Prepare(request Request) error {
+	if err := it.testMade(); err != nil {
+		return err
+	}
 	if request == nil {
 		return invalid("operation", "must be that of a request, not nil")
 	}
@@ -382,5 +399,8 @@ func (it *Session) take(header replyHeader, answer Answer) (Answer, error) {
 
 // Close closes the transport. A request in doubt stays so.
 func (it *Session) Close() error {
+	if it.transport == nil {
+		return nil
+	}
 	return it.transport.Close()
 }

@@ -258,6 +258,30 @@ func TestOptionsAreTested(t *testing.T) {
 	}
 }
 
+func TestZeroValuesAreRefused(t *testing.T) {
+	ctx, cancel := context.WithTimeout(background, 5*time.Second)
+	defer cancel()
+	var session tb.Session
+	var socket tb.Socket
+	for name, call := range map[string]func() error{
+		"CreateTransfers": func() error { _, err := session.CreateTransfers(ctx, []tb.Transfer{sale(1)}); return err },
+		"Retry":           func() error { _, err := session.Retry(ctx); return err },
+		"Prepare":         func() error { return session.Prepare(tb.Registration{}) },
+		"Save":            func() error { return session.Save(filepath.Join(t.TempDir(), "session.json")) },
+		"Register":        func() error { return second(tb.Register(ctx, &socket)) },
+	} {
+		if err := call(); !errors.Is(err, tb.ErrInvalid) {
+			t.Errorf("%s is answered %v", name, err)
+		}
+	}
+	if err := session.Close(); err != nil {
+		t.Error(err)
+	}
+	if err := socket.Close(); err != nil {
+		t.Error(err)
+	}
+}
+
 func second(_ *tb.Session, err error) error { return err }
 
 func socketOf(address tb.Address, options ...tb.SocketOption) error {

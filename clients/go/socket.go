@@ -162,7 +162,7 @@ func NewSocket(addresses []Address, options ...SocketOption) (*Socket, error) {
 func (it *Socket) Close() error {
 	it.mu.Lock()
 	defer it.mu.Unlock()
-	if !it.done {
+	if !it.done && it.closed != nil {
 		it.done = true
 		close(it.closed)
 	}
@@ -176,6 +176,9 @@ func (it *Socket) Close() error {
 
 // Exchange sends the frame of a request, and returns the frame of its reply.
 func (it *Socket) Exchange(ctx context.Context, frame []byte) ([]byte, error) {
+	if it.closed == nil {
+		return nil, invalid("transport", "is none: NewSocket makes one")
+	}
 	asked, err := decodeRequestHeader(frame) // at a wrong one the server would close the connection
 	if err != nil {
 		return nil, err
