@@ -76,15 +76,22 @@ func TestBytesInDoubtThatAreNotTheNextRequest(t *testing.T) {
 	}
 }
 
-func TestEmptyPath(t *testing.T) {
+// inNewFolder makes a new folder the present one, until the test ends.
+func inNewFolder(t *testing.T) {
+	t.Helper()
 	before, err := os.Getwd()
 	if err != nil {
 		t.Fatal(err)
 	}
-	defer os.Chdir(before)
-	if err := os.Chdir(t.TempDir()); err != nil {
+	folder := t.TempDir()
+	if err := os.Chdir(folder); err != nil {
 		t.Fatal(err)
 	}
+	t.Cleanup(func() { os.Chdir(before) })
+}
+
+func TestEmptyPath(t *testing.T) {
+	inNewFolder(t)
 	if err := os.WriteFile(".new", []byte("another file"), 0o600); err != nil {
 		t.Fatal(err)
 	}

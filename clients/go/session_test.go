@@ -212,6 +212,21 @@ func TestCloseEndsAConnecting(t *testing.T) {
 	}
 }
 
+func TestAPathThatBeginsWithAtIsAFile(t *testing.T) {
+	inNewFolder(t)
+	it := beginLedger("./@ledger.sock")
+	t.Cleanup(it.end)
+	address := tb.Unix("@ledger.sock")
+	socket, err := tb.NewSocket([]tb.Address{address}, tb.WithTimeout(time.Second))
+	if err != nil || address.String() != "@ledger.sock" {
+		t.Fatal(address, err)
+	}
+	defer socket.Close()
+	if _, err := tb.Register(background, socket); err != nil {
+		t.Error(err)
+	}
+}
+
 func TestCannotConnect(t *testing.T) {
 	path := filepath.Join(t.TempDir(), "none")
 	socket, err := tb.NewSocket([]tb.Address{tb.Unix(path), tb.TCP("127.0.0.1", 1)}, tb.WithTimeout(30*time.Millisecond))

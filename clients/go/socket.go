@@ -44,6 +44,15 @@ func TCP(host string, port int) Address {
 // String is the path, or the host and the port.
 func (it Address) String() string { return it.name }
 
+// dialed is the address for the package net, which takes a path that begins with @ for an abstract
+// socket: another one than the file.
+func (it Address) dialed() string {
+	if it.network == "unix" && strings.HasPrefix(it.name, "@") {
+		return "./" + it.name
+	}
+	return it.name
+}
+
 func (it Address) test(field string) error {
 	switch {
 	case it.network == "":
@@ -373,7 +382,7 @@ type connection struct {
 // call makes a connection.
 func call(ctx context.Context, address Address, config *tls.Config) (*connection, error) {
 	var dialer net.Dialer
-	made, err := dialer.DialContext(ctx, address.network, address.name)
+	made, err := dialer.DialContext(ctx, address.network, address.dialed())
 	if err != nil {
 		return nil, err
 	}
