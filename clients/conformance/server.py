@@ -152,7 +152,8 @@ class Connections:
         it.close()
 
     def do_half(self, name, _):
-        self.open[name].shutdown(socket.SHUT_WR)
+        with contextlib.suppress(OSError):  # a client may have gone by then
+            self.open[name].shutdown(socket.SHUT_WR)
 
     def do_ended(self, name, _):
         """Waits until the client has closed its side, with nothing sent before."""

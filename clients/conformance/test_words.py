@@ -2,6 +2,7 @@
 import os
 import shutil
 import signal
+import socket
 import subprocess
 import sys
 import tempfile
@@ -9,6 +10,10 @@ import unittest
 
 HERE = os.path.dirname(os.path.abspath(__file__))
 TOP = os.path.dirname(os.path.dirname(HERE))
+sys.path.insert(0, HERE)
+
+from server import Connections, readable  # noqa: E402
+
 RUNNER = ["--", sys.executable, "-B", "clients/python/conformance_runner.py"]
 STAND_IN = "clients/python/stand_in_tbd.py"
 
@@ -86,6 +91,18 @@ class Kit(unittest.TestCase):
             status, said, faults = ran("kit.py", "--jobs", jobs, "--first", *RUNNER)
             self.assertEqual((status, said), (2, ""))
             self.assertIn("--jobs is 1 or more", faults)
+
+    def test_a_client_that_left_with_bytes_unread(self):
+        """Its system resets the connection then: the kit has to go on."""
+        with socket.create_server(("127.0.0.1", 0)) as listening:
+            client = socket.create_connection(listening.getsockname())
+            it = Connections({}, {}, None)
+            it.open["c"] = listening.accept()[0]
+        it.open["c"].sendall(b"no reply")
+        self.assertTrue(readable(client, 10))
+        client.close()
+        it.run([{"half": "c"}, {"ended": "c"}])
+        self.assertEqual(it.open, {})
 
 
 if __name__ == "__main__":
