@@ -5,6 +5,7 @@ import (
 	"context"
 	"encoding/json"
 	"errors"
+	"net"
 	"os"
 	"path/filepath"
 	"strings"
@@ -224,6 +225,31 @@ func TestAPathThatBeginsWithAtIsAFile(t *testing.T) {
 	defer socket.Close()
 	if _, err := tb.Register(background, socket); err != nil {
 		t.Error(err)
+	}
+}
+
+func TestWhatAServerTellsIsShownWithoutControlCharacters(t *testing.T) {
+	path := filepath.Join(t.TempDir(), "ledger.sock")
+	listener, err := net.Listen("unix", path)
+	if err != nil {
+		t.Fatal(err)
+	}
+	defer listener.Close()
+	go func() {
+		for conn, err := listener.Accept(); err == nil; conn, err = listener.Accept() {
+			conn.Write([]byte("tb_listen: \x1b[2J\x9bIdle\n"))
+			conn.Close()
+		}
+	}()
+	socket, err := tb.NewSocket([]tb.Address{tb.Unix(path)})
+	if err != nil {
+		t.Fatal(err)
+	}
+	defer socket.Close()
+	_, err = tb.Register(background, socket, tb.WithAttempts(1))
+	var lost *tb.LostError
+	if !errors.As(err, &lost) || lost.Told != "?[2J?Idle" || !strings.HasSuffix(err.Error(), lost.Told) {
+		t.Errorf("%q", err)
 	}
 }
 

@@ -467,8 +467,16 @@ func told(said []byte, err error) error {
 	if !bytes.HasPrefix(said, toldMark) {
 		return err
 	}
-	name := strings.TrimSpace(string(said[len(toldMark):]))
+	name := strings.Map(printable, strings.TrimSpace(string(said[len(toldMark):])))
 	return &LostError{Told: name, Err: fmt.Errorf("the server closed the connection: %s", name)}
+}
+
+// printable is a character, or ? in place of one that a terminal may obey.
+func printable(it rune) rune {
+	if it < ' ' || it > '~' {
+		return '?'
+	}
+	return it
 }
 
 // errNothingYet says that a connection that is probed has nothing to be read. TLS takes it for a
