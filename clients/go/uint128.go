@@ -2,6 +2,7 @@ package tbclient
 
 import (
 	"encoding/binary"
+	"fmt"
 	"math/big"
 	"math/bits"
 )
@@ -64,6 +65,16 @@ func (it Uint128) BigInt() *big.Int {
 func (it Uint128) String() string {
 	return it.BigInt().String()
 }
+
+// Format prints the number by the verbs of a big.Int, as %v, %d and %x.
+func (it Uint128) Format(state fmt.State, verb rune) {
+	it.BigInt().Format(signless{state}, verb)
+}
+
+// signless passes over the flag of %+v, which asks for the names of fields and for no sign.
+type signless struct{ fmt.State }
+
+func (it signless) Flag(flag int) bool { return flag != '+' && it.State.Flag(flag) }
 
 // IsZero reports whether the number is 0.
 func (it Uint128) IsZero() bool {

@@ -3,6 +3,7 @@ package tbclient_test
 import (
 	"encoding/json"
 	"errors"
+	"fmt"
 	"math/big"
 	"testing"
 
@@ -35,6 +36,21 @@ func TestUint128AndBigInt(t *testing.T) {
 		if err != nil || parsed != row.value {
 			t.Errorf("%s is parsed as %+v, %v", row.text, parsed, err)
 		}
+	}
+}
+
+func TestUint128ByTheVerbsOfNumbers(t *testing.T) {
+	id := tb.Uint128{Hi: 1, Lo: 0xabc}
+	for form, wanted := range map[string]string{
+		"%v": "18446744073709554364", "%s": "18446744073709554364", "%d": "18446744073709554364",
+		"%x": "10000000000000abc", "%#X": "0X10000000000000ABC", "%032x": "000000000000000" + "10000000000000abc",
+	} {
+		if found := fmt.Sprintf(form, id); found != wanted {
+			t.Errorf("%s prints %s, not %s", form, found, wanted)
+		}
+	}
+	if found := fmt.Sprintf("%+v %+v", tb.ToUint128(100), struct{ Amount tb.Uint128 }{tb.ToUint128(7)}); found != "100 {Amount:7}" {
+		t.Errorf("with the names of fields it prints %s", found)
 	}
 }
 
