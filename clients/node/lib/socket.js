@@ -188,7 +188,8 @@ function call(address, secure, ms, signal, hold) {
       it.destroy();
       reject(fault);
     };
-    const timer = after(ms, () => end(new Error("no connection came in time")));
+    const late = () => Object.assign(new Error("no connection came in time"), { isLate: true });
+    const timer = after(ms, () => end(late()));
     it.once(it instanceof tls.TLSSocket ? "secureConnect" : "connect", () => end(undefined));
     it.on("error", (fault) => {
       if (it.authorizationError) fault.isDistrust = true;
@@ -313,13 +314,15 @@ class Socket {
     this.#testOpen();
     testLimit(signal, false);
     if (this.#connection?.isLeft) this.#lose();
+    let told; // the last fault; the end of the time says less than one before it
+    let place; // the address that has it
     for (let pause = FIRST_PAUSE; this.#connection === undefined; ) {
       const fault = await this.#callEach(deadline, signal);
       if (fault === undefined) break;
+      if (told === undefined || !fault.isLate) [told, place] = [fault, shownAddress(this.#gone)];
       const left = deadline - performance.now();
       if (left <= 0 || fault.isDistrust) {
-        const why = fault.message || fault.code;
-        throw new CannotConnect(`${shownAddress(this.#gone)}: ${why}`, { cause: fault });
+        throw new CannotConnect(`${place}: ${told.message || told.code}`, { cause: told });
       }
       await paused(Math.min(pause, left), signal, false);
       this.#testOpen();

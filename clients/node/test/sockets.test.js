@@ -80,6 +80,19 @@ test("nobody listens: CannotConnect, with the system's error", async () => {
   });
 });
 
+test("why no connection can be made is told, also where no time is left for the last call", async () => {
+  const server = net.createServer((it) => setTimeout(() => it.destroy(), 50)); // it speaks no TLS
+  servers.push(server);
+  await new Promise((resolve) => server.listen(0, "127.0.0.1", resolve));
+  const { port } = server.address();
+  const socket = new tb.Socket({ host: "127.0.0.1", port }, { timeout: 1000, tls: {} });
+  await assert.rejects(tb.Session.register(socket), ({ name, message, cause }) => {
+    assert.deepEqual([name, cause.code], ["CannotConnect", "ECONNRESET"], message);
+    assert.ok(message.startsWith(`127.0.0.1:${port}: ${cause.message}`), message);
+    return true;
+  });
+});
+
 test("of several addresses the one is named whose fault is told", async () => {
   const none = path.join(folder, "none.sock");
   const other = path.join(folder, "other-none.sock");
