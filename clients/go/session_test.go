@@ -3,6 +3,7 @@ package tbclient_test
 import (
 	"bytes"
 	"context"
+	"crypto/tls"
 	"encoding/json"
 	"errors"
 	"net"
@@ -224,6 +225,30 @@ func TestAPathThatBeginsWithAtIsAFile(t *testing.T) {
 	}
 	defer socket.Close()
 	if _, err := tb.Register(background, socket); err != nil {
+		t.Error(err)
+	}
+}
+
+// A server that speaks no TLS closes the first connection, and does nothing with the next one.
+func TestCannotConnectTellsWhy(t *testing.T) {
+	listener, err := net.Listen("tcp", "127.0.0.1:0")
+	if err != nil {
+		t.Fatal(err)
+	}
+	defer listener.Close()
+	go func() {
+		if conn, err := listener.Accept(); err == nil {
+			conn.Close()
+		}
+	}()
+	address := tb.TCP("127.0.0.1", listener.Addr().(*net.TCPAddr).Port)
+	socket, err := tb.NewSocket([]tb.Address{address}, tb.WithTLS(&tls.Config{}), tb.WithTimeout(time.Second))
+	if err != nil {
+		t.Fatal(err)
+	}
+	defer socket.Close()
+	_, err = tb.Register(background, socket)
+	if !errors.Is(err, tb.ErrCannotConnect) || strings.Contains(err.Error(), "deadline") {
 		t.Error(err)
 	}
 }

@@ -287,13 +287,17 @@ func (it *Socket) connected(ctx context.Context) (*connection, error) {
 			}
 		}()
 	}
+	var told error // the last fault; the end of the time says less than one before it
 	for pause := firstPause; conn == nil; pause = doubled(pause, lastPause) {
 		err := error(nil)
 		if conn, err = it.callEach(ctx); err == nil {
 			break
 		}
+		if told == nil || !errors.Is(err, context.DeadlineExceeded) {
+			told = err
+		}
 		if isCertificate(err) || !sleep(ctx, pause) {
-			return nil, fmt.Errorf("%w: %v", ErrCannotConnect, err)
+			return nil, fmt.Errorf("%w: %v", ErrCannotConnect, told)
 		}
 	}
 	return conn, it.keep(conn)
