@@ -56,6 +56,7 @@ class Kit:
         self.lock, self.work = threading.Lock(), queue.Queue()
         self.passed = self.unrepresentable = self.repeated = 0
         self.failed, self.skipped = [], {}
+        self.runners, self.is_over = [], False
 
     def worker(self):
         try:
@@ -66,15 +67,16 @@ class Kit:
     def work_off(self):
         with tempfile.TemporaryDirectory(prefix="kit") as folder:
             runner = Runner(self.given.command, folder)
+            self.runners.append(runner)
             hello = self.begun(runner)
-            while True:
+            while not self.is_over:
                 try:
                     scenario = self.work.get_nowait()
                 except queue.Empty:
                     break
                 if self.given.first and self.failed:
                     break
-                if not self.one(scenario, runner, hello):
+                if not self.one(scenario, runner, hello) and not self.is_over:
                     hello = self.begun(runner)
             if runner.process is not None and runner.end() != 0:
                 self.fail("end", "the runner does not end with status 0 at the end of its input")
@@ -115,7 +117,7 @@ class Kit:
                 runner.call({"do": "reset"}, CALL)
                 return run.run(factor)
             except (Failed, Ended):
-                if factor == factors[-1]:
+                if factor == factors[-1] or self.is_over:
                     raise
                 with self.lock:
                     self.repeated += 1
@@ -123,6 +125,8 @@ class Kit:
 
     def fail(self, name, why, said=""):
         with self.lock:
+            if self.is_over:
+                return
             self.failed.append(name)
             print(
                 f"FAILED: {name}: {why}"
@@ -134,13 +138,25 @@ class Kit:
         for scenario in chosen:
             self.work.put(scenario)
         workers = [
-            threading.Thread(target=self.worker)
+            threading.Thread(target=self.worker, daemon=True)
             for _ in range(min(self.given.jobs, max(len(chosen), 1)))
         ]
         for it in workers:
             it.start()
-        for it in workers:
-            it.join()
+        try:
+            while any(it.is_alive() for it in workers):
+                time.sleep(0.05)  # a join might not see an interrupt
+        except KeyboardInterrupt:
+            self.stop()
+            raise
+
+    def stop(self):
+        """Kills the runners. What becomes of their scenarios then is no failure."""
+        with self.lock:
+            self.is_over = True
+        for it in self.runners:
+            if it.process is not None:
+                it.strike()
 
 
 def words():
@@ -226,4 +242,11 @@ def report(kit, said, chosen, seconds):
 
 
 if __name__ == "__main__":
-    sys.exit(main())
+    try:
+        sys.exit(main())
+    except KeyboardInterrupt:
+        print("interrupted", file=sys.stderr)
+        sys.exit(130)
+    except BrokenPipeError:  # nobody reads the output any more
+        os.dup2(os.open(os.devnull, os.O_WRONLY), sys.stdout.fileno())
+        sys.exit(141)

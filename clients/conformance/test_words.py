@@ -92,6 +92,32 @@ class Kit(unittest.TestCase):
             self.assertEqual((status, said), (2, ""))
             self.assertIn("--jobs is 1 or more", faults)
 
+    def begun(self, *words):
+        it = subprocess.Popen(
+            [sys.executable, "-B", f"{HERE}/kit.py", *words],
+            cwd=TOP,
+            stdout=subprocess.PIPE,
+            stderr=subprocess.PIPE,
+            text=True,
+        )
+        self.addCleanup(it.__exit__, None, None, None)
+        self.addCleanup(it.kill)
+        return it
+
+    def test_an_interrupt(self):
+        """No scenario fails by it, and no traceback is printed."""
+        it = self.begun("--verbose", *RUNNER)
+        self.assertIn("ok: ", it.stdout.readline())
+        it.send_signal(signal.SIGINT)
+        said, faults = it.communicate(timeout=60)
+        self.assertEqual((it.returncode, faults), (130, "interrupted\n"))
+        self.assertNotIn("FAILED", said)
+
+    def test_a_list_that_nobody_reads_to_its_end(self):
+        it = self.begun("--list")
+        it.stdout.close()
+        self.assertEqual((it.wait(60), it.stderr.read()), (141, ""))
+
     def test_a_client_that_left_with_bytes_unread(self):
         """Its system resets the connection then: the kit has to go on."""
         with socket.create_server(("127.0.0.1", 0)) as listening:
