@@ -29,7 +29,8 @@ type AccountResults = Results[CreateAccountResult]
 type TransferResults = Results[CreateTransferResult]
 
 // Except is the results without those of this code: after an eviction the same records are created
-// again, and AccountExists or TransferExists says that it was done before.
+// again, and AccountExists or TransferExists says that it was done before. Of a linked chain that
+// was done before one event has that code, and the others are linked_event_failed: those are left.
 func (it Results[C]) Except(code C) Results[C] {
 	var rest Results[C]
 	for _, row := range it {
