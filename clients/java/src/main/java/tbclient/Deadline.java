@@ -1,5 +1,7 @@
 package tbclient;
 
+import java.io.InterruptedIOException;
+import java.net.SocketTimeoutException;
 import java.time.Duration;
 import java.util.concurrent.TimeUnit;
 import java.util.concurrent.locks.Lock;
@@ -38,6 +40,16 @@ final class Deadline {
 
     boolean isOver() {
         return left() <= 0;
+    }
+
+    /** Throws where the thread was interrupted, or this went by. */
+    void test() throws InterruptedIOException {
+        if (Thread.currentThread().isInterrupted()) {
+            throw new InterruptedIOException("the thread was interrupted");
+        }
+        if (isOver()) {
+            throw new SocketTimeoutException("the time went by");
+        }
     }
 
     /** What is left as a time, or null where it never is. */

@@ -1,11 +1,9 @@
 package tbclient;
 
 import java.io.IOException;
-import java.io.InterruptedIOException;
 import java.net.ConnectException;
 import java.net.InetSocketAddress;
 import java.net.SocketAddress;
-import java.net.SocketTimeoutException;
 import java.net.StandardProtocolFamily;
 import java.net.StandardSocketOptions;
 import java.nio.ByteBuffer;
@@ -103,13 +101,8 @@ final class PlainLink implements Link {
     private void await(int operation, Deadline until) throws IOException {
         key.interestOps(operation);
         while (true) {
-            if (Thread.currentThread().isInterrupted()) {
-                throw new InterruptedIOException("the thread was interrupted");
-            }
-            long left = until.left();
-            if (left <= 0) {
-                throw new SocketTimeoutException("the time went by");
-            }
+            until.test();
+            long left = Math.max(until.left(), 0);
             selector.select(Math.min(TimeUnit.NANOSECONDS.toMillis(left) + 1, WAIT_MAX));
             if (!selector.selectedKeys().isEmpty()) {
                 selector.selectedKeys().clear();

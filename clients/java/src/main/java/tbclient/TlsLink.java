@@ -50,7 +50,7 @@ final class TlsLink implements Link {
         engine.beginHandshake();
         try {
             while (step(until)) {
-                continue;
+                until.test(); // a server may send on and on what agrees on nothing
             }
         } catch (IOException why) {
             tell();

@@ -62,13 +62,13 @@ public class TlsTest {
         }
     }
 
-    /** Answers each connection with the beginning of a record of 20,000 bytes, and no more. */
-    private static void beginRecords(ServerSocket server) {
-        byte[] record = new byte[5 + 19_999];
-        System.arraycopy(new byte[] {22, 3, 3, 0x4e, 0x20}, 0, record, 0, 5);
+    /** Says the same bytes on each connection, once or again and again. */
+    private static void say(ServerSocket server, byte[] data, boolean isEndless) {
         while (!server.isClosed()) {
             try (Socket it = server.accept()) {
-                it.getOutputStream().write(record);
+                do {
+                    it.getOutputStream().write(data);
+                } while (isEndless);
                 it.getInputStream().readAllBytes();
             } catch (IOException why) {
                 continue; // the client is gone, or the server closed
@@ -76,25 +76,41 @@ public class TlsTest {
         }
     }
 
-    @Test(timeout = 60_000)
-    public void aLongRecordIsWaitedFor() throws Exception {
+    /** A client of such a server cannot connect within 3 seconds. */
+    private void cannotConnect(byte[] said, boolean isEndless) throws Exception {
         Files.write(key, KEY);
         SSLContext tls = Tls.context(certificate, certificate, key);
         Thread serving;
         try (ServerSocket server = new ServerSocket(0, 9, InetAddress.getLoopbackAddress())) {
-            serving = new Thread(() -> beginRecords(server));
+            serving = new Thread(() -> say(server, said, isEndless));
             serving.start();
             Address address = Address.tcp("127.0.0.1", server.getLocalPort());
             Duration timeout = Duration.ofSeconds(3);
-            long begin = ManagementFactory.getThreadMXBean().getCurrentThreadCpuTime();
             try (SocketTransport it = new SocketTransport(List.of(address), timeout, tls)) {
                 byte[] frame = Frames.request(BigInteger.ONE, 0, 0, Operation.REGISTER, new byte[0]);
                 assertThrows(CannotConnectException.class, () -> it.exchange(frame, timeout.multipliedBy(9)));
             }
-            long took = ManagementFactory.getThreadMXBean().getCurrentThreadCpuTime() - begin;
-            assertTrue("CPU time of " + took + " ns", took < 1_000_000_000L);
         }
         serving.join();
+    }
+
+    @Test(timeout = 60_000)
+    public void aLongRecordIsWaitedFor() throws Exception {
+        byte[] begun = new byte[5 + 19_999]; // of a record of 20,000 bytes
+        System.arraycopy(new byte[] {22, 3, 3, 0x4e, 0x20}, 0, begun, 0, 5);
+        long begin = ManagementFactory.getThreadMXBean().getCurrentThreadCpuTime();
+        cannotConnect(begun, false);
+        long took = ManagementFactory.getThreadMXBean().getCurrentThreadCpuTime() - begin;
+        assertTrue("CPU time of " + took + " ns", took < 1_000_000_000L);
+    }
+
+    @Test(timeout = 60_000)
+    public void warningsWithoutAnEndDoNotPutTheLimitOff() throws Exception {
+        byte[] warnings = new byte[7 * 2000];
+        for (int at = 0; at < warnings.length; at += 7) { // unexpected_message: it is passed over
+            System.arraycopy(new byte[] {21, 3, 3, 0, 2, 1, 10}, 0, warnings, at, 7);
+        }
+        cannotConnect(warnings, true);
     }
 
     @Test
