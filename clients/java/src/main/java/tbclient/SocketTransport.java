@@ -38,7 +38,7 @@ public final class SocketTransport implements Transport {
     private int at;
     private Address gone; // the one that was given up last
     private Link link;
-    private boolean closed;
+    private volatile boolean closed; // also for who waits for the lock
 
     /**
      * A transport to one address, with {@link #TIMEOUT}, without TLS.
@@ -85,13 +85,17 @@ public final class SocketTransport implements Transport {
         Deadline limit = Deadline.in(within);
         limit.take(lock);
         try {
-            if (closed) {
-                throw new ClosedException("this transport was closed");
-            }
+            testOpen();
             Deadline until = limit.sooner(timeout.toNanos());
             return answered(frame, until, limit);
         } finally {
             lock.unlock();
+        }
+    }
+
+    private void testOpen() {
+        if (closed) {
+            throw new ClosedException("this transport was closed");
         }
     }
 
@@ -156,6 +160,7 @@ public final class SocketTransport implements Transport {
         }
         long pause = FIRST_PAUSE;
         while (link == null) {
+            testOpen();
             try {
                 IOException fault = callEach(until);
                 if (fault != null && (isOfCertificate(fault) || !until.sleep(pause))) {
@@ -297,14 +302,15 @@ public final class SocketTransport implements Transport {
     }
 
     /**
-     * Closes the connection. Each exchange afterwards is a {@link ClosedException}; one that goes
-     * on in another thread comes to its end first.
+     * Closes the connection. Each exchange afterwards is a {@link ClosedException}, and so is one
+     * that waits for its turn, or for a server that listens. One that was sent in another thread
+     * comes to its end first.
      */
     @Override
     public void close() {
+        closed = true;
         lock.lock();
         try {
-            closed = true;
             hangUp();
         } finally {
             lock.unlock();

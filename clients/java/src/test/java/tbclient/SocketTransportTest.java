@@ -18,6 +18,7 @@ import java.time.Duration;
 import java.util.ArrayList;
 import java.util.List;
 import java.util.concurrent.Callable;
+import java.util.concurrent.ExecutionException;
 import java.util.concurrent.ExecutorService;
 import java.util.concurrent.Executors;
 import java.util.concurrent.Future;
@@ -207,6 +208,45 @@ public class SocketTransportTest {
         session.close();
         assertThrows(ClosedException.class, () -> session.lookupAccounts(List.of(BigInteger.ONE)));
         assertEquals(1, connections.get());
+    }
+
+    /** Begins registers of so many threads over a transport that does not answer. */
+    private static List<Future<Session>> waiting(ExecutorService threads, Transport over, int count)
+            throws InterruptedException {
+        List<Future<Session>> found = new ArrayList<>();
+        for (int at = 0; at < count; at++) {
+            found.add(threads.submit(() -> registered(over)));
+        }
+        Thread.sleep(300); // until they wait
+        return found;
+    }
+
+    @Test(timeout = 60_000)
+    public void whoWaitsForATurnIsToldThatItIsClosed() throws Exception {
+        ExecutorService threads = Executors.newFixedThreadPool(8);
+        silent.set(8);
+        SocketTransport transport = transport(Duration.ofSeconds(3));
+        List<Future<Session>> calls = waiting(threads, transport, 8);
+        transport.close();
+        threads.shutdown();
+        int closed = 0;
+        for (Future<Session> it : calls) {
+            Throwable why = assertThrows(ExecutionException.class, it::get).getCause();
+            closed += why instanceof ClosedException ? 1 : 0;
+        }
+        assertEquals(7, closed);
+    }
+
+    @Test(timeout = 30_000)
+    public void whoConnectsIsToldThatItIsClosed() throws Exception {
+        ExecutorService threads = Executors.newFixedThreadPool(1);
+        List<Address> none = List.of(Address.unix("/nowhere/ledger.sock"));
+        SocketTransport transport = new SocketTransport(none, Duration.ofHours(1), null);
+        Future<Session> call = waiting(threads, transport, 1).get(0);
+        transport.close();
+        threads.shutdown();
+        Throwable why = assertThrows(ExecutionException.class, call::get).getCause();
+        assertTrue(why.toString(), why instanceof ClosedException);
     }
 
     @Test(timeout = 60_000)
