@@ -24,8 +24,9 @@ final class Deadline {
         if (time == null) {
             return new Deadline(false, 0);
         }
-        Duration most = time.compareTo(LONGEST) < 0 ? time : LONGEST;
-        return new Deadline(true, System.nanoTime() + Math.max(most.toNanos(), 0));
+        Duration least = time.isNegative() ? Duration.ZERO : time;
+        Duration most = least.compareTo(LONGEST) < 0 ? least : LONGEST;
+        return new Deadline(true, System.nanoTime() + most.toNanos());
     }
 
     /** So many nanoseconds from now, but not beyond this one. */
@@ -60,7 +61,7 @@ final class Deadline {
     /** Takes a lock before this. Where that fails nothing was sent, and the call is cancelled. */
     void take(Lock lock) {
         try {
-            if (lock.tryLock(left(), TimeUnit.NANOSECONDS)) {
+            if (!isOver() && lock.tryLock(left(), TimeUnit.NANOSECONDS)) {
                 return;
             }
         } catch (InterruptedException why) {

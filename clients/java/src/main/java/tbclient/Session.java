@@ -19,8 +19,9 @@ import java.util.concurrent.locks.ReentrantLock;
  * RefusedException} and a {@link CancelledException} that may have been sent, the request stays in
  * doubt, and no other one is made.
  *
- * <p>Each call has a form with a limit of its own, {@code within}: null is none. Without it a call
- * takes at most its attempts, each with the transport's timeout, and the pauses between them.
+ * <p>Each call has a form with a limit of its own, {@code within}: null is none, and one of 0 or
+ * less sends nothing. Without it a call takes at most its attempts, each with the transport's
+ * timeout, and the pauses between them.
  *
  * <p>Threads may share a session: their requests go one after another.
  */

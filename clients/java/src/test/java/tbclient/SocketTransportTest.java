@@ -132,6 +132,24 @@ public class SocketTransportTest {
     }
 
     @Test(timeout = 30_000)
+    public void aLimitThatWentByBeforeSendsNothing() {
+        try (Session session = registered(transport(Duration.ofSeconds(20)))) {
+            for (long seconds : new long[] {0, -1, Long.MIN_VALUE}) {
+                Duration over = Duration.ofSeconds(seconds);
+                CancelledException why =
+                        assertThrows(
+                                CancelledException.class,
+                                () -> session.lookupAccounts(List.of(BigInteger.ONE), over));
+                assertFalse(why.mayHaveSent());
+                assertTrue(session.inDoubt().isEmpty());
+            }
+            session.lookupAccounts(List.of(BigInteger.ONE), Duration.ofSeconds(Long.MAX_VALUE));
+            assertEquals(1, session.number());
+            assertEquals(2, commits.get());
+        }
+    }
+
+    @Test(timeout = 30_000)
     public void anInterruptEndsAWait() throws Exception {
         try (Session session = registered(transport(Duration.ofSeconds(20)))) {
             silent.set(1);
