@@ -4,6 +4,7 @@ import java.io.IOException;
 import java.io.InterruptedIOException;
 import java.net.SocketAddress;
 import java.net.SocketTimeoutException;
+import java.net.UnknownHostException;
 import java.nio.ByteBuffer;
 import java.nio.charset.StandardCharsets;
 import java.security.cert.CertificateException;
@@ -167,14 +168,19 @@ public final class SocketTransport implements Transport {
                     if (limit.isOver()) {
                         throw Deadline.late(false);
                     }
-                    String why = fault.getMessage() == null ? fault.toString() : fault.getMessage();
-                    throw new CannotConnectException(gone + ": " + why, fault);
+                    throw new CannotConnectException(gone + ": " + said(fault), fault);
                 }
                 pause = Math.min(2 * pause, LAST_PAUSE);
             } catch (InterruptedIOException | InterruptedException why) {
                 throw Deadline.interrupted(false);
             }
         }
+    }
+
+    private static String said(IOException fault) {
+        String said = fault.getMessage() == null ? fault.toString() : fault.getMessage();
+        boolean isName = fault instanceof UnknownHostException; // of which Java says no more
+        return isName ? "the host's name cannot be looked up: " + said : said;
     }
 
     /** Calls the addresses in order until one answers: the last fault where none does, or null. */

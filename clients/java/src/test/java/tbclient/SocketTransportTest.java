@@ -219,6 +219,17 @@ public class SocketTransportTest {
         }
     }
 
+    @Test(timeout = 60_000)
+    public void aHostThatCannotBeLookedUpIsToldSo() {
+        for (int time = 0; time < 2; time++) { // Java says less of it the second time
+            SocketTransport none =
+                    new SocketTransport(List.of(Address.tcp("no.invalid", 1)), SHORT, null);
+            String told =
+                    assertThrows(CannotConnectException.class, () -> registered(none)).getMessage();
+            assertTrue(told, told.startsWith("no.invalid:1: the host's name cannot be looked up"));
+        }
+    }
+
     @Test(timeout = 30_000)
     public void whatIsClosedStaysClosed() {
         Session session = registered(transport(SHORT));
