@@ -5,10 +5,12 @@ import java.net.InetAddress;
 import java.net.InetSocketAddress;
 import java.net.SocketAddress;
 import java.net.UnixDomainSocketAddress;
+import java.nio.file.FileSystems;
 import java.nio.file.InvalidPathException;
 import java.nio.file.Path;
 import java.util.ArrayList;
 import java.util.List;
+import java.util.Objects;
 
 /** Where a server listens: a Unix socket's path, or a host and a port. */
 public final class Address {
@@ -44,11 +46,14 @@ public final class Address {
      *
      * @param path its path
      * @return the address
-     * @throws InvalidValueException where the path is empty
+     * @throws InvalidValueException where the path is empty, or of no file system of the computer's
      */
     public static Address unix(Path path) {
         if (Values.given("address", path).toString().isEmpty()) {
             throw new InvalidValueException("address", "is no path: it is empty");
+        }
+        if (path.getFileSystem() != FileSystems.getDefault()) {
+            throw new InvalidValueException("address", "is a path within a file, as a zip file");
         }
         return new Address(path, null, 0);
     }
@@ -95,12 +100,15 @@ public final class Address {
 
     @Override
     public boolean equals(Object other) {
-        return other instanceof Address && toString().equals(other.toString());
+        return other instanceof Address it
+                && Objects.equals(path, it.path)
+                && Objects.equals(host, it.host)
+                && port == it.port;
     }
 
     @Override
     public int hashCode() {
-        return toString().hashCode();
+        return Objects.hash(path, host, port);
     }
 
     @Override

@@ -3,6 +3,7 @@ package tbclient;
 import static java.nio.charset.StandardCharsets.US_ASCII;
 import static org.junit.Assert.assertEquals;
 import static org.junit.Assert.assertFalse;
+import static org.junit.Assert.assertNotEquals;
 import static org.junit.Assert.assertThrows;
 import static org.junit.Assert.assertTrue;
 
@@ -13,10 +14,14 @@ import java.math.BigInteger;
 import java.net.InetAddress;
 import java.net.ServerSocket;
 import java.net.Socket;
+import java.nio.file.FileSystem;
+import java.nio.file.FileSystems;
+import java.nio.file.Files;
 import java.nio.file.Path;
 import java.time.Duration;
 import java.util.ArrayList;
 import java.util.List;
+import java.util.Map;
 import java.util.concurrent.Callable;
 import java.util.concurrent.ExecutionException;
 import java.util.concurrent.ExecutorService;
@@ -296,6 +301,28 @@ public class SocketTransportTest {
             assertEquals(1, connections.get());
         } finally {
             threads.shutdownNow();
+        }
+    }
+
+    @Test
+    public void addressesAreTheSameWhereTheyLeadToOnePlace() {
+        Address port = Address.tcp("ledger", 3001);
+        assertEquals(port, Address.tcp("ledger", 3001));
+        assertEquals(port.hashCode(), Address.tcp("ledger", 3001).hashCode());
+        assertEquals(Address.unix("a/b"), Address.unix(Path.of("a/b")));
+        assertNotEquals(port, Address.tcp("ledger", 3002));
+        assertNotEquals(port, Address.unix("ledger:3001"));
+        assertNotEquals(Address.unix("a"), Address.unix("b"));
+    }
+
+    @Test
+    public void aPathWithinAZipFileIsNoAddress() throws IOException {
+        Path zip = Files.createTempDirectory("tbclient").resolve("a.zip");
+        try (FileSystem inside = FileSystems.newFileSystem(zip, Map.of("create", "true"))) {
+            invalid("address", () -> Address.unix(inside.getPath("ledger.sock")));
+        } finally {
+            Files.deleteIfExists(zip);
+            Files.delete(zip.getParent());
         }
     }
 
