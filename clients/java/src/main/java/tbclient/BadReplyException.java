@@ -4,7 +4,12 @@ package tbclient;
 public final class BadReplyException extends ClientException {
     private static final long serialVersionUID = 1L;
 
-    BadReplyException(String message) {
+    /**
+     * For a {@link Transport}.
+     *
+     * @param message what is wrong with it
+     */
+    public BadReplyException(String message) {
         super(message);
     }
 }

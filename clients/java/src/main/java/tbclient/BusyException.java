@@ -4,7 +4,12 @@ package tbclient;
 public final class BusyException extends ReplyLostException {
     private static final long serialVersionUID = 1L;
 
-    BusyException(String message) {
+    /**
+     * For a {@link Transport}.
+     *
+     * @param message what became of the sending
+     */
+    public BusyException(String message) {
         super(message, "Busy", null);
     }
 }

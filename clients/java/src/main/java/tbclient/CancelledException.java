@@ -10,7 +10,13 @@ public final class CancelledException extends ClientException {
     /** Whether the request may have been sent. */
     private final boolean sent;
 
-    CancelledException(String message, boolean sent) {
+    /**
+     * For a {@link Transport}.
+     *
+     * @param message what ended the call
+     * @param sent whether the request may have been sent
+     */
+    public CancelledException(String message, boolean sent) {
         super(message);
         this.sent = sent;
     }

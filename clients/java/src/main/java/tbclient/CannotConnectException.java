@@ -4,7 +4,13 @@ package tbclient;
 public final class CannotConnectException extends NotSentException {
     private static final long serialVersionUID = 1L;
 
-    CannotConnectException(String message, Throwable cause) {
+    /**
+     * For a {@link Transport}.
+     *
+     * @param message why nothing could be sent
+     * @param cause what was behind it, or null
+     */
+    public CannotConnectException(String message, Throwable cause) {
         super(message, cause);
     }
 }

@@ -4,7 +4,12 @@ package tbclient;
 public final class ClosedException extends NotSentException {
     private static final long serialVersionUID = 1L;
 
-    ClosedException(String message) {
+    /**
+     * For a {@link Transport}.
+     *
+     * @param message what was closed
+     */
+    public ClosedException(String message) {
         super(message);
     }
 }

@@ -10,9 +10,16 @@ public class ReplyLostException extends ClientException {
     /** What the server said. */
     private final String told;
 
-    ReplyLostException(String message, String told, Throwable cause) {
+    /**
+     * For a {@link Transport}.
+     *
+     * @param message what became of the sending
+     * @param told the name that the server gave, or an empty text
+     * @param cause what was behind it, or null
+     */
+    public ReplyLostException(String message, String told, Throwable cause) {
         super(message, cause);
-        this.told = told;
+        this.told = Values.given("told", told);
     }
 
     /**

@@ -2,7 +2,12 @@ package tbclient;
 
 import java.time.Duration;
 
-/** Carries frames: one exchange is one sending of a request and its reply. */
+/**
+ * Carries frames: one exchange is one sending of a request and its reply.
+ *
+ * <p>A session sends the same bytes again after a {@link ReplyLostException}. What else an exchange
+ * throws goes to the caller, and the request is in doubt unless it says that nothing was sent.
+ */
 @FunctionalInterface
 public interface Transport extends AutoCloseable {
     /**
