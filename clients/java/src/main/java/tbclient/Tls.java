@@ -10,7 +10,9 @@ import java.security.KeyFactory;
 import java.security.KeyStore;
 import java.security.PrivateKey;
 import java.security.cert.Certificate;
+import java.security.cert.CertificateException;
 import java.security.cert.CertificateFactory;
+import java.security.spec.InvalidKeySpecException;
 import java.security.spec.PKCS8EncodedKeySpec;
 import java.util.Base64;
 import java.util.Collection;
@@ -58,11 +60,8 @@ public final class Tls {
         try {
             KeyStore trusted = KeyStore.getInstance(KeyStore.getDefaultType());
             trusted.load(null, null);
-            for (Certificate it : certificates(Values.given("authorities", authorities))) {
+            for (Certificate it : certificates("authorities", authorities)) {
                 trusted.setCertificateEntry("authority" + trusted.size(), it);
-            }
-            if (trusted.size() == 0) {
-                throw new InvalidValueException("authorities", "has no certificate");
             }
             TrustManagerFactory trust =
                     TrustManagerFactory.getInstance(TrustManagerFactory.getDefaultAlgorithm());
@@ -71,26 +70,33 @@ public final class Tls {
             KeyManager[] own = certificate == null ? null : own(certificate, key);
             context.init(own, trust.getTrustManagers(), null);
             return context;
-        } catch (GeneralSecurityException | IllegalArgumentException why) {
+        } catch (GeneralSecurityException why) {
             throw new InvalidValueException("tls", "is no certificate or key: " + why.getMessage());
         } catch (IOException why) {
-            throw new FileException("a PEM file cannot be read: " + why, why);
+            throw new FileException("keys cannot be kept: " + why, why); // in memory
         }
     }
 
-    private static Collection<? extends Certificate> certificates(Path path)
-            throws IOException, GeneralSecurityException {
-        try (InputStream file = Files.newInputStream(path)) {
-            return CertificateFactory.getInstance("X.509").generateCertificates(file);
+    /** The certificates of a file, one at least. */
+    private static Collection<? extends Certificate> certificates(String field, Path path) {
+        try (InputStream file = Files.newInputStream(Values.given(field, path))) {
+            Collection<? extends Certificate> found =
+                    CertificateFactory.getInstance("X.509").generateCertificates(file);
+            if (found.isEmpty()) {
+                throw new InvalidValueException(field, "has no certificate");
+            }
+            return found;
+        } catch (CertificateException why) {
+            throw new InvalidValueException(
+                    field, "has no certificate that can be read: " + why.getMessage());
+        } catch (IOException why) {
+            throw new FileException(path + " cannot be read: " + why, why);
         }
     }
 
     private static KeyManager[] own(Path certificate, Path key)
             throws IOException, GeneralSecurityException {
-        Certificate[] chain = certificates(certificate).toArray(new Certificate[0]);
-        if (chain.length == 0) {
-            throw new InvalidValueException("certificate", "has no certificate");
-        }
+        Certificate[] chain = certificates("certificate", certificate).toArray(new Certificate[0]);
         KeyStore store = KeyStore.getInstance(KeyStore.getDefaultType());
         store.load(null, null);
         PrivateKey secret = key(key, chain[0].getPublicKey().getAlgorithm());
@@ -101,16 +107,28 @@ public final class Tls {
         return keys.getKeyManagers();
     }
 
-    private static PrivateKey key(Path path, String algorithm)
-            throws IOException, GeneralSecurityException {
-        String text = Files.readString(path, StandardCharsets.ISO_8859_1);
+    private static PrivateKey key(Path path, String algorithm) throws GeneralSecurityException {
+        String text = textOf(path);
         int begin = text.indexOf(KEY_BEGIN);
         int end = text.indexOf("-----END PRIVATE KEY-----");
         if (begin < 0 || end < begin) {
             throw new InvalidValueException("key", "has no private key of PKCS #8");
         }
         String inside = text.substring(begin + KEY_BEGIN.length(), end);
-        byte[] data = Base64.getMimeDecoder().decode(inside);
-        return KeyFactory.getInstance(algorithm).generatePrivate(new PKCS8EncodedKeySpec(data));
+        try {
+            byte[] data = Base64.getMimeDecoder().decode(inside);
+            return KeyFactory.getInstance(algorithm).generatePrivate(new PKCS8EncodedKeySpec(data));
+        } catch (InvalidKeySpecException | IllegalArgumentException why) {
+            throw new InvalidValueException(
+                    "key", "is no " + algorithm + " key, as the certificate's: " + why.getMessage());
+        }
+    }
+
+    private static String textOf(Path path) {
+        try {
+            return Files.readString(path, StandardCharsets.ISO_8859_1);
+        } catch (IOException why) {
+            throw new FileException(path + " cannot be read: " + why, why);
+        }
     }
 }

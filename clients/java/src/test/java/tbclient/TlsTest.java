@@ -1,5 +1,6 @@
 package tbclient;
 
+import static org.junit.Assert.assertEquals;
 import static org.junit.Assert.assertNotNull;
 import static org.junit.Assert.assertThrows;
 import static org.junit.Assert.assertTrue;
@@ -18,6 +19,7 @@ import javax.net.ssl.SSLContext;
 import org.junit.Before;
 import org.junit.Rule;
 import org.junit.Test;
+import org.junit.function.ThrowingRunnable;
 import org.junit.rules.TemporaryFolder;
 
 /** PEM files of keys, by how their lines end, and what is none. */
@@ -111,6 +113,27 @@ public class TlsTest {
             System.arraycopy(new byte[] {21, 3, 3, 0, 2, 1, 10}, 0, warnings, at, 7);
         }
         cannotConnect(warnings, true);
+    }
+
+    @Test
+    public void theFileThatIsWrongIsNamed() throws IOException {
+        Files.write(key, KEY);
+        Path none = folder.getRoot().toPath().resolve("none.pem");
+        wrong("authorities", () -> Tls.context(key));
+        wrong("certificate", () -> Tls.context(certificate, key, key));
+        for (Path it : List.of(none, folder.newFolder("key.d").toPath())) {
+            FileException why =
+                    assertThrows(
+                            FileException.class,
+                            () -> Tls.context(certificate, certificate, it));
+            assertTrue(why.getMessage(), why.getMessage().startsWith(it + " cannot be read: "));
+        }
+        Files.writeString(key, String.join("\n", KEY).replace("MIGH", "AAAA"));
+        wrong("key", () -> Tls.context(certificate, certificate, key));
+    }
+
+    private static void wrong(String field, ThrowingRunnable call) {
+        assertEquals(field, assertThrows(InvalidValueException.class, call).field());
     }
 
     @Test
