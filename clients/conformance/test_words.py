@@ -16,6 +16,7 @@ from server import Connections, readable  # noqa: E402
 
 RUNNER = ["--", sys.executable, "-B", "clients/python/conformance_runner.py"]
 STAND_IN = "clients/python/stand_in_tbd.py"
+JUNIT = "/usr/share/java/junit4.jar"
 
 
 def ran(program, *words):
@@ -82,6 +83,25 @@ class Throughput(unittest.TestCase):
         self.assertEqual(left, [])
         said, _ = self.begun(words, [sys.executable, "-SE", STAND_IN])
         self.assertIn("| | 1 connection, requests/s |", said)
+
+
+class Java(unittest.TestCase):
+    """What builds the client in Java."""
+
+    @unittest.skipUnless(shutil.which("javac") and os.path.exists(JUNIT), "there is no JUnit")
+    def test_the_tests_are_of_the_sources_as_they_are(self):
+        room = tempfile.mkdtemp()
+        self.addCleanup(shutil.rmtree, room)
+        client = shutil.copytree(
+            f"{TOP}/clients/java", f"{room}/java", ignore=shutil.ignore_patterns("out")
+        )
+        words = ["sh", f"{client}/build.sh"]
+        subprocess.run(words, check=True, timeout=600)
+        with open(f"{client}/src/main/java/tbclient/Link.java", "a", encoding="utf-8") as it:
+            it.write("no Java\n")
+        ran = subprocess.run([*words, "test"], capture_output=True, text=True, timeout=600)
+        self.assertIn("Link.java", ran.stderr)
+        self.assertEqual(ran.returncode, 1, ran.stdout[-300:])
 
 
 class Kit(unittest.TestCase):

@@ -2,7 +2,7 @@
 # Builds the client by javac alone, where each warning is an error.
 #
 #     build.sh             makes out/classes, and the runner in out/test-classes
-#     build.sh test        runs the unit tests, over Debian's JUnit
+#     build.sh test        does that, and runs the unit tests, over Debian's JUnit
 #     build.sh lint        tests the doc comments, by javadoc
 #     build.sh package     makes the jars, by Maven over Debian's plugins and without a network
 set -eu
@@ -11,21 +11,26 @@ junit=/usr/share/java/junit4.jar:/usr/share/java/hamcrest-core.jar
 repository=/usr/share/maven-repo
 strictly="javac -Xlint:all -Werror --release 17 -encoding UTF-8"
 
-mkdir -p out
-case "${1:-build}" in
-build)
+build() {
     $strictly -d out/classes $(find src/main -name '*.java')
     $strictly -cp out/classes -d out/test-classes $(find src/test -name '*.java' ! -name '*Test.java')
     if [ ! -e out/test-classes/warm.p12 ]; then
         keytool -genkeypair -alias warm -keyalg EC -validity 3650 -storetype PKCS12 -storepass warming \
             -dname CN=localhost -ext san=dns:localhost -keystore out/test-classes/warm.p12 2>/dev/null
     fi
+}
+
+mkdir -p out
+case "${1:-build}" in
+build)
+    build
     ;;
 test)
     if [ ! -e "${junit%%:*}" ]; then
         echo "passed over: Debian's junit4 is not there"
         exit
     fi
+    build
     $strictly -cp "out/classes:$junit" -d out/test-classes $(find src/test -name '*.java')
     java -ea -cp "out/classes:out/test-classes:$junit" org.junit.runner.JUnitCore \
         $(find src/test -name '*Test.java' | sed 's,src/test/java/,,; s,/,.,g; s,\.java$,,' | sort)
