@@ -95,6 +95,37 @@ WRONG = {
         "throw last == null || why.mayHaveSent() ? why : afterSending(last, why);",
         "throw last == null || why != null ? why : afterSending(last, why);",
     ),
+    "lost, then cancelled, is told as not sent": (
+        "Session",
+        'return new CancelledException(last.getMessage() + "; " + why.getMessage(), true);',
+        'return new CancelledException(last.getMessage() + "; " + why.getMessage(), false);',
+    ),
+    "what was loaded is forgotten where nobody listens": (
+        "Session",
+        "        it.mayBeSent = it.pending != null;\n",
+        "",
+        "        try {\n            make(operation, items);\n        } finally {\n",
+        "        try {\n            make(operation, items);\n            mayBeSent = true;\n"
+        "        } finally {\n",
+        "            return send(limit);\n        } finally {\n",
+        "            return sendOrForget(limit);\n        } finally {\n",
+    ),
+    "a closed transport ends the doubt": (
+        "Session",
+        "            return send(limit);\n        } finally {\n",
+        "            return send(limit);\n        } catch (ClosedException why) {\n"
+        "            pending = null;\n            throw why;\n        } finally {\n",
+    ),
+    "pauses grow without an end": (
+        "Session",
+        "                    pause = Math.min(2 * pause, greatest);\n",
+        "                    pause = 2 * pause;\n",
+    ),
+    "a pause behind each lost reply": (
+        "Session",
+        "if (why instanceof BusyException || why instanceof NotYetException) {",
+        "if (why instanceof ReplyLostException || why instanceof NotYetException) {",
+    ),
     "bytes of another session are loaded": (
         "Session",
         "                || Frames.session(frame) != session\n",
@@ -174,6 +205,31 @@ WRONG = {
         "SocketTransport",
         "        Deadline limit = Deadline.in(within);\n",
         "        Deadline limit = Deadline.in(null);\n",
+    ),
+    "the limit does not end a sending": (
+        "PlainLink",
+        "await(SelectionKey.OP_WRITE, until);",
+        "await(SelectionKey.OP_WRITE, Deadline.in(null));",
+    ),
+    "the body of a reply is waited for without a limit": (
+        "SocketTransport",
+        "        fill(whole.put(header.array()), until, null);\n",
+        "        fill(whole.put(header.array()), Deadline.in(null), null);\n",
+    ),
+    "what was told is lost where the connection breaks": (
+        "SocketTransport",
+        "            if (told(into) != null) {\n",
+        "            if (told(into) != null && broken != null) {\n",
+    ),
+    "TLS is agreed on without a limit": (
+        "SocketTransport",
+        "TlsLink.over(plain, tls, address, until)",
+        "TlsLink.over(plain, tls, address, Deadline.in(null))",
+    ),
+    "what came over TLS at rest is taken for a reply": (
+        "TlsLink",
+        "            return true;\n        } catch (IOException broke) {\n",
+        "            return false;\n        } catch (IOException broke) {\n",
     ),
     "TLS without a look at the host's name": (
         "TlsLink",

@@ -5,6 +5,7 @@ from .frames import (
     FIND_TRANSFERS,
     LOST,
     REGISTER,
+    SHORT,
     TRANSFERS,
     accept,
     account,
@@ -217,6 +218,21 @@ def crashes():
             save(),
             {"file": "session.json", "is": {"client": 7, "session": 1, "number": 1, "pending": ""}},
         ),
+    )
+    yield scenario(
+        "killed-then-nobody-listens",
+        "After the crash nobody listens: what was loaded stays in doubt.",
+        prepare(TRANSFERS, SALE),
+        save(),
+        {"server": [{"close": "c"}, {"unlisten": "a"}]},
+        {"kill": True},
+        connect(timeout=SHORT),
+        load({"ok": WAITING}),
+        retry((), error("CannotConnect", sent=False)),
+        saved(0, ASKED),
+        {"server": [{"listen": "a"}]},
+        again,
+        saved(1),
     )
     sending = {
         "call": {"do": "retry", "session": "s"},

@@ -4,9 +4,11 @@ from .frames import (
     TABLE,
     ACCOUNTS,
     FIND_ACCOUNTS,
+    FIND_TRANSFERS,
     LONG,
     LOST,
     NAMES,
+    NOTHING,
     SHORT,
     TRANSFERS,
     accept,
@@ -18,6 +20,7 @@ from .frames import (
     empty,
     error,
     frame_of,
+    prepare,
     read,
     refusal,
     registered,
@@ -25,12 +28,14 @@ from .frames import (
     reply,
     results,
     retry,
+    save,
     saved,
     scenario,
     send,
     served,
     told,
     transfer,
+    transfer_bytes,
     u128,
 )
 
@@ -65,6 +70,13 @@ def lost():
         "The reply is lost: the same bytes again.",
         sale([read(ASKED), {"close": "c"}, *again()]),
         saved(1),
+    )
+    yield scenario(
+        "reply-lost-at-once",
+        "A lost reply is asked for again at once: the pause is for where the server said so.",
+        sale([read(ASKED), {"close": "c"}, *again()]),
+        saved(1),
+        begin="patient",
     )
     yield scenario(
         "reply-lost-twice",
@@ -205,6 +217,19 @@ def lost():
         saved(1),
         begin="registered-once",
     )
+    yield scenario(
+        "request-not-read",
+        "The server reads no large request: the limit ends the sending too.",
+        ask(
+            ACCOUNTS,
+            {"count": 8190, "first": account(1)},
+            [{"wait": 1.0}, {"drain": "c", "of": "many"}],
+            LOST,
+            at_most=0.9,
+        ),
+        begin="hurried-once",
+        frames={"many": many},
+    )
     yield from conversation()
     yield from late()
     yield from unreachable()
@@ -230,6 +255,14 @@ def late():
         "reply-late-in-header",
         "A part of the header, then nothing: no reply in time.",
         sale([read(ASKED), send(DONE[:30]), {"ended": "c"}, *again()], at_least=0.25),
+        saved(1),
+        begin="hurried",
+    )
+    found = reply(1, TRANSFERS, results((0, 46)))
+    yield scenario(
+        "reply-late-in-body",
+        "A reply's header and a part of its body, then nothing: no reply in time.",
+        sale([read(ASKED), send(found[:50]), {"ended": "c"}, *again()], at_least=0.25),
         saved(1),
         begin="hurried",
     )
@@ -348,6 +381,40 @@ def unreachable():
         begin="hurried",
     )
     yield scenario(
+        "lost-then-retry-unreachable",
+        "The reply was lost, and nobody listens to a retry: it sent nothing, and the request stays "
+        "in doubt.",
+        sale([read(ASKED), {"unlisten": "a"}, {"close": "c"}], LOST),
+        retry((), error("CannotConnect", sent=False)),
+        saved(0, ASKED),
+        {"server": [{"listen": "a"}]},
+        retry(again(), OK),
+        saved(1),
+        begin="hurried-once",
+    )
+    yield scenario(
+        "lost-then-told-Starting",
+        "The first sending was lost, and then the server only starts: ReplyLost, since it may have "
+        "been executed.",
+        sale(
+            [
+                read(ASKED),
+                {"close": "c"},
+                accept("d"),
+                read(ASKED, "d"),
+                send(told("Starting"), "d"),
+                {"unlisten": "a"},
+                {"close": "d"},
+            ],
+            error("ReplyLost", sent=True),
+        ),
+        saved(0, ASKED),
+        {"server": [{"listen": "a"}]},
+        retry(again("e"), OK),
+        saved(1),
+        begin="hurried",
+    )
+    yield scenario(
         "listens-later",
         "Who calls before the server listens is connected as soon as it does.",
         {"server": [{"close": "c"}, {"unlisten": "a"}]},
@@ -361,6 +428,16 @@ def unreachable():
         {"server": [{"ended": "c"}]},
         sale((), error("Closed", sent=False)),
         saved(0),
+    )
+    yield scenario(
+        "closed-prepared",
+        "A prepared request stays in doubt where the transport is closed.",
+        prepare(TRANSFERS, SALE),
+        close(transport="t"),
+        {"server": [{"ended": "c"}]},
+        retry((), error("Closed", sent=False)),
+        saved(0, ASKED),
+        save(),
     )
     yield scenario(
         "closed-session",
@@ -419,6 +496,7 @@ BODIES = {
         ["1", "2"],
         account_bytes(account(2)) + account_bytes(account(1)),
     ),
+    "transfer-not-asked": (FIND_TRANSFERS, ["11"], transfer_bytes(transfer(12))),
     "record-twice": (FIND_ACCOUNTS, ["1"], account_bytes(account(1)) * 2),
     "results-of-none": (ACCOUNTS, [], results((0, 21))),
 }
@@ -446,7 +524,7 @@ def bad_replies():
         )
     for name, (operation, items, body) in BODIES.items():
         asked, right = frame_of(1, operation, items), {
-            "ok": {"records": []} if operation == FIND_ACCOUNTS else {"results": []}
+            "ok": NOTHING[operation]
         }
         yield scenario(
             f"bad-body-{name}",
@@ -611,6 +689,18 @@ def what_is_told():
         begin="registered-once",
     )
     yield scenario(
+        "told-then-reset",
+        "What is told counts where the connection breaks behind it.",
+        sale(
+            [read(ASKED), send(told("Busy")), {"wait": 0.05}, {"reset": "c"}],
+            error("Busy", sent=True, told="Busy"),
+        ),
+        saved(0, ASKED),
+        begin="registered-once",
+        over="tcp",
+        needs=["tcp"],
+    )
+    yield scenario(
         "told-nothing",
         "A connection that is closed with nothing told has no name.",
         sale([read(ASKED), {"close": "c"}], LOST),
@@ -667,6 +757,13 @@ def refusals():
         ),
         saved(1),
         begin="registered-thrice",
+    )
+    yield scenario(
+        "refused-NotYet-for-long",
+        "The pauses grow to a second, and no further.",
+        sale(3 * served(ASKED, not_yet) + served(ASKED, DONE), at_most=3.6),
+        saved(1),
+        begin="registered-slowly",
     )
     yield scenario(
         "refused-NotYet-to-the-end",

@@ -119,6 +119,14 @@ def saving():
         save(),
         {"file": "session.json", "alone": True},
     )
+    writes = [{"do": "save", "session": "s", "path": "$DIR/session.json"}] * 8
+    yield scenario(
+        "save-at-once",
+        "Savings at once: each ends well, and the file is whole.",
+        {"call": {"do": "parallel", "calls": writes}, "wants": {"answers": [{"ok": None}] * 8}},
+        {"file": "session.json", "is": PLAIN, "alone": True},
+        needs=["parallel"],
+    )
     yield scenario(
         "save-over-damaged",
         "A damaged file is replaced.",

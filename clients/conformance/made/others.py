@@ -255,6 +255,23 @@ def tls():
         ask(TRANSFERS, {"count": 8190, "first": transfer(1)}, served("many", DONE)),
     )
     yield {**row, "frames": {"many": {"header": header.hex(), "first": large.hex(), "count": 8190}}}
+    hurried = connect(tls=ca, timeout=1.0)
+    yield one(
+        "late",
+        "No reply in time over TLS: the connection is closed, and the same bytes go over another.",
+        [hurried, begins()[1]],
+        ask(TRANSFERS, SALE, [read(ASKED), {"ended": "c"}, accept("d"), *served(ASKED, DONE, "d")]),
+        saved(1),
+    )
+    left = [accept("d"), *served(ASKED, DONE, "d"), {"drain": "c", "of": ""}]
+    yield one(
+        "bytes-before-request",
+        "Bytes that came over TLS while nothing was asked are no reply to what is asked next.",
+        begins(attempts=1),
+        {"server": [send(DONE), {"wait": 0.05}]},
+        ask(TRANSFERS, SALE, left),
+        saved(1),
+    )
     yield refused("stranger", "A certificate of another authority.", cert="stranger")
     yield refused("expired", "A certificate that has expired.", cert="expired")
     yield refused("other-host", "A certificate of another host.", cert="other_host")
@@ -279,6 +296,22 @@ def tls():
             },
             "server": [accept(), {"hello": "c"}, {"close": "c"}],
             "wants": error("CannotConnect", sent=False),
+        },
+        begin=None,
+        over="tcp",
+        needs=["tls"],
+        ignored=["a"],
+    )
+    call = {"do": "register", "session": "s", "transport": "t", "client": "7", "attempts": 1}
+    yield scenario(
+        "tls-silent",
+        "The server takes the connection and says nothing: CannotConnect when the time is over.",
+        connect(tls=ca, timeout=SHORT),
+        {
+            "call": call,
+            "server": [accept(), {"hello": "c"}, {"wait": 1.2}, {"close": "c"}],
+            "wants": error("CannotConnect", sent=False),
+            "at_most": 0.9,
         },
         begin=None,
         over="tcp",
@@ -340,12 +373,68 @@ def cancelled():
         begin="patient",
         needs=["cancel"],
     )
+    unreached = error(["Cancelled", "CannotConnect"], sent=False)
     yield scenario(
         "cancelled-unreachable",
         "And a connecting.",
         {"server": [{"close": "c"}, {"unlisten": "a"}]},
-        within(ask(TRANSFERS, SALE, (), error(["Cancelled", "CannotConnect"]), at_most=10.0), 0.2),
+        within(ask(TRANSFERS, SALE, (), unreached, at_most=10.0), 0.2),
+        saved(0),
+        {"server": [{"listen": "a"}]},
+        ask(TRANSFERS, SALE, [accept("d"), *served(ASKED, DONE, "d")]),
+        saved(1),
         needs=["cancel"],
+    )
+    yield scenario(
+        "cancelled-unreachable-prepared",
+        "A prepared request stays in doubt then.",
+        prepare(TRANSFERS, SALE),
+        {"server": [{"close": "c"}, {"unlisten": "a"}]},
+        within(retry((), unreached, at_most=10.0), 0.2),
+        saved(0, ASKED),
+        needs=["cancel"],
+    )
+    yield scenario(
+        "cancelled-after-loss",
+        "The first sending was lost, and the limit ends the connecting for the second: the request "
+        "may have been sent, and stays in doubt.",
+        within(
+            ask(
+                TRANSFERS,
+                SALE,
+                [read(ASKED), {"unlisten": "a"}, {"close": "c"}],
+                error("Cancelled", sent=True),
+                at_most=10.0,
+            ),
+            0.3,
+        ),
+        saved(0, ASKED),
+        {"server": [{"listen": "a"}]},
+        retry([accept("d"), *served(ASKED, DONE, "d")], OK),
+        saved(1),
+        needs=["cancel"],
+    )
+    asked = frame_of(1, FIND_ACCOUNTS, ["1"])
+    find = {"do": "ask", "session": "s", "operation": "lookup_accounts", "items": ["1"]}
+    yield scenario(
+        "cancelled-at-once",
+        "Of two calls at once one is sent, and the limit ends both: what was sent stays in doubt.",
+        {
+            "call": {"do": "parallel", "calls": [{**find, "within": 0.4}] * 2},
+            "server": [read(asked), {"ended": "c"}],
+            "wants": {
+                "answers": [
+                    error("Cancelled", sent=True),
+                    error(["Cancelled", "InDoubt"], sent=False),
+                ]
+            },
+        },
+        saved(0, asked),
+        retry(
+            [accept("d"), *served(asked, empty(1, FIND_ACCOUNTS), "d")], {"ok": {"records": []}}
+        ),
+        saved(1),
+        needs=["cancel", "parallel"],
     )
     yield scenario(
         "not-cancelled",
