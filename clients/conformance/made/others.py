@@ -272,6 +272,19 @@ def tls():
         ask(TRANSFERS, SALE, left),
         saved(1),
     )
+    second = [
+        accept("d"),
+        *served(frame_of(2, FIND_ACCOUNTS, ["1"]), empty(2, FIND_ACCOUNTS, commit=9), "d"),
+        {"drain": "c", "of": ""},
+    ]
+    yield one(
+        "reply-twice",
+        "A reply comes twice in one record: the first is taken, and the connection is left.",
+        begins(),
+        ask(TRANSFERS, SALE, [read(ASKED), send(DONE + DONE)]),
+        ask(FIND_ACCOUNTS, ["1"], second),
+        saved(2),
+    )
     yield refused("stranger", "A certificate of another authority.", cert="stranger")
     yield refused("expired", "A certificate that has expired.", cert="expired")
     yield refused("other-host", "A certificate of another host.", cert="other_host")

@@ -223,6 +223,8 @@ class Socket(Closing):
 def _is_left(it: socket.socket) -> bool:
     """Whether the server closed a connection, or told why it will: it says nothing else before
     it is asked."""
+    if isinstance(it, ssl.SSLSocket) and it.pending():
+        return True  # it came behind the last reply, in the same record
     ready = select.poll()
     ready.register(it, select.POLLIN)
     if not ready.poll(0):
