@@ -293,7 +293,10 @@ public final class SocketTransport implements Transport {
     /** The name that the server told before it closed the connection, or null for none. */
     private static String told(ByteBuffer came) {
         String said = new String(came.array(), 0, came.position(), StandardCharsets.ISO_8859_1);
-        return said.startsWith(TOLD) ? said.substring(TOLD.length()).strip() : null;
+        if (!said.startsWith(TOLD)) {
+            return null;
+        }
+        return said.substring(TOLD.length()).strip().replaceAll("[^ -~]", "?"); // for terminals
     }
 
     private static ReplyLostException ended(ByteBuffer came, IOException cause) {

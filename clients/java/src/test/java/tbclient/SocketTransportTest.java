@@ -194,6 +194,33 @@ public class SocketTransportTest {
         }
     }
 
+    /** A server that tells this in place of each reply, and closes the connection. */
+    private static ServerSocket telling(String line) throws IOException {
+        ServerSocket it = new ServerSocket(0, 50, InetAddress.getLoopbackAddress());
+        start(
+                () -> {
+                    while (true) {
+                        try (Socket client = it.accept()) {
+                            client.getInputStream().readNBytes(Layout.HEADER_SIZE);
+                            client.getOutputStream().write(line.getBytes(US_ASCII));
+                        }
+                    }
+                });
+        return it;
+    }
+
+    @Test(timeout = 30_000)
+    public void whatIsToldHasNoCodesOfATerminal() throws IOException {
+        try (ServerSocket wrong = telling("tb_listen: \033[2J\033]0;x\007\n")) {
+            Address place = Address.tcp("127.0.0.1", wrong.getLocalPort());
+            ReplyLostException why =
+                    assertThrows(
+                            ReplyLostException.class, () -> registered(new SocketTransport(place)));
+            assertEquals("?[2J?]0;x?", why.told());
+            assertTrue(why.getMessage(), why.getMessage().endsWith(": " + why.told()));
+        }
+    }
+
     @Test(timeout = 30_000)
     public void theAddressIsNamedWhoseFaultIsTold() throws IOException {
         Address none = Address.unix("/nowhere/ledger.sock");
@@ -205,17 +232,7 @@ public class SocketTransportTest {
                                 registered(
                                         new SocketTransport(List.of(other, none), SHORT, null)));
         assertTrue(why.getMessage(), why.getMessage().startsWith(none + ": "));
-        try (ServerSocket starts = new ServerSocket(0, 50, InetAddress.getLoopbackAddress())) {
-            start(
-                    () -> {
-                        while (true) {
-                            try (Socket it = starts.accept()) {
-                                it.getInputStream().readNBytes(Layout.HEADER_SIZE);
-                                byte[] told = "tb_listen: Starting\n".getBytes(US_ASCII);
-                                it.getOutputStream().write(told);
-                            }
-                        }
-                    });
+        try (ServerSocket starts = telling("tb_listen: Starting\n")) {
             Address place = Address.tcp("127.0.0.1", starts.getLocalPort());
             SocketTransport both = new SocketTransport(List.of(place, none), SHORT, null);
             why = assertThrows(CannotConnectException.class, () -> registered(both));
