@@ -80,7 +80,7 @@ WRONG = {
     ),
     "what was never sent stays in doubt": (
         "Session",
-        "            if (!mayBeSent) {\n                pending = null;\n            }\n",
+        "                keep(session, number, null);\n",
         "",
     ),
     "what was prepared is forgotten by another call": (

@@ -23,7 +23,8 @@ import java.util.concurrent.locks.ReentrantLock;
  * less sends nothing. Without it a call takes at most its attempts, each with the transport's
  * timeout, and the pauses between them.
  *
- * <p>Threads may share a session: their requests go one after another.
+ * <p>Threads may share a session: their requests go one after another. What it is ({@link #saved},
+ * {@link #inDoubt} and the like) is told, and kept in a file, while a request is on its way too.
  */
 public final class Session implements AutoCloseable {
     private static final long PAUSE_MAX = TimeUnit.SECONDS.toNanos(1);
@@ -32,6 +33,8 @@ public final class Session implements AutoCloseable {
     private final SessionOptions options;
     private final BigInteger client;
     private final ReentrantLock lock = new ReentrantLock(true);
+    private final ReentrantLock saving = new ReentrantLock(true);
+    private final Object state = new Object(); // guards the next three
     private long session;
     private long number;
     private byte[] pending; // the request in doubt, or null
@@ -168,7 +171,9 @@ public final class Session implements AutoCloseable {
      * @return 64 bits; 0 where it is not registered
      */
     public BigInteger session() {
-        return saved().session();
+        synchronized (state) {
+            return Values.unsigned(session);
+        }
     }
 
     /**
@@ -177,7 +182,9 @@ public final class Session implements AutoCloseable {
      * @return 0 to 2^32 - 1
      */
     public long number() {
-        return saved().number();
+        synchronized (state) {
+            return number;
+        }
     }
 
     /**
@@ -186,12 +193,9 @@ public final class Session implements AutoCloseable {
      * @return it, as it is now
      */
     public Saved saved() {
-        lock.lock();
-        try {
+        synchronized (state) {
             String hex = pending == null ? "" : HexFormat.of().formatHex(pending);
             return new Saved(client, Values.unsigned(session), number, hex);
-        } finally {
-            lock.unlock();
         }
     }
 
@@ -205,11 +209,11 @@ public final class Session implements AutoCloseable {
      * @throws InvalidValueException where the path is of a folder, a pipe or a device
      */
     public void save(Path path) {
-        lock.lock();
+        saving.lock(); // so that nothing older is written over it
         try {
             SavedFile.write(path, saved());
         } finally {
-            lock.unlock();
+            saving.unlock();
         }
     }
 
@@ -220,11 +224,17 @@ public final class Session implements AutoCloseable {
      * @return the request, or none
      */
     public Optional<Request> inDoubt() {
-        lock.lock();
-        try {
+        synchronized (state) {
             return Optional.ofNullable(pending).map(Frames::read);
-        } finally {
-            lock.unlock();
+        }
+    }
+
+    /** Changes what outlives the client. The caller has the lock, and others may look meanwhile. */
+    private void keep(long newSession, long newNumber, byte[] newPending) {
+        synchronized (state) {
+            session = newSession;
+            number = newNumber;
+            pending = newPending;
         }
     }
 
@@ -335,7 +345,7 @@ public final class Session implements AutoCloseable {
             return send(limit);
         } catch (RuntimeException | Error why) {
             if (!mayBeSent) {
-                pending = null;
+                keep(session, number, null);
             }
             throw why;
         }
@@ -368,7 +378,7 @@ public final class Session implements AutoCloseable {
             if (session != 0) {
                 throw new InvalidValueException("session", "is registered already");
             }
-            pending = Frames.request(client, 0, 0, operation, body);
+            keep(session, number, Frames.request(client, 0, 0, operation, body));
         } else {
             if (session == 0) {
                 throw new InvalidValueException("session", "is 0: register first");
@@ -376,7 +386,8 @@ public final class Session implements AutoCloseable {
             if (number == Layout.NUMBER_MAX) {
                 throw new InvalidValueException("number", "is the last one: register anew");
             }
-            pending = Frames.request(client, session, number + 1, operation, body);
+            byte[] frame = Frames.request(client, session, number + 1, operation, body);
+            keep(session, number, frame);
         }
         mayBeSent = false;
         refused = null;
@@ -495,9 +506,7 @@ public final class Session implements AutoCloseable {
             throw refused;
         }
         Answer said = Frames.said(pending, reply);
-        session = Frames.session(reply);
-        number = Frames.number(pending);
-        pending = null;
+        keep(Frames.session(reply), Frames.number(pending), null);
         refused = null;
         return said;
     }

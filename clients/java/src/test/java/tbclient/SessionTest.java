@@ -8,14 +8,20 @@ import static org.junit.Assert.assertThrows;
 import static org.junit.Assert.assertTrue;
 
 import java.math.BigInteger;
+import java.nio.file.Path;
 import java.time.Duration;
 import java.util.ArrayDeque;
 import java.util.ArrayList;
 import java.util.Deque;
 import java.util.HexFormat;
 import java.util.List;
+import java.util.concurrent.CountDownLatch;
+import java.util.concurrent.FutureTask;
+import java.util.concurrent.TimeUnit;
 import java.util.function.Function;
+import org.junit.Rule;
 import org.junit.Test;
+import org.junit.rules.TemporaryFolder;
 
 /** Sessions over a transport that does what a test says: frames are worked out by hand. */
 public class SessionTest {
@@ -57,6 +63,8 @@ public class SessionTest {
             return this;
         }
     }
+
+    @Rule public TemporaryFolder folder = new TemporaryFolder();
 
     private final Played played = new Played().says(REGISTERED);
     private final Session session = Session.register(played, CLIENT, TWICE, null);
@@ -174,6 +182,38 @@ public class SessionTest {
                 assertThrows(
                         EventsFailedException.class, () -> session.retry().requireOk());
         assertEquals("event 0: flags_are_mutually_exclusive", why.getMessage());
+    }
+
+    @Test(timeout = 30_000)
+    public void whatItIsIsToldWhileARequestIsOnItsWay() throws Exception {
+        CountDownLatch asked = new CountDownLatch(1);
+        CountDownLatch answers = new CountDownLatch(1);
+        played.next.add(
+                frame -> {
+                    asked.countDown();
+                    assertTrue(isThere(answers));
+                    return HexFormat.of().parseHex(DONE);
+                });
+        FutureTask<?> call = new FutureTask<>(() -> session.createTransfers(List.of(SALE)));
+        new Thread(call).start();
+        asked.await();
+        Path path = folder.newFolder().toPath().resolve("session.json");
+        session.save(path);
+        assertEquals(0, session.number());
+        assertEquals(BigInteger.ONE, session.session());
+        assertEquals(List.of(SALE), session.inDoubt().orElseThrow().transfers());
+        assertEquals(session.saved(), Session.load(played, path).saved());
+        answers.countDown();
+        call.get();
+        assertEquals(1, session.number());
+    }
+
+    private static boolean isThere(CountDownLatch what) {
+        try {
+            return what.await(20, TimeUnit.SECONDS);
+        } catch (InterruptedException why) {
+            throw new IllegalStateException(why);
+        }
     }
 
     @Test
