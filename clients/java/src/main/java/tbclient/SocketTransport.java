@@ -123,10 +123,7 @@ public final class SocketTransport implements Transport {
         } catch (InterruptedException interrupt) {
             throw Deadline.interrupted(false);
         }
-        if (limit.isOver()) {
-            throw Deadline.late(false);
-        }
-        throw new CannotConnectException(gone + ": " + why.getMessage(), why);
+        throw notConnected(limit, why.getMessage(), why);
     }
 
     private byte[] exchanged(byte[] frame, Deadline until, Deadline limit) {
@@ -165,16 +162,20 @@ public final class SocketTransport implements Transport {
             try {
                 IOException fault = callEach(until);
                 if (fault != null && (isOfCertificate(fault) || !until.sleep(pause))) {
-                    if (limit.isOver()) {
-                        throw Deadline.late(false);
-                    }
-                    throw new CannotConnectException(gone + ": " + said(fault), fault);
+                    throw notConnected(limit, said(fault), fault);
                 }
                 pause = Math.min(2 * pause, LAST_PAUSE);
             } catch (InterruptedIOException | InterruptedException why) {
                 throw Deadline.interrupted(false);
             }
         }
+    }
+
+    private ClientException notConnected(Deadline limit, String why, Exception fault) {
+        String text = gone + ": " + why;
+        return limit.isOver()
+                ? new CancelledException("the limit of the call went by: " + text, false)
+                : new CannotConnectException(text, fault);
     }
 
     private static String said(IOException fault) {

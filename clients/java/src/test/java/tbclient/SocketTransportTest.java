@@ -191,6 +191,8 @@ public class SocketTransportTest {
                                     Session.register(
                                             transport, Ids.id(), ONCE, Duration.ofMillis(50)));
             assertFalse(why.mayHaveSent());
+            String told = why.getMessage();
+            assertTrue(told, told.endsWith(": " + addresses.get(0) + ": Connection refused"));
         }
     }
 
