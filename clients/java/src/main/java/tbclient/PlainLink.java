@@ -15,6 +15,7 @@ import java.util.concurrent.TimeUnit;
 /** A connection over a channel that does not block, so that each wait has its deadline. */
 final class PlainLink implements Link {
     private static final long WAIT_MAX = TimeUnit.HOURS.toMillis(1);
+    private static final int PIECE = 1 << 16; // bytes: so many Java keeps for each thread
 
     private final SocketChannel channel;
     private final Selector selector;
@@ -71,29 +72,34 @@ final class PlainLink implements Link {
 
     /** Reads what is there by now: 0 bytes where nothing is, -1 where the server closed it. */
     int tryRead(ByteBuffer into) throws IOException {
-        return channel.read(into);
+        ByteBuffer piece = into.slice(into.position(), Math.min(into.remaining(), PIECE));
+        int count = channel.read(piece);
+        into.position(into.position() + piece.position());
+        return count;
     }
 
-    /** Writes what goes by now. */
+    /** Writes what goes by now, or the beginning of it. */
     void tryWrite(ByteBuffer data) throws IOException {
-        channel.write(data);
+        ByteBuffer piece = data.slice(data.position(), Math.min(data.remaining(), PIECE));
+        channel.write(piece);
+        data.position(data.position() + piece.position());
     }
 
     @Override
     public void write(ByteBuffer data, Deadline until) throws IOException {
-        channel.write(data);
+        tryWrite(data);
         while (data.hasRemaining()) {
             await(SelectionKey.OP_WRITE, until);
-            channel.write(data);
+            tryWrite(data);
         }
     }
 
     @Override
     public boolean read(ByteBuffer into, Deadline until) throws IOException {
-        int count = channel.read(into);
+        int count = tryRead(into);
         while (count == 0) {
             await(SelectionKey.OP_READ, until);
-            count = channel.read(into);
+            count = tryRead(into);
         }
         return count > 0;
     }

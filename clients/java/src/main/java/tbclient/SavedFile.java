@@ -20,6 +20,7 @@ import java.util.concurrent.atomic.AtomicLong;
 /** The file that keeps a session: written whole or not at all, and read where it is one. */
 final class SavedFile {
     private static final int SIZE_MAX = 1 << 22; // bytes: the largest request takes half, in hex
+    private static final int PIECE = 1 << 16; // bytes: so many Java keeps for each thread
     private static final int DIGITS_MAX = 40; // more than a number of 128 bits has
     private static final int LINKS_MAX = 40; // that the system follows
     private static final AtomicLong COUNT = new AtomicLong();
@@ -198,7 +199,8 @@ final class SavedFile {
     private static void fill(FileChannel file, Path beside, byte[] data) throws IOException {
         try {
             ByteBuffer rest = ByteBuffer.wrap(data);
-            while (rest.hasRemaining()) {
+            while (rest.position() < data.length) {
+                rest.limit(Math.min(rest.position() + PIECE, data.length));
                 file.write(rest);
             }
             file.force(true);

@@ -10,6 +10,8 @@ import static org.junit.Assert.assertTrue;
 import java.io.DataInputStream;
 import java.io.IOException;
 import java.io.OutputStream;
+import java.lang.management.BufferPoolMXBean;
+import java.lang.management.ManagementFactory;
 import java.math.BigInteger;
 import java.net.InetAddress;
 import java.net.ServerSocket;
@@ -20,6 +22,7 @@ import java.nio.file.Files;
 import java.nio.file.Path;
 import java.time.Duration;
 import java.util.ArrayList;
+import java.util.Collections;
 import java.util.List;
 import java.util.Map;
 import java.util.concurrent.Callable;
@@ -300,6 +303,28 @@ public class SocketTransportTest {
         threads.shutdown();
         Throwable why = assertThrows(ExecutionException.class, call::get).getCause();
         assertTrue(why.toString(), why instanceof ClosedException);
+    }
+
+    @Test(timeout = 60_000)
+    public void aThreadKeepsLittleMemoryOffTheHeap() throws IOException {
+        BufferPoolMXBean direct =
+                ManagementFactory.getPlatformMXBeans(BufferPoolMXBean.class).stream()
+                        .filter(it -> it.getName().equals("direct"))
+                        .findFirst()
+                        .orElseThrow();
+        long before = direct.getMemoryUsed();
+        Path folder = Files.createTempDirectory("tbclient");
+        try (Session session = registered(transport(Duration.ofSeconds(20)))) {
+            Transfer sale = Transfer.builder().id(11).amount(5).build();
+            session.prepare(Operation.CREATE_TRANSFERS, Collections.nCopies(8190, sale));
+            session.save(folder.resolve("session.json"));
+            session.retry();
+        } finally {
+            Files.delete(folder.resolve("session.json"));
+            Files.delete(folder);
+        }
+        long more = direct.getMemoryUsed() - before;
+        assertTrue(more + " bytes", more < 500_000);
     }
 
     @Test(timeout = 60_000)
