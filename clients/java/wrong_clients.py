@@ -223,7 +223,7 @@ WRONG = {
     ),
     "TLS is agreed on without a limit": (
         "SocketTransport",
-        "TlsLink.over(plain, tls, address, until)",
+        "TlsLink.over(plain, tls, address, share)",
         "TlsLink.over(plain, tls, address, Deadline.in(null))",
     ),
     "what came over TLS at rest is taken for a reply": (

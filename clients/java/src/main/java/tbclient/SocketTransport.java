@@ -189,7 +189,8 @@ public final class SocketTransport implements Transport {
         IOException fault = null;
         for (int left = addresses.size(); left > 0; left--) {
             try {
-                link = called(addresses.get(at), until.sooner(until.left() / left));
+                Address address = addresses.get(at);
+                link = called(address, address.places(), until.sooner(until.left() / left));
                 return null;
             } catch (SocketTimeoutException late) {
                 fault = late;
@@ -203,13 +204,14 @@ public final class SocketTransport implements Transport {
         return fault;
     }
 
-    private Link called(Address address, Deadline until) throws IOException {
-        List<SocketAddress> places = address.places();
+    /** Calls the places of an address in order. Each has a share of the time. */
+    Link called(Address address, List<SocketAddress> places, Deadline until) throws IOException {
         for (int left = places.size(); ; left--) {
             SocketAddress place = places.get(places.size() - left);
+            Deadline share = until.sooner(until.left() / left);
             try {
-                PlainLink plain = PlainLink.to(place, until.sooner(until.left() / left));
-                return tls == null ? plain : TlsLink.over(plain, tls, address, until);
+                PlainLink plain = PlainLink.to(place, share);
+                return tls == null ? plain : TlsLink.over(plain, tls, address, share);
             } catch (IOException why) {
                 if (left == 1 || isOfCertificate(why)) {
                     throw why;

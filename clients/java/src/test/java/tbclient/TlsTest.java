@@ -11,6 +11,7 @@ import java.math.BigInteger;
 import java.net.InetAddress;
 import java.net.ServerSocket;
 import java.net.Socket;
+import java.net.SocketAddress;
 import java.nio.file.Files;
 import java.nio.file.Path;
 import java.time.Duration;
@@ -113,6 +114,24 @@ public class TlsTest {
             System.arraycopy(new byte[] {21, 3, 3, 0, 2, 1, 10}, 0, warnings, at, 7);
         }
         cannotConnect(warnings, true);
+    }
+
+    @Test(timeout = 60_000)
+    public void aPlaceThatSaysNothingLeavesTimeForTheNext() throws Exception {
+        Files.write(key, KEY);
+        SSLContext tls = Tls.context(certificate, certificate, key);
+        InetAddress here = InetAddress.getLoopbackAddress();
+        try (ServerSocket silent = new ServerSocket(0, 9, here);
+                ServerSocket speaks = tls.getServerSocketFactory().createServerSocket(0, 9, here)) {
+            new Thread(() -> say(speaks, new byte[0], false)).start();
+            Address address = Address.tcp("localhost", speaks.getLocalPort());
+            Duration timeout = Duration.ofSeconds(6);
+            try (SocketTransport it = new SocketTransport(List.of(address), timeout, tls)) {
+                List<SocketAddress> places =
+                        List.of(silent.getLocalSocketAddress(), speaks.getLocalSocketAddress());
+                it.called(address, places, Deadline.in(timeout)).close();
+            }
+        }
     }
 
     @Test
