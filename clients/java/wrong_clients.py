@@ -110,6 +110,16 @@ WRONG = {
         "            return send(limit);\n        } finally {\n",
         "            return sendOrForget(limit);\n        } finally {\n",
     ),
+    "what was loaded is written over by the next request": (
+        "Session",
+        "    private boolean mayBeSent;\n",
+        "    private boolean mayBeSent;\n    private boolean wasMade;\n",
+        "        mayBeSent = false;\n        refused = null;\n",
+        "        mayBeSent = false;\n        wasMade = true;\n        refused = null;\n",
+        "        if (pending == null) {\n            return;\n        }\n        if (refused",
+        "        if (pending == null || !wasMade) {\n            return;\n        }\n"
+        "        if (refused",
+    ),
     "a closed transport ends the doubt": (
         "Session",
         "            return send(limit);\n        } finally {\n",

@@ -143,6 +143,19 @@ def doubts():
         begin="registered-once",
     )
     yield scenario(
+        "ask-while-bad-reply",
+        "Nor while what came was no reply to it.",
+        ask(
+            TRANSFERS,
+            SALE,
+            [*served(ASKED, empty(2, TRANSFERS)), {"ended": "c"}],
+            error("BadReply", sent=True),
+        ),
+        ask(FIND_ACCOUNTS, ["1"], (), error("InDoubt", sent=False)),
+        saved(0, ASKED),
+        retry([accept("d"), *served(ASKED, DONE, "d")], OK),
+    )
+    yield scenario(
         "wrong-then-right",
         "A request that was refused for its values takes no number.",
         ask(

@@ -232,6 +232,19 @@ def loading():
         begin="connected",
     )
     yield scenario(
+        "load-then-ask",
+        "What was loaded in doubt stays so: nothing else is asked, and it is saved again.",
+        file(WAITING),
+        load({"ok": as_answer(WAITING)}),
+        ask(FIND_ACCOUNTS, ["1"], (), error("InDoubt", sent=False)),
+        prepare(TRANSFERS, [transfer(12)], error("InDoubt", sent=False)),
+        save("again.json"),
+        {"file": "again.json", "is": WAITING},
+        retry([accept(), *served(ASKED, DONE)], OK),
+        saved(1),
+        begin="connected",
+    )
+    yield scenario(
         "load-next-number",
         "With nothing in doubt the next number follows.",
         file({**PLAIN, "number": 41}),
