@@ -120,6 +120,12 @@ WRONG = {
         "        if (pending == null || !wasMade) {\n            return;\n        }\n"
         "        if (refused",
     ),
+    "a retry that waited sends what was answered meanwhile": (
+        "Session",
+        "        limit.take(lock);\n        try {\n            if (pending == null) {\n",
+        "        byte[] mine = pending;\n        limit.take(lock);\n        try {\n"
+        "            pending = mine;\n            if (pending == null) {\n",
+    ),
     "a closed transport ends the doubt": (
         "Session",
         "            return send(limit);\n        } finally {\n",

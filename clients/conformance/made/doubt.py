@@ -453,6 +453,32 @@ def shared():
         begin="registered-once",
         needs=["parallel"],
     )
+    again = {"do": "retry", "session": "s"}
+    yield scenario(
+        "retry-at-once",
+        "Retries at once send the request once: to the others nothing is in doubt.",
+        prepare(TRANSFERS, SALE),
+        {
+            "call": {"do": "parallel", "calls": [again] * 3},
+            "server": served(ASKED, DONE),
+            "wants": {"answers": [OK, *[error("NothingInDoubt", sent=False)] * 2]},
+        },
+        saved(1),
+        needs=["parallel"],
+    )
+    makes = {"do": "prepare", "session": "s", "operation": "create_transfers", "items": SALE}
+    yield scenario(
+        "prepare-at-once",
+        "Of requests that are prepared at once one is made, and the others are InDoubt.",
+        {
+            "call": {"do": "parallel", "calls": [makes] * 4},
+            "wants": {"answers": [{"ok": None}, *[error("InDoubt", sent=False)] * 3]},
+        },
+        saved(0, ASKED),
+        retry(served(ASKED, DONE), OK),
+        saved(1),
+        needs=["parallel"],
+    )
     yield scenario(
         "at-once-two-transports",
         "Calls at once over two transports do not wait for one another.",

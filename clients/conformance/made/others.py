@@ -421,6 +421,7 @@ def cancelled():
             ),
             0.3,
         ),
+        ask(FIND_ACCOUNTS, ["1"], (), error("InDoubt", sent=False)),
         saved(0, ASKED),
         {"server": [{"listen": "a"}]},
         retry([accept("d"), *served(ASKED, DONE, "d")], OK),
