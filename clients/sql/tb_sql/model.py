@@ -25,6 +25,7 @@ from .numbers import (
     Number,
     held,
     number,
+    small,
 )
 
 Row = List[Any]
@@ -218,7 +219,7 @@ class Books:
                 time,
                 client,
                 int(entry["session"]),
-                entry["request"],
+                small(entry["request"]),
                 operation,
                 len(events),
                 position.refused - refused_before,
@@ -279,9 +280,9 @@ class Books:
             0,
             number(event["user_data_128"]),
             number(event["user_data_64"]),
-            event["user_data_32"],
-            event["ledger"],
-            event["code"],
+            small(event["user_data_32"]),
+            small(event["ledger"]),
+            small(event["code"]),
             flags,
             0,
             commit,
@@ -311,7 +312,7 @@ class Books:
     def _create_transfer(self, commit: int, event: Dict[str, Any]) -> None:
         flags = TRANSFER_BITS[tuple(event["flags"])]
         amount, timestamp = int(event["amount"]), int(event["timestamp"])
-        row = [
+        row: Row = [
             timestamp,
             number(event["id"]),
             number(event["debit_account_id"]),
@@ -320,10 +321,10 @@ class Books:
             number(event["pending_id"]),
             number(event["user_data_128"]),
             number(event["user_data_64"]),
-            event["user_data_32"],
-            event["timeout"],
-            event["ledger"],
-            event["code"],
+            small(event["user_data_32"]),
+            small(event["timeout"]),
+            small(event["ledger"]),
+            small(event["code"]),
             flags,
             commit,
             None,

@@ -8,11 +8,12 @@ from __future__ import annotations
 
 import datetime
 import re
-from typing import Dict, Iterable, List, Tuple, Union
+from typing import Any, Dict, Iterable, List, Tuple, Union
 
 Number = Union[int, str]
 
 INTEGER_END = 1 << 63
+SMALL_END = 1 << 32
 ID_MAX = (1 << 128) - 1
 SECOND = 1_000_000_000
 
@@ -45,6 +46,13 @@ def number(digits: str) -> Number:
         return int(digits)
     value = int(digits)
     return value if value < INTEGER_END else digits
+
+
+def small(value: Any) -> int:
+    """A number of at most 32 bits, which an audit has without quotes."""
+    if type(value) is not int or not 0 <= value < SMALL_END:
+        raise ValueError("a field of 32 bits is no such number")
+    return value
 
 
 def held(value: int) -> Number:

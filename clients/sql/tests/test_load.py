@@ -415,13 +415,29 @@ class OtherHistories(Tables):
             {"events": [{}]},
             {"time": "9" * 20},
             {"session": "9" * 30},
-            {"request": 1 << 70},
         ):
             line = json.loads(Audit().register().later(5).register(7).lines[-1])
             line.update(operation="lookup_accounts", session="1", request=1)
             with self.subTest(change):
                 lines = audit.bytes + json.dumps({**line, **change}).encode() + b"\n"
                 self.refused(lines, "no audit")
+
+    def test_fields_that_are_no_numbers_of_32_bits(self):
+        """A text is neither kept nor multiplied: one of 10^9 letters takes a GB."""
+        self.load(Audit().register().accounts(account(1), account(2)))
+        for name in ("user_data_32", "ledger", "code", "timeout"):
+            for value in ("5", "<b>", 1.5, None, True, [1], -1, 1 << 32):
+                audit = Audit().register().accounts(account(1), account(2))
+                event = transfer(11, 1, 2, 5, ["pending"])
+                self.refused(audit.transfers({**event, name: value}), "no line of an audit")
+                audit = Audit().register().accounts(account(1), account(2))
+                if name != "timeout":
+                    self.refused(audit.accounts({**account(3), name: value}), "no line of an audit")
+        for value in ("5", -1, 1 << 32, 1 << 70):
+            audit = Audit().register().accounts(account(1), account(2)).later(1)
+            audit.request = value
+            audit.entry("lookup_accounts")
+            self.refused(audit, "no line of an audit")
 
     def test_no_head(self):
         path = str(self.room / "new.sqlite")
