@@ -69,7 +69,8 @@ def load(given: argparse.Namespace) -> int:
     store = store_of(given.file)
     try:
         loading = Loading(store)
-        progress = Progress(loading, sys.stderr.isatty() and not given.quiet)
+        is_terminal = sys.stderr is not None and sys.stderr.isatty()
+        progress = Progress(loading, is_terminal and not given.quiet)
         try:
             read(loading, ledger, given.follow, progress)
         finally:

@@ -609,7 +609,7 @@ class Words(Tables):
     def test_streams_that_are_closed_or_full(self):
         audit = Audit().register()
         words = " ".join([*COMMAND, "load", self.path])
-        for end, wanted in (("<&-", 1), (">/dev/full", 1), (">&-", 0)):
+        for end, wanted in (("<&-", 1), (">/dev/full", 1), (">&-", 0), ("2>&-", 0)):
             ran = subprocess.run(
                 ["sh", "-c", f"{words} {end}"], input=audit.bytes, capture_output=True, timeout=120
             )
