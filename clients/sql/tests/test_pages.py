@@ -9,11 +9,13 @@ import os
 import re
 import socket
 import sqlite3
+import subprocess
 import time
 import unittest
 import unittest.mock
+import urllib.request
 
-from support import Tables  # noqa: I001
+from support import COMMAND, Tables  # noqa: I001
 from audits import MAX, START, Audit, account, transfer
 from test_load import history
 from tb_sql.audits import Loading
@@ -296,6 +298,25 @@ class Ports(Pages):
         with unittest.mock.patch("socket.socket.bind", side_effect=fault):
             status, _, said = self.said("serve", self.path, "--port", "80")
         self.assertEqual((status, said), (1, "tb-sql: port 80 of 127.0.0.1: Permission denied\n"))
+
+    def test_without_standard_output(self):
+        """It serves, and ends at a signal without a word."""
+        self.load(Audit())
+        with socket.create_server(("127.0.0.1", 0)) as other:
+            port = other.getsockname()[1]
+        words = " ".join([*COMMAND, "serve", self.path, "--port", str(port)])
+        process = subprocess.Popen(["sh", "-c", f"exec {words} >&-"], stderr=subprocess.PIPE)
+        self.addCleanup(process.stderr.close)
+        self.addCleanup(process.wait)
+        self.addCleanup(process.kill)
+        deadline = time.monotonic() + 60
+        while time.monotonic() < deadline:
+            with contextlib.suppress(OSError):
+                urllib.request.urlopen(f"http://127.0.0.1:{port}/", timeout=60).close()
+                break
+            time.sleep(0.05)
+        process.terminate()
+        self.assertEqual((process.wait(60), process.stderr.read()), (0, b""))
 
 
 class Refused(Pages):

@@ -9,7 +9,6 @@ import os
 import signal
 import socket
 import sqlite3
-import sys
 import time
 from typing import Any, Callable, Dict, Iterator, List, Optional, Tuple
 
@@ -443,5 +442,4 @@ def serve_pages(path: str, port: int, ledger: Optional[str]) -> int:
         server.serve_forever()
     except KeyboardInterrupt:
         pass
-    sys.stdout.flush()
     return 0
