@@ -346,6 +346,20 @@ class Refused(Pages):
             with self.subTest(address):
                 self.assertNotIn("Traceback", self.get(address, status))
 
+    def test_what_the_search_field_has(self):
+        """What was searched for, and nothing else."""
+        field = '<input id="search-id" name="id"[^>]* value="([^"]*)"'
+        for address, status, wanted in (
+            ("/account/99", 404, ""),
+            ("/account/x", 400, ""),
+            ("/nothing", 404, ""),
+            ("/search?id=987654321", 404, "987654321"),
+            ("/search?id=x", 400, "x"),
+        ):
+            self.assertEqual(re.findall(field, self.get(address, status)), [wanted], address)
+        os.unlink(self.path)
+        self.assertEqual(re.findall(field, self.get("/", 500)), [""])
+
     def test_other_methods(self):
         for method in ("post", "put", "delete"):
             reply = getattr(self.site, method)("/", base_url=HERE)

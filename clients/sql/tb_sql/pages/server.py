@@ -406,11 +406,11 @@ def _of_site(page: Callable[..., Any], site: Site) -> Callable[..., Any]:
 
 def _http_fault(error: HTTPException) -> Tuple[str, int]:
     code = error.code or 500
-    return render_template("fault.html", code=code, name=error.name, text=error.description), code
+    return render_template("fault.html", name=error.name, fault=error.description), code
 
 
 def _stop(error: Exception) -> Tuple[str, int]:
-    return render_template("fault.html", code=500, name="The tables", text=str(error)), 500
+    return render_template("fault.html", name="The tables", fault=str(error)), 500
 
 
 class Quiet(WSGIRequestHandler):
