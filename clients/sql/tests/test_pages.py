@@ -214,6 +214,25 @@ class Shown(Pages):
         said = self.words("/search?id=7")
         self.assertIn("A client with 3 sessions: 7, 1 requests, evicted; 4, 1 requests", said)
 
+    def test_lists_that_are_cut_say_so(self):
+        more = "These are 50, and there are more."
+        for count in (50, 51):
+            audit = Audit(clients_max=1).register().accounts(account(1), account(2))
+            audit.transfers(*(transfer(100 + it, 1, 2, 1, ["pending"]) for it in range(count)))
+            audit.transfers(transfer(9, 1, 2, 1))
+            audit.transfers(*(transfer(9, 1, 2, 1, result="exists") for _ in range(count)))
+            for _ in range(count):
+                audit.register(20).register(21)
+            with contextlib.suppress(FileNotFoundError):
+                os.unlink(self.path)
+            self.load(audit)
+            for address in ("/account/1", "/transfer/9"):
+                self.assertEqual(self.words(address).count(more), count - 50, address)
+            said = self.words("/search?id=20")
+            wanted = "client with 50 sessions: " if count == 50 else "with more than 50 sessions: "
+            self.assertIn(wanted, said)
+            self.assertEqual(said.count("0 requests, evicted"), 50)
+
     def test_bars_count_each_transfer_once(self):
         self.load(history())
         transfers = self.rows("SELECT count(*) FROM transfers")[0][0]

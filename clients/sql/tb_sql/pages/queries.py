@@ -145,19 +145,20 @@ class Tables:
         return self.one("SELECT * FROM entries WHERE commit_number = ?", commit)
 
     def refused_by_id(self, id: Number) -> List[Row]:
+        """The latest ones, and one more where there are more than a page has."""
         return self.all(
             "SELECT r.*, e.time FROM refused AS r JOIN entries AS e USING (commit_number)"
             " WHERE r.id = ? ORDER BY commit_number DESC, place DESC LIMIT ?",
             id,
-            ROWS,
+            ROWS + 1,
         )
 
     def sessions_of(self, client: Number) -> List[Row]:
         """The sessions of a client, the latest first: before the first entry of each the last one
-        of the session before it."""
+        of the session before it. One more where there are more than a page has."""
         found: List[Row] = []
         before = LAST
-        while len(found) < ROWS:
+        while len(found) <= ROWS:
             row = self.one(
                 "SELECT commit_number, session FROM entries WHERE client = ? AND commit_number < ?"
                 " ORDER BY commit_number DESC LIMIT 1",
@@ -289,14 +290,15 @@ class Tables:
         return points, False
 
     def pending_of(self, id: Number) -> List[Row]:
-        """The open pending transfers of an account, by expiry."""
+        """The open pending transfers of an account, by expiry, and one more where there are more
+        than a page has."""
         of_account = "SELECT * FROM transfers WHERE state = 'pending' AND {}_account_id = ?"
         return self.all(
             f"SELECT * FROM ({of_account.format('debit')} UNION ALL {of_account.format('credit')})"
             " ORDER BY expires_at IS NULL, expires_at, timestamp LIMIT ?",
             id,
             id,
-            ROWS,
+            ROWS + 1,
         )
 
     def pending(self, limit: int) -> List[Row]:

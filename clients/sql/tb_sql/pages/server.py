@@ -30,7 +30,7 @@ from ..numbers import (
 )
 from ..schema import TABLES, VIEWS
 from . import charts
-from .queries import LAST, Range, Tables
+from .queries import LAST, ROWS, Range, Tables
 
 HOST = "127.0.0.1"
 NAMES = ("localhost", "127.0.0.1", "[::1]")
@@ -367,6 +367,7 @@ def make_app(path: str, ledger: Optional[str] = None) -> Flask:
         account_flags=lambda bits: flag_names(bits, ACCOUNT_FLAGS),
         transfer_flags=lambda bits: flag_names(bits, TRANSFER_FLAGS),
         carried=carried,
+        rows_max=ROWS,
     )
     for address, page in PAGES.items():
         app.add_url_rule(address, page.__name__, _of_site(page, site), methods=["GET"])
