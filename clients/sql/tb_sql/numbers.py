@@ -16,6 +16,7 @@ INTEGER_END = 1 << 63
 SMALL_END = 1 << 32
 ID_MAX = (1 << 128) - 1
 SECOND = 1_000_000_000
+DAY_SECONDS = 86400
 
 ACCOUNT_FLAGS = {
     "linked": 1,
@@ -102,9 +103,9 @@ def time_of(text: str, is_end: bool = False) -> int:
         raise ValueError(f"{text!r} is no date, such as 2026-11-26 or 2026-11-26T10:00:00Z")
     year, month, day, hour, minute, second = (int(it or 0) for it in found.groups()[:6])
     moment = datetime.datetime(year, month, day, hour, minute, second)
-    if is_end and found[4] is None:
-        moment += datetime.timedelta(days=1)
     seconds = (moment - datetime.datetime(1970, 1, 1)) // datetime.timedelta(seconds=1)
+    if is_end and found[4] is None:
+        seconds += DAY_SECONDS
     return seconds * SECOND + int((found[7] or "0").ljust(9, "0"))
 
 

@@ -355,6 +355,7 @@ class Refused(Pages):
             ("/search?id=987654321", 404),
             ("/account/1?from=yesterday", 400),
             ("/account/1?from=9999-12-31", 200),
+            ("/account/1?to=9999-12-31", 200),
             ("/account/1?before=x", 400),
             (f"/account/1?before={1 << 70}", 400),
             ("/accounts?ledger=%27", 400),
