@@ -10,17 +10,20 @@ import re
 import socket
 import sqlite3
 import subprocess
+import threading
 import time
 import unittest
 import unittest.mock
 import urllib.request
+
+from werkzeug.serving import make_server
 
 from support import COMMAND, Tables  # noqa: I001
 from audits import MAX, START, Audit, account, transfer
 from test_load import history
 from tb_sql.audits import Loading
 from tb_sql.pages import queries
-from tb_sql.pages.server import make_app
+from tb_sql.pages.server import Handler, make_app
 from tb_sql.sqlite_store import SqliteStore
 
 HERE = "http://127.0.0.1:8642"
@@ -336,6 +339,47 @@ class Ports(Pages):
             time.sleep(0.05)
         process.terminate()
         self.assertEqual((process.wait(60), process.stderr.read()), (0, b""))
+
+
+class Stalled(Pages):
+    """Who neither sends nor reads is left after a while."""
+
+    def setUp(self):
+        super().setUp()
+        self.load(Audit())
+        patch = unittest.mock.patch.object(Handler, "timeout", Handler.timeout / 100)
+        patch.start()
+        self.addCleanup(patch.stop)
+        server = make_server("127.0.0.1", 0, make_app(self.path), True, request_handler=Handler)
+        serving = threading.Thread(target=server.serve_forever)
+        serving.start()
+        self.addCleanup(serving.join)
+        self.addCleanup(server.shutdown)
+        self.port = server.port
+
+    def sent(self, data):
+        connection = socket.create_connection(("127.0.0.1", self.port), timeout=60)
+        self.addCleanup(connection.close)
+        connection.sendall(data)
+        return connection
+
+    def test_half_a_request(self):
+        for data in (b"", b"GET / HTTP/1.1\r\nHost: localhost\r\n"):
+            self.assertEqual(self.sent(data).recv(1), b"")
+
+    def test_a_table_that_nobody_reads(self):
+        """Its rows are held until then, and the WAL with them."""
+        self.change(
+            "WITH RECURSIVE at(n) AS (SELECT 1 UNION ALL SELECT n + 1 FROM at WHERE n < 300000)"
+            " INSERT INTO postings SELECT 1, n, n, n, 2, 1, 0, n, 0, n FROM at"
+        )
+        connection = self.sent(b"GET /csv/postings.csv HTTP/1.1\r\nHost: localhost\r\n\r\n")
+        self.assertEqual(connection.recv(8), b"HTTP/1.1")
+        self.change("UPDATE position SET time = time + 1")
+        deadline = time.monotonic() + 60
+        while self.rows("PRAGMA wal_checkpoint(TRUNCATE)")[0][0] == 1:
+            self.assertLess(time.monotonic(), deadline, "the rows are still held")
+            time.sleep(0.1)
 
 
 class Refused(Pages):

@@ -43,6 +43,7 @@ HEADERS = {
 }
 SPANS = {"all": 0, "30 days": 30 * 86400, "day": 86400, "hour": 3600}
 CSV_ROWS = 2000  # that are written at a time
+PATIENCE = 60  # seconds that a browser has to send its request, and to take each part of a reply
 # Each view's rows in an order, where the view has none.
 ORDERS = {
     "accounts": "timestamp",
@@ -414,11 +415,16 @@ def _stop(error: Exception) -> Tuple[str, int]:
     return render_template("fault.html", name="The tables", fault=str(error)), 500
 
 
-class Quiet(WSGIRequestHandler):
-    """Writes no line for a request."""
+class Handler(WSGIRequestHandler):
+    """Writes no line for a request. Leaves a browser that neither sends nor reads: while a table is
+    read for it, no load can shorten the WAL."""
+
+    timeout = PATIENCE
 
     def log_request(self, *_: Any, **__: Any) -> None:
         pass
+
+    log_error = log_request
 
 
 def listen(port: int) -> socket.socket:
@@ -436,7 +442,7 @@ def serve_pages(path: str, port: int, ledger: Optional[str]) -> int:
     Tables(path).close()
     listening = listen(port)
     app, place = make_app(path, ledger), listening.fileno()
-    server = make_server(HOST, port, app, threaded=True, request_handler=Quiet, fd=place)
+    server = make_server(HOST, port, app, threaded=True, request_handler=Handler, fd=place)
     signal.signal(signal.SIGTERM, signal.default_int_handler)
     print(f"http://{HOST}:{server.port}/ shows {path}; Ctrl-C ends it", flush=True)
     try:
