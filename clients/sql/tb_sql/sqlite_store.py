@@ -56,6 +56,7 @@ class SqliteStore:
     def __init__(self, path: str) -> None:
         self.path = path
         self.is_new = False
+        self._read_at: Optional[int] = None
         try:
             # by its whole path: of "", ":memory:" and "file:.." SQLite would keep nothing
             whole = os.path.abspath(path)
@@ -78,13 +79,17 @@ class SqliteStore:
 
     def close(self) -> None:
         self._connection.close()
+        if self._read_at is None:
+            return
+        whole = os.path.realpath(self.path)  # the WAL lies next to what a link names
+        for path in (whole, f"{whole}-wal"):
+            with contextlib.suppress(OSError):
+                os.utime(path, ns=(self._read_at, self._read_at))
 
     def read_whole(self, began: int) -> None:
-        """Says that all that the ledger's file had at a time is in the tables, by their file's
-        time: where nothing was new, that is of the write before."""
-        with contextlib.suppress(OSError):
-            found = os.stat(self.path).st_mtime_ns
-            os.utime(self.path, ns=(began, max(found, began)))
+        """Says that all that the ledger's file had at a time is in the tables. Their files have
+        that time then: what the ledger's file got later is newer."""
+        self._read_at = began
 
     def position(self) -> Optional[Position]:
         """How far the tables are; nothing where there are none."""

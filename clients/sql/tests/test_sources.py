@@ -113,6 +113,23 @@ class Sources(Tables):
         self.assertEqual(self.loaded(), (0, ""))
         self.assertGreater(os.path.getmtime(self.path), 10)
 
+    def test_what_comes_meanwhile(self):
+        """What the ledger's file gets after it was read makes it newer than the tables, also where
+        somebody reads them: then their WAL stays."""
+        tbd = self.room / "tbd"
+        tbd.write_text(tbd.read_text().replace("exec ", "") + f"touch {self.file}\n")
+        for count in (7, None):
+            self.write(history(), count)
+            self.assertEqual(self.loaded(), (0, ""))
+            tables = [self.path, *filter(os.path.exists, [f"{self.path}-wal"])]
+            self.assertEqual(len(tables), 1 if count else 2)
+            for path in tables:
+                self.assertGreater(os.path.getmtime(self.file), os.path.getmtime(path))
+            reading = sqlite3.connect(self.path)
+            self.addCleanup(reading.close)
+            reading.execute("BEGIN")
+            reading.execute("SELECT * FROM position").fetchone()
+
     def test_what_is_followed(self):
         """A load that is ended amid an entry goes on where it was."""
         audit = history()
