@@ -8,7 +8,7 @@ import select
 import time
 from typing import Any, Callable, Dict, Iterator, List, Optional, Union
 
-from .errors import Refused
+from .errors import Cut, Refused
 from .model import Books, Position, entry_hash
 from .postgres_store import PostgresStore
 from .sqlite_store import SqliteStore
@@ -109,9 +109,9 @@ class Loading:
                 break
         self.write()
         if is_cut:
-            raise Refused(f"the input ends within line {self.line + 1}")
+            raise Cut(f"the input ends within line {self.line + 1}")
         if self._batch and not self.is_done:
-            raise Refused(f"the input ends within entry {self._batch['commit']}")
+            raise Cut(f"the input ends within entry {self._batch['commit']}")
 
     def ended(self) -> None:
         """Refuses a whole history that ends before the kept entries do."""

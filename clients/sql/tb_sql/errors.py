@@ -17,3 +17,7 @@ class Refused(Stop):
     """The input is wrong, or is not of this ledger."""
 
     status = 2
+
+
+class Cut(Refused):
+    """The input ends within a line or an entry."""

@@ -13,7 +13,7 @@ import time
 from typing import IO, Callable, List, Optional, Tuple, Union
 
 from .audits import Loading, lines_of
-from .errors import Failed, Refused
+from .errors import Cut, Failed, Refused
 
 Process = subprocess.Popen  # of bytes
 
@@ -82,12 +82,13 @@ class Ledger:
             ]
         if dump.returncode > 0 and not said[0].endswith(LOST):
             raise Failed(said[0] or f"tbd dump {self.path} ended with {dump.returncode}")
+        if isinstance(refused, Cut):  # by the audit's own end, if not by the dump's
+            check_end(audit, said[1])
         if refused:
             raise refused
         if not loading.is_done:
-            for process, words in ((audit, said[1]), (dump, said[0])):
-                if process.returncode != 0:
-                    raise Failed(words or f"{process.args!r} ended with {process.returncode}")
+            check_end(audit, said[1])
+            check_end(dump, said[0])
             loading.ended()
             loading.store.read_whole(began)
 
@@ -118,6 +119,12 @@ class Ledger:
         finally:
             dump.stdout.close()
         return dump, audit
+
+
+def check_end(process: "Process[bytes]", said: str) -> None:
+    """Tells of a program that failed, or was killed."""
+    if process.returncode != 0:
+        raise Failed(said or f"{process.args!r} ended with {process.returncode}")
 
 
 def _started(words: List[str], stdin: Union[int, IO[bytes]]) -> "Process[bytes]":

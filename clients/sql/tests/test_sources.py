@@ -182,6 +182,17 @@ class Sources(Tables):
             self.assertEqual(self.loaded(fault=fault), (1, f"tb-sql: {wanted}\n"))
             os.unlink(self.path)
 
+    def test_faults_amid_an_entry(self):
+        """An audit that fails there is told, and not the end of its lines."""
+        data = history().bytes
+        for end in (data.index(b"\n", 1500) + 40, data.rindex(b"\n", 0, -1) + 1):
+            self.file.write_bytes(data[:end])
+            wanted = "tb-sql: tbt: NoMemory\n"
+            self.assertEqual(self.loaded(fault="tbt:1:tbt: NoMemory"), (1, wanted))
+            status, said = self.loaded()
+            self.assertEqual(status, 2, said)
+            self.assertIn("the input ends within", said)
+
 
 def children(process):
     with open(f"/proc/{process}/task/{process}/children") as file:
