@@ -44,13 +44,21 @@ def check_tables(given: argparse.Namespace) -> int:
     try:
         connection.isolation_level = None
         connection.execute("BEGIN")
-        print(Tables(connection).check(), flush=True)
+        print(checked(connection), flush=True)
         connection.execute("COMMIT")
         if given.server is not None:
             print(Server(given, connection).compare(), flush=True)
     finally:
         connection.close()
     return 0
+
+
+def checked(connection: sqlite3.Connection) -> str:
+    """What was compared; the first difference is raised, also where it is no number."""
+    try:
+        return Tables(connection).check()
+    except (TypeError, ValueError) as error:
+        raise Difference(f"a value that no table has: {error}") from None
 
 
 def pending_sums(

@@ -1,5 +1,6 @@
 """The check: what is right passes, and each kind of fault is found."""
 
+import os
 import unittest
 
 from support import Tables  # noqa: I001
@@ -10,6 +11,10 @@ from test_load import history
 class Check(Tables):
     def setUp(self):
         super().setUp()
+        self.load(history())
+
+    def load_again(self):
+        os.unlink(self.path)
         self.load(history())
 
     def found(self, *changes):
@@ -100,6 +105,16 @@ class Check(Tables):
 
     def test_position(self):
         self.assertIn("the last entry", self.found("UPDATE position SET commit_number = 3"))
+
+    def test_values_that_are_no_numbers(self):
+        for text in (
+            "UPDATE entries SET time = 'x' WHERE commit_number = 3",
+            "UPDATE accounts SET flags = 'x' WHERE id = 3",
+            "UPDATE accounts SET credits_pending = x'00ff' WHERE id = 2",
+            "UPDATE transfers SET amount = '1e3' WHERE state = 'pending'",
+        ):
+            self.assertIn("a value that no table has", self.found(text))
+            self.load_again()
 
     def test_closed(self):
         path = str(self.room / "closed.sqlite")
