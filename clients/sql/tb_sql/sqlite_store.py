@@ -62,6 +62,7 @@ class SqliteStore:
             whole = os.path.abspath(path)
             self._connection = sqlite3.connect(whole, timeout=PATIENCE, isolation_level=None)
             self._look()  # first: another program's database is left as it is
+            self._opened = self._file()
             self._connection.execute("PRAGMA journal_mode = WAL")
             self._connection.execute("PRAGMA synchronous = NORMAL")
             self._connection.execute(f"PRAGMA cache_size = -{CACHE_KIB}")
@@ -72,6 +73,14 @@ class SqliteStore:
         self.is_new = self._is_empty()
         if not self.is_new:
             check_schema(self._connection, self.path)
+
+    def _file(self) -> Optional[Tuple[int, int]]:
+        """Which file has the name now."""
+        try:
+            found = os.stat(self.path)
+        except OSError:
+            return None
+        return found.st_dev, found.st_ino
 
     def _is_empty(self) -> bool:
         found = self._connection.execute("SELECT 1 FROM sqlite_master WHERE type = 'table' LIMIT 1")
@@ -134,6 +143,8 @@ class SqliteStore:
 
     def write(self, changes: Changes, position: Position, before: Optional[Position]) -> None:
         """Writes rows and the position that they lead to, in one transaction."""
+        if self._file() != self._opened:
+            raise Failed(f"{self.path} was deleted or replaced meanwhile: load again")
         try:
             self._connection.execute("BEGIN IMMEDIATE")
             try:

@@ -521,6 +521,22 @@ class OtherHistories(Tables):
         self.assertIn("another load writes to it", str(raised.exception))
         self.assertEqual(self.contents(), before)
 
+    def test_file_that_is_deleted_meanwhile(self):
+        """A load that goes on does not write where nobody reads."""
+        lines = history().bytes.splitlines(keepends=True)
+        for is_replaced in (False, True):
+            store = SqliteStore(self.path)
+            loading = Loading(store)
+            with self.assertRaises(Refused):
+                loading.read(iter(lines[:40]))
+            os.unlink(self.path)
+            if is_replaced:
+                pathlib.Path(self.path).touch()
+            with self.assertRaises(Failed) as raised:
+                loading.read(iter(lines[40:]))
+            store.close()
+            self.assertIn("deleted or replaced", str(raised.exception))
+
 
 class Shown:
     """A load as a progress sees it."""
