@@ -5,6 +5,7 @@ writes the replies to standard output: what `tbs run CLIENTS_MAX [PROFILE]` does
     script.py LIBRARY [CLIENTS_MAX [PROFILE]]
 """
 import os
+import re
 import struct
 import sys
 
@@ -18,6 +19,8 @@ from tb_embed import REPLY_MAX, Server  # noqa: E402
 
 
 def serve(server: Server) -> None:
+    if sys.stdin is None or sys.stdout is None:
+        sys.exit("script: standard input or standard output is closed")
     script, replies = sys.stdin.buffer, sys.stdout.buffer
     while head := script.read(56):
         length = struct.unpack_from("<I", head, 40)[0] if len(head) == 56 else 0
@@ -29,7 +32,7 @@ def serve(server: Server) -> None:
 
 
 def main(words: "list[str]") -> None:
-    if not 1 <= len(words) <= 3 or not all(it.isascii() and it.isdigit() for it in words[1:]):
+    if not 1 <= len(words) <= 3 or not all(re.fullmatch("[0-9]{1,9}", it) for it in words[1:]):
         sys.exit("usage: script.py LIBRARY [CLIENTS_MAX [PROFILE]]")
     clients_max, profile = (list(map(int, words[1:])) + [2, 1][len(words) - 1 :])[:2]
     try:

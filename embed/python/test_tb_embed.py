@@ -268,6 +268,7 @@ class Examples(unittest.TestCase):
             (["first.py", "/nowhere"], "first: the library does not load: /nowhere: "),
             (["script.py"], "usage: script.py LIBRARY [CLIENTS_MAX [PROFILE]]"),
             (["script.py", "a", "x"], "usage: script.py LIBRARY [CLIENTS_MAX [PROFILE]]"),
+            (["script.py", "a", "9" * 5000], "usage: script.py LIBRARY [CLIENTS_MAX [PROFILE]]"),
             (["script.py", "a", "65"], "script: clients_max must be 1 to 64, not 65"),
             (["script.py", "a", "64", "3"], "script: profile must be 1 to 2, not 3"),
             (["script.py", "/nowhere"], "script: the library does not load: /nowhere: "),
@@ -284,6 +285,15 @@ class Examples(unittest.TestCase):
                 (1, "", True, 1),
                 ran.stderr,
             )
+
+    def test_streams_that_are_closed(self):
+        import script
+
+        for name in ("sys.stdin", "sys.stdout"):
+            with unittest.mock.patch(name, None), self.assertRaises(SystemExit) as ended:
+                script.serve(unittest.mock.Mock())
+            wanted = "script: standard input or standard output is closed"
+            self.assertEqual(ended.exception.code, wanted)
 
     def test_scripts(self):
         import script
