@@ -12,6 +12,7 @@ from __future__ import annotations
 import ctypes
 import os
 import threading
+import weakref
 from typing import Any, Dict, Optional, Type, Union
 
 import tb_client
@@ -141,7 +142,8 @@ def _library(path: str) -> Any:
 
 class Server(Closing):
     """A server by profile 1 or 2, where 1 to CLIENTS_MAX clients can have a session at one time.
-    Threads may share it: it takes one call at a time."""
+    Threads may share it: it takes one call at a time. One that is not closed is freed with its
+    object."""
 
     def __init__(
         self,
@@ -158,6 +160,8 @@ class Server(Closing):
         self._lock = threading.Lock()
         self._library, self._handle, self._written = _library(name), _Handle(), ctypes.c_size_t()
         self._check(self._library.tb_embed_open(self._handle, profile, places))
+        # not at the end of Python, when another thread may be within a call
+        weakref.finalize(self, self._library.tb_embed_close, self._handle).atexit = False
 
     def serve(self, moment: int, request: bytes) -> bytes:
         """The reply's frame to the frame of a request that comes at a moment, in nanoseconds."""

@@ -7,6 +7,7 @@ over the true one.
 import ctypes
 import ctypes.util
 import fractions
+import gc
 import io
 import os
 import pathlib
@@ -190,6 +191,7 @@ FAKE = """
 #include <string.h>
 typedef struct { void *at; uint8_t is_open; } tb_server;
 static int times;
+int freed;
 uint32_t tb_embed_open(tb_server *s, uint32_t profile, uint32_t clients) {
     s->is_open = 1;
     return profile == 2 && clients == 64 ? 0 : 2;
@@ -215,7 +217,10 @@ uint32_t tb_embed_account(tb_server *s, uint64_t low, uint64_t high, char *recor
 uint32_t tb_embed_transfer(tb_server *s, uint64_t low, uint64_t high, char *record, size_t room) {
     return tb_embed_account(s, low, high, record, room);
 }
-void tb_embed_close(tb_server *s) { s->is_open = 0; }
+void tb_embed_close(tb_server *s) {
+    freed += s->is_open;
+    s->is_open = 0;
+}
 """
 
 
@@ -253,6 +258,19 @@ class OverCtypes(unittest.TestCase):
             self.assertRaises(tb_embed.Closed, server.serve, 5, b"")
             self.assertRaises(tb_embed.Closed, server.account, 5)
             self.assertEqual(repr(server), f"<Server {path}, closed>")
+            self.count_freed(path, server)
+
+    def count_freed(self, path, closed):
+        """Each server is freed once: with its object, where nobody closed it."""
+        freed = ctypes.c_int.in_dll(ctypes.CDLL(str(path)), "freed")
+        self.assertEqual(freed.value, 1)
+        closed.close()
+        servers = [Server(path, 64, 2) for _ in range(3)]
+        servers.pop().close()
+        self.assertEqual(freed.value, 2)
+        servers.clear()
+        gc.collect()
+        self.assertEqual(freed.value, 4)
 
 
 class Examples(unittest.TestCase):
