@@ -164,6 +164,14 @@ class Shown(Pages):
         self.assertNotIn("<script", page)
         self.assertIn("&lt;script&gt;", page)
 
+    def test_text_in_place_of_numbers(self):
+        """In tables that another program changed."""
+        self.load(Audit().register().accounts(account(1)))
+        self.change("UPDATE accounts SET user_data_32 = '<script>', user_data_128 = '\"<b>'")
+        page = self.get("/account/1")
+        self.assertIsNone(re.search("<script|<b>", page))
+        self.assertEqual(page.count("&lt;"), 2)
+
     def test_a_million_postings(self):
         """Of one account, made in the database: pages and the chart take a bounded time."""
         self.load(Audit().register().accounts(account(1), account(2)))

@@ -13,7 +13,7 @@ import time
 from typing import Any, Callable, Dict, Iterator, List, Optional, Tuple
 
 from flask import Flask, Response, abort, g, redirect, render_template, request, url_for
-from markupsafe import Markup, escape
+from markupsafe import Markup
 from werkzeug.exceptions import HTTPException
 from werkzeug.serving import WSGIRequestHandler, make_server
 
@@ -81,8 +81,8 @@ def shown_id(value: Number, kind: str = "") -> Markup:
     text = str(value)
     long = " long" if len(text) > 20 else ""
     if not kind or text == "0":
-        return Markup(f'<span class="id{long}">{text}</span>')
-    return Markup(f'<a class="id{long}" href="{escape(url_for(kind, id=text))}">{text}</a>')
+        return Markup('<span class="id{}">{}</span>').format(long, text)
+    return Markup('<a class="id{}" href="{}">{}</a>').format(long, url_for(kind, id=text), text)
 
 
 def shown_time(value: Optional[int]) -> Markup:
