@@ -289,6 +289,18 @@ def served(found, script, replies, what, *words):
         )
 
 
+def not_written(found, script):
+    """Replies that the disk does not take: exit status 1, and a line that says so."""
+    for language, command in found.items():
+        with open(script, "rb") as source, open("/dev/full", "wb") as sink:
+            ran = subprocess.run(
+                [*command, "2"], stdin=source, stdout=sink, stderr=subprocess.PIPE, timeout=300
+            )
+        said = ran.stderr.decode(errors="replace")
+        holds = (ran.returncode, said.count("\n")) == (1, 1)
+        case(f"replies that cannot be written in {language}", holds, said[-2000:])
+
+
 FORGETFUL = """#include "{header}"
 #include <stdlib.h>
 int main(void) {{
@@ -467,6 +479,7 @@ def main():
         first_requests(folder)
         first = f"{TOP}/examples/first.script", f"{TOP}/examples/first.replies"
         served(found, *first, "the first script", "2")
+        not_written(found, first[0])
         mixed = made("mixed", 20000, 7, folder)
         served(found, *mixed, "a random script of everything, right and wrong,", "64")
         careful(folder, "small", *mixed, "a room too small by one byte")

@@ -44,5 +44,7 @@ int main(int count, char **words) {
         fprintf(stderr, "script: %s\n", more >= 0 ? tb_status_name(status) : ferror(stdin) ? "cannot read it" : "a cut script");
         return 1;
     }
-    return fflush(stdout) == 0 && !ferror(stdout) ? 0 : 1;
+    if (fflush(stdout) == 0 && !ferror(stdout)) return 0;
+    fprintf(stderr, "script: cannot write the replies\n");
+    return 1;
 }
