@@ -265,6 +265,16 @@ class Shown(Pages):
         page = site.get("/", base_url=HERE).get_data(as_text=True)
         self.assertIn("has not changed since", page)
 
+    def test_names_that_cannot_be_shown(self):
+        self.load(Audit())
+        for path, ledger, status in (
+            (self.path, "/nowhere/b\udcfccher.tbk", 200),
+            (str(self.room / "b\udcfccher.sqlite"), None, 500),
+        ):
+            self.site = make_app(path, ledger).test_client()
+            said = self.words("/", status)
+            self.assertRegex(said, r"here is no file /.*/b\\udcfccher")
+
     def test_written_through_a_link(self):
         """What a load that goes on wrote is in the WAL, next to the file that the link names."""
         ledger = self.room / "ledger.tbk"

@@ -96,6 +96,11 @@ def shown_time(value: Optional[int]) -> Markup:
     )
 
 
+def shown_name(text: str) -> str:
+    """A text with a file's name, which may be of any bytes."""
+    return text.encode(errors="backslashreplace").decode()
+
+
 def ago(seconds: float) -> str:
     """A span of time in words."""
     for size, name in ((86400 * 365, "year"), (86400, "day"), (3600, "hour"), (60, "minute")):
@@ -134,7 +139,7 @@ class Site:
             "age": ago(max(0.0, time.time() - position["time"] / SECOND)),
             "written": int(written * SECOND),
             "written_ago": ago(max(0.0, time.time() - written)),
-            "ledger": self.ledger,
+            "ledger": self.ledger and shown_name(self.ledger),
             "behind": None if behind is None else ago(behind) if behind else "",
         }
 
@@ -412,7 +417,7 @@ def _http_fault(error: HTTPException) -> Tuple[str, int]:
 
 
 def _stop(error: Exception) -> Tuple[str, int]:
-    return render_template("fault.html", name="The tables", fault=str(error)), 500
+    return render_template("fault.html", name="The tables", fault=shown_name(str(error))), 500
 
 
 class Handler(WSGIRequestHandler):
