@@ -19,7 +19,7 @@ PATIENCE = 30.0  # seconds, for another process that writes
 
 def connect_read_only(path: str) -> sqlite3.Connection:
     """A connection that cannot write. Where its folder cannot be written either, the file is read
-    as one that nobody changes."""
+    as one that nobody changes, if nobody does."""
     if not os.path.exists(path):
         raise Failed(f"there is no file {path}: tb-sql load makes it")
     whole = pathlib.Path(path).resolve()  # the WAL lies next to what a link names
@@ -33,7 +33,8 @@ def connect_read_only(path: str) -> sqlite3.Connection:
             return connection
         except sqlite3.DatabaseError as error:
             fault = str(error)
-        if os.path.exists(f"{whole}-wal"):
+        is_written = any(os.path.exists(f"{whole}{it}") for it in ("-wal", "-journal"))
+        if is_written or "locked" in fault:
             break
     raise Failed(f"{path}: {fault}")
 

@@ -464,6 +464,17 @@ class Refused(Pages):
             page = self.get(address)
             self.assertNotRegex(page, r"<script|javascript:|\son\w+=|style=")
 
+    def test_tables_that_another_program_has_locked(self):
+        """In another mode than this one's: what is not committed is not shown."""
+        self.change("PRAGMA journal_mode = DELETE")
+        with contextlib.closing(sqlite3.connect(self.path, isolation_level=None)) as other:
+            other.execute("PRAGMA cache_size = 2")
+            for lock in ("BEGIN EXCLUSIVE", "UPDATE postings SET debit = 987654321"):
+                other.execute(lock)
+                with unittest.mock.patch("tb_sql.sqlite_store.PATIENCE", 0.1):
+                    page = self.get("/account/1", 500)
+                self.assertIn("database is locked", page)
+
     def test_nothing_is_written(self):
         before = self.contents()
         self.get("/")
