@@ -1,5 +1,6 @@
 """What the pages ask the tables. Each question takes a bounded number of steps through an index,
-whatever the history's length; only the trial balance looks at each account."""
+whatever the history's length, but for three: the trial balance looks at each account, the reasons
+at each refused event, and what is pending at each open transfer (of the account, on its page)."""
 
 from __future__ import annotations
 
