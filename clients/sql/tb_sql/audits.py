@@ -20,6 +20,7 @@ STALE = 1.0  # seconds after which what is whole is written, though more comes
 RARELY = 20  # a write comes no sooner than after so many times the time that the last one took
 IDLE = 0.2  # seconds without a line, after which what is whole is written
 CHUNK = 1 << 20
+LINE_MAX = 1 << 24  # bytes: a lookup of 8190 ids has less than half a million
 ENTRY = b'{"commit":"'
 # where a value is missing, or is not one that an audit has there
 WRONG = (AttributeError, KeyError, OverflowError, TypeError, ValueError)
@@ -29,6 +30,7 @@ def lines_of(input: int) -> Iterator[Optional[bytes]]:
     """The lines that come from a file's number, each with its end; None where none comes for a
     while. The last one may lack its end."""
     pieces: List[bytes] = []
+    length = 0
     while True:
         if not select.select([input], [], [], IDLE)[0]:
             yield None
@@ -40,8 +42,12 @@ def lines_of(input: int) -> Iterator[Optional[bytes]]:
             pieces.append(line)
             yield b"".join(pieces) + b"\n"
             pieces.clear()
+            length = 0
         if rest:
             pieces.append(rest)
+            length += len(rest)
+        if length > LINE_MAX:
+            raise Refused(f"a line has more than {LINE_MAX >> 20} MiB: the input is no audit")
     if pieces:
         yield b"".join(pieces)
 

@@ -632,6 +632,17 @@ class Words(Tables):
             said = ran.stderr.decode()
             self.assertEqual((ran.returncode, said.count("\n")), (wanted, wanted), said)
 
+    def test_input_without_an_end(self):
+        """One line that goes on and on does not take all memory."""
+        words = " ".join([*COMMAND, "load", self.path])
+        ran = subprocess.run(
+            ["sh", "-c", f"ulimit -v 1000000; exec {words} < /dev/zero"],
+            capture_output=True,
+            timeout=120,
+        )
+        wanted = b"tb-sql: a line has more than 16 MiB: the input is no audit\n"
+        self.assertEqual((ran.returncode, ran.stderr), (2, wanted))
+
     def test_damaged_tables(self):
         self.load(history())
         data = bytearray((self.room / "ledger.sqlite").read_bytes())
