@@ -23,7 +23,7 @@ from .numbers import (
 )
 from .schema import SUMS
 from .sources import Ledger
-from .sqlite_store import check_schema, connect_read_only
+from .sqlite_store import check_schema, check_still, connect_read_only, write_time
 
 LOOKED_UP = 8190  # ids of a lookup
 PAUSE = 0.2  # seconds between two looks at the tables
@@ -44,7 +44,7 @@ def check_tables(given: argparse.Namespace) -> int:
     try:
         connection.isolation_level = None
         connection.execute("BEGIN")
-        print(checked(connection), flush=True)
+        print(checked(connection, given.file), flush=True)
         connection.execute("COMMIT")
         if given.server is not None:
             print(Server(given, connection).compare(), flush=True)
@@ -53,12 +53,15 @@ def check_tables(given: argparse.Namespace) -> int:
     return 0
 
 
-def checked(connection: sqlite3.Connection) -> str:
+def checked(connection: sqlite3.Connection, path: str) -> str:
     """What was compared; the first difference is raised, also where it is no number."""
+    before = write_time(connection, path)
     try:
         return Tables(connection).check()
     except (TypeError, ValueError) as error:
         raise Difference(f"a value that no table has: {error}") from None
+    finally:
+        check_still(connection, path, before)
 
 
 def pending_sums(

@@ -39,6 +39,20 @@ def connect_read_only(path: str) -> sqlite3.Connection:
     raise Failed(f"{path}: {fault}")
 
 
+def write_time(connection: sqlite3.Connection, path: str) -> Optional[int]:
+    """When a file that is read without locks was written last, which is to stay so while it is
+    read; nothing of a file with locks."""
+    if connection.execute("PRAGMA journal_mode").fetchone()[0] == "wal":
+        return None
+    return os.stat(path).st_mtime_ns
+
+
+def check_still(connection: sqlite3.Connection, path: str, before: Optional[int]) -> None:
+    """Refuses what was read while the file was written."""
+    if before is not None and write_time(connection, path) != before:
+        raise Failed(f"{path} was written while it was read: read it again")
+
+
 def check_schema(connection: sqlite3.Connection, path: str) -> None:
     """Refuses a database without these tables."""
     try:

@@ -22,6 +22,7 @@ from support import COMMAND, Tables  # noqa: I001
 from audits import MAX, START, Audit, account, transfer
 from test_load import history
 from tb_sql.audits import Loading
+from tb_sql.errors import Failed
 from tb_sql.pages import queries
 from tb_sql.pages.server import Handler, make_app
 from tb_sql.sqlite_store import SqliteStore
@@ -474,6 +475,31 @@ class Refused(Pages):
                 with unittest.mock.patch("tb_sql.sqlite_store.PATIENCE", 0.1):
                     page = self.get("/account/1", 500)
                 self.assertIn("database is locked", page)
+
+    def test_what_is_written_while_it_is_read_without_locks(self):
+        """As in a folder that cannot be written: rows of two moments are refused."""
+        connect, audit = sqlite3.connect, history()
+
+        def unlocked(name, **words):
+            return connect(name.replace("mode=ro", "immutable=1"), **words)
+
+        def written(*_):
+            self.load(audit.register(1000 + audit.commit))
+            return []
+
+        words = "was written while it was read"
+        with unittest.mock.patch("sqlite3.connect", unlocked):
+            self.get("/accounts")
+            self.get("/csv/transfers.csv")
+            with unittest.mock.patch.object(queries.Tables, "ledgers", written):
+                self.assertIn(words, self.get("/accounts", 500))
+            with unittest.mock.patch("tb_sql.checking.Tables.check", written):
+                status, _, said = self.said("check", self.path)
+            self.assertEqual((status, words in said), (1, True), said)
+            with unittest.mock.patch("tb_sql.pages.server.CSV_ROWS", 10):
+                rows = self.site.get("/csv/transfers.csv", base_url=HERE).iter_encoded()
+                written()
+                self.assertRaises(Failed, list, rows)
 
     def test_nothing_is_written(self):
         before = self.contents()

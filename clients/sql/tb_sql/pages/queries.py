@@ -8,7 +8,7 @@ import sqlite3
 from typing import Any, Dict, Iterator, List, NamedTuple, Optional, Tuple
 
 from ..numbers import Number
-from ..sqlite_store import check_schema, connect_read_only
+from ..sqlite_store import check_schema, check_still, connect_read_only, write_time
 
 ROWS = 50  # of a page
 POINTS = 240  # of a chart of an account
@@ -57,7 +57,8 @@ class Tables:
     """A connection for one request: all that it reads is of one moment."""
 
     def __init__(self, path: str) -> None:
-        self._connection = connect_read_only(path)
+        self._path, self._connection = path, connect_read_only(path)
+        self._written = write_time(self._connection, path)
         self._connection.row_factory = sqlite3.Row
         check_schema(self._connection, path)
         self._connection.isolation_level = None
@@ -65,6 +66,10 @@ class Tables:
 
     def close(self) -> None:
         self._connection.close()
+
+    def check_still(self) -> None:
+        """Says that what was read is of one moment."""
+        check_still(self._connection, self._path, self._written)
 
     def one(self, text: str, *values: Any) -> Optional[Row]:
         row: Optional[Row] = self._connection.execute(text, values).fetchone()

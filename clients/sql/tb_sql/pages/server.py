@@ -338,6 +338,7 @@ def csv_lines(tables: Tables, names: List[str], rows: Iterator[Any]) -> Iterator
                 yield text.getvalue()
                 text.seek(0)
                 text.truncate()
+        tables.check_still()
         yield text.getvalue()
     finally:
         tables.close()
@@ -408,7 +409,13 @@ def carried(**changes: Any) -> Dict[str, Any]:
 
 
 def _of_site(page: Callable[..., Any], site: Site) -> Callable[..., Any]:
-    return lambda **words: page(site, **words)
+    def shown(**words: Any) -> Any:
+        reply = page(site, **words)
+        if "tables" in g:
+            g.tables.check_still()
+        return reply
+
+    return shown
 
 
 def _http_fault(error: HTTPException) -> Tuple[str, int]:
