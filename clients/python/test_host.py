@@ -739,6 +739,39 @@ class Replicas(OverALog):
         self.assertEqual(it.follower.answered, 4)
         await self.closed(it)
 
+    async def test_nothing_is_taken_behind_a_fault(self):
+        """What comes behind it would get its position. A copy on a full disk then lacked an entry;
+        so did the replies, where the engine counts an entry as read when it was handed over."""
+        it = await self.began()
+        await self.asked(it, 6)
+        position, right = self.copy.position, entry(A, 1, pair(1, register(5))).to_bytes()
+        full = OSError(errno.ENOSPC, os.strerror(errno.ENOSPC))
+        with mock.patch("os.pwritev", side_effect=full), self.assertRaises(Ended):
+            it.take(Written(8, right))
+        other = entry(B, 1, pair(1, register(4))).to_bytes()
+        with self.assertRaisesRegex(Ended, "No space left on device"):
+            it.take(Written(9, other))
+        self.assertEqual(self.copy.position, position)
+        await self.closed(it)
+
+    async def test_nothing_is_taken_once_a_fault_is_told(self):
+        """No reply comes while it is reported."""
+        it = await self.began()
+        await self.asked(it, 6)
+        report, asked = self.log.report, []
+
+        async def slow(name, data):
+            if b"fault" in data:
+                asked.append(asyncio.ensure_future(self.asked(it, 7)))
+                await asyncio.sleep(0.2)
+            await report(name, data)
+
+        self.log.report, self.log.is_next = slow, lambda place: True  # as reports have no place
+        await report("r1", json.dumps({"fault": f"writer {it.writer.hex()}"}).encode())
+        self.assertEqual(await self.ended(), "Diverged")
+        with self.assertRaises(Told):
+            await asked[0]
+
     async def test_bad_entries(self):
         for data in (
             b"no entry",

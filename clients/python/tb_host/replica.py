@@ -116,6 +116,7 @@ class Replica:
         self.own: Dict[int, List[Pair]] = {}  # those that were read, by their position
         self.claims: Dict[int, Set[Tuple[bytes, bytes]]] = {}  # of replies that are not there yet
         self.is_full = False
+        self.fault: Optional[BaseException] = None  # why no entry is taken any more
         self.hello = 0  # what this clock had when the others were asked for theirs
         self.heard: Dict[str, int] = {}  # the same of others, which are to be answered
         self.ahead: Dict[str, int] = {}  # by how much this clock is ahead of another's, at least
@@ -322,7 +323,18 @@ class Replica:
             raise Fault("Trimmed", f"{gone}; take a peer's, by copy-from") from None
 
     def take(self, written: Written) -> None:
-        """Takes an entry of the log: it is tested, passed to the server, and copied."""
+        """Takes an entry of the log. Behind a fault none is taken: it would get the position of the
+        one that has the fault."""
+        if self.fault is not None:
+            raise self.fault
+        try:
+            self._take(written)
+        except Exception as fault:
+            self.fault = fault
+            raise
+
+    def _take(self, written: Written) -> None:
+        """Takes an entry: it is tested, passed to the server, and copied."""
         position = self.copy.position + 1
         sent = next((it for it in self.sent.values() if it.data == written.data), None)
         entry = sent.entry if sent else self._entry_of(position, written.data)
@@ -597,6 +609,7 @@ class Replica:
         for it in tasks:
             fault = it.exception() if it.done() else None
             if fault is not None:
+                self.fault = fault
                 if isinstance(fault, Fault):
                     await self.report(fault=str(fault))
                 raise fault
