@@ -321,6 +321,26 @@ class Copies(unittest.TestCase):
         self.assertEqual(str(found.exception), f"{self.folder}/name: No space left on device")
         self.assertEqual(kept(self.folder, "name", b"m2"), b"m2")
 
+    def test_what_a_sync_failed_at_is_cut_off(self):
+        """The system shows it, and may not write it any more: a later sync succeeds, and was taken
+        for one of these bytes. So is what a replica that was killed left."""
+        it, more = (entry(A, number, pair(6, register(6))) for number in (6, 7))
+        bad = OSError(errno.EIO, os.strerror(errno.EIO))
+        with self.opened() as copy:
+            copy.append(60, it, it.to_bytes())
+            for failing in (mock.patch("os.fsync", side_effect=bad), contextlib.nullcontext()):
+                with failing, self.assertRaisesRegex(Ended, "Input/output error"):
+                    copy.sync(*copy.mark())
+            copy.append(70, more, more.to_bytes())
+        with self.opened() as copy:
+            self.assertEqual((copy.position, copy.end, copy.synced), (5, self.end, (5, 50)))
+            copy.append(60, it, it.to_bytes())
+        with mock.patch("os.fsync", side_effect=bad), self.assertRaises(Ended):
+            with self.opened():
+                pass
+        with self.opened() as copy:
+            self.assertEqual((copy.position, copy.end), (5, self.end))
+
     def test_it_is_one_replica_s(self):
         with self.opened(), self.assertRaises(Ended) as found:
             Copy(self.folder)

@@ -13,6 +13,7 @@ import errno
 import fcntl
 import os
 import struct
+import threading
 import zlib
 from typing import Iterator, List, Optional, Tuple
 
@@ -85,6 +86,8 @@ class Copy(Taken):
         super().__init__(folder)
         self.path = os.path.join(folder, "log")
         self.end = self.synced_end = len(MAGIC)
+        self.syncing = threading.Lock()
+        self.failed: Optional[OSError] = None  # why a sync failed
         self.file = opened_alone(folder, "log")
 
     # what is there
@@ -170,16 +173,21 @@ class Copy(Taken):
         return self.end, (self.position, self.place)
 
     def sync(self, end: int, mark: Tuple[int, int]) -> None:
-        """Syncs the records up to a mark. It may run in another thread."""
+        """Syncs the records up to a mark. It may run in another thread. Behind one that failed
+        each fails: the system may take for written what the disk does not hold."""
         path = self.path
-        try:
-            os.fsync(self.file)
-            path = os.path.join(self.folder, "synced")
-            with open(path, "r+b" if os.path.exists(path) else "wb") as file:
-                file.write(SYNCED.pack(end))
-        except OSError as error:
-            raise Ended(f"{path}: {error.strerror}", 1) from None
-        self.synced_end, self.synced = end, mark
+        with self.syncing:
+            try:
+                if self.failed is not None:
+                    raise self.failed
+                os.fsync(self.file)
+                path = os.path.join(self.folder, "synced")
+                with open(path, "r+b" if os.path.exists(path) else "wb") as file:
+                    file.write(SYNCED.pack(end))
+            except OSError as error:
+                self.failed = error
+                raise Ended(f"{path}: {error.strerror}", 1) from None
+            self.synced_end, self.synced = end, mark
 
     def end_of(self, data: bytes) -> int:
         return self.end + HEAD + len(data)
@@ -199,7 +207,14 @@ class Copy(Taken):
             raise Fault("Damaged", f"the record at byte {start} of {self.path}")
 
     def close(self) -> None:
-        os.close(self.file)
+        """Lets another replica have the folder. What a sync failed at is cut off: the log still has
+        it."""
+        with self.syncing:
+            end = synced_of(self.folder)
+            if self.failed is not None and len(MAGIC) <= end < self.end:
+                with contextlib.suppress(OSError):
+                    os.ftruncate(self.file, end)
+            os.close(self.file)
 
 
 def synced_of(folder: str) -> int:
