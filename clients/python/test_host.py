@@ -390,6 +390,22 @@ class Copies(unittest.TestCase):
         with self.assertRaises(ProcessLookupError):
             os.kill(int(str(found.exception)), signal.SIGKILL)
 
+    def test_the_hashes_of_a_server_that_writes_what_is_no_reply(self):
+        """It is ended and told, also where that has the length of a long reply, or comes behind the
+        last reply. It was waited for without an end."""
+        wrong = "stdout.write(head[8:24] + b'x' * 32)"
+        late = "stdout.write(b'x' * 10**6)"
+        for code in (
+            SERVER.replace("    commit += 1", f"    {wrong}\n    commit += 1"),
+            f"{SERVER}{late}",
+        ):
+            command = [sys.executable, "-SEc", code, "run", "64"]
+            given = argparse.Namespace(copy=self.folder, at=0, command=command)
+            with self.assertRaises(Ended) as found:
+                asyncio.run(asyncio.wait_for(parts_of_status.hashes(given), 10))
+            said = "the command wrote what is no reply to the next pair"
+            self.assertEqual(str(found.exception), said)
+
     def test_a_copy_of_a_peer(self):
         kept(self.folder, "head", b"the log")
         other = self.folder + "2"

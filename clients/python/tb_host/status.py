@@ -9,7 +9,7 @@ import sys
 import time
 from typing import Any, BinaryIO, Dict, Iterator
 
-from tb_client.frames import reply_length
+from tb_client.frames import asker, reply_fault, reply_length
 from tb_client.layout import HEADER
 
 from .entries import NOTHING, Entry, chained, cut
@@ -130,12 +130,14 @@ async def hashes(given: argparse.Namespace) -> int:
         pairs = Entry.from_bytes(record.entry).pairs
         process.stdin.write(pairs)
         log = chained(log, pairs)
-        for _ in cut(pairs):
-            replies = chained(replies, await _reply(process, telling))
+        for _, header in cut(pairs):
+            replies = chained(replies, await _reply(process, telling, asker(header)))
         position = record.position
         if position == given.at:
             break
     process.stdin.close()
+    if await process.stdout.read(1):
+        raise await _wrong(process)
     status, told = await exited(process), await telling
     process.close()
     if status:
@@ -144,9 +146,11 @@ async def hashes(given: argparse.Namespace) -> int:
     return 0
 
 
-async def _reply(process: Process, telling: asyncio.Task[bytes]) -> bytes:
+async def _reply(process: Process, telling: asyncio.Task[bytes], wanted: bytes) -> bytes:
     try:
         header = await process.stdout.readexactly(HEADER)
+        if asker(header) != wanted or reply_fault(header):
+            raise await _wrong(process)
         return header + await process.stdout.readexactly(reply_length(header) - HEADER)
     except asyncio.IncompleteReadError:
         await asyncio.wait([telling], timeout=LAST_WORDS)
@@ -155,3 +159,10 @@ async def _reply(process: Process, telling: asyncio.Task[bytes]) -> bytes:
         kill(process)  # it may have closed its output alone
         await exited(process)
         raise Ended(said, 1) from None
+
+
+async def _wrong(process: Process) -> Ended:
+    """Ends a process that wrote what is no reply. Answers what is told of it."""
+    kill(process)
+    await exited(process)
+    return Ended("the command wrote what is no reply to the next pair", 1)
