@@ -373,6 +373,21 @@ class Copies(unittest.TestCase):
         said = f"tb_replica: Damaged: the record at byte {8 + 3 * size} of {path}\n"
         self.assertEqual(self.script(self.folder), (24, b"".join(pairs[:3]), said))
 
+    def test_the_hashes_at_a_position(self):
+        """One that the copy does not have is told. Those of its last one were printed."""
+        command = [sys.executable, "-SEc", SERVER, "run", "64"]
+        for at, position in ((0, 5), (5, 5), (3, 3)):
+            with contextlib.redirect_stdout(io.StringIO()) as said:
+                given = argparse.Namespace(copy=self.folder, at=at, command=command)
+                asyncio.run(parts_of_status.hashes(given))
+            self.assertTrue(said.getvalue().startswith(f"position {position} log "), at)
+        for at in (6, -1):
+            with self.assertRaises(Ended) as found:
+                given = argparse.Namespace(copy=self.folder, at=at, command=command)
+                asyncio.run(parts_of_status.hashes(given))
+            said = f"{self.folder} has no position {at}: it ends at 5"
+            self.assertEqual((str(found.exception), found.exception.status), (said, 1))
+
     def test_the_hashes_of_a_server_that_answers_nothing(self):
         """Its last line is told, as that of wrong arguments."""
         for words, line in (("echo wrong >&2", "wrong"), ("", "the command ended before it had")):

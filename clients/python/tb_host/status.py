@@ -142,6 +142,8 @@ async def hashes(given: argparse.Namespace) -> int:
     process.close()
     if status:
         raise Ended(last_line(told) or f"{given.command[0]} ended {end_of(status)}", 1)
+    if given.at not in (0, position):
+        raise Ended(f"{given.copy} has no position {given.at}: it ends at {position}", 1)
     print(f"position {position} log {log.hex()} replies {replies.hex()}")
     return 0
 
