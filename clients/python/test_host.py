@@ -1194,6 +1194,23 @@ class Kept(OverALog):
             self.made()
         self.assertEqual(found.exception.name, "Damaged")
 
+    async def test_a_file_that_another_process_has_for_a_moment(self):
+        """It is waited for at each start of the server, however long the replica has run."""
+        flag = f"{self.folder}.flag"
+        code = f"rm {flag} 2>/dev/null && echo tbd: Locked >&2 && exit 4; exec \"$@\""
+        it = await self.began(command=["sh", "-c", code, "sh", *self.command])
+        await self.asked(it, 1)
+        it.follower.since -= 3600
+        with open(flag, "wb"):
+            it.follower.kill()
+        self.assertEqual(self.commit(await self.asked(it, 2)), 2)
+        self.assertIn("tbd: Locked, and is started again", self.told.getvalue())
+        it.follower.since -= 3600
+        it.follower.words = ["sh", "-c", "echo tbd: Locked >&2; exit 4"]
+        it.follower.patience = 0.3
+        it.follower.kill()
+        self.assertEqual(await self.ended(), "tbd")
+
     async def test_a_file_that_lost_what_it_had(self):
         it = await self.began()
         await self.asked(it, 1)

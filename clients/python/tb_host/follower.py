@@ -311,7 +311,7 @@ class KeptFollower(PositionFollower):
         super().__init__(words, patience, copy, tell)
         self.missed = missed
         self.standing: Optional[asyncio.Future[Tuple[int, bytes, bytes]]] = None
-        self.since = time.monotonic()
+        self.since = time.monotonic()  # when the last process that had the file ended
         # a process has told what its file has; it is settled from where on the log is read
         self.opened, self.is_settled = asyncio.Event(), asyncio.Event()
         self.has = 0  # up to which position the first process had the log
@@ -359,6 +359,11 @@ class KeptFollower(PositionFollower):
         if is_start:
             say(line)
         return is_start
+
+    def lost(self) -> None:
+        if self.stdin is not None:
+            self.since = time.monotonic()
+        super().lost()
 
     def end_by_signal(self, status: int, line: str) -> str:
         if line and status in NAMED:
