@@ -4,6 +4,7 @@ kills and clocks."""
 import contextlib
 import dataclasses
 import errno
+import fcntl
 import io
 import os
 import random
@@ -1595,6 +1596,18 @@ class Words(unittest.TestCase):
             it = tb_listen.unix_socket(path)
             with it:
                 self.assertEqual(stat.S_IMODE(os.stat(path).st_mode), 0o600)
+
+    def test_a_folder_that_another_holds(self):
+        """It is waited for, and not without an end: whoever reads a folder may lock it."""
+        with tempfile.TemporaryDirectory() as folder:
+            held = os.open(folder, os.O_RDONLY)
+            fcntl.flock(held, fcntl.LOCK_EX)
+            try:
+                with Running(folder=folder) as listener:
+                    self.assertEqual(listener.end(), 0)
+                    self.assertFalse(os.path.exists(listener.path))
+            finally:
+                os.close(held)
 
 
 class Clocks(unittest.TestCase):

@@ -11,6 +11,7 @@ import resource
 import socket
 import ssl
 import stat
+import time
 from typing import Any, Iterator, List, NamedTuple, Optional, Set
 
 from .connections import Connection, Listener
@@ -20,6 +21,7 @@ from .tls import context_of, is_loopback
 
 BACKLOG = 1024  # connections that wait to be taken
 ACCEPT_AGAIN = 0.5  # seconds before a connection is taken again for which there was no file
+HELD = 2.0  # seconds for which a folder that another holds is waited for
 AGREEMENT = 10.0  # seconds that a connection may take to agree on TLS
 
 
@@ -29,11 +31,24 @@ def folder_of(path: str) -> Iterator[None]:
     it one after another."""
     folder = os.open(os.path.dirname(path) or ".", os.O_RDONLY | os.O_DIRECTORY)
     try:
-        with contextlib.suppress(OSError):  # a file system without such locks
-            fcntl.flock(folder, fcntl.LOCK_EX)
+        _lock(folder)
         yield
     finally:
         os.close(folder)
+
+
+def _lock(folder: int) -> None:
+    """Locks a folder. It goes on without that where a file system has no such locks, or another
+    holds it for long: whoever may read the folder can."""
+    end = time.monotonic() + HELD
+    while time.monotonic() < end:
+        try:
+            fcntl.flock(folder, fcntl.LOCK_EX | fcntl.LOCK_NB)
+            return
+        except BlockingIOError:
+            time.sleep(0.01)
+        except OSError:
+            return
 
 
 class Place(NamedTuple):
