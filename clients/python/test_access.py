@@ -29,7 +29,7 @@ from tb_client import Session, Socket
 from tb_host import lines, listen, sockets
 from tb_host.evictions import Evictions
 from tb_host.lines import Ended
-from test_listen import HERE, KEEPER, Running, register, told
+from test_listen import HERE, KEEPER, Running, has_ipv6, register, told
 from test_tb_client import PROGRAM
 
 sys.path.append(os.path.join(HERE, "..", "conformance"))
@@ -359,15 +359,26 @@ class Reports(unittest.TestCase):
             self.assertEqual(status, 1)
             self.assertIn("python3-prometheus-client", line)
             self.skipTest("prometheus_client is not installed")
-        with socket.socket() as free:
-            free.bind(("127.0.0.1", 0))
-            port = free.getsockname()[1]
-        with Running("--metrics", f"127.0.0.1:{port}") as listener:
-            with Session.register(Socket(listener.path)) as session:
-                session.lookup_accounts([1])
-            time.sleep(0.1)  # the system counts what a process wrote just after that
-            with urllib.request.urlopen(f"http://127.0.0.1:{port}/metrics", timeout=10) as page:
-                text = page.read().decode()
+        for host in ("127.0.0.1", *(["[::1]"] if has_ipv6() else [])):
+            with sockets.tcp_socket(host.strip("[]"), 0) as free:
+                place = f"{host}:{free.getsockname()[1]}"
+                self.no_metrics_at(place, "Address already in use")
+            with Running("--metrics", place) as listener:
+                self.read_metrics(listener, place)
+        self.no_metrics_at(f"{'x' * 64}.example:1", "is no name of a place")
+
+    def no_metrics_at(self, place, why):
+        with tempfile.TemporaryDirectory() as folder:
+            unix = os.path.join(folder, "it")
+            found = ended("--unix", unix, "--metrics", place)
+        self.assertEqual(found, (1, f"tb_listen: {place}: {why}"))
+
+    def read_metrics(self, listener, place):
+        with Session.register(Socket(listener.path)) as session:
+            session.lookup_accounts([1])
+        time.sleep(0.1)  # the system counts what a process wrote just after that
+        with urllib.request.urlopen(f"http://{place}/metrics", timeout=10) as page:
+            text = page.read().decode()
         for line in (
             "tb_commits_total 2.0",
             "tb_syncs_total 4.0",

@@ -6,13 +6,12 @@ import asyncio
 import concurrent.futures
 import contextlib
 import os
-import socket
 from typing import Any, AsyncIterator, Callable, Iterator, Optional
 
 from .arguments import address, path
 from .counts import BUCKETS, SYNCS, Counts, _name
 from .lines import Ended
-from .sockets import folder_of, shown, unix_socket
+from .sockets import faults_of, folder_of, shown, tcp_socket, unix_socket
 
 WAIT = 2.0  # seconds that a page of metrics waits for the host's thread
 
@@ -80,13 +79,9 @@ def metrics_page(
     registry = prometheus.CollectorRegistry()
     collector: Any = _Collector(core, counts, lag)
     registry.register(collector)
-    try:
-        with socket.socket() as probe:  # so that a place that is taken is told by name
-            probe.setsockopt(socket.SOL_SOCKET, socket.SO_REUSEADDR, 1)
-            probe.bind(given.metrics)
+    with faults_of(shown(*given.metrics)):
+        tcp_socket(*given.metrics).close()  # so that a place that is taken is told by name
         prometheus.start_http_server(given.metrics[1], given.metrics[0], registry)
-    except OSError as error:
-        raise Ended(f"{shown(*given.metrics)}: {error.strerror or error}", 1) from None
     yield
 
 

@@ -129,7 +129,7 @@ def bound(given: argparse.Namespace) -> Iterator[List[Place]]:
         if given.unix:
             found.append(Place(places.enter_context(_bound_path(given)), given.unix, None))
         if given.tcp:
-            with _faults_of(shown(*given.tcp)):
+            with faults_of(shown(*given.tcp)):
                 it = places.enter_context(tcp_socket(*given.tcp))
             _test_address(it, given)  # its name may have had no address before
             found.append(Place(it, shown(*it.getsockname()), tls))
@@ -153,7 +153,7 @@ def _test_address(it: socket.socket, given: argparse.Namespace) -> None:
 
 
 @contextlib.contextmanager
-def _faults_of(place: str) -> Iterator[None]:
+def faults_of(place: str) -> Iterator[None]:
     """Tells the place of a fault."""
     try:
         yield
@@ -166,7 +166,7 @@ def _faults_of(place: str) -> Iterator[None]:
 @contextlib.contextmanager
 def _bound_path(given: argparse.Namespace) -> Iterator[socket.socket]:
     """The socket at a path, which is removed at the end."""
-    with _faults_of(given.unix):
+    with faults_of(given.unix):
         place = unix_socket(given.unix, bool(given.allow_uid))
         mine = os.stat(given.unix)
     try:
