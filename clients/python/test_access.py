@@ -493,6 +493,20 @@ class Reports(unittest.TestCase):
             self.assertIn("listens on", it["text"])
             self.assertRegex(it["time"], r"^\d{4}-\d\d-\d\dT\d\d:\d\d:\d\d\.\d{3}\+00:00$")
 
+    def test_the_level_of_why_it_ends(self):
+        """It was info, as a line of a start that is well."""
+        with tempfile.TemporaryDirectory() as folder:
+            unix = os.path.join(folder, "it")
+            it = json.loads(ended("--log-json", "--unix", unix)[1])
+            self.assertEqual((it["level"], it["text"]), ("error", "true ended with status 0"))
+            with Running("--log-json", folder=folder) as listener:
+                while "listens on" not in (line := listener.tells()):
+                    self.assertTrue(line)
+                listener.kill_server()
+                it = json.loads(listener.tells())
+            self.assertEqual(it["level"], "warning")
+            self.assertIn("by SIGKILL, and is started again", it["text"])
+
     def test_a_long_line_as_json(self):
         """It is cut, and stays an object."""
         for text in ("x" * 9999, "\U0001f600" * 999, "\n" * 5000):

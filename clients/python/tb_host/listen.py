@@ -93,7 +93,7 @@ def main() -> int:
         make_room(given.connections)
         run(listen(given))
     except Ended as ended:
-        say(str(ended))
+        say(str(ended), "error")
         return ended.status
     return 0
 

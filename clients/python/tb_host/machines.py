@@ -63,7 +63,7 @@ async def serve(given: argparse.Namespace, log: Log) -> None:
     try:
         copy.scan()
         if copy.cut_off:
-            say(f"{copy.cut_off} bytes that a crash left torn are cut off the copy")
+            say(f"{copy.cut_off} bytes that a crash left torn are cut off the copy", "warning")
         name = given.name or f"{socket.gethostname()}-{os.urandom(4).hex()}"
         replica = Replica(given, log, copy, kept(given.copy, "name", name.encode()).decode())
         beginning = asyncio.ensure_future(replica.begin())
@@ -273,14 +273,14 @@ def main() -> int:
     try:
         return run(part, words[1:] if part else words)
     except Ended as ended:
-        say(str(ended))
+        say(str(ended), "error")
         return ended.status
     except KeyboardInterrupt:  # of a part that serves nothing
         return 130
     except OSError as error:
         if error.filename is None:
             raise
-        say(f"{error.filename}: {error.strerror}")
+        say(f"{error.filename}: {error.strerror}", "error")
         return 1
 
 

@@ -46,7 +46,8 @@ class Moments:
         if lag >= LAG and not self.is_said:
             say(
                 f"the clock is {lag} s ahead of where it should be, and requests get moments "
-                f"without that: if it is right now, start {lines.program} again"
+                f"without that: if it is right now, start {lines.program} again",
+                "warning",
             )
         self.is_said = lag >= LAG
         return self.last

@@ -293,7 +293,7 @@ class PostgresLog:
         """Says why nothing is read, once: appends may go on without the standbys."""
         if not self.is_behind:
             said = f"NoLog: {count} of {self.standbys} standbys have flushed what is to be read"
-            say(f"{said}; a member of pg_monitor alone sees them")
+            say(f"{said}; a member of pg_monitor alone sees them", "warning")
         self.is_behind = True
 
     async def _said(self) -> List[Tuple[str, bytes]]:

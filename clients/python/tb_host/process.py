@@ -158,7 +158,7 @@ class ServerProcess:
     async def _pause(self, ended: str, seconds: float) -> None:
         """Waits before the command is started again. Raises `Ended` where the listener is to end
         meanwhile."""
-        say(f"{ended}, and is started again in {seconds:g} s")
+        say(f"{ended}, and is started again in {seconds:g} s", "warning")
         with contextlib.suppress(asyncio.TimeoutError):
             await asyncio.wait_for(self.stopping.wait(), seconds)
             raise Ended(f"{ended}, and is not started again", 1)

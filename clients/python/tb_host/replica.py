@@ -287,11 +287,11 @@ class Replica:
                 break
             except LogFull as full:
                 if not self.is_full:
-                    say(f"LogFull: {full}")
+                    say(f"LogFull: {full}", "warning")
                 self.is_full = True
             except NoLog as none:
                 if not self.is_away:
-                    say(f"NoLog: {none}")
+                    say(f"NoLog: {none}", "warning")
                 self.is_away = True
             await asyncio.sleep(PAUSE)
         if number in self.sent:
@@ -340,7 +340,8 @@ class Replica:
         entry = sent.entry if sent else self._entry_of(position, written.data)
         before = self.copy.numbers.get(entry.writer, 0)
         if entry.number <= before:
-            say(f"entry {entry.number} of a writer is in the log twice, and is taken once")
+            said = f"entry {entry.number} of a writer is in the log twice, and is taken once"
+            say(said, "warning")
             return
         if entry.number != before + 1:
             said = f"the entry at {position} is number {entry.number} behind {before}"

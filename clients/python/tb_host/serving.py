@@ -48,8 +48,9 @@ class Server(Asked, Protocol):
 def stop_signals() -> asyncio.Future[Any]:
     """Comes with the first SIGTERM or SIGINT. What a task fails with is said."""
     loop, stopped = asyncio.get_running_loop(), asyncio.Event()
+    said = "{}: {!r}".format
     loop.set_exception_handler(
-        lambda _, context: say("{}: {!r}".format(context["message"], context.get("exception")))
+        lambda _, it: say(said(it["message"], it.get("exception")), "error")
     )
     for number in (signal.SIGTERM, signal.SIGINT):
         loop.add_signal_handler(number, stopped.set)

@@ -212,7 +212,7 @@ async def take_connections(at: Place, listener: Listener) -> None:
             pass
         except OSError as error:
             if not is_said:
-                say(f"no more connections are taken for now: {error.strerror}")
+                say(f"no more connections are taken for now: {error.strerror}", "warning")
             is_said = True
             await asyncio.sleep(ACCEPT_AGAIN)
         else:
