@@ -582,6 +582,69 @@ class Etcd(unittest.IsolatedAsyncioTestCase):
         await other.stop(None)
         first.close()
 
+    async def watched(self, *watches):
+        """A log over one etcd, and what that says to each watch. One with nothing to say ends, but
+        for the last one."""
+        import grpc.aio
+        from tb_host import etcd
+
+        self.left = list(watches)
+
+        async def watch(*_):
+            said = self.left.pop(0)
+            for it in said:
+                yield it
+            if said or not self.left:
+                await asyncio.sleep(60)
+
+        server = grpc.aio.server()
+        etcd.rpc.add_WatchServicer_to_server(mock.Mock(Watch=watch), server)
+        port = server.add_insecure_port("127.0.0.1:0")
+        await server.start()
+        self.addAsyncCleanup(server.stop, None)
+        log = etcd.EtcdLog([("127.0.0.1", port)], "bank", Access())
+        self.addAsyncCleanup(log.close)
+        return log
+
+    async def test_a_reader_that_ends(self):
+        """One that was told between two watches to look elsewhere read on when it was ended."""
+        log = await self.watched([], [])
+        reading = asyncio.ensure_future(log.read(0).__anext__())
+        while len(self.left) > 1:
+            await asyncio.sleep(0.001)
+        await asyncio.sleep(0.05)
+        log.look_elsewhere()
+        while self.left:
+            await asyncio.sleep(0.001)
+        await asyncio.sleep(0.05)
+        reading.cancel()
+        await asyncio.wait([reading], timeout=2)
+        self.assertTrue(reading.cancelled())
+
+    async def test_why_the_log_is_not_read(self):
+        """It is told once, until it is read. A user who may write and not read was told nothing."""
+        from tb_host import etcd
+
+        refused, right = (etcd.rpc.WatchResponse(created=True) for _ in range(2))
+        refused.canceled, refused.cancel_reason = True, "permission denied"
+        pair = right.events.add().kv
+        pair.mod_revision, pair.key, pair.value = 3, b"bank/log/0", b"an entry"
+        log = await self.watched([refused], [refused], [right], [])
+        reading = log.read(0)
+        with contextlib.redirect_stderr(io.StringIO()) as told:
+            self.assertEqual((await asyncio.wait_for(reading.__anext__(), 9)).data, b"an entry")
+            going = asyncio.ensure_future(reading.__anext__())
+            await asyncio.sleep(0)
+            log.look_elsewhere()
+            while self.left:
+                await asyncio.sleep(0.01)
+            going.cancel()
+        at = log.addresses[0].place
+        said = f"tb_listen: NoLog: the log is not read at {at}: "
+        found = told.getvalue().split(said)
+        whys = ["permission denied\n", "what was written there does not come\n"]
+        self.assertEqual(found, ["", *whys])
+
 
 @unittest.skipUnless(importlib.util.find_spec("psycopg"), "python3-psycopg is not there")
 class PostgreSQL(unittest.IsolatedAsyncioTestCase):

@@ -14,7 +14,7 @@ import etcd3.etcdrpc as rpc
 import grpc
 import grpc.aio
 
-from .lines import Ended
+from .lines import Ended, say_of
 from .log import Access, LogFull, LogGone, NoLog, Report, Written
 
 TRY = 2.0  # seconds for which one address is waited for
@@ -131,7 +131,7 @@ class EtcdLog:
         self.looked = -LEADER
         # the revision up to which all was read, and the place of the last entry up to there
         self.cursor = self.place = 0
-        self.is_moving = False
+        self.is_moving = self.is_unread = False
 
     # calls
 
@@ -213,21 +213,39 @@ class EtcdLog:
     async def read(self, place: int) -> AsyncIterator[Union[Written, Report]]:
         self.cursor = self.place = place
         while True:
+            at, why = self.addresses[self.reading], ""
             try:
-                async for it in self._watched():
+                async for it in self._some():
                     yield it
-            except LogGone:  # from what can be watched; what is kept is listed
-                async for entry in self._listed(self.place):
-                    self.place = entry.place
-                    yield entry
             except grpc.aio.AioRpcError as error:
-                _test(self.addresses[self.reading], error)
+                _test(at, error)
+                why = str(error.details())
+            except NoLog as none:
+                why = str(none)
             except asyncio.CancelledError:
                 if not self.is_moving:
                     raise
+                why = "what was written there does not come"
+            self._say_unread(at, why)
             self.is_moving = False
             self.reading = (self.reading + 1) % len(self.addresses)
             await asyncio.sleep(AGAIN)
+
+    def _say_unread(self, at: Address, why: str) -> None:
+        """Says why nothing is read, once until something is."""
+        if why and not self.is_unread:
+            self.is_unread = True
+            say_of("", f"NoLog: the log is not read at {at.place}: {why}")
+
+    async def _some(self) -> AsyncIterator[Union[Written, Report]]:
+        """What is watched. Where that is gone, what is kept is listed."""
+        try:
+            async for it in self._watched():
+                yield it
+        except LogGone:
+            async for entry in self._listed(self.place):
+                self.place = entry.place
+                yield entry
 
     async def _watched(self) -> AsyncIterator[Union[Written, Report]]:
         it = self.addresses[self.reading]
@@ -246,15 +264,18 @@ class EtcdLog:
                     raise LogGone(f"it was trimmed up to revision {said.compact_revision}")
                 if said.canceled:
                     it.forget_token()
-                    return
+                    raise NoLog(said.cancel_reason or "the watch was cancelled")
+                self.is_unread = False
                 for event in said.events:
                     if event.kv.mod_revision > self.cursor:
                         found = self._item(event.kv)
                         if found is not None:
                             yield found
                         self._count(event.kv.mod_revision, found)
+            raise NoLog("the watch ended")
         finally:
             self.watch.cancel()
+            self.watch = None  # there is none to move from
 
     def _count(self, revision: int, found: Union[Written, Report, None]) -> None:
         self.cursor = max(self.cursor, revision)
@@ -272,14 +293,13 @@ class EtcdLog:
             sort_target=rpc.RangeRequest.CREATE,
             keys_only=True,
         )
-        with contextlib.suppress(NoLog):  # it is tried again where the log can be reached
-            found = await self._call("keys", "Range", request)
-            position, trimmed = await self.trimmed()
-            if trimmed > place:
-                raise LogGone(f"the log begins behind position {position}")
-            for it in found.kvs:
-                yield await self._kept(it.key)
-            self.cursor = max(self.cursor, found.header.revision)
+        found = await self._call("keys", "Range", request)
+        position, trimmed = await self.trimmed()
+        if trimmed > place:
+            raise LogGone(f"the log begins behind position {position}")
+        for it in found.kvs:
+            yield await self._kept(it.key)
+        self.cursor = max(self.cursor, found.header.revision)
 
     async def _kept(self, key: bytes) -> Written:
         """An entry that was listed."""
