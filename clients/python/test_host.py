@@ -640,10 +640,9 @@ class Etcd(unittest.IsolatedAsyncioTestCase):
                 await asyncio.sleep(0.01)
             going.cancel()
         at = log.addresses[0].place
-        said = f"tb_listen: NoLog: the log is not read at {at}: "
-        found = told.getvalue().split(said)
-        whys = ["permission denied\n", "what was written there does not come\n"]
-        self.assertEqual(found, ["", *whys])
+        found = re.findall(f"NoLog: the log is not read at {at}: (.*)", told.getvalue())
+        whys = ["permission denied", "what was written there does not come"]
+        self.assertEqual(found, whys)
 
 
 @unittest.skipUnless(importlib.util.find_spec("psycopg"), "python3-psycopg is not there")
@@ -697,6 +696,40 @@ class PostgreSQL(unittest.IsolatedAsyncioTestCase):
                         await asyncio.wait_for(it._page(0), 0.2)
         found = re.findall("NoLog: ([0-9] of [0-9])", told.getvalue())
         self.assertEqual(found, ["1 of 2", "0 of 2"])
+
+    async def first_read(self, *rows, **more):
+        """What is read first, over connections that answer so in turn, the last one with an entry.
+        A reader is told to look elsewhere meanwhile."""
+        from tb_host import postgresql
+
+        async def answer(connection, text, *_):
+            found = rows[connection]
+            if isinstance(found, Exception):
+                raise found
+            return found if text == postgresql.READ else []
+
+        it = postgresql.PostgresLog([("127.0.0.1", 1)], "postgres/bank", Access(), 0)
+        connected = mock.AsyncMock(side_effect=range(len(rows)))
+        with mock.patch.multiple(it, _rows=answer, _connected=connected, _lose=mock.AsyncMock()):
+            reading = asyncio.ensure_future(it.read(0).__anext__())
+            await asyncio.sleep(0.1)
+            it.look_elsewhere()
+            return await asyncio.wait_for(reading, 5)
+
+    async def test_it_is_read_elsewhere(self):
+        """Where what was written is not read: a primary that was replaced and lives on was read
+        without an end."""
+        found = await self.first_read([], [(1, b"an entry", "0/1")])
+        self.assertEqual(found, Written(1, b"an entry"))
+
+    async def test_why_the_log_is_not_read(self):
+        """It is told once."""
+        with contextlib.redirect_stderr(io.StringIO()) as told:
+            lost = OSError("it is away")
+            found = await self.first_read(lost, lost, [(1, b"an entry", "0/1")])
+        self.assertEqual(found, Written(1, b"an entry"))
+        said = re.findall("NoLog: the log is not read: (.*)", told.getvalue())
+        self.assertEqual(said, ["it is away"])
 
     async def test_who_waits_in_the_server_ends_there(self):
         """The server sees no end of a connection while a call waits for another's lock. Without a

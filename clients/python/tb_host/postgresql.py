@@ -27,7 +27,7 @@ from typing import (
 import psycopg
 from psycopg import errors, sql
 
-from .lines import Ended, say
+from .lines import Ended, say, say_of
 from .log import Access, LogFull, LogGone, NoLog, Report, Written
 from .round_trips import results_of
 
@@ -95,6 +95,7 @@ class PostgresLog:
         self.place = 0  # up to which all was read
         self.flushed = 0  # the place of an own entry that the standbys have
         self.is_behind = False  # whether it was said that they do not have what is to be read
+        self.is_moving = self.is_unread = False
         self.wanted = asyncio.Event()
 
     # connections
@@ -251,6 +252,8 @@ class PostgresLog:
         self.place = place
         while True:
             try:
+                if self.is_moving:
+                    await self._leave()
                 for row in await asyncio.wait_for(self._page(self.place), ALL):
                     if row[0] <= self.place:  # it was appended meanwhile
                         continue
@@ -265,19 +268,31 @@ class PostgresLog:
                             said[name] = data
                             yield Report(name, data)
             except (psycopg.Error, OSError, asyncio.TimeoutError, Unknown) as error:
-                _tested(error)
-                await self._lose(self.reading)
-                self.reading = None
+                self._say_unread(_tested(error))
+                await self._leave()
                 await asyncio.sleep(AGAIN)
             with contextlib.suppress(asyncio.TimeoutError):
                 await asyncio.wait_for(self.wanted.wait(), LATEST)
             self.wanted.clear()
+
+    async def _leave(self) -> None:
+        """Reads over another connection, to where was connected last."""
+        self.is_moving = False
+        await self._lose(self.reading)
+        self.reading = None
+
+    def _say_unread(self, why: str) -> None:
+        """Says why nothing is read, once until something is."""
+        if not (self.is_unread or self.is_behind):
+            say_of("", f"NoLog: the log is not read: {why}")
+        self.is_unread = True
 
     async def _page(self, place: int) -> List[Any]:
         """The next entries, when the standbys have them."""
         if self.reading is None:
             self.reading = await self._connected()
         rows = await self._rows(self.reading, READ, place)
+        self.is_unread = False
         late = asyncio.get_running_loop().time() + TRY
         while rows and self.standbys:
             count = (await self._rows(self.reading, FLUSHED, rows[0][2]))[0][0]
@@ -301,6 +316,7 @@ class PostgresLog:
         return [(str(name), bytes(data)) for name, data in rows]
 
     def look_elsewhere(self) -> None:
+        self.is_moving = True
         self.wanted.set()
 
     # reports
