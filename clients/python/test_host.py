@@ -697,7 +697,27 @@ class PostgreSQL(unittest.IsolatedAsyncioTestCase):
         found = re.findall("NoLog: ([0-9] of [0-9])", told.getvalue())
         self.assertEqual(found, ["1 of 2", "0 of 2"])
 
-    async def first_read(self, *rows, **more):
+    async def test_a_primary_that_is_alone(self):
+        """The next address is tried. One without its standbys takes each connection, and answers
+        nothing: it was called again and again, though another was the primary by then."""
+        from tb_host import postgresql
+
+        some = [await asyncio.start_server(self._primary, "127.0.0.1", 0) for _ in range(2)]
+        places = [it.sockets[0].getsockname() for it in some]
+
+        async def port(connection):
+            await asyncio.sleep(60 if connection.info.port == places[0][1] else 0)
+            return connection.info.port
+
+        with mock.patch.dict(os.environ, PGSSLMODE="disable", PGGSSENCMODE="disable"):
+            it = postgresql.PostgresLog(places, "postgres/bank", Access(user="u"), 0)
+            with mock.patch.object(postgresql, "TRY", 0.5):
+                self.assertEqual(await it._call(port), places[1][1])
+        await it.close()
+        for server in some:
+            server.close()
+
+    async def first_read(self, *rows):
         """What is read first, over connections that answer so in turn, the last one with an entry.
         A reader is told to look elsewhere meanwhile."""
         from tb_host import postgresql

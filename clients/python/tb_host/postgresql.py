@@ -153,17 +153,25 @@ class PostgresLog:
         loop = asyncio.get_running_loop()
         end = loop.time() + seconds
         while True:
+            it = None
             try:
-                if self.writing is None or self.writing.closed:
-                    self.writing = await asyncio.wait_for(self._connected(), TRY)
-                return await asyncio.wait_for(work(self.writing), TRY)
+                it = self.writing = await self._connection()
+                return await asyncio.wait_for(work(it), TRY)
             except (psycopg.Error, OSError, asyncio.TimeoutError, Unknown) as error:
+                if it is not None:  # another one may be the primary by now
+                    self.address = (self.address + 1) % len(self.addresses)
                 await self._lose(self.writing)
                 self.writing = None
                 said = _tested(error)
             if loop.time() >= end:
                 raise NoLog(said)
             await asyncio.sleep(AGAIN)
+
+    async def _connection(self) -> Any:
+        """The connection that is written over."""
+        if self.writing is None or self.writing.closed:
+            return await asyncio.wait_for(self._connected(), TRY)
+        return self.writing
 
     async def _lose(self, it: Any) -> None:
         if it is not None:
