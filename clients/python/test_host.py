@@ -8,6 +8,7 @@ import importlib.util
 import io
 import json
 import os
+import random
 import re
 import shlex
 import signal
@@ -511,7 +512,7 @@ class Etcd(unittest.IsolatedAsyncioTestCase):
             numbers = range(first, first + count)
             keys.update((b"bank/log/%s/%020d" % (writer, it), len(keys) + it) for it in numbers)
 
-        async def call(kind, method, request):
+        async def call(kind, method, request, **_):
             asked.append(request)
             end = request.range_end or request.key + b"\0"
             some = [it for it in sorted(keys) if request.key <= it < end]
@@ -530,6 +531,42 @@ class Etcd(unittest.IsolatedAsyncioTestCase):
             self.assertEqual(gone, [it for it in keys if keys[it] <= place])
             self.assertLess(len(asked), 99)
         await it.close()
+
+    async def test_a_long_log_is_listed(self):
+        """In pages, each of which has time: etcd took more than two seconds for a list of all keys,
+        and as much memory as the log has. So who was far behind listed again and again."""
+        from tb_host import etcd
+
+        revisions = random.sample(range(5, 5000), 3000)
+        keys = {b"bank/log/%032d/%020d" % (it % 3, at): it for at, it in enumerate(revisions)}
+        kept, trimmed = sorted((it, key) for key, it in keys.items() if 90 < it <= 4000), 90
+
+        async def call(kind, method, request, seconds=etcd.ALL, each=etcd.TRY):
+            if request.key.endswith(b"/trimmed"):
+                said = json.dumps({"position": 7, "place": trimmed}).encode()
+                return mock.Mock(kvs=[mock.Mock(value=said)])
+            found = etcd.rpc.RangeResponse()
+            if not request.range_end:
+                found.kvs.add(key=request.key, create_revision=keys[request.key])
+                return found
+            self.assertTrue(0 < request.limit <= 1000 and request.keys_only and each > 10)
+            self.assertFalse(request.sort_target or request.min_create_revision)
+            some = sorted(it for it in keys if request.key <= it < request.range_end)
+            for it in some[: request.limit]:
+                found.kvs.add(key=it, create_revision=keys[it])
+            found.more, found.header.revision = len(some) > request.limit, 4000 + len(some)
+            if len(some) == len(keys):
+                found.header.revision = 4000
+            return found
+
+        log = etcd.EtcdLog([("127.0.0.1", 1)], "bank", Access())
+        with mock.patch.object(log, "_call", call):
+            self.assertEqual([it.place async for it in log._listed(90)], [it for it, _ in kept])
+            self.assertEqual(log.cursor, 4000)
+            trimmed = 91
+            with self.assertRaises(LogGone):
+                await log._listed(90).__anext__()
+        await log.close()
 
     async def test_a_trim_that_was_cut_short(self):
         """The next one ends it. It said that there is nothing to trim, and the entries stayed."""

@@ -21,6 +21,8 @@ TRY = 2.0  # seconds for which one address is waited for
 ALL = 10.0  # seconds after which no address is tried any more
 AGAIN = 0.1  # seconds before all addresses are tried again
 LEADER = 5.0  # seconds after which it is looked again which address is the leader's
+LISTED = 1000  # entries that are listed at a time: etcd holds a page with the values
+WALK = 30.0  # seconds for which a page is waited for: etcd goes over all keys for each
 REMOVED = 10_000  # entries that are removed at a time: more may take longer than one answer
 OPTIONS = (
     ("grpc.max_receive_message_length", -1),
@@ -135,7 +137,9 @@ class EtcdLog:
 
     # calls
 
-    async def _call(self, kind: str, method: str, request: Any, seconds: float = ALL) -> Any:
+    async def _call(
+        self, kind: str, method: str, request: Any, seconds: float = ALL, each: float = TRY
+    ) -> Any:
         """The answer of the first address that has one, from the last good one on."""
         loop = asyncio.get_running_loop()
         end, tried = loop.time() + seconds, 0
@@ -144,7 +148,7 @@ class EtcdLog:
             try:
                 given = await it.metadata()
                 call = getattr(getattr(it, kind), method)
-                return await call(request, timeout=TRY, metadata=given)
+                return await call(request, timeout=each, metadata=given)
             except grpc.aio.AioRpcError as error:
                 _test(it, error)
                 said = f"{it.place}: {error.details()}"
@@ -285,21 +289,28 @@ class EtcdLog:
     async def _listed(self, place: int) -> AsyncIterator[Written]:
         """The entries behind a place, in order. They are there though their history is not, unless
         the log was trimmed beyond the place."""
-        request = rpc.RangeRequest(
-            key=self.prefix + b"log/",
-            range_end=_end_of(self.prefix + b"log/"),
-            min_create_revision=place + 1,
-            sort_order=rpc.RangeRequest.ASCEND,
-            sort_target=rpc.RangeRequest.CREATE,
-            keys_only=True,
-        )
-        found = await self._call("keys", "Range", request)
+        revision, found = await self._keys_behind(place)
         position, trimmed = await self.trimmed()
         if trimmed > place:
             raise LogGone(f"the log begins behind position {position}")
-        for it in found.kvs:
-            yield await self._kept(it.key)
-        self.cursor = max(self.cursor, found.header.revision)
+        for _, key in sorted(found):
+            yield await self._kept(key)
+        self.cursor = max(self.cursor, revision)
+
+    async def _keys_behind(self, place: int) -> Tuple[int, List[Tuple[int, bytes]]]:
+        """The revision of now, and each entry behind a place up to there, by its own and its
+        key. They are filtered here: for a filter etcd reads all values."""
+        revision, found, at = 0, [], self.prefix + b"log/"
+        end = _end_of(at)
+        while True:
+            request = rpc.RangeRequest(key=at, range_end=end, limit=LISTED, keys_only=True)
+            page = await self._call("keys", "Range", request, each=WALK)
+            revision = revision or int(page.header.revision)
+            some = ((int(it.create_revision), bytes(it.key)) for it in page.kvs)
+            found += [it for it in some if place < it[0] <= revision]
+            if not page.more:
+                return revision, found
+            at = page.kvs[-1].key + b"\0"
 
     async def _kept(self, key: bytes) -> Written:
         """An entry that was listed."""
@@ -391,7 +402,7 @@ class EtcdLog:
         found: List[Tuple[bytes, bytes]] = []
         while True:
             request = rpc.RangeRequest(key=at, range_end=_end_of(prefix), limit=1, keys_only=True)
-            page = await self._call("keys", "Range", request)
+            page = await self._call("keys", "Range", request, each=WALK)
             if not page.kvs:
                 return found
             writer, _, number = page.kvs[0].key.rpartition(b"/")
