@@ -1422,6 +1422,7 @@ class Words(unittest.TestCase):
             (("--standbys", "-1", *run, "t", "run", "1"), "--standbys: '-1' is no number from 0"),
             (("--name", "\udcff", *run, "t", "run", "1"), "argument --name: '\\udcff' is no name"),
             (("trim", "--log", "etcd://a/b", "--forget", "\n"), "argument --forget: '\\n' is no"),
+            (("--distrust", "r1", *run, "t", "run", "1"), "argument --distrust: 'r1' is no writer"),
         ):
             status, line = self.ended(*given)
             self.assertEqual(status, 2)

@@ -23,6 +23,7 @@ from __future__ import annotations
 import argparse
 import asyncio
 import os
+import re
 import socket
 import sys
 from typing import Any, List, Sequence
@@ -113,6 +114,12 @@ def _name(text: str) -> str:
     return text
 
 
+def _writer(text: str) -> str:
+    if not re.fullmatch("[0-9a-f]{32}", text):
+        raise argparse.ArgumentTypeError(f"{text!r} is no writer: 32 digits, as `status` has them")
+    return text
+
+
 def add_log(parser: argparse.ArgumentParser) -> None:
     parser.add_argument("--log", metavar="LOG", type=_log, required=True, help="the agreed log")
     files = (
@@ -170,6 +177,7 @@ def _run_words(given: Sequence[str]) -> argparse.Namespace:
     parser.add_argument(
         "--distrust",
         metavar="WRITER",
+        type=_writer,
         action="append",
         default=[],
         help="do not compare what this writer had (after Diverged: docs/use/CLUSTER.md)",
