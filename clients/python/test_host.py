@@ -1193,6 +1193,22 @@ class Replicas(OverALog):
         self.assertIn("replica r0 at x position", said.getvalue())
         await self.closed(it)
 
+    async def test_who_is_forgotten(self):
+        """A name that is not on the list is told: trim said that there is nothing to trim, and the
+        replica that holds the log back stayed."""
+        it = await self.began()
+        await self.asked(it, 6)
+        await it.report()
+        self.log.kept["r1"] = self.log.kept["r0"]
+        self.log.forget = mock.AsyncMock(side_effect=lambda it: self.log.kept.pop(it, None))
+        self.log.trim = mock.AsyncMock(return_value=[])
+        self.log.has_removed = mock.AsyncMock(return_value=False)
+        with contextlib.redirect_stdout(io.StringIO()) as said:
+            await parts_of_status.trim(argparse.Namespace(forget=["r1", "r3"]), self.log)
+        self.assertEqual(said.getvalue(), "no replica is listed by the name r3\n")
+        self.assertEqual(list(self.log.kept), ["r0"])
+        await self.closed(it)
+
     async def test_reports_from_before_say_nothing_of_the_clock(self):
         said = {"clock": 0, "heard": {"r0": 5}, "hello": 3}
         await self.log.report("r1", json.dumps(said).encode())

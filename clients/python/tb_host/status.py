@@ -7,7 +7,7 @@ import contextlib
 import json
 import sys
 import time
-from typing import Any, BinaryIO, Dict, Iterator
+from typing import Any, BinaryIO, Dict, Iterator, List
 
 from tb_client.frames import asker, reply_fault, reply_length
 from tb_client.layout import HEADER
@@ -74,8 +74,7 @@ def _compare(reports: Dict[str, Dict[str, Any]]) -> None:
 async def trim(given: argparse.Namespace, log: Log) -> int:
     """Removes the entries that all listed replicas have on their disks."""
     try:
-        for name in given.forget:
-            await log.forget(name)
+        await _forget(given.forget, log)
         reports = await _reports(log)
         if not reports:
             raise Ended("no replica is listed, and nothing is trimmed", 1)
@@ -92,6 +91,16 @@ async def trim(given: argparse.Namespace, log: Log) -> int:
     except LogFull as full:
         raise Fault("LogFull", str(full)) from None
     return 0
+
+
+async def _forget(names: List[str], log: Log) -> None:
+    """Takes replicas off the list."""
+    listed = await log.reports() if names else {}
+    for name in names:
+        if name in listed:
+            await log.forget(name)
+        else:
+            print(f"no replica is listed by the name {name}")
 
 
 def script(given: argparse.Namespace) -> int:
