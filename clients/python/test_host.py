@@ -902,6 +902,23 @@ class Replicas(OverALog):
         self.assertIn("is started again", self.told.getvalue())
         await self.closed(it)
 
+    async def test_it_does_not_serve_while_its_server_answers_again(self):
+        """It told `ready` while each client waited for a new process to answer the whole copy."""
+        it = await self.began()
+        await self.asked(it, 1)
+        self.assertTrue(it.is_serving())
+        pause = "    import time; time.sleep(0.3)\n"
+        slow = SERVER.replace("    commit += 1", f"{pause}    commit += 1")
+        it.follower.words = [sys.executable, "-SEc", slow, "run", "64"]
+        it.follower.kill()
+        asked, states = asyncio.ensure_future(self.asked(it, 2)), []
+        while not asked.done():
+            states.append(it.is_serving())
+            await asyncio.sleep(0.01)
+        self.assertGreater(states.count(False), 5)
+        self.assertTrue(it.is_serving())
+        await self.closed(it)
+
     async def test_a_copy_that_cannot_be_read(self):
         """It ends the replica: a new server process was given nothing, and each client waited."""
         it = await self.began()

@@ -245,6 +245,10 @@ class Follower(ServerProcess):
         if position >= self.awaited:
             self.moved.set()
 
+    def has_caught_up(self) -> bool:
+        """Whether a process runs, and has answered what those before it had."""
+        return self.stdin is not None and self.answered >= self.known
+
     def state(self) -> Tuple[int, bytes]:
         """The position up to which replies are there, and their hash."""
         return self.answered, self.digest

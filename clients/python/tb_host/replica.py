@@ -174,7 +174,7 @@ class Replica:
         await self.served.wait()
 
     def is_serving(self) -> bool:
-        return self.served.is_set()
+        return self.served.is_set() and self.follower.has_caught_up()
 
     def committed(self) -> Optional[int]:
         return None  # the copy of the log is the replica's own
