@@ -167,12 +167,34 @@ class OverTLS(unittest.TestCase):
     def test_nobody_agrees_on_tls(self):
         """Connections that say nothing hold up nobody."""
         with self.listening("--client-ca", self.paths["ca"], "--connections", "4") as (it, place):
-            silent = [socket.create_connection(("127.0.0.1", place[1])) for _ in range(12)]
-            time.sleep(0.2)
-            for one in silent:
-                one.close()
+            with contextlib.ExitStack() as silent:
+                for _ in range(12):
+                    silent.enter_context(socket.create_connection(("127.0.0.1", place[1])))
+                time.sleep(0.2)
+                self.test_client(place)
             self.test_client(place)
             self.assertEqual(it.end(), 0)
+        self.assertIn("a connection is closed: TLS: others came while it agreed", "".join(it.said))
+
+    def test_who_does_not_agree_in_time(self):
+        """It is told, and counted. Nothing said why a client got no connection."""
+        with tempfile.TemporaryDirectory() as folder:
+            words = ["--certificate", self.paths["server"], "--key", self.paths["server_key"]]
+            words += ["--tcp", "127.0.0.1:0", "--", *KEEPER, "run", f"{folder}/it", "64"]
+            code = "import sys; from tb_host import listen, sockets; sockets.AGREEMENT = 0.2\n"
+            listener = subprocess.Popen(
+                [sys.executable, "-Bc", f"{code}sys.exit(listen.main())", *words],
+                stderr=subprocess.PIPE,
+                text=True,
+                cwd=HERE,
+            )
+            with listener.stderr as lines:
+                while "listens on" not in (line := lines.readline()):
+                    self.assertTrue(line)
+                with socket.create_connection(("127.0.0.1", int(line.rpartition(":")[2]))):
+                    self.assertIn("TLS: no agreement within 0.2 s", lines.readline())
+                listener.terminate()
+                self.assertEqual(listener.wait(20), 0)
 
     def test_client(self, place=None):
         if place:

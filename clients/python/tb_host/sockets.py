@@ -12,7 +12,7 @@ import socket
 import ssl
 import stat
 import time
-from typing import Any, Iterator, List, NamedTuple, Optional, Set
+from typing import Any, Dict, Iterator, List, NamedTuple, Optional
 
 from .connections import Connection, Listener
 from .lines import Ended, say, say_of
@@ -205,7 +205,7 @@ async def take_connections(at: Place, listener: Listener) -> None:
     place.setblocking(False)
     while True:
         try:
-            it, _ = place.accept()
+            it, address = place.accept()
         except BlockingIOError:
             await _called(place)
         except ConnectionError:  # it was gone before it was taken
@@ -220,10 +220,10 @@ async def take_connections(at: Place, listener: Listener) -> None:
             it.setblocking(False)
             if at.tls is None:
                 await _begin(it, listener)
-            elif len(agreeing) >= listener.given.connections:
-                it.close()
             else:  # who is slow at it holds up nobody
-                _keep(asyncio.ensure_future(_begin(it, listener, at.tls)))
+                if len(agreeing) >= listener.given.connections:
+                    _drop_oldest(listener)
+                _keep(asyncio.ensure_future(_begin(it, listener, at.tls)), shown(*address))
 
 
 async def _called(place: socket.socket) -> None:
@@ -237,13 +237,26 @@ async def _called(place: socket.socket) -> None:
         loop.remove_reader(place)
 
 
-agreeing: Set[asyncio.Task[None]] = set()  # connections that agree on TLS
+agreeing: Dict[asyncio.Task[None], str] = {}  # who agrees on TLS, from the first one on
 
 
-def _keep(task: asyncio.Task[None]) -> None:
+def _keep(task: asyncio.Task[None], peer: str) -> None:
     """Holds a task until it is done, so that it is not collected before."""
-    agreeing.add(task)
-    task.add_done_callback(agreeing.discard)
+    agreeing[task] = peer
+    task.add_done_callback(lambda it: agreeing.pop(it, None))
+
+
+def _drop_oldest(listener: Listener) -> None:
+    """Ends who agrees on TLS for longest: that takes a moment, but for those who stall."""
+    task, peer = next(iter(agreeing.items()))
+    del agreeing[task]
+    task.cancel()
+    _say_no_tls(listener, peer, "others came while it agreed")
+
+
+def _say_no_tls(listener: Listener, peer: str, why: str) -> None:
+    listener.counts.closed["TLS"] += 1
+    say_of(peer, f"a connection is closed: TLS: {why}")
 
 
 async def _begin(
@@ -259,9 +272,14 @@ async def _begin(
     try:
         await loop.connect_accepted_socket(lambda: Connection(listener), it, **more)
     except ssl.SSLError as error:
-        listener.counts.closed["TLS"] += 1
         said = getattr(error, "verify_message", "") or error.reason or "no agreement"
-        say_of(peer, f"a connection is closed: TLS: {said.lower().replace('_', ' ')}")
+        _say_no_tls(listener, peer, said.lower().replace("_", " "))
+        it.close()
+    except ConnectionAbortedError:
+        _say_no_tls(listener, peer, f"no agreement within {AGREEMENT:g} s")
         it.close()
     except OSError:
         it.close()
+    except asyncio.CancelledError:
+        it.close()
+        raise
