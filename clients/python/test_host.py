@@ -1488,6 +1488,10 @@ class Words(unittest.TestCase):
                 start = re.search(r"^ExecStart=\S+ -m (\S+) (.*)$", text, re.M)
                 found = taken[start[1]](shlex.split(start[2]))
                 self.assertTrue(found.log_json and found.status)
+                # a stop is for the host alone to hear: it lets its server answer, or ends it
+                self.assertIn("\nKillMode=mixed\n", text)
+                seconds = int(re.search(r"^TimeoutStopSec=([0-9]+)$", text, re.M)[1])
+                self.assertGreater(seconds, 2 * found.slow + 10)
 
     def test_a_part_that_is_interrupted(self):
         """It ends without a traceback, as tb-repl does."""
