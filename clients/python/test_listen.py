@@ -1033,12 +1033,14 @@ class Ends(unittest.TestCase):
                 )
 
     def test_a_server_that_writes_no_more_and_does_not_end(self):
-        with Running(
-            "--slow", "0.5", command=["sh", "-c", "exec >&-; sleep 20", "run"]
-        ) as listener:
-            self.assertEqual(
-                (listener.ended(), listener.said[-1]), (1, "tb_listen: sh ended by SIGKILL\n")
-            )
+        """It is killed, also where it has closed its standard error too: it was waited for, and no
+        signal ended the listener."""
+        for closed in (">&-", ">&- 2>&-"):
+            command = ["sh", "-c", f"exec {closed}; sleep 60", "run"]
+            with Running("--slow", "0.5", command=command) as listener:
+                self.assertEqual(
+                    (listener.ended(), listener.said[-1]), (1, "tb_listen: sh ended by SIGKILL\n")
+                )
 
     def test_what_a_server_started_holds_its_pipes(self):
         with tempfile.TemporaryDirectory() as folder:

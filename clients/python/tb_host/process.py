@@ -202,7 +202,7 @@ class ServerProcess:
         await asyncio.wait([watching], timeout=self.patience)
         if watching.done():
             await asyncio.wait(pipes, timeout=LAST_WORDS)
-        if not all(it.done() for it in pipes):
+        if not all(it.done() for it in (watching, *pipes)):
             kill(process)  # with what it started, which may have the ledger's file open
             await asyncio.wait(pipes, timeout=LAST_WORDS)
         for it in pipes:
