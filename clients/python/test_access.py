@@ -3,6 +3,7 @@ systemd passes, counts and evictions. Certificates are made by openssl for one r
 
     python3 -m unittest test_access
 """
+import argparse
 import concurrent.futures
 import contextlib
 import fcntl
@@ -26,7 +27,7 @@ import urllib.request
 
 import tb_client as tb
 from tb_client import Session, Socket
-from tb_host import lines, listen, sockets
+from tb_host import access, lines, listen, sockets
 from tb_host.evictions import Evictions
 from tb_host.lines import Ended
 from test_listen import HERE, KEEPER, Running, has_ipv6, register, told
@@ -257,6 +258,17 @@ class Words(unittest.TestCase):
             ):
                 status, line = ended(*options)
                 self.assertEqual((status, line.startswith("tb_listen: ")), (1, True), line)
+
+    def test_a_long_file_of_client_ids(self):
+        """The time that it takes grows with its lines, and not with their square."""
+        with tempfile.TemporaryDirectory() as folder:
+            file = os.path.join(folder, "clients")
+            with open(file, "w", encoding="utf-8") as it:
+                it.writelines(f"certificate c{number} {number}\n" for number in range(30_000))
+            began = time.process_time()
+            given = argparse.Namespace(allow_uid=None, clients=file)
+            self.assertEqual(len(access.access_of(given).ranges), 30_000)
+            self.assertLess(time.process_time() - began, 2)
 
 
 def as_user(uid, program, words):

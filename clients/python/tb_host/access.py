@@ -7,7 +7,7 @@ import os
 import pwd
 import socket
 import struct
-from typing import Any, Dict, FrozenSet, NamedTuple, Optional, Tuple
+from typing import Any, Dict, FrozenSet, NamedTuple, Optional, Set, Tuple
 
 from .arguments import is_number, path
 from .lines import Ended, Told
@@ -107,6 +107,7 @@ def _ranges_of(file: str) -> Dict[Tuple[str, object], int]:
     except UnicodeDecodeError:
         raise Ended(f"{file}: is no text", 1) from None
     ranges: Dict[Tuple[str, object], int] = {}
+    taken: Set[int] = set()
     for number, line in enumerate(text.splitlines(), 1):
         words = line.partition("#")[0].split()
         if not words:
@@ -115,9 +116,10 @@ def _ranges_of(file: str) -> Dict[Tuple[str, object], int]:
             key, upper = _range_in(words)
         except (ValueError, argparse.ArgumentTypeError) as why:
             raise Ended(f"{file}, line {number}: {why}", 1) from None
-        if key in ranges or upper in ranges.values():
+        if key in ranges or upper in taken:
             raise Ended(f"{file}, line {number}: {words[1]} or {words[2]} stands there twice", 1)
         ranges[key] = upper
+        taken.add(upper)
     return ranges
 
 
