@@ -11,6 +11,7 @@ import os
 import random
 import re
 import shlex
+import shutil
 import signal
 import struct
 import subprocess
@@ -36,6 +37,9 @@ from tb_host.replica import Replica, head_of
 from tb_host.taken import Taken
 
 HERE = os.path.dirname(os.path.abspath(__file__))
+
+sys.path.append(os.path.join(HERE, "..", "conformance"))
+import certificates  # noqa: E402
 
 # A server with a reply to each pair: the commit is its number. FILE tells how many it read.
 SERVER = """
@@ -485,6 +489,29 @@ class Etcd(unittest.IsolatedAsyncioTestCase):
                 failure=[rpc.RequestOp(request_range=rpc.RangeRequest(key=key))],
             )
             self.assertEqual(made.of(key, value), wanted)
+
+    @unittest.skipUnless(shutil.which("openssl"), "openssl is not there")
+    def test_files_of_tls_that_are_wrong(self):
+        """They are told. The engine was said to be away, and the replica was started again."""
+        from tb_host.etcd import EtcdLog
+
+        with tempfile.TemporaryDirectory() as folder:
+            empty, none = os.path.join(folder, "empty"), os.path.join(folder, "none")
+            with open(empty, "wb"):
+                pass
+            paths = certificates.made(folder)
+            ca, client = paths["ca"], paths["client"]
+            for files, said in (
+                ((empty,), f"{empty}: no certificate or crl found"),
+                ((none,), f"{none}: No such file or directory"),
+                ((ca, client, none), f"{client} and {none}: No such file or directory"),
+                ((ca, client, paths["ca_key"]), f"{client} and {paths['ca_key']}: key values mi"),
+            ):
+                with self.assertRaises(Ended) as found:
+                    EtcdLog([("127.0.0.1", 1)], "bank", Access(*files))
+                self.assertTrue(str(found.exception).startswith(said), found.exception)
+                self.assertEqual(found.exception.status, 1)
+            EtcdLog([("127.0.0.1", 1)], "bank", Access(ca, client, paths["client_key"]))
 
     async def test_the_leader_is_written_to(self):
         """The one that is written to says who leads; where it says nothing, the next one does. One

@@ -8,6 +8,7 @@ from __future__ import annotations
 import asyncio
 import contextlib
 import json
+import ssl
 from typing import Any, AsyncIterator, Dict, List, Optional, Sequence, Tuple, Union
 
 import etcd3.etcdrpc as rpc
@@ -16,6 +17,7 @@ import grpc.aio
 
 from .lines import Ended, say_of
 from .log import Access, LogFull, LogGone, NoLog, Report, Written
+from .tls import load_authority, load_own
 
 TRY = 2.0  # seconds for which one address is waited for
 ALL = 10.0  # seconds after which no address is tried any more
@@ -69,6 +71,7 @@ class Address:
         access = self.access
         if access.authority is None:
             return grpc.aio.insecure_channel(self.place, options=OPTIONS)
+        _test_files(access, access.authority)
         try:
             files = [_read(it) for it in (access.authority, access.key, access.certificate)]
         except OSError as error:
@@ -93,6 +96,15 @@ class Address:
     def forget_token(self) -> None:
         """It may have run out: the next call asks for another."""
         self.given = []
+
+
+def _test_files(access: Access, authority: str) -> None:
+    """Raises `Ended` where a file of TLS is not what it is to be: gRPC tells that the engine is
+    away."""
+    context = ssl.SSLContext(ssl.PROTOCOL_TLS_CLIENT)
+    load_authority(context, authority)
+    if access.certificate is not None and access.key is not None:
+        load_own(context, access.certificate, access.key)
 
 
 def _read(path: Optional[str]) -> Optional[bytes]:

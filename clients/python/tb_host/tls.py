@@ -62,17 +62,25 @@ def context_of(given: argparse.Namespace) -> Optional[ssl.SSLContext]:
         return None
     context = ssl.SSLContext(ssl.PROTOCOL_TLS_SERVER)
     context.minimum_version = ssl.TLSVersion.TLSv1_2
-    try:
-        context.load_cert_chain(given.certificate, given.key)
-    except (OSError, ssl.SSLError) as error:
-        raise Ended(f"{given.certificate} and {given.key}: {_why(error)}", 1) from None
+    load_own(context, given.certificate, given.key)
     if given.client_ca:
         context.verify_mode = ssl.CERT_REQUIRED
-        try:
-            context.load_verify_locations(given.client_ca)
-        except (OSError, ssl.SSLError) as error:
-            raise Ended(f"{given.client_ca}: {_why(error)}", 1) from None
+        load_authority(context, given.client_ca)
     return context
+
+
+def load_own(context: ssl.SSLContext, certificate: str, key: str) -> None:
+    try:
+        context.load_cert_chain(certificate, key)
+    except OSError as error:
+        raise Ended(f"{certificate} and {key}: {_why(error)}", 1) from None
+
+
+def load_authority(context: ssl.SSLContext, file: str) -> None:
+    try:
+        context.load_verify_locations(file)
+    except OSError as error:
+        raise Ended(f"{file}: {_why(error)}", 1) from None
 
 
 def _why(error: OSError) -> str:
