@@ -513,6 +513,18 @@ class Etcd(unittest.IsolatedAsyncioTestCase):
                 self.assertEqual(found.exception.status, 1)
             EtcdLog([("127.0.0.1", 1)], "bank", Access(ca, client, paths["client_key"]))
 
+    def test_a_password_file_that_is_wrong(self):
+        with tempfile.TemporaryDirectory() as folder:
+            path = os.path.join(folder, "password")
+            with self.assertRaises(Ended) as found:
+                Access(password_file=path).password()
+            self.assertEqual(str(found.exception), f"{path}: No such file or directory")
+            with open(path, "wb") as file:
+                file.write(b"\xff\n")
+            with self.assertRaises(Ended) as found:
+                Access(password_file=path).password()
+            self.assertEqual(str(found.exception), f"{path}: is no text")
+
     async def test_the_leader_is_written_to(self):
         """The one that is written to says who leads; where it says nothing, the next one does. One
         that takes itself for the leader is not asked."""

@@ -25,8 +25,10 @@ class Access:
         try:
             with open(self.password_file, encoding="utf-8") as file:
                 return file.readline().rstrip("\n")
-        except (OSError, UnicodeError) as error:
-            raise Ended(f"{self.password_file}: {error}", 1) from None
+        except OSError as error:
+            raise Ended(f"{self.password_file}: {error.strerror}", 1) from None
+        except UnicodeError:
+            raise Ended(f"{self.password_file}: is no text", 1) from None
 
 
 class Written(NamedTuple):
