@@ -13,6 +13,7 @@ import re
 import shlex
 import shutil
 import signal
+import socket
 import struct
 import subprocess
 import sys
@@ -512,6 +513,27 @@ class Etcd(unittest.IsolatedAsyncioTestCase):
                 self.assertTrue(str(found.exception).startswith(said), found.exception)
                 self.assertEqual(found.exception.status, 1)
             EtcdLog([("127.0.0.1", 1)], "bank", Access(ca, client, paths["client_key"]))
+
+    @unittest.skipUnless(shutil.which("openssl"), "openssl is not there")
+    def test_a_handshake_that_fails(self):
+        """It is told once, by a line of the program's own: with --log-json each line is JSON."""
+        code = "import sys; from tb_host import etcd, machines; etcd.ALL = 0; "
+        with tempfile.TemporaryDirectory() as folder, socket.socket() as plain:
+            plain.bind(("127.0.0.1", 0))
+            plain.listen()
+            log = f"etcd://127.0.0.1:{plain.getsockname()[1]}/bank"
+            words = ["status", "--log", log, "--log-ca", certificates.made(folder)["ca"]]
+            it = subprocess.Popen(
+                [sys.executable, "-Bc", f"{code}sys.exit(machines.main())", *words],
+                stderr=subprocess.PIPE,
+                text=True,
+                cwd=HERE,
+            )
+            with plain.accept()[0] as peer:
+                peer.sendall(b"no TLS")
+            said = it.communicate(timeout=60)[1]
+        self.assertRegex(said, r"^tb_replica: NoLog: [^\n]*[Hh]andshake [^\n]*\n$")
+        self.assertEqual(it.returncode, 20)
 
     def test_a_password_file_that_is_wrong(self):
         with tempfile.TemporaryDirectory() as folder:

@@ -2,6 +2,7 @@
 from __future__ import annotations
 
 import dataclasses
+import os
 import re
 from typing import AsyncIterator, Dict, List, NamedTuple, Optional, Protocol, Tuple, Union
 
@@ -128,6 +129,8 @@ def opened(url: str, access: Access, replicas: int = 1) -> Log:
     kind, addresses, name = parts(url)
     try:
         if kind == "etcd":
+            # gRPC has lines of its own for each try; what they say is in the errors of calls too
+            os.environ.setdefault("GRPC_VERBOSITY", "NONE")
             from .etcd import EtcdLog
 
             return EtcdLog(addresses, name, access)
