@@ -815,6 +815,22 @@ class PostgreSQL(unittest.IsolatedAsyncioTestCase):
         for server in some:
             server.close()
 
+    async def test_why_no_address_is_connected(self):
+        """Each is told with its own fault. The last one's was, without a name: that of a standby,
+        where the primary is down."""
+        from tb_host.postgresql import PostgresLog
+
+        with contextlib.ExitStack() as held:
+            some = [held.enter_context(socket.socket()) for _ in range(2)]
+            for it in some:
+                it.bind(("127.0.0.1", 0))
+            places = [it.getsockname() for it in some]
+            it = PostgresLog(places, "postgres/bank", Access(user="u"), 0)
+            with self.assertRaises(NoLog) as found:
+                await it._call(self._port, 0)
+        said = [f"127.0.0.1:{port}: connection failed: Connection refused" for _, port in places]
+        self.assertEqual(str(found.exception), "; ".join(said))
+
     async def first_read(self, *rows):
         """What is read first, over connections that answer so in turn, the last one with an entry.
         A reader is told to look elsewhere meanwhile."""

@@ -130,20 +130,20 @@ class PostgresLog:
     async def _first_connected(self) -> Any:
         """A connection to the primary, from the last good address on. Each address is tried by
         itself: libpq, given all of them, goes on from none that does not answer."""
-        fault: Optional[psycopg.Error] = None
+        faults: List[str] = []
         count = len(self.addresses)
         for at in [(self.address + it) % count for it in range(count)]:
             self.address = (at + 1) % count  # where this is waited for no longer
-            words = self._words(*self.addresses[at])
+            host, port = self.addresses[at]
+            words = self._words(host, port)
             try:
                 found = await psycopg.AsyncConnection.connect(autocommit=True, **words)
             except psycopg.Error as error:
-                fault = error
+                faults.append(f"{host}:{port}: {_first_line(error)}")
             else:
                 self.address = at
                 return found
-        assert fault is not None
-        raise fault
+        raise psycopg.OperationalError("; ".join(faults))
 
     def _query(self, text: str) -> Any:
         return sql.SQL(text).format(**self.names, page=sql.Literal(PAGE))
@@ -374,4 +374,8 @@ def _tested(error: BaseException) -> str:
         raise Ended(str(error).splitlines()[0], 1) from None
     if isinstance(error, asyncio.TimeoutError):
         return f"no answer within {TRY:.0f} s"
+    return _first_line(error)
+
+
+def _first_line(error: BaseException) -> str:
     return str(error).strip().splitlines()[0] if str(error).strip() else type(error).__name__
