@@ -439,6 +439,28 @@ class Copies(unittest.TestCase):
         with self.assertRaises(Ended):
             copied(self.folder, other)
 
+    def test_a_copy_of_a_peer_s_that_is_damaged(self):
+        """It is told, and nothing is left of it: what comes before the damage was taken for the
+        whole, with status 0. So it is with a copy that was not ended, which could not be made
+        again."""
+        kept(self.folder, "head", b"the log")
+        other, path = self.folder + "2", os.path.join(self.folder, "log")
+        with open(path, "rb") as file:
+            data = file.read()
+        at = 8 + 3 * (len(data) - 8) // 5 + 40
+        with open(path, "wb") as file:
+            file.write(data[:at] + b"x" + data[at + 1 :])
+        with self.assertRaises(Fault) as found:
+            copied(self.folder, other)
+        self.assertEqual(found.exception.name, "Damaged")
+        self.assertEqual(os.listdir(other), [])
+        with open(path, "wb") as file:
+            file.write(data)
+        full = OSError(errno.ENOSPC, os.strerror(errno.ENOSPC))
+        with mock.patch("os.pwritev", side_effect=full), self.assertRaises(Ended):
+            copied(self.folder, other)
+        self.assertEqual(copied(self.folder, other), (5, 50))
+
 
 class Pieces(unittest.TestCase):
     def test_pieces_of_a_few_bytes(self):

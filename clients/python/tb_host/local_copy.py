@@ -257,10 +257,10 @@ def all_records_of(folder: str) -> Iterator[Record]:
 
 def copied(source: str, folder: str) -> Tuple[int, int]:
     """Makes a copy in an empty folder from another replica's, which may be in use. Answers the
-    last position and its place."""
+    last position and its place. Leaves nothing where that fails."""
     if os.path.exists(os.path.join(folder, "log")):
         raise Ended(f"{folder} has a copy already", 1)
-    records = records_of(source)
+    records = all_records_of(source)
     record = next(records, None)
     head = head_in(source)
     target = Copy(folder)
@@ -272,6 +272,11 @@ def copied(source: str, folder: str) -> Tuple[int, int]:
         target.sync(*target.mark())
         kept(folder, "head", head)
         return target.synced
+    except BaseException:
+        for name in ("log", "synced"):
+            with contextlib.suppress(FileNotFoundError):
+                os.unlink(os.path.join(folder, name))
+        raise
     finally:
         target.close()
 
