@@ -1558,28 +1558,16 @@ class Words(unittest.TestCase):
                 self.assertTrue(os.path.exists(path))
 
     def test_more_connections_than_files_may_be_open(self):
-        words = [
-            "sh",
-            "-c",
-            'ulimit -n 100; exec "$@"',
-            "sh",
-            sys.executable,
-            "-B",
-            os.path.join(HERE, "tb_listen.py"),
-            "--connections",
-            "100",
-            "--",
-            "true",
-        ]
-        ran = subprocess.run(words, capture_output=True, text=True, timeout=20)
-        self.assertEqual(
-            (ran.returncode, ran.stderr),
-            (
-                1,
-                "tb_listen: --connections 100 takes 264 open files, and 100 are allowed (ulimit "
-                "-n)\n",
-            ),
-        )
+        """Under TLS as many again may agree on it, besides those that are served and told why."""
+        program = [sys.executable, "-B", os.path.join(HERE, "tb_listen.py")]
+        words = ["sh", "-c", 'ulimit -n 100; exec "$@"', "sh", *program, "--connections", "100"]
+        tls = ("--tcp", "127.0.0.1:0", "--certificate", "none", "--key", "none")
+        for options, count in (((), 264), (tls, 364)):
+            ran = subprocess.run(
+                [*words, *options, "--", "true"], capture_output=True, text=True, timeout=60
+            )
+            said = f"--connections 100 takes {count} open files, and 100 are allowed (ulimit -n)"
+            self.assertEqual((ran.returncode, ran.stderr), (1, f"tb_listen: {said}\n"))
 
     def test_a_command_that_does_not_start(self):
         with tempfile.TemporaryDirectory() as folder:

@@ -90,7 +90,7 @@ def main() -> int:
     if given.log_json:
         speak_json()
     try:
-        make_room(given.connections)
+        make_room(given)
         run(listen(given))
     except Ended as ended:
         say(str(ended), "error")

@@ -268,7 +268,7 @@ def run(part: str, rest: List[str]) -> int:
     given = _run_words(rest)
     if given.log_json:
         speak_json()
-    make_room(given.connections)
+    make_room(given)
     run_loop(_with_log(given, serve))
     return 0
 

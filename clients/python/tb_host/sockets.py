@@ -182,10 +182,11 @@ def shown(host: str, port: int, *_: object) -> str:
     return f"[{host}]:{port}" if ":" in host else f"{host}:{port}"
 
 
-def make_room(connections: int) -> None:
+def make_room(given: argparse.Namespace) -> None:
     """Lets this process have as many open files as its connections may take: those that are
-    served, and those that are told why."""
-    wanted = 2 * connections + 64
+    served, those that are told why, and those that agree on TLS."""
+    connections = given.connections
+    wanted = (3 if given.certificate else 2) * connections + 64
     soft, hard = resource.getrlimit(resource.RLIMIT_NOFILE)
     if soft == resource.RLIM_INFINITY or soft >= wanted:
         return
