@@ -7,6 +7,7 @@ import argparse
 import concurrent.futures
 import contextlib
 import fcntl
+import importlib.util
 import io
 import json
 import os
@@ -399,7 +400,27 @@ class Reports(unittest.TestCase):
                 self.no_metrics_at(place, "Address already in use")
             with Running("--metrics", place) as listener:
                 self.read_metrics(listener, place)
+                listener.end()
+                self.assertEqual(len(listener.said), 1, listener.said)
         self.no_metrics_at(f"{'x' * 64}.example:1", "is no name of a place")
+
+    @unittest.skipUnless(importlib.util.find_spec("prometheus_client"), "it is not installed")
+    def test_who_reads_no_metrics(self):
+        """Connections to the page that say nothing take few files, and one that breaks off leaves
+        no traceback. Each took a file and a thread without an end, until no client got in."""
+        with sockets.tcp_socket("127.0.0.1", 0) as free:
+            place = free.getsockname()
+        words = ("--metrics", "{}:{}".format(*place))
+        with contextlib.ExitStack() as held, Running(*words) as listener:
+            with socket.create_connection(place) as it:
+                it.sendall(b"GET / HT")
+                it.setsockopt(socket.SOL_SOCKET, socket.SO_LINGER, struct.pack("ii", 1, 0))
+            for _ in range(100):
+                held.enter_context(socket.create_connection(place))
+            time.sleep(0.5)
+            self.assertLess(len(os.listdir(f"/proc/{listener.process.pid}/fd")), 50)
+            self.assertEqual(listener.end(), 0)
+            self.assertEqual(len(listener.said), 1, listener.said)
 
     def no_metrics_at(self, place, why):
         with tempfile.TemporaryDirectory() as folder:

@@ -6,13 +6,20 @@ import asyncio
 import concurrent.futures
 import contextlib
 import os
+import socket
+import socketserver
+import sys
+import threading
 from typing import Any, AsyncIterator, Callable, Iterator, Optional
+from wsgiref import simple_server
 
 from .arguments import address, path
 from .counts import BUCKETS, SYNCS, Counts, _name
 from .lines import Ended
 from .sockets import faults_of, folder_of, shown, tcp_socket, unix_socket
 
+READERS = 24  # threads of this process, beyond which no more readers of the page are taken
+STALL = 10.0  # seconds for which a reader of the page may say nothing
 WAIT = 2.0  # seconds that a page of metrics waits for the host's thread
 
 
@@ -67,7 +74,7 @@ async def reported(
 def metrics_page(
     given: argparse.Namespace, counts: Counts, lag: Callable[[], float]
 ) -> Iterator[None]:
-    """Serves the page by a thread of prometheus_client, which reads the counts as they are."""
+    """Serves the page by a thread, which reads the counts as they are."""
     if not given.metrics:
         yield
         return
@@ -80,9 +87,40 @@ def metrics_page(
     collector: Any = _Collector(core, counts, lag)
     registry.register(collector)
     with faults_of(shown(*given.metrics)):
-        tcp_socket(*given.metrics).close()  # so that a place that is taken is told by name
-        prometheus.start_http_server(given.metrics[1], given.metrics[0], registry)
+        pages = _Pages(tcp_socket(*given.metrics), prometheus.make_wsgi_app(registry))
+    threading.Thread(target=pages.serve_forever, daemon=True).start()
     yield
+
+
+class _Page(simple_server.WSGIRequestHandler):
+    """Who reads the page."""
+
+    timeout = STALL
+
+    def log_message(self, *_: object) -> None:
+        """A page that was read is not said."""
+
+
+class _Pages(socketserver.ThreadingMixIn, simple_server.WSGIServer):
+    """The page at a socket, by a thread for each of a few readers."""
+
+    daemon_threads = True
+
+    def __init__(self, place: socket.socket, app: Any) -> None:
+        super().__init__(place.getsockname(), _Page, bind_and_activate=False)
+        self.socket.close()
+        self.socket = place
+        self.server_name, self.server_port = place.getsockname()[:2]
+        self.setup_environ()
+        self.set_app(app)
+
+    def verify_request(self, *_: object) -> bool:
+        return threading.active_count() < READERS
+
+    def handle_error(self, request: Any, client_address: Any) -> None:
+        """One that breaks off or stalls is no fault to be said."""
+        if not isinstance(sys.exc_info()[1], OSError):
+            super().handle_error(request, client_address)
 
 
 class _Collector:
