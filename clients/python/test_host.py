@@ -352,9 +352,10 @@ class Copies(unittest.TestCase):
             Copy(self.folder)
         self.assertIn("is in use", str(found.exception))
 
-    def script(self, folder, to=""):
-        """The status, the script and the last line of `tb-replica script`."""
-        words = [sys.executable, "-B", "-m", "tb_host.machines", "script", "--copy", folder]
+    def script(self, folder, to="", *words):
+        """The status, the output and the last line of `tb-replica script`, or of another part."""
+        part = words or ("script", "--copy", folder)
+        words = [sys.executable, "-B", "-m", "tb_host.machines", *part]
         ran = subprocess.run(
             f"{shlex.join(words)} {to}", shell=True, capture_output=True, cwd=HERE, timeout=60
         )
@@ -378,6 +379,14 @@ class Copies(unittest.TestCase):
             file.write(b"x")
         said = f"tb_replica: Damaged: the record at byte {8 + 3 * size} of {path}\n"
         self.assertEqual(self.script(self.folder), (24, b"".join(pairs[:3]), said))
+
+    def test_an_output_that_takes_nothing(self):
+        """It is told, with a status of the program's own: it was 120, below Python's words."""
+        kept(self.folder, "head", b"the log")
+        said = "tb_replica: standard output: No space left on device\n"
+        for number, to, found in ((1, "> /dev/full", (1, b"", said)), (2, "| true", (0, b"", ""))):
+            words = ("copy-from", self.folder, "--copy", f"{self.folder}{number}")
+            self.assertEqual(self.script(self.folder, to, *words), found)
 
     def test_the_hashes_at_a_position(self):
         """One that the copy does not have is told. Those of its last one were printed."""

@@ -49,7 +49,7 @@ from .replica import Replica, head_of, kept_at
 from .reports import add_reports
 from .serving import listen_on, stop_signals, until
 from .sockets import bound, make_room
-from .status import hashes, script, status, trim
+from .status import hashes, script, status, tell, trim
 from .taken import Taken
 from .tls import add_tls, test_tls
 
@@ -250,7 +250,7 @@ def _copy_from(given: argparse.Namespace) -> int:
     position, place = copied_checkpoint(given.source, given.copy) or copied(
         given.source, given.copy
     )
-    print(f"position {position} place {place}")
+    tell(f"position {position} place {place}")
     return 0
 
 

@@ -5,6 +5,7 @@ import argparse
 import asyncio
 import contextlib
 import json
+import os
 import sys
 import time
 from typing import Any, BinaryIO, Dict, Iterator, List
@@ -23,6 +24,17 @@ from .process import LAST_WORDS, end_of, exited, kill, last_line, started, tail
 
 # of a report
 NUMBERS, TEXTS = ("position", "place", "answered", "clock"), ("replies", "writer", "address")
+
+
+def tell(text: str) -> None:
+    """Prints a line. One that is lost is a fault, but for a reader that is gone. No more is written
+    then."""
+    try:
+        print(text, flush=True)
+    except OSError as error:
+        os.dup2(os.open(os.devnull, os.O_WRONLY), sys.stdout.fileno())
+        if not isinstance(error, BrokenPipeError):
+            raise Ended(f"standard output: {error.strerror}", 1) from None
 
 
 async def _reports(log: Log) -> Dict[str, Dict[str, Any]]:
@@ -46,13 +58,13 @@ async def status(given: argparse.Namespace, log: Log) -> int:
         reports, full = await _reports(log), await log.full()
     except NoLog as none:
         raise Fault("NoLog", str(none)) from None
-    print(f"log {given.log} trimmed to position {position} place {place}")
+    tell(f"log {given.log} trimmed to position {position} place {place}")
     for name, it in reports.items():
         age = (time.time_ns() - it["clock"]) / SECOND
         words = [f"replica {name} at {it['address']}", f"position {it['position']}"]
         words += [f"answered {it['answered']} hash {it['replies'][:16]}"]
         words += [f"writer {it['writer']}", f"{age:.0f} s ago"]
-        print(" ".join(words + ([it["fault"]] if "fault" in it else [])))
+        tell(" ".join(words + ([it["fault"]] if "fault" in it else [])))
     _compare(reports)
     if full:
         raise Fault("LogFull", full)
@@ -82,10 +94,10 @@ async def trim(given: argparse.Namespace, log: Log) -> int:
         before = await log.trimmed()
         to = max(before, (int(least["position"]), int(least["place"])))
         if to == before and await log.has_removed(to[1]) and not await log.full():
-            print(f"nothing to trim: the log is trimmed to position {before[0]}")
+            tell(f"nothing to trim: the log is trimmed to position {before[0]}")
             return 0
         for line in await log.trim(*to):
-            print(line)
+            tell(line)
     except NoLog as none:
         raise Fault("NoLog", str(none)) from None
     except LogFull as full:
@@ -100,7 +112,7 @@ async def _forget(names: List[str], log: Log) -> None:
         if name in listed:
             await log.forget(name)
         else:
-            print(f"no replica is listed by the name {name}")
+            tell(f"no replica is listed by the name {name}")
 
 
 def script(given: argparse.Namespace) -> int:
@@ -153,7 +165,7 @@ async def hashes(given: argparse.Namespace) -> int:
         raise Ended(last_line(told) or f"{given.command[0]} ended {end_of(status)}", 1)
     if given.at not in (0, position):
         raise Ended(f"{given.copy} has no position {given.at}: it ends at {position}", 1)
-    print(f"position {position} log {log.hex()} replies {replies.hex()}")
+    tell(f"position {position} log {log.hex()} replies {replies.hex()}")
     return 0
 
 
