@@ -33,9 +33,9 @@ sys.path.insert(0, os.path.join(ROOT, "clients", "python"))
 from tb_client import HEADER, Account, Operation, Reply, Status, Transfer, reply_length, request_frame  # noqa: E402
 
 CLIENTS = 24
-SECONDS = int(os.environ.get("KEEP_SECONDS", "20"))  # a reply, an end and a check that take longer are missing
+SECONDS = tried.from_environment("KEEP_SECONDS", "20", int)  # a reply, an end and a check that take longer are missing
 CASH, SALES = 1, 2
-STEP = int(os.environ.get("KEEP_STEP", "64"))  # the megabytes of a file that are read between two reports
+STEP = tried.from_environment("KEEP_STEP", "64", int)  # the megabytes of a file that are read between two reports
 EINTR, EIO, ENOSPC = 4, 5, 28
 
 

@@ -6,9 +6,23 @@ import select
 import subprocess
 import sys
 
+
+def from_environment(name, usual, kind=float):
+    """A variable's number, above 0 and up to 500. Ends the script where it is none."""
+    text = os.environ.get(name) or usual
+    try:
+        number = kind(text)
+    except ValueError:
+        number = 0
+    if not 0 < number <= 500:
+        what = "whole number" if kind is int else "number"
+        sys.exit(f"{name} is '{text}': a {what} above 0 is wanted, 500 at most")
+    return number
+
+
 passed = failed = 0
 # How many times longer than else a program may take: one that is built unproved is slow.
-LONGER = float(os.environ.get("CHECK_LONGER", "1"))
+LONGER = from_environment("CHECK_LONGER", "1")
 
 
 def case(name, holds, said="", quietly=False):
