@@ -101,6 +101,8 @@ def main(run):
 
 
 def status():
-    """Tells how many cases passed, and answers the exit status."""
+    """Tells how many cases passed, and answers the exit status: 1 where none was tried."""
+    if not passed + failed:
+        print("nothing was tried")
     print(f"{passed} passed, {failed} failed")
-    return 1 if failed else 0
+    return 1 if failed or not passed else 0
