@@ -420,7 +420,7 @@ def main():
     parser.add_argument(
         "--kills",
         metavar="N",
-        type=int,
+        type=tried.count,
         default=30,
         help="how often something is killed in each language (30)",
     )

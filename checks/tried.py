@@ -63,6 +63,17 @@ def count(text):
     return int(text)
 
 
+def span(text):
+    """An argument that says how long: a number, 0 or more."""
+    try:
+        number = float(text)
+    except ValueError:
+        number = -1.0
+    if not 0 <= number < 10**6:
+        raise argparse.ArgumentTypeError(f"'{text}' is no number from 0 to a million")
+    return number
+
+
 def progress(what, done, total):
     """Tells on a terminal how far a long run is, in one line that is written over."""
     if sys.stderr.isatty():
