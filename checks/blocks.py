@@ -22,7 +22,6 @@ import json
 import pathlib
 import re
 import shutil
-import subprocess
 import tempfile
 
 import pages
@@ -50,10 +49,10 @@ def run(program, *words: str, given: bytes) -> bytes:
     path = shutil.which(str(program))
     if path is None:
         raise Missing(program.relative_to(ROOT) if isinstance(program, pathlib.Path) else program)
-    ran = subprocess.run([path, *words], input=given, capture_output=True, timeout=120)
-    if ran.returncode:
-        raise Wrong(ran.stderr.decode(errors="replace").strip() or f"status {ran.returncode}")
-    return ran.stdout
+    status, output, said = tried.ran([path, *words], given)
+    if status:
+        raise Wrong(said.decode(errors="replace").strip() or f"status {status}")
+    return output
 
 
 def script_of(text: str) -> bytes:

@@ -12,7 +12,8 @@ cut off, put in and spliced; lengths, numbers, moments and commits go to their l
 the formats written here from docs/use/FORMATS.md and docs/use/RULES.md, apart from the crates, says
 what is right: the fault of each frame; and of each script and dump the status, the line of the
 fault, and of each reply all but the results. The program has room for one body as large as a header
-can claim, and no more; a signal, a minute's silence or another answer is a failure. Needs Linux.
+can claim, and no more; a signal, a minute's silence (CHECK_LONGER times as long) or another answer
+is a failure. Needs Linux.
 """
 import os
 import random
@@ -26,6 +27,7 @@ import tried
 
 TOP = os.path.dirname(os.path.dirname(os.path.abspath(__file__)))
 PROGRAM, READER = f"{TOP}/crates/tbs/out/tbs", f"{TOP}/crates/tb_refusals/out/tb_refusals"
+SECONDS = 60 * tried.LONGER  # that one run may take
 MAX_TIME = 2**63 - 1
 ITEMS_MAX = 8190
 REGISTER, ACCOUNTS, TRANSFERS, LOOK_ACCOUNTS, LOOK_TRANSFERS = 2, 129, 130, 131, 132
@@ -495,7 +497,7 @@ def run(words, given, kib):
     """Status, output and standard error; no status where it is still running after a minute."""
     try:
         ran = subprocess.run(
-            words, input=given, capture_output=True, timeout=60, preexec_fn=limited(kib)
+            words, input=given, capture_output=True, timeout=SECONDS, preexec_fn=limited(kib)
         )
     except subprocess.TimeoutExpired:
         return None, b"", b"still running"
@@ -506,8 +508,11 @@ def least_room():
     """The least room, in KiB, in which the program serves a register."""
     first = bytes(8) + header(7, 0, 0, REGISTER, 0)
     for kib in range(1024, 65536, 64):
-        if run([PROGRAM, "run", "64"], first, kib)[0] == 0:
+        status = run([PROGRAM, "run", "64"], first, kib)[0]
+        if status == 0:
             return kib
+        if status is None:
+            sys.exit(f"the program does not answer a register in {kib} KiB")
     sys.exit("the program does not serve a register in 64 MiB")
 
 

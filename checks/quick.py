@@ -3,10 +3,10 @@
 
     checks/quick.py [SCRIPT ..]     all of them, or those that are named
 
-Each has two minutes. Prints a line for each, and what a failed one printed; ends in 'N passed, 0
-failed'. flake8 is left out, with a word, where it is not installed; and so is `refusals`, the quick
-form of checks/refusals.py, where a program of its is not built or is older than its sources. Where
-nothing is run the status is 1.
+Each has two minutes (CHECK_LONGER times as long). Prints a line for each, and what a failed one
+printed; ends in 'N passed, 0 failed'. flake8 is left out, with a word, where it is not installed;
+and so is `refusals`, the quick form of checks/refusals.py, where a program of its is not built or
+is older than its sources. Where nothing is run the status is 1.
 """
 import concurrent.futures
 import pathlib
@@ -19,7 +19,7 @@ import repository
 import tried
 
 ROOT = pathlib.Path(__file__).resolve().parent.parent
-SECONDS_MAX = 120
+SECONDS_MAX = 120 * tried.LONGER
 RUNNER = "clients/python/conformance_runner.py"
 CHECKS = {
     "pages": ["checks/pages.py"],
@@ -53,7 +53,7 @@ def run(words: list[str]) -> tuple[int, float, str]:
         ran = subprocess.run(words, cwd=ROOT, capture_output=True, text=True, timeout=SECONDS_MAX)
         status, said = ran.returncode, ran.stdout + ran.stderr
     except subprocess.TimeoutExpired:
-        status, said = 1, f"no end after {SECONDS_MAX} seconds"
+        status, said = 1, f"no end after {SECONDS_MAX:.0f} seconds"
     return status, time.monotonic() - began, said.strip()
 
 

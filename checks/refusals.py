@@ -30,7 +30,7 @@ TOP = os.path.dirname(os.path.dirname(os.path.abspath(__file__)))
 PROGRAM = f"{TOP}/crates/tbs/out/tbs"
 AGAIN = f"{TOP}/crates/tb_refusals/out/tb_refusals"
 KEEPER = f"{TOP}/crates/tbd/out/tbd"
-SECONDS = 60
+SECONDS = 60 * tried.LONGER  # that one run may take
 Ran = collections.namedtuple("Ran", "status output lines asked refused blocks")
 
 

@@ -26,7 +26,7 @@ import tried
 ROOT = pathlib.Path(__file__).resolve().parent.parent
 TYPED, STORED = ROOT / "checks/repl.lines", ROOT / "checks/repl.txt"
 CLIENT = ROOT / "clients/python"
-SECONDS = 60
+SECONDS = 60 * tried.LONGER
 # what readline writes to a terminal besides text
 CONTROLS = re.compile(r"\x1b\[[0-9;?]*[A-Za-z]|[\x07\r]")
 TIME = re.compile(r'\d{4}-\d\d-\d\dT\d\d:\d\d:\d\d\.\d{9}Z|"timestamp":"\d+"')
