@@ -90,9 +90,9 @@ def is_read():
 
 def main(run):
     """Ends the script with the status that `run` answers. What its user can mend is printed in a
-    line and no traceback: a file or program that is not there, a command that failed, did not end
-    or took no more input, an interrupt. Where nobody reads the output the script ends without a
-    word."""
+    line and no traceback: a file or program that is not there or is of another kind, a full disk, a
+    command that failed, did not end or took no more input, an interrupt. Where nobody reads the
+    output the script ends without a word."""
     try:
         sys.exit(run())
     except KeyboardInterrupt:
@@ -103,8 +103,8 @@ def main(run):
             sys.exit("a program ended before it took its input")
         os.dup2(os.open(os.devnull, os.O_WRONLY), sys.stdout.fileno())
         sys.exit(141)
-    except (FileNotFoundError, PermissionError) as why:
-        sys.exit(f"{why.filename}: {why.strerror}")
+    except OSError as why:
+        sys.exit(f"{why.filename}: {why.strerror}" if why.filename else str(why))
     except subprocess.CalledProcessError as why:
         sys.exit(f"{why.cmd[0]} failed with status {why.returncode}: {' '.join(map(str, why.cmd))}")
     except subprocess.TimeoutExpired as why:
