@@ -181,7 +181,7 @@ def main():
     words = tried.arguments(__doc__)
     words.add_argument(
         "--jobs",
-        type=int,
+        type=tried.count,
         default=len(os.sched_getaffinity(0)),
         help="how many crates are tried side by side (one a core)",
     )
@@ -194,6 +194,8 @@ def main():
         if crate not in repository.crates():
             words.error(f"crates.txt has no crate {crate}")
     edits = all_edits(given.crates)
+    if not edits:
+        words.error(f"no edits are in {', '.join(given.crates)}")
     if given.texts:
         return try_texts(edits)
     if given.rules:

@@ -581,7 +581,9 @@ def read_words():
     parser.add_argument("--last", action="store_true", help="try first what caught a bug last")
     parser.add_argument("--tests-only", action="store_true", help="run tests alone, no scripts")
     parser.add_argument("--write", action="store_true", help="write the rows and the counts")
-    parser.add_argument("--jobs", type=int, default=os.cpu_count(), help="bugs tried at a time")
+    parser.add_argument(
+        "--jobs", type=tried.count, default=os.cpu_count(), help="bugs tried at a time"
+    )
     parser.add_argument("--room", metavar="FOLDER", help="keep the copy and what was built here")
     return parser.parse_args()
 
