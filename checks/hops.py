@@ -63,9 +63,11 @@ def step(crate, name):
 def walk(heading):
     """The functions that a walk names, in its order."""
     text = (pages.ROOT / "docs/work/ARCHITECTURE.md").read_text()
-    text = re.search(rf"^### {re.escape(heading)}\n(.*?)(?=^##)", text, re.M | re.S)[1]
+    found = re.search(rf"^### {re.escape(heading)}\n(.*?)(?=^##)", text, re.M | re.S)
+    if not found:
+        raise LookupError("docs/work/ARCHITECTURE.md has no such walk")
     steps, crate = [], None
-    for name, named in pages.NAME.findall(text):
+    for name, named in pages.NAME.findall(found[1]):
         crate = named or crate
         is_type = name.split("::")[-1][:1].isupper()
         if name and not is_type and (crate, name) not in [(it.crate, it.name) for it in steps]:
@@ -86,7 +88,11 @@ def main() -> int:
     parser.add_argument("--list", action="store_true", help="print the files and the calls")
     listed = parser.parse_args().list
     for heading, (bound, wanted) in BOUNDS.items():
-        steps = walk(heading)
+        try:
+            steps = walk(heading)
+        except LookupError as why:
+            tried.case(heading, False, str(why))
+            continue
         for at, it in enumerate(steps):
             found = callers(steps, at)
             if listed:
