@@ -178,11 +178,12 @@ def main():
             print(f"{crate} {' '.join(runs[0])}, atomic stores made plain: {reports} reports")
             passed, failed = passed + (reports > 0), failed + (reports == 0)
             for words in runs:
-                wanted = (*run(f"{TOP}/crates/{crate}/out/{crate}", words)[:2], 0)
-                right = sum(run(program, words) == wanted for _ in range(times))
+                status, *wanted = run(f"{TOP}/crates/{crate}/out/{crate}", words)
+                found = [run(program, words) for _ in range(times)]
+                right = sum((status, *it) == (0, 0, *wanted) for it in found)
                 print(
-                    f"{crate} {' '.join(words)}: {right} of {times} with the same output and no "
-                    "report",
+                    f"{crate} {' '.join(words)}: status {status}, {right} of {times} with the same "
+                    "output and no report",
                     flush=True,
                 )
                 passed, failed = passed + right, failed + times - right
