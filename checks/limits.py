@@ -7,7 +7,8 @@ may have a session at one time. The limit itself stays 64.
 A place is a line by hand that says the limit as a number: in sources, definitions and proofs of the
 crates, in embed/, the clients and tables/. Tests and checks, whose numbers are the specification's,
 pages, and what checks/tables.py writes do not count. --list prints the places; --apply makes the
-change in a copy of the repository, where it can be built. Fails where there are more than BOUND.
+change in a copy of the repository, where it can be built. Fails where there are more than BOUND,
+or none.
 """
 import pathlib
 import re
@@ -76,7 +77,7 @@ def main() -> int:
             print(f"{name}:{number}: {changed.strip()}")
     files = len({name for name, _, _ in found})
     said = f"{len(found)} in {files} files; bound {BOUND}, wanted {WANTED}"
-    tried.case("places of the number of clients", len(found) <= BOUND, said)
+    tried.case("places of the number of clients", 0 < len(found) <= BOUND, said)
     return tried.status()
 
 
