@@ -231,9 +231,11 @@ def earlier_from(parser):
 
 
 def earlier_in(given):
-    """The programs that these options name."""
+    """The programs that these options name, which have to be there."""
     named = {"before": given.before, "now": given.now}
-    return {name: program for name, program in named.items() if program}
+    found = {name: program for name, program in named.items() if program}
+    tried.built(*found.values(), how="--before and --now name programs")
+    return found
 
 
 def main():

@@ -93,6 +93,8 @@ def main():
     parser.add_argument("--work", metavar="FOLDER", help="keeps scripts and programs there")
     parser.add_argument("--rows", action="store_true", help="write rows of docs/work/runs.csv")
     given = parser.parse_args()
+    if given.most < STEPS[0]:
+        parser.error(f"the first step is of {STEPS[0]:,}")
     with measure.work_folder(given.work) as folder:
         found, agree = grow(given.most, given.sqlite_most, folder)
         if given.rows:
