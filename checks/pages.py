@@ -12,6 +12,7 @@
 - Each definition that docs/trust/BELIEVE.md lists is in the file that it names.
 - Each file that a page names by its path from the top is there, but for what is built; and each
   script of checks/ and bench/ that a page names may be run as it is written there.
+- So may each file that begins with #!.
 - Each name that docs/work/GLOSSARY.md gives a word in the code is in the sources, the
   definitions or the Python client, and where it gives a crate with the name, there.
 
@@ -23,6 +24,7 @@ import os
 import pathlib
 import re
 
+import repository
 import tried
 
 ROOT = pathlib.Path(__file__).resolve().parent.parent
@@ -176,6 +178,16 @@ def paths():
                     yield page.relative_to(ROOT), None if runs else f"{path} may not be run"
 
 
+def scripts():
+    """Each file that begins with #!, where it may not be run."""
+    for name in repository.files(ROOT):
+        with open(ROOT / name, "rb") as file:
+            is_script = file.read(2) == b"#!"
+        if is_script:
+            runs = os.access(ROOT / name, os.X_OK)
+            yield name, None if runs else "begins with #!, and may not be run"
+
+
 def first_statements():
     """The statements that a reader of README.md meets first, and the file that they are run
     from."""
@@ -247,9 +259,22 @@ def glossed():
                 ), None if found else f"{named[0]} is not in {crate}, {place.name}"
 
 
+CHECKS = (
+    examples,
+    heads,
+    first_statements,
+    walks,
+    named_files,
+    paths,
+    scripts,
+    believed,
+    glossed,
+)
+
+
 def main() -> int:
     tried.arguments(__doc__).parse_args()
-    for check in (examples, heads, first_statements, walks, named_files, paths, believed, glossed):
+    for check in CHECKS:
         for place, wrong in check():
             tried.case(place, wrong is None, wrong, quietly=True)
     return tried.status()
