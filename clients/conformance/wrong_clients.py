@@ -309,6 +309,8 @@ def texts(chosen):
 def main():
     given = words()
     chosen = {name: edits for name, edits in WRONG.items() if fnmatch.fnmatch(name, given.only)}
+    if not chosen:
+        sys.exit(f"no wrong client has such a name: {given.only}")
     if given.texts:
         return texts(chosen)
     status, said = caught((), 4)

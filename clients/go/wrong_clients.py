@@ -235,6 +235,8 @@ def words():
 def main():
     given = words()
     chosen = {name: edits for name, edits in WRONG.items() if fnmatch.fnmatch(name, given.only)}
+    if not chosen:
+        sys.exit(f"no wrong client has such a name: {given.only}")
     status, said = caught((), given.over)
     if status:
         print(f"FAILED: the client as it is: {said}")

@@ -318,6 +318,8 @@ def main():
     )
     given = parser.parse_args()
     chosen = {name: edit for name, edit in WRONG.items() if fnmatch.fnmatch(name, given.only)}
+    if not chosen:
+        sys.exit(f"no wrong client has such a name: {given.only}")
     status, said = caught(None)
     if status:
         print(f"FAILED: the client as it is: {said}")

@@ -238,6 +238,10 @@ function caught(edits) {
 function main() {
   const pattern = process.argv[2] ?? "";
   const chosen = Object.entries(WRONG).filter(([name]) => name.includes(pattern));
+  if (chosen.length === 0) {
+    console.log(`no wrong client has such a name: ${pattern}`);
+    return 1;
+  }
   const asItIs = caught([]);
   if (asItIs.status !== 0) {
     console.log(`FAILED: the client as it is: ${asItIs.said}`);
