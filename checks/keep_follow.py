@@ -9,12 +9,14 @@ entries as asked for, each of some requests, repeats among them. Behind each kil
 opened again, its position is asked for, and the log goes on behind it. Ends in 'N passed, M
 failed'.
 """
+import contextlib
 import os
 import random
 import struct
 import subprocess
 import sys
 import tempfile
+import threading
 import time
 
 import tried
@@ -26,6 +28,7 @@ from tb_client import Account, Operation, Transfer, request_frame  # noqa: E402
 from tb_host.checksums import crc32c  # noqa: E402
 
 CLIENTS = "8"
+SECONDS = 120 * tried.LONGER  # that a program may take
 QUESTION = b"\2"
 STANDING = 73  # the bytes of its answer
 
@@ -74,19 +77,32 @@ def standing(program, path):
     return output, said
 
 
+def feed(process, data, pause):
+    """Gives a program bytes, and kills it a little later."""
+    with contextlib.suppress(BrokenPipeError):
+        process.stdin.write(data)
+    time.sleep(pause)
+    process.kill()
+
+
 def killed(program, path, data, wanted, rng):
-    """Gives a program these items and kills it: what it has written by then begins the wanted."""
+    """Gives a program these items and kills it: what it has written by then begins the wanted. It
+    is read meanwhile, and killed too where it takes the items no more."""
     with subprocess.Popen(
         [program, "follow", path, CLIENTS],
+        bufsize=0,
         stdin=subprocess.PIPE,
         stdout=subprocess.PIPE,
         stderr=subprocess.DEVNULL,
     ) as process:
-        process.stdin.write(data[: rng.randrange(len(data) + 1)])
-        process.stdin.flush()
-        time.sleep(rng.random() * 0.05)
-        process.kill()
+        given = data[: rng.randrange(len(data) + 1)], rng.random() * 0.05
+        feeding = threading.Thread(target=feed, args=(process, *given))
+        late = threading.Timer(SECONDS, process.kill)
+        feeding.start()
+        late.start()
         told = process.stdout.read()
+        feeding.join()
+        late.cancel()
     return told, wanted.startswith(told)
 
 
