@@ -154,7 +154,8 @@ def run(plan, parts, writes):
     print(f"\nall in {time.monotonic() - began:.0f} seconds")
     for name in WRITERS if writes else ():
         script = str(TOP / "checks" / f"{name}.py")
-        subprocess.run([sys.executable, script, "--write"])
+        written = subprocess.run([sys.executable, script, "--write"])
+        all_agree = all_agree and written.returncode == 0
     return 0 if all_agree else 1
 
 
