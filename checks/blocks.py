@@ -63,9 +63,11 @@ def compare_replies(statements: str, block: str) -> None:
     """The replies that a page shows are those that the programs give to the statements before
     them."""
     replies = run(TBT, "replies", given=run(TBS, "run", "64", given=script_of(statements)))
-    got, shown = (
-        [json.loads(line) for line in text.splitlines()] for text in (replies.decode(), block)
-    )
+    try:
+        shown = [json.loads(line) for line in block.splitlines()]
+    except ValueError as why:
+        raise Wrong(why) from None
+    got = [json.loads(line) for line in replies.decode().splitlines()]
     if got != shown:
         raise Wrong(f"the replies are\n{replies.decode()}")
 
