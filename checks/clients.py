@@ -74,11 +74,8 @@ def python(*words, folder=CLIENT):
 def tests(name, folder):
     status, _, told = python("-W", "error::ResourceWarning", "-m", "unittest", folder=folder)
     last = told.strip().splitlines()[-1] if told.strip() else ""
-    case(
-        name,
-        status == 0 and last == "OK",
-        told[-2000:] if status or last != "OK" else told.split("\n")[-4],
-    )
+    well = status == 0 and last == "OK" and "Ran 0 tests" not in told
+    case(name, well, told.split("\n")[-4] if well else told[-2000:])
 
 
 def script(name, folder, *words):
