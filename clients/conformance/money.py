@@ -275,7 +275,12 @@ def words():
     parser.add_argument(
         "command", metavar="COMMAND", nargs="+", help="the runner and its words, behind --"
     )
-    return parser.parse_args()
+    given = parser.parse_args()
+    if given.kills < 1:
+        parser.error("--kills is 1 or more: with none no money would move")
+    if not 0 <= given.span < 60:
+        parser.error("--span is 0 or more seconds, below 60")
+    return given
 
 
 def main():

@@ -44,6 +44,32 @@ class Money(unittest.TestCase):
         self.assertIn("FAILED: ", said)
         self.assertIn("no/such/client", said)
 
+    def test_no_kill_and_no_span(self):
+        for words in (["--kills", "0"], ["--kills", "-2"], ["--span", "nan"], ["--span", "-1"]):
+            status, said, faults = ran("money.py", *words, *RUNNER)
+            self.assertEqual((status, said), (2, ""), words)
+            self.assertIn(f"{words[0]} is ", faults)
+
+
+class WrongClients(unittest.TestCase):
+    def test_a_name_that_none_has(self):
+        programs = [
+            [sys.executable, "-B", f"{TOP}/clients/{it}/wrong_clients.py", "--only", "none such"]
+            for it in ("conformance", "go", "java")
+        ]
+        if shutil.which("node"):
+            programs.append(["node", f"{TOP}/clients/node/wrong-clients.js", "none such"])
+        for words in programs:
+            it = subprocess.run(words, capture_output=True, text=True, timeout=60)
+            self.assertEqual(it.returncode, 1, words)
+            self.assertIn("no wrong client has such a name: none such", it.stdout + it.stderr)
+
+    def test_no_jobs(self):
+        for name in ("conformance", "go"):
+            status, said, faults = ran(f"../{name}/wrong_clients.py", "--jobs", "0")
+            self.assertNotEqual(status, 0, said)
+            self.assertIn("--jobs is 1 or more", faults)
+
 
 class Throughput(unittest.TestCase):
     """What measures the clients in Go and Node, by a server's relative path."""

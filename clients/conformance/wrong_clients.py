@@ -289,7 +289,10 @@ def words():
         "--texts", action="store_true", help="see that each text is there, and run nothing"
     )
     parser.add_argument("--jobs", metavar="N", type=int, default=4, help="kits at once (4)")
-    return parser.parse_args()
+    given = parser.parse_args()
+    if given.jobs < 1:
+        parser.error("--jobs is 1 or more")
+    return given
 
 
 def texts(chosen):

@@ -235,6 +235,8 @@ def words():
 def main():
     given = words()
     chosen = {name: edits for name, edits in WRONG.items() if fnmatch.fnmatch(name, given.only)}
+    if given.jobs < 1:
+        sys.exit("--jobs is 1 or more")
     if not chosen:
         sys.exit(f"no wrong client has such a name: {given.only}")
     status, said = caught((), given.over)
