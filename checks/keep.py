@@ -945,7 +945,7 @@ def flips(tbd, folder, data, latches, entries, count, rng):
 
 def main():
     parser = tried.arguments(__doc__)
-    parser.add_argument("--tbd", default=os.path.join(ROOT, "crates", "tbd", "out", "tbd"))
+    parser.add_argument("--tbd", type=os.path.abspath, default=os.path.join(ROOT, "crates", "tbd", "out", "tbd"))
     parser.add_argument("--kills", type=tried.count, default=1000)
     parser.add_argument("--flips", type=tried.count, default=10000)
     parser.add_argument("--cuts", type=tried.count, default=1000)

@@ -13,7 +13,7 @@ HERE = os.path.dirname(os.path.abspath(__file__))
 TOP = os.path.dirname(os.path.dirname(HERE))
 CLIENT = f"{TOP}/clients/python"
 PYTHON = "/usr/bin/python3"  # Debian's, which sees its packages
-PROGRAM = os.environ.get("PROGRAM", f"{TOP}/crates/tb_script/out/tb_script")
+PROGRAM = os.path.abspath(os.environ.get("PROGRAM", f"{TOP}/crates/tb_script/out/tb_script"))
 # The server with its replies kept in a file: those of its last start. A status above 128 is that
 # of a signal. Where rates count and no reply is compared, the server runs as it is.
 KEEPING = 'set -o pipefail; program=$1 out=$2; shift 2; "$program" "$@" | tee "$out"'

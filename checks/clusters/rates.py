@@ -9,7 +9,7 @@ import time
 
 from processes import CLIENT, HERE, PYTHON, TOP, Process, free_ports, slowed, until
 
-TBD = os.environ.get("TBD", f"{TOP}/crates/tbd/out/tbd")
+TBD = os.path.abspath(os.environ.get("TBD", f"{TOP}/crates/tbd/out/tbd"))
 LOADS = (("24 clients with single transfers", 24, 1), ("1 client with batches of 8190", 1, 8190))
 
 
