@@ -2,11 +2,13 @@
 """Kills the built tbd amid its work, damages its files and lets its calls fail: nothing acknowledged is lost, and nothing happens twice.
 
     checks/keep.py [--tbd PROGRAM] [--kills N] [--flips N] [--cuts N] [--seed N] [--builds]
+    checks/keep.py --texts
 
 A program that holds a reply back, or does not end, for 20 seconds (KEEP_SECONDS) ends the script, with that case failed or a line that names it.
 Clients retry as docs/use/CLIENTS.md says: each sends one request at a time, and the same bytes again until it has the reply. Calls of the
 program fail or lie by checks/keep/shim.c, which wants gcc. With --builds two mutants are built too, unproved, by `rt try` in a copy, and run
-under strace: one that replies before it commits and one that does not sync have to be caught. Ends in 'N passed, M failed'.
+under strace: one that replies before it commits and one that does not sync have to be caught. --texts looks, in a second, whether what
+they change is in the sources. Ends in 'N passed, M failed'.
 """
 import atexit
 import contextlib
@@ -320,7 +322,7 @@ def traced(log):
     """The same by strace, of the process that wrote to a file."""
     with open(log, encoding="utf-8", errors="replace") as file:
         lines = [line.split(None, 1) for line in file]
-    program = next(number for number, said in lines if said.startswith("pwrite64("))
+    program = next((number for number, said in lines if said.startswith("pwrite64(")), None)
     for number, said in lines:
         found = re.match(r"(pwrite64|ftruncate|fdatasync|fsync|write\(1,)", said) if number == program else None
         if found:
@@ -366,8 +368,17 @@ def orders(tbd, folder, shim):
 BUILDS = (
     ("the program as it is", "crates/tb_keep/src/rounds.rt", "keeper.journal.commit()?;", "keeper.journal.commit()?;"),
     ("replies before it commits", "crates/tb_keep/src/rounds.rt", "keeper.journal.commit()?;", "hand_out(replies, writer)?; keeper.journal.commit()?;"),
-    ("does not sync", "crates/tb_journal/src/calls.rt", "Ok(()) => device.sync(),", "Ok(()) => Ok(()),"),
+    ("does not sync", "crates/tb_journal/src/journals.rt", "Ok(()) => device.sync(),", "Ok(()) => Ok(()),"),
 )
+
+
+def try_texts():
+    """Whether the text of each is in its file once."""
+    for name, path, old, _ in BUILDS:
+        there = os.path.isfile(f"{ROOT}/{path}")
+        with open(f"{ROOT}/{path}" if there else os.devnull, encoding="utf-8") as file:
+            case(f"{name}: its text is in {path} once", file.read().count(old) == 1)
+    return tried.status()
 
 
 def builds(tbd, folder):
@@ -377,7 +388,6 @@ def builds(tbd, folder):
     for name, path, old, new in BUILDS:
         with open(f"{copy}/{path}", encoding="utf-8") as file:
             text = file.read()
-        case(f"{name}: the text is there once", text.count(old) == 1)
         with open(f"{copy}/{path}", "w", encoding="utf-8") as file:
             file.write(text.replace(old, new))
         kept = os.path.join(folder, "built.tbk")
@@ -387,7 +397,7 @@ def builds(tbd, folder):
             ran = subprocess.run(words, cwd=f"{copy}/crates/tbd", stdin=script, capture_output=True, check=False)
         early, told = told_early(traced(log))
         well = ran.returncode == 0 and told > 0 and (early > 0) == (old != new)
-        case(f"a build: {name}", well, f"status {ran.returncode}, {early} of {told} sent early")
+        case(f"a build: {name}", well, f"status {ran.returncode}, {early} of {told} sent early: {ran.stderr[-500:].decode(errors='replace')}")
         print(f"a build: {name}: {early} of {told} sent early", flush=True)
         with open(f"{copy}/{path}", "w", encoding="utf-8") as file:
             file.write(text)
@@ -951,7 +961,10 @@ def main():
     parser.add_argument("--cuts", type=tried.count, default=1000)
     parser.add_argument("--seed", type=int, default=1)
     parser.add_argument("--builds", action="store_true", help="builds that are wrong, too")
+    parser.add_argument("--texts", action="store_true", help="only whether these builds can be made")
     asked = parser.parse_args()
+    if asked.texts:
+        return try_texts()
     tried.built(asked.tbd)
     rng = random.Random(asked.seed)
     with tempfile.TemporaryDirectory() as folder:

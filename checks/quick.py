@@ -36,6 +36,7 @@ CHECKS = {
     "runs": ["checks/runs.py"],
     "edits": ["checks/edits.py", "--texts"],
     "mutants": ["checks/mutants.py", "--texts"],
+    "builds": ["checks/keep.py", "--texts"],
     "tables": ["checks/tables.py"],
     "names": ["checks/embed/names.py"],
     "wrappers": ["checks/embed/wrappers.py"],
