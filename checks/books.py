@@ -466,7 +466,12 @@ def feed(ledger, script, pause):
 
 
 def started_server(ledger):
-    return subprocess.Popen(ledger.words, stdin=subprocess.PIPE, stdout=subprocess.PIPE)
+    """A server that is killed where it holds a reply back: who waits for that goes on."""
+    process = subprocess.Popen(ledger.words, stdin=subprocess.PIPE, stdout=subprocess.PIPE)
+    late = threading.Timer(PATIENCE, process.kill)
+    late.daemon = True
+    late.start()
+    return process
 
 
 def reached(path):
