@@ -186,6 +186,19 @@ def in_background(work, *arguments):
     return answer
 
 
+def failing_once(exchange, number, fault):
+    """An exchange whose call of this number, from 1, raises this fault."""
+    calls = []
+
+    def fails(moment, frame):
+        calls.append(frame)
+        if len(calls) == number:
+            raise fault
+        return exchange(moment, frame)
+
+    return fails
+
+
 def kinds(results):
     return [(it.index, it.result.name) for it in results]
 
@@ -521,6 +534,37 @@ class Lost(unittest.TestCase):
             server.unreachable = False
             self.assertEqual(waits(), [])
             self.assertEqual(client.lookup_accounts([2])[0].credits_posted, 5)
+
+    def test_a_request_in_doubt_is_no_other_callers(self):
+        """What was asked for next went out as the bytes of the request before it."""
+        for fault in (tb.CannotStart, tb.ScriptFull, tb.ClockJumped):
+            server = InProcess(lost={3})
+            with self.subTest(fault=fault), over(server) as client:
+                client.create_accounts([account(1), account(2)])
+                server.exchange = failing_once(server.exchange, 2, fault("on purpose"))
+                with self.assertRaisesRegex(tb.ReplyLost, "not sent again: on purpose"):
+                    client.create_transfers([transfer(11, 1, 2, 5)])
+                self.assertEqual(client.create_transfers([transfer(12, 1, 2, 7)]), [])
+                found = client.lookup_transfers([11, 12])
+                self.assertEqual([it.id for it in found], [11, 12])
+
+    def test_who_leaves_after_the_server_said_to_come_later(self):
+        """It is not sent, as the call says, and what is asked for next is."""
+        for fault in (tb.Busy, tb.NoMemory):
+            server = InProcess()
+            with self.subTest(fault=fault), over(server) as client:
+                client.create_accounts([account(1), account(2)])
+                client.timeout = 1.0
+                exchange, server.unreachable = server.exchange, True
+                server.exchange = failing_once(exchange, 1, fault("on purpose"))
+                with self.assertRaisesRegex(tb.CannotConnect, "not sent .* will not be"):
+                    client.create_transfers([transfer(11, 1, 2, 5)])
+                client.timeout = None
+                waits = in_background(client.create_transfers, [transfer(12, 1, 2, 7)])
+                until(lambda: queued(client))
+                server.unreachable = False
+                self.assertEqual(waits(), [])
+                self.assertEqual([it.id for it in client.lookup_transfers([11, 12])], [12])
 
     def test_a_transport_that_cannot_be_made(self):
         server, is_there = InProcess(), []

@@ -218,13 +218,14 @@ class Worker(threading.Thread):
             if is_doubtful and operation in CREATES:
                 said = settled(operation, b"".join(bodies), said, self._look_up)
             found = answers(operation, bodies, said)
-        except CannotConnect as why:
-            self._pool.give_back(batch)
-            self._rest(why)
         except BaseException as why:
-            if not isinstance(why, NotSent):
-                self._leave()
-            self._tell_all(batch, why)
+            if not isinstance(why, NotSent) or self._is_in_doubt():
+                self._leave()  # or its request in doubt would go out as the next one
+            if isinstance(why, CannotConnect):
+                self._pool.give_back(batch)
+                self._rest(why)
+            else:
+                self._tell_all(batch, why)
         else:
             self._patience = _Patience()
             for call, answer in zip(batch, found):
@@ -248,7 +249,7 @@ class Worker(threading.Thread):
         self, operation: Operation, body: bytes, is_doubtful: bool = False
     ) -> Tuple[Any, bool]:
         """What the reply to a request says, and whether the request may have been executed before,
-        in a session that has ended. `CannotConnect` where nothing was ever sent."""
+        in a session that has ended. A `NotSent` where nothing was ever executed."""
         is_lost, patience = False, _Patience()
         while True:
             try:
@@ -263,15 +264,13 @@ class Worker(threading.Thread):
                 is_doubtful, is_lost = is_doubtful or is_lost, False
                 self._leave()
                 self._pool.pause(patience.next(why), why)
-            except CannotConnect as why:
+            except NotSent as why:
                 if not is_lost and not is_doubtful:
                     raise
-                if self._rest(why):
+                if not isinstance(why, (CannotConnect, Closed)):
+                    raise ReplyLost(f"no reply came, and it was not sent again: {why}") from why
+                if isinstance(why, Closed) or self._rest(why):
                     raise ReplyLost(CLOSED) from why
-            except Closed as why:
-                if not is_lost and not is_doubtful:
-                    raise
-                raise ReplyLost(CLOSED) from why
             except (ReplyLost, NoMemory, NotYet) as why:
                 is_lost = is_lost or isinstance(why, ReplyLost) and not isinstance(why, Busy)
                 self._pool.pause(patience.next(why), why)
@@ -290,6 +289,11 @@ class Worker(threading.Thread):
             except (ReplyLost, NoMemory, NotYet) as why:
                 self._pool.pause(patience.next(why), why)
         return session
+
+    def _is_in_doubt(self) -> bool:
+        """Whether the session has a request without a reply, other than its register."""
+        it = self._session
+        return it is not None and bool(it.session) and it.pending is not None
 
     def _leave(self) -> None:
         """Gives the session up. The next request has a new one."""
