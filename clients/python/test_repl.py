@@ -255,6 +255,54 @@ class Ledger(unittest.TestCase):
         self.assertEqual([asked[2] for asked in server.asked()], [0, 1, 9, 2])
 
 
+class Typing(unittest.TestCase):
+    """Lines as they come, and the statements that are made of them."""
+
+    def run_lines(self, typed, is_terminal=False, **more):
+        """What is served of these lines, what is told of them, and the status."""
+        typed, served, told = iter(typed), [], io.StringIO()
+        given = mock.Mock(is_terminal=is_terminal, before=[], **more)
+
+        def next_line(prompt):
+            line = next(typed, None)
+            if isinstance(line, BaseException):
+                raise line
+            return line
+
+        given.next = next_line
+        repl = commands.Repl(mock.Mock(), given, False)
+        with mock.patch.object(repl, "_serve", lambda it: served.append(it) or "wrong" not in it):
+            with redirect_stderr(told), redirect_stdout(io.StringIO()):
+                status = repl.run()
+        return served, told.getvalue(), status
+
+    def test_statements_of_lines(self):
+        typed = ["a;b # c;", "", "# d;", " e; f;g", "exit", ";", "  # h", "i;", "exit", "j;"]
+        served, told, status = self.run_lines(typed)
+        wanted = ["a;", "b # c;\n\n\n e;", " f;", "g\nexit\n;", "i;"]
+        self.assertEqual((served, told, status), (wanted, "", 0))
+
+    def test_the_last_statement_is_not_whole(self):
+        told = "tb-repl: the last statement has no `;`\n"
+        self.assertEqual(self.run_lines(["a; b"])[1:], (told, 2))
+        self.assertEqual(self.run_lines(["a; b"], True)[1:], ("", 0))
+        self.assertEqual(self.run_lines(["a; # b"])[1:], ("", 0))
+
+    def test_a_statement_of_many_lines_is_read_once(self):
+        """One of 8190 lines took minutes: each line was read again with each one behind it."""
+        read = []
+
+        def split(text):
+            read.append(len(text))
+            return statements.split(text)
+
+        typed = ["create_transfers", *(["id=1,"] * 300), "id=2;"]
+        with mock.patch.object(commands, "split", split):
+            served, _, status = self.run_lines(typed)
+        self.assertEqual((served, status), (["\n".join(typed)], 0))
+        self.assertEqual(sum(read), sum(map(len, typed)))
+
+
 class Tables(unittest.TestCase):
     def test_dates(self):
         self.assertEqual(tables.date_of(1764151200123456789), "2025-11-26T10:00:00.123456789Z")

@@ -95,28 +95,37 @@ class Repl:
     def run(self) -> int:
         """Serves what is typed until it ends. On a terminal a wrong statement is told, and the next
         one is read; from a file or a pipe it ends the command."""
-        rest = ""
         while True:
+            rest = self.lines.before
             try:
                 line = self.lines.next(". " if rest else "> ")
             except KeyboardInterrupt:
                 # what was typed of a statement is dropped
                 print()
-                rest = self.lines.before = ""
+                rest.clear()
                 continue
             if line is None:
-                return self._ended(rest)
+                return self._ended()
             if not rest and line.strip() in ("exit", "quit"):
                 return 0
             if not rest and self._is_command(line.strip()):
                 continue
-            whole, rest = split(f"{rest}\n{line}" if rest else line)
-            if not all(map(self._serve, whole)) and not self.lines.is_terminal:
+            if not all(map(self._serve, self._whole(line))) and not self.lines.is_terminal:
                 return 2
-            self.lines.before = rest
 
-    def _ended(self, rest: str) -> int:
-        if rest and not self.lines.is_terminal:
+    def _whole(self, line: str) -> list[str]:
+        """The statements that end in a line. What is behind them is kept for the next one."""
+        rest = self.lines.before
+        whole, left = split(line)
+        if whole:
+            whole[0] = "\n".join([*rest, whole[0]])
+            rest.clear()
+        if rest or left:
+            rest.append(left)
+        return whole
+
+    def _ended(self) -> int:
+        if self.lines.before and not self.lines.is_terminal:
             print("tb-repl: the last statement has no `;`", file=sys.stderr)
             return 2
         return 0

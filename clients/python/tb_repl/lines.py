@@ -54,10 +54,10 @@ def words_at(before: str) -> list[str]:
 
 
 class Lines:
-    """Lines from a terminal or a file. `before` is what was typed of the statement already."""
+    """Lines from a terminal or a file. `before` has the lines of the statement so far."""
 
     def __init__(self) -> None:
-        self.before = ""
+        self.before: list[str] = []
         self.is_terminal = sys.stdin.isatty() and sys.stdout.isatty()
         if isinstance(sys.stdin, io.TextIOWrapper):  # bytes that are no text are for `tbt` to tell
             sys.stdin.reconfigure(errors="surrogateescape")
@@ -79,7 +79,7 @@ class Lines:
     def _completed(self, word: str, number: int) -> Optional[str]:
         typed = readline.get_line_buffer()[: readline.get_begidx()]
         if number == 0:
-            last = typed.rsplit(";", 1)[-1] if ";" in typed else self.before + typed
+            last = typed.rsplit(";", 1)[-1] if ";" in typed else "\n".join([*self.before, typed])
             self.found = [it for it in words_at(last) if it.startswith(word)]
         return self.found[number] if number < len(self.found) else None
 
