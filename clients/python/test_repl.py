@@ -288,6 +288,13 @@ class Typing(unittest.TestCase):
         self.assertEqual(self.run_lines(["a; b"], True)[1:], ("", 0))
         self.assertEqual(self.run_lines(["a; # b"])[1:], ("", 0))
 
+    def test_ctrl_c(self):
+        """It drops what was typed of a statement. From a pipe it ends the command: the rest of a
+        statement would be taken for one."""
+        typed = ["client=9", KeyboardInterrupt(), "a;"]
+        self.assertEqual(self.run_lines(typed, True), (["a;"], "", 0))
+        self.assertRaises(KeyboardInterrupt, self.run_lines, typed)
+
     def test_a_statement_of_many_lines_is_read_once(self):
         """One of 8190 lines took minutes: each line was read again with each one behind it."""
         read = []

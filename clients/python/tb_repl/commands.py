@@ -100,6 +100,8 @@ class Repl:
             try:
                 line = self.lines.next(". " if rest else "> ")
             except KeyboardInterrupt:
+                if not self.lines.is_terminal:
+                    raise
                 # what was typed of a statement is dropped
                 print()
                 rest.clear()
