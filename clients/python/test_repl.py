@@ -226,6 +226,20 @@ class Ledger(unittest.TestCase):
         self.assertEqual([asked[2] for asked in server.asked()], [0, 1, 2, 3])
         self.assertIn("request 2 was executed before, with other content", told[0])
 
+    def test_a_reply_that_cannot_be_shown(self):
+        """Its statement, typed again, gets it once more. Ctrl-C then says the same of it."""
+        for fault in (statements.Wrong("tb-repl: tbt: does not end"), KeyboardInterrupt()):
+            server = Server()
+            it, _ = ledger(server)
+            serve(it, "lookup_accounts ;")
+            with mock.patch.object(it.tbt, "spelled", side_effect=fault, create=True):
+                with self.assertRaises(type(fault)) as raised:
+                    serve(it, "lookup_accounts ;")
+            if isinstance(fault, statements.Wrong):
+                self.assertRegex(str(raised.exception), "does not end\n  a reply came")
+            serve(it, "lookup_accounts ;")
+            self.assertEqual([asked[2] for asked in server.asked()], [0, 1, 2, 2])
+
     def test_an_eviction_registers_again(self):
         server = Server(statuses=[0, 0, 2])
         it, told = ledger(server)

@@ -7,10 +7,11 @@ from typing import Callable, NamedTuple
 
 from tb_client import CannotConnect, NoMemory, Reply, ReplyLost, Request, Status, Transport
 
-from .statements import REGISTER, Tbt, Typed, bare
+from .statements import REGISTER, Tbt, Typed, Wrong, bare
 
 TRIES = 8
 PAUSE_MAX = 5.0
+NOT_SHOWN = "a reply came, and cannot be shown: typed again as it was, the statement gets it again"
 
 
 class Session(NamedTuple):
@@ -70,8 +71,12 @@ class Ledger:
         moment, frame = self._pair(statement, filled)
         request = Request.from_bytes(frame)
         reply = self._exchange(moment, frame)
+        try:
+            spelled = self.tbt.spelled(reply)
+        except Wrong as why:  # before its number is learned, so that typed again it is the same
+            raise Wrong(f"{why}\n  {NOT_SHOWN}") from None
         self._learn(request, Reply.from_bytes(reply))
-        return Served(request, self.tbt.spelled(reply))
+        return Served(request, spelled)
 
     def _exchange(self, moment: int, frame: bytes) -> bytes:
         """Sends the same bytes until their reply is here; the last try's fault is the caller's, and
