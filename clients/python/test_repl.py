@@ -528,6 +528,22 @@ class Command(unittest.TestCase):
                     self.assertRaises(KeyboardInterrupt, repl._serve, "lookup_accounts id=1;")
             self.assertEqual("no reply is waited for" in told.getvalue(), is_terminal)
 
+    def test_an_answer_that_is_cut(self):
+        """Ctrl-C while an answer is shown: the statement was executed."""
+        served = mock.Mock(serve=mock.Mock(return_value=[mock.Mock()]))
+        for is_terminal in (True, False):
+            repl = commands.Repl(served, mock.Mock(is_terminal=is_terminal), False)
+            told = io.StringIO()
+            with redirect_stderr(told), mock.patch.object(
+                commands, "answer_shown", side_effect=KeyboardInterrupt
+            ):
+                if is_terminal:
+                    self.assertTrue(repl._serve("lookup_accounts id=1;"))
+                else:
+                    self.assertRaises(KeyboardInterrupt, repl._serve, "lookup_accounts id=1;")
+            self.assertNotIn("no reply is waited for", told.getvalue())
+            self.assertEqual("the rest of the answer" in told.getvalue(), is_terminal)
+
     def test_addresses(self):
         self.assertEqual(commands.address_of("ledger.sock"), "ledger.sock")
         self.assertEqual(commands.address_of("/run/a:7"), "/run/a:7")

@@ -147,8 +147,7 @@ class Repl:
     def _serve(self, text: str) -> bool:
         """Whether a statement was served; what went wrong is told."""
         try:
-            for served in self.ledger.serve(typed(with_moments(text))):
-                self._print(served)
+            answers = self.ledger.serve(typed(with_moments(text)))
         except Wrong as why:
             print(why, file=sys.stderr, flush=True)
             return False
@@ -160,6 +159,13 @@ class Repl:
                 raise
             print(f"\ntb-repl: {GIVEN_UP}", file=sys.stderr, flush=True)
             return False
+        try:
+            for served in answers:
+                self._print(served)
+        except KeyboardInterrupt:
+            if not self.lines.is_terminal:
+                raise
+            print("\ntb-repl: the rest of the answer is not shown", file=sys.stderr, flush=True)
         return True
 
     def _print(self, served: Served) -> None:
