@@ -489,6 +489,8 @@ class Values(unittest.TestCase):
             ("pending", tb.request_frame(7, 2, 1, 129).hex()),
             ("pending", tb.request_frame(7, 1, 2, 129).hex()),
             ("pending", saved["pending"][:59] + "1" + saved["pending"][60:]),
+            ("pending", " "),
+            ("pending", f" {saved['pending']}\n"),
             ("client", 0),
             ("client", "7"),
             ("client", 7.0),
@@ -514,6 +516,21 @@ class Values(unittest.TestCase):
         for value in (None, [], "x", 5):
             self.refused("saved", Session.resumed, Direct(self.exchange), value, types=TypeError)
         self.assertEqual(Session.resumed(Direct(self.exchange), saved).saved, saved)
+
+    def test_a_saved_request_is_the_next_one_of_its_session(self):
+        """A register has none before it, and any other request has a session."""
+        register, other = tb.request_frame(7, 0, 0, 2), tb.request_frame(7, 0, 1, 129)
+        for session, number, frame in ((0, 5, register), (1, 0, register), (0, 0, other)):
+            saved = {"client": 7, "session": session, "number": number, "pending": frame.hex()}
+            with self.subTest(saved=saved):
+                self.refused(
+                    "saved['pending']", Session.resumed, Direct(self.exchange), saved
+                )
+                self.refused(
+                    "pending", Session, Direct(self.exchange), 7, session, number, frame
+                )
+        saved = {"client": 7, "session": 0, "number": 0, "pending": register.hex().upper()}
+        self.assertEqual(Session.resumed(Direct(self.exchange), saved).pending, register)
 
     def test_a_transport_that_is_none(self):
         for value in (None, "tbs", 5, PROGRAM):

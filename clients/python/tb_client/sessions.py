@@ -1,6 +1,7 @@
 """Sessions: a client that is registered, its requests by number, and the one that is in doubt."""
 from __future__ import annotations
 
+import binascii
 import json
 import logging
 import threading
@@ -478,7 +479,7 @@ def _frame_of(field: str, text: object) -> Optional[bytes]:
     if not isinstance(text, str):
         raise InvalidType(field, f"must be a str, not {kind_of(text)}")
     try:
-        return bytes.fromhex(text) or None
+        return binascii.unhexlify(text) or None  # unlike bytes.fromhex it passes over no blanks
     except ValueError:
         raise InvalidValue(field, "is no hex") from None
 
