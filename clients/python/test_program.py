@@ -8,6 +8,8 @@ import signal
 import subprocess
 import sys
 import tempfile
+import threading
+import time
 import unittest
 
 import tb_client as tb
@@ -75,6 +77,27 @@ class OverAFile(unittest.TestCase):
             self.assertIsNone(session.in_doubt)
             program.timeout = 20
             self.assertEqual(session.lookup_accounts([1]), [])
+
+    def test_close_waits_for_one_exchange(self):
+        """Threads that wait behind it send nothing more."""
+        with open(self.path, "w", encoding="utf-8") as file:
+            file.write("#!/bin/sh\necho tbd: ready >&2\nexec sleep 60\n")
+        program, faults = Program(self.path, file=self.file, timeout=2), []
+
+        def exchange(number):
+            try:
+                Session.register(program, number, attempts=1)
+            except tb.ClientError as fault:
+                faults.append(type(fault))
+
+        threads = [threading.Thread(target=exchange, args=(it,)) for it in range(1, 9)]
+        for thread in threads:
+            thread.start()
+        time.sleep(0.7)
+        program.close()
+        for thread in threads:
+            thread.join()
+        self.assertEqual(sorted(faults, key=str), [tb.Closed] * 7 + [tb.ReplyLost])
 
     def test_ctrl_c_at_a_terminal_is_not_the_program_s(self):
         words = [sys.executable, "-B", "-c", INTERRUPTED, self.path, self.file]

@@ -112,6 +112,28 @@ class Addresses(unittest.TestCase):
             self.assertEqual(it.exchange(0, register(7)), registered(7))
         answering.join()
 
+    def test_close_waits_for_one_exchange(self):
+        """Threads that wait behind it send nothing more."""
+        with socket.socket(socket.AF_UNIX) as listening:
+            listening.bind(self.path("a"))
+            listening.listen()  # and nobody answers
+            it, faults = Socket(self.path("a"), timeout=2), []
+
+            def exchange(number):
+                try:
+                    it.exchange(0, register(number))
+                except tb.ClientError as fault:
+                    faults.append(type(fault))
+
+            threads = [threading.Thread(target=exchange, args=(n,)) for n in range(1, 9)]
+            for thread in threads:
+                thread.start()
+            time.sleep(0.7)
+            it.close()
+            for thread in threads:
+                thread.join()
+        self.assertEqual(sorted(faults, key=str), [tb.Closed] * 7 + [tb.ReplyLost])
+
     def test_wrong_lists(self):
         for wrong, error in (
             ([], tb.InvalidValue),

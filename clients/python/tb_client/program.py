@@ -80,6 +80,7 @@ class Program(Closing):
         self._lock = threading.RLock()
         self._owner = os.getpid()
         self._end: Optional[Exception] = None
+        self._is_closed = False
         self._is_amid = False  # between what the system did and what is kept of it here
         self._start()
 
@@ -134,6 +135,8 @@ class Program(Closing):
 
     def _be_ready(self) -> None:
         """Starts the program again where that was asked for, else tells why it takes no more."""
+        if self._is_closed:
+            raise Closed("this Program was closed")
         if self._end is not None:
             raise self._end.with_traceback(None)
         if self.process is not None and self._is_amid:
@@ -305,8 +308,8 @@ class Program(Closing):
         if self._owner != os.getpid():
             self._close_copies()
             return
+        self._is_closed = True  # who waits for the lock sends nothing more
         with self._lock:
-            self._end = Closed("this Program was closed")
             self._let_go()
 
     def _close_copies(self) -> None:

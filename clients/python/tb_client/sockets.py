@@ -215,8 +215,8 @@ class Socket(Closing):
             # the copy that a forked child has. A thread that is not here may hold the lock
             self._hang_up()
             return
+        self._closed = True  # who waits for the lock sends nothing more
         with self._lock:
-            self._closed = True
             self._hang_up()
 
 
