@@ -548,6 +548,22 @@ class Lost(unittest.TestCase):
                 found = client.lookup_transfers([11, 12])
                 self.assertEqual([it.id for it in found], [11, 12])
 
+    def test_a_server_that_is_not_trusted(self):
+        """Waiting does not mend that: those who asked are told, and waited for ever before."""
+        for before, lost in ((0, ()), (1, ()), (2, {3})):
+            server = InProcess(lost=lost)
+            exchange = server.exchange
+            fault = tb.CannotConnect("certificate verify failed", untrusted=True)
+            with self.subTest(before=before), over(server, timeout=20) as client:
+                if before:
+                    client.create_accounts([account(1)])
+                server.exchange = failing_once(exchange, max(before, 1), fault)
+                wanted = tb.ReplyLost if lost else tb.CannotConnect
+                with self.assertRaisesRegex(wanted, "certificate verify failed"):
+                    client.create_accounts([account(2)])
+                wanted = [1, 2] if lost else [1] if before else []
+                self.assertEqual([it.id for it in client.lookup_accounts([1, 2])], wanted)
+
     def test_who_leaves_after_the_server_said_to_come_later(self):
         """It is not sent, as the call says, and what is asked for next is."""
         for fault in (tb.Busy, tb.NoMemory):

@@ -1,9 +1,12 @@
 """Sockets to several addresses, what a server tells, replies of other requests, and TLS's
 arguments."""
+import contextlib
 import os
+import shutil
 import socket
 import ssl
 import struct
+import sys
 import tempfile
 import threading
 import time
@@ -12,6 +15,9 @@ import unittest
 import tb_client as tb
 from tb_client import Socket
 from tb_client.ids import Ids
+
+sys.path.append(os.path.join(os.path.dirname(os.path.abspath(__file__)), "..", "conformance"))
+import certificates  # noqa: E402
 
 
 def register(client):
@@ -177,6 +183,40 @@ class Tls(unittest.TestCase):
         with self.assertRaises(tb.InvalidValue):
             Socket([("localhost", 1), "ledger.sock"], tls=context)
         Socket([("localhost", 1), ("::1", 2)], tls=context).close()
+
+    @unittest.skipUnless(shutil.which("openssl"), "openssl is not installed")
+    def test_a_certificate_that_is_not_trusted(self):
+        """It is told at once, where no other address may answer later."""
+        with tempfile.TemporaryDirectory() as folder, socket.socket() as listening:
+            paths = certificates.made(folder)
+            served = certificates.server_context(paths, {"cert": "server"})
+            listening.bind(("127.0.0.1", 0))
+            listening.listen()
+            threading.Thread(target=self.agree, args=(listening, served), daemon=True).start()
+            address = ("localhost", listening.getsockname()[1])
+            context = ssl.create_default_context(cafile=paths["other_ca"])
+            for addresses, timeout, untrusted in (
+                ([address, address], 60, True),
+                ([("localhost", 1), address], 0.5, False),
+            ):
+                began = time.monotonic()
+                with Socket(addresses, timeout, context) as it:
+                    with self.assertRaises(tb.CannotConnect) as found:
+                        it.exchange(0, register(7))
+                self.assertEqual(found.exception.untrusted, untrusted)
+                self.assertEqual(time.monotonic() - began < timeout, untrusted)
+            with tb.ClientSync(0, [address], tls=context, timeout=20) as client:
+                with self.assertRaisesRegex(tb.CannotConnect, "^localhost:.* verify failed"):
+                    client.lookup_accounts([1])
+
+    @staticmethod
+    def agree(listening, context):
+        """Agrees on TLS with all who come, or tries to."""
+        with contextlib.suppress(OSError):
+            while True:
+                it, _ = listening.accept()
+                with contextlib.suppress(ssl.SSLError):
+                    context.wrap_socket(it, server_side=True).close()
 
 
 class OwnIds(unittest.TestCase):

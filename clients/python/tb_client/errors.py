@@ -70,7 +70,12 @@ class CannotStart(NotSent):
 
 
 class CannotConnect(NotSent):
-    """No connection to the server can be made."""
+    """No connection to the server can be made. `untrusted` where its certificate is not trusted,
+    which waiting does not mend."""
+
+    def __init__(self, text: str = "", untrusted: bool = False) -> None:
+        super().__init__(text)
+        self.untrusted = untrusted
 
 
 # Something was sent

@@ -187,6 +187,11 @@ def _may_join(last: Call, count: int, call: Call) -> bool:
     return fits and call.operation == last.operation and not last.is_open
 
 
+def _may_come(why: BaseException) -> bool:
+    """Whether the server was not there, and may be later."""
+    return isinstance(why, CannotConnect) and not why.untrusted
+
+
 class Worker(threading.Thread):
     """A thread that answers calls, over a session that it registers when it needs one."""
 
@@ -200,12 +205,12 @@ class Worker(threading.Thread):
         while self._pool.wait():
             try:
                 self._registered()
-            except CannotConnect as why:
-                self._rest(why)
-                continue
             except BaseException as why:
-                self._leave()
-                self._tell_all(self._pool.take(), why)
+                if _may_come(why):
+                    self._rest(why)
+                else:
+                    self._leave()
+                    self._tell_all(self._pool.take(), why)
                 continue
             batch = self._pool.take()
             if batch:
@@ -221,7 +226,7 @@ class Worker(threading.Thread):
         except BaseException as why:
             if not isinstance(why, NotSent) or self._is_in_doubt():
                 self._leave()  # or its request in doubt would go out as the next one
-            if isinstance(why, CannotConnect):
+            if _may_come(why):
                 self._pool.give_back(batch)
                 self._rest(why)
             else:
@@ -231,9 +236,9 @@ class Worker(threading.Thread):
             for call, answer in zip(batch, found):
                 call.tell(answer)
 
-    def _rest(self, why: CannotConnect) -> bool:
+    def _rest(self, why: BaseException) -> bool:
         """Waits before a server is called again that was not there: a transport may tell that at
-        once, as where it does not trust the server. Says whether the client ended meanwhile."""
+        once. Says whether the client ended meanwhile."""
         log.warning("%s", why)
         return self._pool.rest(self._patience.next(why))
 
@@ -267,7 +272,7 @@ class Worker(threading.Thread):
             except NotSent as why:
                 if not is_lost and not is_doubtful:
                     raise
-                if not isinstance(why, (CannotConnect, Closed)):
+                if not isinstance(why, Closed) and not _may_come(why):
                     raise ReplyLost(f"no reply came, and it was not sent again: {why}") from why
                 if isinstance(why, Closed) or self._rest(why):
                     raise ReplyLost(CLOSED) from why
@@ -313,7 +318,7 @@ class _Patience:
     def __init__(self) -> None:
         self._pauses, self._is_first = pauses_from(PAUSE), True
 
-    def next(self, why: Exception) -> float:
+    def next(self, why: BaseException) -> float:
         is_at_once = self._is_first and not isinstance(why, (Busy, NoMemory, NotYet))
         self._is_first = False
         return 0.0 if is_at_once else next(self._pauses)

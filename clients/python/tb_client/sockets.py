@@ -117,22 +117,23 @@ class Socket(Closing):
         if self._socket is not None and _is_left(self._socket):
             self._lose()
         while self._socket is None:
-            fault = self._call_each(deadline)
-            if fault is None:
+            faults = self._call_each(deadline)
+            if not faults:
                 break
             left = deadline - time.monotonic()
-            if left <= 0 or isinstance(fault, ssl.SSLCertVerificationError):
-                raise CannotConnect(
-                    f"{_shown(self._gone)}: {fault.strerror or fault}{_hint(self._gone)}"
-                ) from None
+            untrusted = all(isinstance(it, ssl.SSLCertVerificationError) for it in faults)
+            if left <= 0 or untrusted:
+                why = faults[-1].strerror or faults[-1]
+                text = f"{_shown(self._gone)}: {why}{_hint(self._gone)}"
+                raise CannotConnect(text, untrusted) from None
             time.sleep(min(pause, left))
             pause = min(2 * pause, LAST_PAUSE)
         return cast(socket.socket, self._socket)
 
-    def _call_each(self, deadline: float) -> Optional[OSError]:
-        """Calls the addresses in turn, from the present one on, until one answers. Answers the
-        last fault where none does."""
-        fault: Optional[OSError] = None
+    def _call_each(self, deadline: float) -> List[OSError]:
+        """Calls the addresses in turn, from the present one on, until one answers. Answers their
+        faults where none does."""
+        faults: List[OSError] = []
         for left in range(len(self._addresses), 0, -1):
             try:
                 # of the time, so that one that does not answer leaves some
@@ -140,13 +141,13 @@ class Socket(Closing):
                 self._socket = _call(self.address, max(share, 0.001), self._tls)
                 self._is_new, self.trouble = True, ""
                 log.info("connected to %s", _shown(self.address))
-                return None
+                return []
             except OSError as error:
                 self.trouble = f"{_shown(self.address)}: {error.strerror or error}"
                 log.info("no connection to %s", self.trouble)
-                fault = error
+                faults.append(error)
                 self._next()
-        return fault
+        return faults
 
     def _next(self) -> None:
         self._gone = self.address
