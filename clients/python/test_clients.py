@@ -978,6 +978,10 @@ class Shown(unittest.TestCase):
         self.assertRegex(said, "INFO:tb_client:client 7 is registered, session 1")
         self.assertRegex(said, "WARNING:tb_client:sent again, 4 times left: reply 2 was lost")
         self.assertRegex(said, "DEBUG:tb_client:request 1, lookup_accounts: answered")
+        server = InProcess(lost={2})
+        with self.assertLogs("tb_client", "WARNING") as logs, over(server) as client:
+            client.lookup_accounts([1])
+        self.assertRegex(logs.output[0], "sent again in 0.00 s: reply 2 was lost")
 
     def test_nothing_is_said_unasked(self):
         with os.popen(

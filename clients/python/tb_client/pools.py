@@ -143,7 +143,7 @@ class Pool:
         where the server does not let this client in."""
         if isinstance(why, ReplyLost) and why.told in FORBIDDEN:
             raise why
-        log.info("sent again in %.2f s: %s", seconds, why)
+        log.warning("sent again in %.2f s: %s", seconds, why)
         if self.rest(seconds):
             raise why
 
