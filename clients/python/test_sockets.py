@@ -11,6 +11,7 @@ import tempfile
 import threading
 import time
 import unittest
+from unittest import mock
 
 import tb_client as tb
 from tb_client import Socket
@@ -99,6 +100,31 @@ class Addresses(unittest.TestCase):
             with Socket(places, timeout=0.1) as it, self.assertRaises(tb.CannotConnect) as found:
                 it.exchange(0, register(7))
             self.assertTrue(str(found.exception).startswith(wanted), found.exception)
+
+    def test_a_host_of_many_addresses(self):
+        """Where they do not answer they take the time of one, and leave some for the next."""
+        with contextlib.ExitStack() as stack:
+            found, port = [], 0
+            for last in range(1, 5):
+                listening = stack.enter_context(socket.socket())
+                listening.bind((f"127.0.0.{last}", port))
+                listening.listen(0)
+                port = listening.getsockname()[1]
+                found.append((socket.AF_INET, socket.SOCK_STREAM, 6, "", (f"127.0.0.{last}", port)))
+                for _ in range(2):  # which fill its queue: no other one is answered
+                    it = stack.enter_context(socket.socket())
+                    it.setblocking(False)
+                    it.connect_ex(found[-1][4])
+            server = Server(self.path("a"), registered(7))
+            host = ("ledger.example", port)
+            with mock.patch("socket.getaddrinfo", return_value=found):
+                with Socket([host, self.path("a")], timeout=2) as it:
+                    self.assertEqual(it.exchange(0, register(7)), registered(7))
+                began = time.monotonic()
+                with Socket(host, timeout=0.5) as it, self.assertRaises(tb.CannotConnect):
+                    it.exchange(0, register(7))
+                self.assertLess(time.monotonic() - began, 1.5)
+            server.end()
 
     def test_a_long_time(self):
         """It is no short one: Python cuts its milliseconds to 32 bits."""

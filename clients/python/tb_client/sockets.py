@@ -9,7 +9,7 @@ import socket
 import ssl
 import threading
 import time
-from typing import List, Optional, Tuple, Union, cast
+from typing import Any, List, Optional, Tuple, Union, cast
 
 from .errors import Busy, CannotConnect, Closed, InvalidType, InvalidValue, ReplyLost
 from .frames import header_of, reply_length, test_asked, test_reply
@@ -138,7 +138,7 @@ class Socket(Closing):
             try:
                 # of the time, so that one that does not answer leaves some
                 share = (deadline - time.monotonic()) / left
-                self._socket = _call(self.address, max(share, 0.001), self._tls)
+                self._socket = _call(self.address, share, self._tls)
                 self._is_new, self.trouble = True, ""
                 log.info("connected to %s", _shown(self.address))
                 return []
@@ -294,20 +294,42 @@ def _is_host(name: str) -> bool:
 
 
 def _call(address: Place, timeout: float, tls: Optional[ssl.SSLContext] = None) -> socket.socket:
-    """A new connection, over TLS where there is a context."""
-    timeout = min(timeout, WAIT_MAX)
-    if isinstance(address, tuple):
-        it = socket.create_connection(address, timeout)
-        it.setsockopt(socket.IPPROTO_TCP, socket.TCP_NODELAY, 1)
-        return it if tls is None else _agreed(it, tls, address[0])
-    it = socket.socket(socket.AF_UNIX, socket.SOCK_STREAM)
+    """A new connection within so many seconds, over TLS where there is a context."""
+    deadline = time.monotonic() + min(timeout, WAIT_MAX)
+    if isinstance(address, str):
+        return _connected_to(socket.AF_UNIX, address, _left(deadline))
+    it = _host_called(address, deadline)
+    it.setsockopt(socket.IPPROTO_TCP, socket.TCP_NODELAY, 1)
+    it.settimeout(_left(deadline))
+    return it if tls is None else _agreed(it, tls, address[0])
+
+
+def _host_called(address: Tuple[str, int], deadline: float) -> socket.socket:
+    """A connection to one of a host's addresses, each of which has its share of the time."""
+    found = socket.getaddrinfo(*address, type=socket.SOCK_STREAM)
+    fault = OSError("the host has no address")
+    for left, (family, _, _, _, place) in zip(range(len(found), 0, -1), found):
+        try:
+            return _connected_to(family, place, _left(deadline) / left)
+        except OSError as error:
+            fault = error
+    raise fault
+
+
+def _connected_to(family: int, place: Any, timeout: float) -> socket.socket:
+    it = socket.socket(family, socket.SOCK_STREAM)
     try:
         it.settimeout(timeout)
-        it.connect(address)
+        it.connect(place)
     except BaseException:
         it.close()
         raise
     return it
+
+
+def _left(deadline: float) -> float:
+    """The seconds until then; a moment where there are none, since 0 is no wait at all."""
+    return max(deadline - time.monotonic(), 0.001)
 
 
 def _agreed(it: socket.socket, tls: ssl.SSLContext, host: str) -> socket.socket:
