@@ -83,7 +83,8 @@ def conversation(words, lines, folder):
     os.write(master, b"\x04")
     shown += until(master, ("never",))
     os.close(master)
-    return shown, it.wait(timeout=SECONDS)
+    # at Ctrl-D some versions of readline end the line as well
+    return shown.rstrip("\n") + "\n", it.wait(timeout=SECONDS)
 
 
 def listening(tbs, folder):

@@ -11,7 +11,7 @@ import subprocess
 import sys
 import tempfile
 import unittest
-from contextlib import redirect_stderr, redirect_stdout
+from contextlib import redirect_stderr, redirect_stdout, suppress
 from unittest import mock
 
 from tb_client import CannotConnect, Direct, Operation, Reply, ReplyLost, Request, Transfer
@@ -454,6 +454,58 @@ while len(sys.stdin.buffer.read(56)) == 56:
         for script in ("<&-", ">&-"):
             said = "tb-repl: standard input or output is closed\n"
             self.assertEqual(self.ran(script), (1, said))
+
+
+@unittest.skipUnless(lines.readline, "this Python has no readline")
+class Pasted(unittest.TestCase):
+    """Lines that are pasted at a terminal come as one, with the terminal's marks around them."""
+
+    SCRIPT = """
+from tb_repl.lines import Lines
+it = Lines()
+while (line := it.next("> ")) != "end":
+    print("got", repr(line), flush=True)
+"""
+
+    def test_lines_and_tabs(self):
+        """A tab in them was taken for the key: `id=1<tab>code=2` became `id=1code=2`."""
+        terminal, other = os.openpty()
+        with tempfile.TemporaryDirectory() as folder:
+            environment = {"XDG_STATE_HOME": folder, "TERM": "xterm", "INPUTRC": "/dev/null"}
+            it = subprocess.Popen(
+                [sys.executable, "-B", "-c", self.SCRIPT],
+                stdin=other,
+                stdout=other,
+                cwd=os.path.dirname(os.path.abspath(__file__)),
+                env={**os.environ, **environment},
+            )
+            os.close(other)
+            shown = b""
+            while b"> " not in shown:
+                shown += os.read(terminal, 4096)
+            os.write(terminal, b"\x1b[200~json\n\tid=1\tcode=2;\x1b[201~\nid=3\nend\n")
+            with suppress(OSError):  # at its end
+                while more := os.read(terminal, 4096):
+                    shown += more
+            os.close(terminal)
+            self.assertEqual(it.wait(60), 0)
+        self.assertIn(b"\x1b[?2004h", shown, "the terminal is asked for its marks")
+        said = [it.strip() for it in shown.decode().splitlines() if "got" in it]
+        wanted = ["json", "\tid=1\tcode=2;", "id=3"]
+        self.assertEqual([it[it.index("got") :] for it in said], [f"got {it!r}" for it in wanted])
+
+    def test_ctrl_c_drops_the_rest(self):
+        for stub in (
+            mock.Mock(serve=mock.Mock(side_effect=KeyboardInterrupt)),
+            mock.Mock(serve=mock.Mock(return_value=[KeyboardInterrupt])),
+        ):
+            given = mock.Mock(is_terminal=True, pasted=["b;", "c;"])
+            repl = commands.Repl(stub, given, False)
+            with redirect_stderr(io.StringIO()), mock.patch.object(
+                commands, "answer_shown", side_effect=KeyboardInterrupt
+            ):
+                repl._serve("a;")
+            self.assertEqual(given.pasted, [])
 
 
 class Command(unittest.TestCase):

@@ -158,6 +158,7 @@ class Repl:
             if not self.lines.is_terminal:
                 raise
             print(f"\ntb-repl: {GIVEN_UP}", file=sys.stderr, flush=True)
+            self.lines.pasted.clear()
             return False
         try:
             for served in answers:
@@ -166,6 +167,7 @@ class Repl:
             if not self.lines.is_terminal:
                 raise
             print("\ntb-repl: the rest of the answer is not shown", file=sys.stderr, flush=True)
+            self.lines.pasted.clear()
         return True
 
     def _print(self, served: Served) -> None:

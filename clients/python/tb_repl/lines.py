@@ -58,6 +58,7 @@ class Lines:
 
     def __init__(self) -> None:
         self.before: list[str] = []
+        self.pasted: list[str] = []  # lines that came with the last one
         self.is_terminal = sys.stdin.isatty() and sys.stdout.isatty()
         if isinstance(sys.stdin, io.TextIOWrapper):  # bytes that are no text are for `tbt` to tell
             sys.stdin.reconfigure(errors="surrogateescape")
@@ -74,7 +75,8 @@ class Lines:
         readline.set_completer_delims(" \t\n,;|=")
         readline.set_completer(self._completed)
         readline.parse_and_bind("tab: complete")
-        readline.parse_and_bind("set enable-bracketed-paste off")
+        # what is pasted is taken as it is: a tab in it is no key
+        readline.parse_and_bind("set enable-bracketed-paste on")
 
     def _completed(self, word: str, number: int) -> Optional[str]:
         typed = readline.get_line_buffer()[: readline.get_begidx()]
@@ -87,10 +89,11 @@ class Lines:
         """The next line without its end; None where there is none."""
         if self.is_terminal:
             try:
-                return input(prompt)
+                self.pasted = self.pasted or input(prompt).split("\n")
             except EOFError:
                 print()
                 return None
+            return self.pasted.pop(0)
         line = sys.stdin.readline()
         return line.rstrip("\n") if line else None
 
