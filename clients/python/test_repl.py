@@ -456,6 +456,25 @@ while len(sys.stdin.buffer.read(56)) == 56:
             self.assertEqual(self.ran(script), (1, said))
 
 
+class History(unittest.TestCase):
+    def test_its_place(self):
+        state = os.path.join("tb-repl", "history")
+        for given, wanted in (
+            ({"XDG_STATE_HOME": "/state", "HOME": "/home/me"}, "/state"),
+            ({"XDG_STATE_HOME": "state", "HOME": "/home/me"}, "/home/me/.local/state"),
+            ({"XDG_STATE_HOME": "", "HOME": "/home/me"}, "/home/me/.local/state"),
+        ):
+            with mock.patch.dict(os.environ, given):
+                self.assertEqual(str(lines.history_path()), os.path.join(wanted, state))
+
+    def test_a_user_without_a_folder(self):
+        """No folder of the name `~` is made where the command runs."""
+        with mock.patch.dict(os.environ), mock.patch("pwd.getpwuid", side_effect=KeyError):
+            os.environ.pop("HOME", None)
+            os.environ.pop("XDG_STATE_HOME", None)
+            self.assertRaises(OSError, lines.history_path)
+
+
 @unittest.skipUnless(lines.readline, "this Python has no readline")
 class Pasted(unittest.TestCase):
     """Lines that are pasted at a terminal come as one, with the terminal's marks around them."""

@@ -34,7 +34,11 @@ NOT_RUN = (126, 127)  # what a shell ends with where it cannot run a command
 
 def history_path() -> pathlib.Path:
     """Where typed lines are kept, in the place that the system gives programs for their state."""
-    state = os.environ.get("XDG_STATE_HOME") or os.path.expanduser("~/.local/state")
+    state = os.environ.get("XDG_STATE_HOME", "")
+    if not os.path.isabs(state):
+        state = os.path.expanduser("~/.local/state")
+    if not os.path.isabs(state):  # `~` stays where nobody knows this user's folder
+        raise FileNotFoundError("this user has no folder")
     return pathlib.Path(state) / "tb-repl" / "history"
 
 
@@ -66,8 +70,8 @@ class Lines:
             self._prepare()
 
     def _prepare(self) -> None:
-        path = history_path()
         with contextlib.suppress(OSError):
+            path = history_path()
             path.parent.mkdir(mode=0o700, parents=True, exist_ok=True)
             os.close(os.open(path, os.O_CREAT | os.O_APPEND | os.O_WRONLY, 0o600))
             readline.read_history_file(path)
