@@ -474,6 +474,39 @@ class History(unittest.TestCase):
             os.environ.pop("XDG_STATE_HOME", None)
             self.assertRaises(OSError, lines.history_path)
 
+    SCRIPT = """
+import readline
+from tb_repl.lines import Lines, history_path
+it = Lines()
+it.is_terminal = True
+it._prepare()
+with history_path().open("a") as file:
+    file.write("of another\\n")
+readline.add_history("mine")
+it.close()
+print(history_path().read_text(), end="")
+"""
+
+    @unittest.skipUnless(lines.readline, "this Python has no readline")
+    def test_two_terminals(self):
+        """The one that ended last wrote over what the other one had kept."""
+        kept = ["before"]
+        with tempfile.TemporaryDirectory() as folder:
+            os.mkdir(os.path.join(folder, "tb-repl"))
+            with open(os.path.join(folder, "tb-repl", "history"), "w", encoding="utf-8") as file:
+                file.write("before\n")
+            for _ in range(2):
+                it = subprocess.run(
+                    [sys.executable, "-B", "-c", self.SCRIPT],
+                    cwd=os.path.dirname(os.path.abspath(__file__)),
+                    env={**os.environ, "XDG_STATE_HOME": folder},
+                    capture_output=True,
+                    text=True,
+                    timeout=60,
+                )
+                kept += ["of another", "mine"]
+                self.assertEqual((it.stdout.split("\n")[:-1], it.stderr), (kept, ""))
+
 
 @unittest.skipUnless(lines.readline, "this Python has no readline")
 class Pasted(unittest.TestCase):

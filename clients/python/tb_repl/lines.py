@@ -75,6 +75,7 @@ class Lines:
             path.parent.mkdir(mode=0o700, parents=True, exist_ok=True)
             os.close(os.open(path, os.O_CREAT | os.O_APPEND | os.O_WRONLY, 0o600))
             readline.read_history_file(path)
+        self.read = readline.get_current_history_length()
         readline.set_history_length(HISTORY_MAX)
         readline.set_completer_delims(" \t\n,;|=")
         readline.set_completer(self._completed)
@@ -102,9 +103,11 @@ class Lines:
         return line.rstrip("\n") if line else None
 
     def close(self) -> None:
+        """Keeps what was typed, behind what other terminals kept meanwhile."""
         if readline and self.is_terminal:
             with contextlib.suppress(OSError):
-                readline.write_history_file(history_path())
+                typed = readline.get_current_history_length() - self.read
+                readline.append_history_file(typed, history_path())
 
 
 @contextlib.contextmanager
