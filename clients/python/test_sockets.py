@@ -187,16 +187,21 @@ class Addresses(unittest.TestCase):
         self.assertEqual(server.left, [b"", b""])
 
     def test_what_the_server_tells(self):
-        for name, kind in (
-            ("Busy", tb.Busy),
-            ("Full", tb.ReplyLost),
-            ("Slow", tb.ReplyLost),
+        for number, (said, kind, name) in enumerate(
+            (
+                ("Busy", tb.Busy, "Busy"),
+                ("Full", tb.ReplyLost, "Full"),
+                ("Slow", tb.ReplyLost, "Slow"),
+                ("\x1b]2;Full\x07", tb.ReplyLost, ""),  # a terminal would take it for an order
+                ("a\rb", tb.ReplyLost, ""),
+            )
         ):
-            server = Server(self.path(name), f"tb_listen: {name}\n".encode())
-            with Socket(self.path(name)) as it, self.assertRaises(tb.ReplyLost) as lost:
+            server = Server(self.path(str(number)), f"tb_listen: {said}\n".encode())
+            with Socket(self.path(str(number))) as it, self.assertRaises(tb.ReplyLost) as lost:
                 it.exchange(0, register(7))
             server.end()
             self.assertEqual((type(lost.exception), lost.exception.told), (kind, name))
+            self.assertTrue(str(lost.exception).isprintable())
 
 
 class Tls(unittest.TestCase):

@@ -249,9 +249,9 @@ class Starting(ReplyLost):
 def _closed(said: bytes, hint: str = "") -> ReplyLost:
     """What to raise where the server closed the connection after these bytes: with the name that
     it told, where it told one, else with a hint."""
-    why = (
-        bytes(said[len(TOLD) :]).decode("ascii", "replace").strip() if said.startswith(TOLD) else ""
-    )
+    why = bytes(said[len(TOLD) :]).decode("ascii", "replace").strip()
+    if not said.startswith(TOLD) or not why.isprintable():  # no name: it may steer a terminal
+        why = ""
     kind = {"Busy": Busy, "Starting": Starting}.get(why, ReplyLost)
     hint = "" if why else hint
     return kind(f"the server closed the connection{hint}{why and ': ' + why}", why)
