@@ -367,7 +367,8 @@ class Completion(unittest.TestCase):
         """The words that `rlwrap -f` completes are those of statements."""
         wanted = {*statements.OPERATIONS, *statements.HEAD_FIELDS, "amount_max"}
         wanted.update(*lines.FIELDS.values())
-        wanted.update(it.name for flags in lines.FLAGS.values() for it in flags)
+        for operation in lines.FLAGS:
+            wanted.update(lines.words_at(f"{operation} id=1 flags="))
         with open(os.path.join(os.path.dirname(lines.__file__), "words")) as file:
             self.assertEqual(file.read().split(), sorted(wanted))
 

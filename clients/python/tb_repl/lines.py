@@ -51,7 +51,7 @@ def words_at(before: str) -> list[str]:
         return [*starts, *OPERATIONS, *(f"{it}=" for it in HEAD_FIELDS)]
     last = head.rstrip("abcdefghijklmnopqrstuvwxyz_0123456789").split()[-1:]
     if last and last[0].startswith("flags=") and operation in FLAGS:
-        return [it.name or "" for it in FLAGS[operation]]
+        return [it.name or "" for it in FLAGS[operation] if it]  # before Python 3.11 NONE too
     if last and last[0] == "amount=":
         return ["amount_max"]
     return [f"{it}=" for it in FIELDS.get(operation, [])]
