@@ -7,6 +7,7 @@ import io
 import os
 import shlex
 import signal
+import struct
 import subprocess
 import sys
 import tempfile
@@ -14,7 +15,16 @@ import unittest
 from contextlib import redirect_stderr, redirect_stdout, suppress
 from unittest import mock
 
-from tb_client import CannotConnect, Direct, Operation, Reply, ReplyLost, Request, Transfer
+from tb_client import (
+    BadReply,
+    CannotConnect,
+    Direct,
+    Operation,
+    Reply,
+    ReplyLost,
+    Request,
+    Transfer,
+)
 from tb_repl import commands, ledgers, lines, statements, tables
 
 ACCOUNT = {
@@ -56,6 +66,7 @@ class Server:
 
     def __init__(self, statuses=(), lost=()):
         self.frames, self.statuses, self.lost = [], list(statuses), list(lost)
+        self.body = b""
 
     def serve(self, moment, frame):
         self.frames.append(frame)
@@ -65,7 +76,8 @@ class Server:
         status = self.statuses.pop(0) if self.statuses else 0
         commit = 0 if status else len(self.frames)
         session = commit if it.operation == Operation.register else it.session
-        return Reply(it.client, session, it.number, it.operation, status, commit, b"").to_bytes()
+        numbers = (it.client, session, it.number, it.operation, status, commit)
+        return Reply(*numbers, self.body).to_bytes()
 
     def asked(self):
         return [
@@ -238,6 +250,21 @@ class Ledger(unittest.TestCase):
             if isinstance(fault, statements.Wrong):
                 self.assertRegex(str(raised.exception), "does not end\n  a reply came")
             serve(it, "lookup_accounts ;")
+            self.assertEqual([asked[2] for asked in server.asked()], [0, 1, 2, 2])
+
+    def test_a_reply_that_says_what_none_says(self):
+        """It is refused, as by a client: it was a traceback, or `-2 of 1 not found`."""
+        for operation, body in (
+            ("create_accounts", struct.pack("<II", 7, 21)),
+            ("lookup_accounts", bytes(128)),
+        ):
+            server = Server()
+            it, _ = ledger(server)
+            serve(it, "lookup_accounts ;")
+            server.body = body
+            self.assertRaises(BadReply, serve, it, f"{operation} ;")
+            server.body = b""
+            serve(it, f"{operation} ;")
             self.assertEqual([asked[2] for asked in server.asked()], [0, 1, 2, 2])
 
     def test_an_eviction_registers_again(self):

@@ -6,6 +6,7 @@ import time
 from typing import Callable, NamedTuple
 
 from tb_client import CannotConnect, NoMemory, Reply, ReplyLost, Request, Status, Transport
+from tb_client.frames import test_said
 
 from .statements import REGISTER, Tbt, Typed, Wrong, bare
 
@@ -71,11 +72,14 @@ class Ledger:
         moment, frame = self._pair(statement, filled)
         request = Request.from_bytes(frame)
         reply = self._exchange(moment, frame)
+        answer = Reply.from_bytes(reply)
+        if answer.status == Status.Reply:
+            test_said(frame, request.operation, answer.items)
         try:
             spelled = self.tbt.spelled(reply)
         except Wrong as why:  # before its number is learned, so that typed again it is the same
             raise Wrong(f"{why}\n  {NOT_SHOWN}") from None
-        self._learn(request, Reply.from_bytes(reply))
+        self._learn(request, answer)
         return Served(request, spelled)
 
     def _exchange(self, moment: int, frame: bytes) -> bytes:
