@@ -614,6 +614,12 @@ class Command(unittest.TestCase):
         for option in ("--connect", "--ca", "--certificate", "--key", "--program", "--tbt"):
             self.assertIn(f"argument {option}: is empty", self.fault(option, ""))
 
+    def test_tls_without_an_address(self):
+        """It began a ledger of its own, whose answers look like those of the one that was meant."""
+        for words in (("--ca", "ca.pem"), ("--certificate", "a.pem", "--key", "b.pem")):
+            said = self.fault("--tbt", "/bin/sh", "--program", "/bin/sh", *words)
+            self.assertIn("come with --connect", said)
+
     def test_files_of_tls(self):
         given = ("--connect", "localhost:1", "--tbt", "/bin/sh")
         self.assertIn(

@@ -239,6 +239,8 @@ def main() -> int:
         sys.exit("tb-repl: standard input or output is closed")
     if given.key and not given.certificate:
         parser.error("--key comes with --certificate")
+    if (given.ca or given.certificate) and not given.connect:
+        parser.error("--ca and --certificate come with --connect")
     if given.client is not None and not 0 < given.client < 2**128:
         parser.error("--client is 1 to 2^128 - 1")
     if given.client_range is not None and not 0 <= given.client_range < 2**64:
