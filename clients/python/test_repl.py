@@ -20,6 +20,7 @@ from tb_client import (
     CannotConnect,
     Direct,
     Operation,
+    ProgramEnded,
     Reply,
     ReplyLost,
     Request,
@@ -665,6 +666,19 @@ class Command(unittest.TestCase):
                 else:
                     self.assertRaises(KeyboardInterrupt, repl._serve, "lookup_accounts id=1;")
             self.assertEqual("no reply is waited for" in told.getvalue(), is_terminal)
+
+    def test_a_server_that_ended(self):
+        """It is said what ended: `killed by SIGKILL (status -9)` alone named nothing."""
+        for fault, said in (
+            (ProgramEnded("Full", 8), "the server ended, and its ledger with it: Full (status 8)"),
+            (CannotConnect("a.sock: refused"), "a.sock: refused"),
+        ):
+            ended = mock.Mock(serve=mock.Mock(side_effect=fault))
+            told = io.StringIO()
+            with redirect_stderr(told):
+                repl = commands.Repl(ended, mock.Mock(is_terminal=True), False)
+                self.assertFalse(repl._serve("lookup_accounts id=1;"))
+            self.assertEqual(told.getvalue(), f"tb-repl: {said}\n")
 
     def test_an_answer_that_is_cut(self):
         """Ctrl-C while an answer is shown: the statement was executed."""

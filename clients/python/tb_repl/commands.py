@@ -9,7 +9,7 @@ import ssl
 import sys
 from typing import Optional
 
-from tb_client import ClientError, Program, Socket, Transport
+from tb_client import ClientError, Program, ProgramEnded, Socket, Transport
 from tb_client.layout import CLIENTS_MAX
 
 from .ledgers import Ledger, Served
@@ -152,7 +152,9 @@ class Repl:
             print(why, file=sys.stderr, flush=True)
             return False
         except ClientError as why:
-            print(f"tb-repl: {why}", file=sys.stderr, flush=True)
+            ended = "the server ended, and its ledger with it: "
+            what = ended if isinstance(why, ProgramEnded) else ""
+            print(f"tb-repl: {what}{why}", file=sys.stderr, flush=True)
             return False
         except KeyboardInterrupt:
             if not self.lines.is_terminal:
