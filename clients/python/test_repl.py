@@ -680,6 +680,18 @@ class Command(unittest.TestCase):
                 self.assertFalse(repl._serve("lookup_accounts id=1;"))
             self.assertEqual(told.getvalue(), f"tb-repl: {said}\n")
 
+    def test_ctrl_c_outside_of_statements(self):
+        """While the command begins, and while its server is closed: no traceback."""
+        words = ["tb-repl", "--tbt", "/bin/sh", "--connect", "a.sock"]
+        closing = mock.Mock(close=mock.Mock(side_effect=KeyboardInterrupt))
+        for stub in (
+            mock.patch.object(commands, "Ledger", side_effect=KeyboardInterrupt),
+            mock.patch.object(commands, "Ledger", return_value=closing),
+        ):
+            with stub, mock.patch("sys.argv", words), mock.patch("sys.stdin", io.StringIO()):
+                with redirect_stdout(io.StringIO()):
+                    self.assertEqual(commands.main(), 130)
+
     def test_an_answer_that_is_cut(self):
         """Ctrl-C while an answer is shown: the statement was executed."""
         served = mock.Mock(serve=mock.Mock(return_value=[mock.Mock()]))

@@ -235,6 +235,14 @@ def drawn_client(given: argparse.Namespace) -> int:
 
 
 def main() -> int:
+    try:
+        return run()
+    except KeyboardInterrupt:  # also before the first prompt, and while a server is closed
+        print()
+        return 130
+
+
+def run() -> int:
     parser = arguments()
     given = parser.parse_args()
     if sys.stdin is None or sys.stdout is None:
@@ -262,9 +270,6 @@ def main() -> int:
         print("A statement ends with `;`; `help` shows some, `exit` ends.")
     try:
         return Repl(ledger, lines, given.json).run()
-    except KeyboardInterrupt:
-        print()
-        return 130
     except OSError as why:
         tell(f"standard input or output: {why.strerror}")
         # else it is tried again at the end to write what is left
