@@ -17,6 +17,7 @@ from unittest import mock
 
 from tb_client import (
     BadReply,
+    Busy,
     CannotConnect,
     Direct,
     Operation,
@@ -229,6 +230,26 @@ class Ledger(unittest.TestCase):
             with mock.patch.object(ledgers.time, "sleep"), self.assertRaises(CannotConnect):
                 serve(it, "lookup_accounts ;")
         self.assertEqual((away.call_count, len(told)), (1 + ledgers.TRIES, ledgers.TRIES - 1))
+
+    def test_lost_and_then_not_there(self):
+        """It may have been executed: that no connection can be made does not say so."""
+        gone = CannotConnect("it: refused")
+        for server in (Server(lost=[1]), Server(lost=[2])):
+            it, told = ledger(server)
+            exchange = it.transport.exchange
+            faults = [None] * server.lost[0] + [gone] * ledgers.TRIES
+
+            def fails(moment, frame):
+                fault = faults.pop(0)
+                if fault:
+                    raise fault
+                return exchange(moment, frame)
+
+            with mock.patch.object(it.transport, "exchange", fails):
+                with mock.patch.object(ledgers.time, "sleep"):
+                    with self.assertRaisesRegex(ReplyLost, "it: refused"):
+                        serve(it, "lookup_accounts ;")
+            self.assertEqual((len(server.frames), len(told)), (server.lost[0], ledgers.TRIES - 1))
 
     def test_what_was_given_up_was_executed(self):
         """Another statement with its number is not: it is told so, and is the next one."""
@@ -667,11 +688,14 @@ class Command(unittest.TestCase):
                     self.assertRaises(KeyboardInterrupt, repl._serve, "lookup_accounts id=1;")
             self.assertEqual("no reply is waited for" in told.getvalue(), is_terminal)
 
-    def test_a_server_that_ended(self):
-        """It is said what ended: `killed by SIGKILL (status -9)` alone named nothing."""
+    def test_faults_of_the_server(self):
+        """It is said what ended, and whether the statement may have been executed."""
         for fault, said in (
             (ProgramEnded("Full", 8), "the server ended, and its ledger with it: Full (status 8)"),
             (CannotConnect("a.sock: refused"), "a.sock: refused"),
+            (Busy("busy"), "busy"),
+            (ReplyLost("lost"), f"lost\ntb-repl: {commands.GIVEN_UP}"),
+            (BadReply("bad"), f"bad\ntb-repl: {commands.GIVEN_UP}"),
         ):
             ended = mock.Mock(serve=mock.Mock(side_effect=fault))
             told = io.StringIO()

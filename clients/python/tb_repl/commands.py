@@ -9,7 +9,16 @@ import ssl
 import sys
 from typing import Optional
 
-from tb_client import ClientError, Program, ProgramEnded, Socket, Transport
+from tb_client import (
+    Busy,
+    ClientError,
+    NoMemory,
+    NotSent,
+    Program,
+    ProgramEnded,
+    Socket,
+    Transport,
+)
 from tb_client.layout import CLIENTS_MAX
 
 from .ledgers import Ledger, Served
@@ -85,6 +94,15 @@ def transport_of(given: argparse.Namespace) -> Transport:
     return Program(program, given.clients_max, given.profile)
 
 
+def fault_shown(why: ClientError) -> str:
+    """What went wrong, and what became of the statement."""
+    if isinstance(why, ProgramEnded):
+        return f"the server ended, and its ledger with it: {why}"
+    if isinstance(why, (NotSent, Busy, NoMemory)):  # it was not executed
+        return str(why)
+    return f"{why}\ntb-repl: {GIVEN_UP}"
+
+
 class Repl:
     """Reads statements, prints answers."""
 
@@ -152,9 +170,7 @@ class Repl:
             print(why, file=sys.stderr, flush=True)
             return False
         except ClientError as why:
-            ended = "the server ended, and its ledger with it: "
-            what = ended if isinstance(why, ProgramEnded) else ""
-            print(f"tb-repl: {what}{why}", file=sys.stderr, flush=True)
+            print(f"tb-repl: {fault_shown(why)}", file=sys.stderr, flush=True)
             return False
         except KeyboardInterrupt:
             if not self.lines.is_terminal:

@@ -5,7 +5,7 @@ import re
 import time
 from typing import Callable, NamedTuple
 
-from tb_client import CannotConnect, NoMemory, Reply, ReplyLost, Request, Status, Transport
+from tb_client import Busy, CannotConnect, NoMemory, Reply, ReplyLost, Request, Status, Transport
 from tb_client.frames import test_said
 
 from .statements import REGISTER, Tbt, Typed, Wrong, bare
@@ -84,19 +84,21 @@ class Ledger:
 
     def _exchange(self, moment: int, frame: bytes) -> bytes:
         """Sends the same bytes until their reply is here; the last try's fault is the caller's, and
-        that of a server that was never there."""
-        for turn in range(2, TRIES + 1):
+        that of a server that was never there. It is a ReplyLost where one was before it."""
+        may_be_sent = False
+        for turn in range(2, TRIES + 2):
             try:
                 reply = self.transport.exchange(moment, frame)
                 self.is_reached = True
                 return reply
             except (ReplyLost, NoMemory, CannotConnect) as why:
-                is_there = self.is_reached or "Starting" in str(why)
-                if isinstance(why, CannotConnect) and not is_there:
-                    raise
+                may_be_sent |= isinstance(why, ReplyLost) and not isinstance(why, Busy)
+                is_there = self.is_reached or may_be_sent or "Starting" in str(why)
+                if turn > TRIES or isinstance(why, CannotConnect) and not is_there:
+                    raise ReplyLost(str(why)) if may_be_sent else why from None
                 self.tell(f"{why}; the same bytes go out again, try {turn} of {TRIES}")
                 time.sleep(min(PAUSE_MAX, 0.05 * 2**turn))
-        return self.transport.exchange(moment, frame)
+        raise AssertionError("there is a last try")
 
     def _learn(self, request: Request, reply: Reply) -> None:
         """Keeps the session and the number of a request that was answered, and drops a session
