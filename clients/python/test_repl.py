@@ -732,6 +732,13 @@ class Command(unittest.TestCase):
             self.assertNotIn("no reply is waited for", told.getvalue())
             self.assertEqual("the rest of the answer" in told.getvalue(), is_terminal)
 
+    def test_several_addresses(self):
+        """Blanks behind a comma are of no address: the next one was never reached."""
+        with mock.patch.object(commands, "Socket") as made:
+            given = commands.arguments().parse_args(["--connect", "a.sock, h:1 ,[::1]:2"])
+            commands.transport_of(given)
+        self.assertEqual(made.call_args.args, (["a.sock", ("h", 1), ("::1", 2)],))
+
     def test_addresses(self):
         self.assertEqual(commands.address_of("ledger.sock"), "ledger.sock")
         self.assertEqual(commands.address_of("/run/a:7"), "/run/a:7")

@@ -83,7 +83,7 @@ def context_of(given: argparse.Namespace) -> Optional[ssl.SSLContext]:
 
 def transport_of(given: argparse.Namespace) -> Transport:
     if given.connect:
-        addresses = [address_of(it) for it in given.connect.split(",")]
+        addresses = [address_of(it.strip()) for it in given.connect.split(",")]
         return Socket(addresses, tls=context_of(given))  # type: ignore[arg-type]
     program = found("tbs", given.program, "--program")
     if os.path.basename(program) == "tbd":
