@@ -166,6 +166,50 @@ class Addresses(unittest.TestCase):
                 thread.join()
         self.assertEqual(sorted(faults, key=str), [tb.Closed] * 7 + [tb.ReplyLost])
 
+    def test_a_signal_s_handler_that_closes_it(self):
+        """Amid an exchange: it waited for the lock of the exchange that it interrupted, for ever.
+        The same where it comes while the connection is made."""
+        for call, told in (("_read", tb.ReplyLost), ("_call_each", tb.Closed)):
+            listening = socket.socket(socket.AF_UNIX)
+            with listening, self.subTest(call=call):
+                listening.bind(self.path(call))
+                listening.listen()
+                it = Socket(self.path(call), timeout=20)
+                inner = getattr(it, call)
+
+                def handled(*arguments):
+                    it.close()
+                    return inner(*arguments)
+
+                with mock.patch.object(it, call, handled):
+                    thread = threading.Thread(target=self.told, args=(it, told), daemon=True)
+                    thread.start()
+                    thread.join(10)
+                self.assertFalse(thread.is_alive())
+                self.assertIsNone(it._socket)
+
+    def test_a_signal_s_handler_that_asks(self):
+        """Amid an exchange of its thread: its frame would stand amid the other one's."""
+        server = Server(self.path("a"), registered(7))
+        it, told = Socket(self.path("a")), []
+        send = it._send
+
+        def handled(connection, frame):
+            try:
+                it.exchange(0, register(8))
+            except tb.NotSent as fault:
+                told.append(str(fault))
+            send(connection, frame)
+
+        with it, mock.patch.object(it, "_send", handled):
+            self.assertEqual(it.exchange(0, register(7)), registered(7))
+        server.end()
+        self.assertEqual(told, ["a signal's handler asked amid an exchange of its thread"])
+        self.assertEqual(server.requests, [register(7)])
+
+    def told(self, it, fault):
+        self.assertRaises(fault, it.exchange, 0, register(7))
+
     def test_wrong_lists(self):
         for wrong, error in (
             ([], tb.InvalidValue),

@@ -11,7 +11,7 @@ import threading
 import time
 from typing import Any, List, Optional, Tuple, Union, cast
 
-from .errors import Busy, CannotConnect, Closed, InvalidType, InvalidValue, ReplyLost
+from .errors import Busy, CannotConnect, Closed, InvalidType, InvalidValue, NotSent, ReplyLost
 from .frames import header_of, reply_length, test_asked, test_reply
 from .layout import HEADER
 from .transports import Closing
@@ -54,7 +54,8 @@ class Socket(Closing):
         self._socket: Optional[socket.socket] = None
         self.trouble = ""  # why there is no connection, since one was tried last
         self._is_new = False  # nothing came over the connection yet
-        self._lock = threading.Lock()
+        self._lock = threading.RLock()  # a signal's handler may close it amid an exchange
+        self._is_amid = False
         self._owner = os.getpid()
         self._closed = False
 
@@ -80,17 +81,26 @@ class Socket(Closing):
         with self._lock:
             if self._closed:
                 raise Closed("this Socket was closed")
-            deadline = time.monotonic() + seconds("timeout", self.timeout, 0)
-            pause = FIRST_PAUSE
-            while True:
-                try:
-                    return self._asked(frame, deadline)
-                except Starting as why:
-                    # a server that still reads its ledger takes no request
-                    if deadline - time.monotonic() <= pause:
-                        raise CannotConnect(f"{_shown(self._gone)}: {why}") from None
-                    time.sleep(pause)
-                    pause = min(2 * pause, LAST_PAUSE)
+            if self._is_amid:
+                raise NotSent("a signal's handler asked amid an exchange of its thread")
+            try:
+                self._is_amid = True
+                return self._exchanged(frame)
+            finally:
+                self._is_amid = False
+
+    def _exchanged(self, frame: bytes) -> bytes:
+        deadline = time.monotonic() + seconds("timeout", self.timeout, 0)
+        pause = FIRST_PAUSE
+        while True:
+            try:
+                return self._asked(frame, deadline)
+            except Starting as why:
+                # a server that still reads its ledger takes no request
+                if deadline - time.monotonic() <= pause:
+                    raise CannotConnect(f"{_shown(self._gone)}: {why}") from None
+                time.sleep(pause)
+                pause = min(2 * pause, LAST_PAUSE)
 
     def _asked(self, frame: bytes, deadline: float) -> bytes:
         """The reply to one sending of a request."""
@@ -101,12 +111,7 @@ class Socket(Closing):
             return self._reply(it, frame, deadline)
         except OSError as error:
             self._lose()
-            late = isinstance(error, socket.timeout)
-            raise ReplyLost(
-                f"no reply within {self.timeout:g} seconds"
-                if late
-                else f"the connection broke: {error}{self._hint()}"
-            ) from None
+            raise ReplyLost(self._lost_by(error)) from None
         except BaseException:
             self._lose()
             raise
@@ -116,7 +121,7 @@ class Socket(Closing):
         pause = FIRST_PAUSE
         if self._socket is not None and _is_left(self._socket):
             self._lose()
-        while self._socket is None:
+        while self._socket is None and not self._closed:
             faults = self._call_each(deadline)
             if not faults:
                 break
@@ -128,6 +133,9 @@ class Socket(Closing):
                 raise CannotConnect(text, untrusted) from None
             time.sleep(min(pause, left))
             pause = min(2 * pause, LAST_PAUSE)
+        if self._closed:  # by a signal's handler
+            self._hang_up()
+            raise Closed("this Socket was closed")
         return cast(socket.socket, self._socket)
 
     def _call_each(self, deadline: float) -> List[OSError]:
@@ -195,8 +203,15 @@ class Socket(Closing):
             data += more
         return bytes(data)
 
+    def _lost_by(self, error: OSError) -> str:
+        if self._closed:
+            return "this Socket was closed before the reply came"
+        if isinstance(error, socket.timeout):
+            return f"no reply within {self.timeout:g} seconds"
+        return f"the connection broke: {error}{self._hint()}"
+
     def _hint(self) -> str:
-        return UNTRUSTED if self._tls and self._is_new else ""
+        return UNTRUSTED if self._tls and self._is_new and not self._closed else ""
 
     @staticmethod
     def _wait(it: socket.socket, deadline: float) -> None:
