@@ -391,6 +391,22 @@ class Joined(unittest.TestCase):
             self.client.lookup_accounts([1])
         self.client.close()
 
+    def test_the_end_amid_a_call(self):
+        """As by a signal's handler while the thread of a first call is started."""
+        server, closed = InProcess(), []
+        server.close = lambda: closed.append(True)
+        client = over(server, timeout=20)
+        started = client._pool._started
+
+        def ended():
+            client.close()
+            return started()
+
+        with unittest.mock.patch.object(client._pool, "_started", ended):
+            with self.assertRaisesRegex(tb.Closed, "nothing of this call was sent"):
+                client.lookup_accounts([1])
+        self.assertEqual(len(closed), 1, "its transport is closed")
+
     def test_a_forked_child(self):
         self.go_on.set()
         self.first()

@@ -80,6 +80,8 @@ class Pool:
                 self._workers.append(self._started())
             self._calls.append(call)
             self._changed.notify()
+        if self._stopped.is_set():  # by a signal's handler, amid the lines above
+            self.close()
         return call
 
     def _started(self) -> Worker:
