@@ -351,6 +351,14 @@ class Typing(unittest.TestCase):
         self.assertEqual(self.run_lines(["a; b"], True)[1:], ("", 0))
         self.assertEqual(self.run_lines(["a; # b"])[1:], ("", 0))
 
+    def test_what_follows_a_wrong_one(self):
+        """On its line: it is not sent, which a terminal is told."""
+        typed = ["a; wrong; b;c;", "d;"]
+        told = "tb-repl: 2 more of this line not sent\n"
+        self.assertEqual(self.run_lines(typed, True), (["a;", " wrong;", "d;"], told, 0))
+        self.assertEqual(self.run_lines(typed), (["a;", " wrong;"], "", 2))
+        self.assertEqual(self.run_lines(["wrong;"], True), (["wrong;"], "", 0))
+
     def test_ctrl_c(self):
         """It drops what was typed of a statement. From a pipe it ends the command: the rest of a
         statement would be taken for one."""

@@ -130,7 +130,7 @@ class Repl:
                 return 0
             if not rest and self._is_command(line.strip()):
                 continue
-            if not all(map(self._serve, self._whole(line))) and not self.lines.is_terminal:
+            if not self._serve_each(self._whole(line)) and not self.lines.is_terminal:
                 return 2
 
     def _whole(self, line: str) -> list[str]:
@@ -161,6 +161,18 @@ class Repl:
             if not self.ledger.sessions:
                 print("no client is registered yet; the first statement registers one")
         return word in ("help", "json", "table", "sessions")
+
+    def _serve_each(self, whole: list[str]) -> bool:
+        """Whether all statements of a line were served. Those behind one that was not are not
+        sent, and at a terminal, where more lines follow, that is told."""
+        for at, text in enumerate(whole, 1):
+            if self._serve(text):
+                continue
+            if at < len(whole) and self.lines.is_terminal:
+                told = f"tb-repl: {len(whole) - at} more of this line not sent"
+                print(told, file=sys.stderr, flush=True)
+            return False
+        return True
 
     def _serve(self, text: str) -> bool:
         """Whether a statement was served; what went wrong is told."""
