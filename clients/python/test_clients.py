@@ -624,6 +624,22 @@ class Lost(unittest.TestCase):
             self.assertEqual(len(closed), 1, "its transport is closed")
             self.assertEqual(client.lookup_accounts([1]), [])
 
+    def test_a_further_thread_that_does_not_start(self):
+        """The call is answered by a session that is there."""
+        go_on = threading.Event()
+        server = InProcess(held={2: go_on})
+        with over(server, timeout=20, sessions=2) as client:
+            waits = in_background(client.create_accounts, [account(1)])
+            server.wait_for(2)
+            fault = RuntimeError("can't start new thread")
+            with unittest.mock.patch.object(client._pool, "_started", side_effect=fault):
+                try:
+                    call = client._pool.ask(tb.Operation.lookup_accounts, [1])
+                finally:
+                    go_on.set()
+            self.assertEqual(waits(), [])
+            self.assertEqual([it.id for it in call.future.result(20)], [1])
+
     def test_a_session_without_a_next_number(self):
         """The client goes on in a new one."""
         server = InProcess()

@@ -77,12 +77,21 @@ class Pool:
             if self._stopped.is_set():
                 raise Closed("this client was closed")
             if self._idle <= len(self._calls) and len(self._workers) < self._sessions:
-                self._workers.append(self._started())
+                self._grow()
             self._calls.append(call)
             self._changed.notify()
         if self._stopped.is_set():  # by a signal's handler, amid the lines above
             self.close()
         return call
+
+    def _grow(self) -> None:
+        """One worker more. Where it cannot be made those that are there do its work."""
+        try:
+            self._workers.append(self._started())
+        except Exception as why:
+            if not self._workers:
+                raise
+            log.warning("no session more than %d: %s", len(self._workers), why)
 
     def _started(self) -> Worker:
         """A worker whose thread runs: the system may have none for it."""
