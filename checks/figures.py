@@ -73,15 +73,14 @@ def state() -> str:
     """What README.md says of its state."""
     runs = of_kind("ci")
     last, whole = runs[0], next(row for row in runs if is_whole(row))
-    first = {row["machine"]: row for row in of_kind("start") if "tb_script" in row["subject"]}
+    first = next(row for row in of_kind("start") if "README" in row["subject"])
     # The note of a run that was not green ends with what failed.
     failed = "" if last["failed"] == "0" else f" ({last['note'].split('; ')[-1]})"
     return (
         f"Version {version()} (CHANGELOG.md). The last `rt ci` ({when(last)}) ended in "
         f"{outcome(last)}{failed}; the last whole one that was green\n"
         f"({when(whole)}) took {whole['value']} minutes on four cores. The first line took "
-        f"{first['fast']['value']} to {first['slow']['value']} minutes in an "
-        "earlier, shorter form (docs/work/PROVING.md).\n"
+        f"{first['value']} minutes on four {first['machine']} cores (docs/work/PROVING.md).\n"
     )
 
 
@@ -107,6 +106,7 @@ def first_reply() -> str:
     lines = [
         f"| {row['subject']} | {row['machine']} | {row['value']} | {row['note']} |"
         for row in of_kind("start")
+        if "tb_script" not in row["subject"]  # another program
     ]
     return table("| To a first reply, on a fresh clone | Machine | Minutes | |", lines)
 
