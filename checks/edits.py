@@ -3,6 +3,7 @@
 cores.
 
     checks/edits.py [--jobs N] [CRATE ..]
+    checks/edits.py --only [--jobs N] [CRATE ..]
     checks/edits.py --texts | --rules | --write [CRATE ..]
 
 CI tries the edits in crates/CRATE/must-fail. This script tries those and the ones in
@@ -10,6 +11,11 @@ crates/CRATE/must-fail-release: it copies the repository, with what is kept of e
 all edits of a crate into its must-fail folder there, proves the libraries below, and runs `rt
 must-fail CRATE`, one job a crate. Run it before a release, and whenever a public clause or a
 definition changes. Ends in 'N passed, M failed': passed are the edits that the prover refused.
+
+--only checks the function alone that an edit names, by `rt check --only`, several edits in one
+check where each changes nothing outside of its function. It says how an edit is refused: at a goal
+that is printed, inside an answer, where a search met a limit. An edit that leaves its function
+proved counts as failed, whatever else it breaks.
 
 An edit begins with two lines that `rt` does not read: `# rule:`, what its body breaks, and
 `# refused at:`, the function at whose goal it is refused, with the clause where it is known. The
@@ -26,8 +32,10 @@ import shutil
 import subprocess
 import sys
 import tempfile
+import threading
 from concurrent.futures import ThreadPoolExecutor, as_completed
 
+import edited
 import repository
 import tried
 
@@ -35,7 +43,6 @@ ROOT = repository.ROOT
 FOLDERS = ("must-fail", "must-fail-release")
 PAGE = f"{ROOT}/docs/trust/MUTANTS.md"
 BLOCK = re.compile(r"(<!-- edits: ([\w ]+) -->\n)(.*?)(<!-- end of edits -->)", re.S)
-HEADS = ("rule", "refused at", "shown")
 
 
 def edits_of(crate):
@@ -51,20 +58,13 @@ def edits_of(crate):
     return paths
 
 
-def said_of(path):
-    """What the first lines of an edit say, by their words."""
-    with open(path, encoding="utf-8") as edit:
-        lines = [re.match(r"# ([a-z ]+): (\S.*)", line) for line in edit.read().split("\n")]
-    return {it[1]: it[2] for it in lines if it and it[1] in HEADS}
-
-
 def table(edits, chosen):
     """The rows of the edits that are chosen: a row for each rule of a crate."""
     lines, last = ["| Crate | Rule | Edit | Refused at |", "|---|---|---|---|"], None
     for crate, paths in edits.items():
         rules = collections.defaultdict(list)
         for name, path in paths.items():
-            said = said_of(path)
+            said = edited.said_of(path)
             if "rule" in said and chosen(path, said):
                 rules[said["rule"]].append((name.removesuffix(".edit"), said.get("refused at", "")))
         for rule, found in rules.items():
@@ -107,39 +107,11 @@ def copy_into(room, crates):
             shutil.copy2(path, f"{room}/crates/{crate}/must-fail/{name}")
 
 
-def misfit(crate, path):
-    """Why an edit cannot be applied, or what it does not say; None where it can."""
-    file, old, texts = None, None, {}
-    missing = [f"no line '# {it}:'" for it in HEADS[:2] if it not in said_of(path)]
-    if missing:
-        return "it has " + " and ".join(missing)
-    with open(path, encoding="utf-8") as edit:
-        for line in edit.read().split("\n"):
-            word, _, rest = line.partition(": ") if not line == "new:" else ("new", "", "")
-            if word == "file":
-                file = rest.strip()
-            elif word == "old":
-                old = rest
-            elif word == "new":
-                if not file or not old:
-                    return "a 'new:' line comes before any 'file:' or 'old:' line"
-                if file not in texts:
-                    if not os.path.isfile(f"{ROOT}/crates/{crate}/{file}"):
-                        return f"there is no file {file}"
-                    with open(f"{ROOT}/crates/{crate}/{file}", encoding="utf-8") as source:
-                        texts[file] = source.read()
-                found = texts[file].count(old)
-                if found != 1:
-                    return f"its old text is in {file} {found} times: {old}"
-                texts[file], old = texts[file].replace(old, rest), None
-    return None if texts else "it has no 'old:' and 'new:' pair"
-
-
 def try_texts(edits):
     """Tells each edit that cannot be applied, and whether the tables are up to date."""
     for crate, paths in edits.items():
         for name, path in paths.items():
-            why = misfit(crate, path)
+            why = edited.misfit(crate, path)
             tried.case(f"{crate}/{name}", why is None, why, quietly=True)
     present, made = page_with(all_edits())
     how = "run checks/edits.py --write"
@@ -153,8 +125,8 @@ def all_edits(chosen=()):
     return {crate: paths for crate, paths in found.items() if paths}
 
 
-def try_crate(room, crate):
-    """Runs `rt must-fail` for a crate, and answers its lines."""
+def try_crate(room, crate, edits, told):
+    """Runs `rt must-fail` for a crate, and tells what it says of each edit."""
     ran = subprocess.run(
         ["rt", "must-fail", crate],
         cwd=room,
@@ -164,20 +136,55 @@ def try_crate(room, crate):
         text=True,
         errors="replace",
     )
-    return ran.stdout.splitlines()
+    said = dict(re.findall(rf"must-fail {crate}/([^ :]+): (.*)", ran.stdout))
+    for name in edits:
+        told(crate, name, said.get(name, "NOT TRIED"))
 
 
-def judge(crate, edits, lines):
-    """The edits of a crate that were refused and that were not, with what was said of each."""
-    told = {}
-    for line in lines:
-        found = re.search(rf"must-fail {crate}/([^ :]+): (.*)", line)
-        if found:
-            told[found[1]] = found[2]
-    return {name: told.get(name, "NOT TRIED") for name in edits}
+def try_as_ci(edits, lanes, told):
+    """Tries all edits in one copy, by `rt must-fail`."""
+    with tempfile.TemporaryDirectory(prefix="edits-") as room:
+        copy_into(room, edits)
+        for library in repository.below(edits):
+            if subprocess.run(
+                ["rt", "lib"],
+                cwd=f"{room}/crates/{library}",
+                stdout=subprocess.DEVNULL,
+                stderr=subprocess.STDOUT,
+            ).returncode:
+                sys.exit(f"{library} is not proved, so no edit above it can be judged")
+        each = [lanes.submit(try_crate, room, it, edits[it], told) for it in longest_first(edits)]
+        for run in as_completed(each):
+            run.result()
 
 
-def main():
+def try_only(edits, lanes, told):
+    """Checks of each edit the function alone that it names; a copy for each crate."""
+    each = [lanes.submit(edited.checked, it, edits[it], told) for it in longest_first(edits)]
+    for run in as_completed(each):
+        run.result()
+
+
+def longest_first(edits):
+    """The crates, those with the most edits first, so that none of them is left for the end."""
+    return sorted(edits, key=lambda it: -len(edits[it]))
+
+
+def try_all(edits, jobs, way):
+    """Tries edits in one of the two ways, tells each that was refused or not, and counts them."""
+    lock = threading.Lock()
+
+    def told(crate, name, said):
+        with lock:
+            tried.case(f"{crate}/{name}", said.startswith("refused"), said)
+
+    with ThreadPoolExecutor(jobs) as lanes:
+        way(edits, lanes, told)
+    return tried.status()
+
+
+def given_words():
+    """What the command's words ask for, and the edits of the crates that they name."""
     words = tried.arguments(__doc__)
     words.add_argument(
         "--jobs",
@@ -185,6 +192,7 @@ def main():
         default=len(os.sched_getaffinity(0)),
         help="how many crates are tried side by side (one a core)",
     )
+    words.add_argument("--only", action="store_true", help="check the function of each edit alone")
     words.add_argument("--texts", action="store_true", help="only whether each edit can be applied")
     words.add_argument("--rules", action="store_true", help="only print all rules as a table")
     words.add_argument("--write", action="store_true", help="only write the tables of MUTANTS.md")
@@ -196,6 +204,11 @@ def main():
     edits = all_edits(given.crates)
     if not edits:
         words.error(f"no edits are in {', '.join(given.crates)}")
+    return given, edits
+
+
+def main():
+    given, edits = given_words()
     if given.texts:
         return try_texts(edits)
     if given.rules:
@@ -206,29 +219,7 @@ def main():
         with open(PAGE, "w", encoding="utf-8") as file:
             file.write(made)
         return 0
-    passed = failed = 0
-    with tempfile.TemporaryDirectory(prefix="edits-") as room:
-        copy_into(room, edits)
-        for library in repository.below(edits):
-            if subprocess.run(
-                ["rt", "lib"],
-                cwd=f"{room}/crates/{library}",
-                stdout=subprocess.DEVNULL,
-                stderr=subprocess.STDOUT,
-            ).returncode:
-                sys.exit(f"{library} is not proved, so no edit above it can be judged")
-        # The crates with the most edits begin, so that none of them is left for the end.
-        dearest = sorted(edits, key=lambda it: -len(edits[it]))
-        with ThreadPoolExecutor(given.jobs) as lanes:
-            runs = {lanes.submit(try_crate, room, crate): crate for crate in dearest}
-            for run in as_completed(runs):
-                crate = runs[run]
-                for name, said in judge(crate, edits[crate], run.result()).items():
-                    refused = said.startswith("refused")
-                    passed, failed = passed + refused, failed + (not refused)
-                    print(f"{crate}/{name}: {said}", flush=True)
-    print(f"{passed} passed, {failed} failed")
-    return 1 if failed else 0
+    return try_all(edits, given.jobs, try_only if given.only else try_as_ci)
 
 
 if __name__ == "__main__":

@@ -51,9 +51,9 @@ def copied(room, root=ROOT):
         shutil.copy2(f"{root}/{path}", f"{room}/{path}")
 
 
-def kept(room, root=ROOT):
-    """Copies what earlier checks kept of each crate."""
-    for crate in crates(root):
+def kept(room, names=None, root=ROOT):
+    """Copies what earlier checks kept of these crates, or of each."""
+    for crate in crates(root) if names is None else names:
         if os.path.isdir(f"{root}/crates/{crate}/out"):
             out = f"crates/{crate}/out"
             shutil.copytree(f"{root}/{out}", f"{room}/{out}", symlinks=True)
