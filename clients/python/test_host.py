@@ -4,6 +4,7 @@ import argparse
 import asyncio
 import contextlib
 import errno
+import glob
 import importlib.util
 import io
 import json
@@ -774,6 +775,28 @@ class Etcd(unittest.IsolatedAsyncioTestCase):
         self.assertEqual(found, whys)
 
 
+POSTGRES = sorted(glob.glob("/usr/lib/postgresql/*/bin"))
+
+
+@contextlib.contextmanager
+def postgres():
+    """A server of PostgreSQL, on a socket in a folder of its own. It refuses root."""
+    user = ["runuser", "-u", "postgres", "--"] if os.getuid() == 0 else []
+    with tempfile.TemporaryDirectory() as folder:
+        if user:
+            shutil.chown(folder, "postgres")
+        words = [f"{POSTGRES[-1]}/initdb", "-D", f"{folder}/data", "-A", "trust", "-N"]
+        subprocess.run([*user, *words, "-U", "postgres"], check=True, capture_output=True)
+        words = [f"{POSTGRES[-1]}/pg_ctl", "-D", f"{folder}/data", "-l", f"{folder}/log", "-w"]
+        options = f"-F -k {folder} -c listen_addresses="
+        subprocess.run([*user, *words, "-o", options, "start"], check=True, capture_output=True)
+        try:
+            yield folder
+        finally:
+            end = ["-m", "immediate", "stop"]
+            subprocess.run([*user, *words, *end], check=True, capture_output=True)
+
+
 @unittest.skipUnless(importlib.util.find_spec("psycopg"), "python3-psycopg is not there")
 class PostgreSQL(unittest.IsolatedAsyncioTestCase):
     async def _primary(self, reader, writer):
@@ -895,6 +918,31 @@ class PostgreSQL(unittest.IsolatedAsyncioTestCase):
         self.assertEqual(found, Written(1, b"an entry"))
         said = re.findall("NoLog: the log is not read: (.*)", told.getvalue())
         self.assertEqual(said, ["it is away"])
+
+    @unittest.skipUnless(POSTGRES, "PostgreSQL is not installed")
+    async def test_a_user_who_may_make_no_tables(self):
+        """The tables that are there are enough. It was refused for want of CREATE on the schema,
+        which PostgreSQL looks for first."""
+        from tb_host.postgresql import PostgresLog
+
+        with postgres() as folder:
+            owner, user = (
+                PostgresLog([(folder, 5432)], "postgres/bank", Access(user=it), 0)
+                for it in ("postgres", "app")
+            )
+            self.assertEqual(await owner.head(b"first"), b"first")
+            await owner.writing.execute("CREATE ROLE app LOGIN")
+            rights = "GRANT SELECT, INSERT, UPDATE, DELETE ON bank_log, bank_keys, bank_at TO app"
+            await owner.writing.execute(rights)
+            self.assertEqual(await user.head(b"second"), b"first")
+            self.assertEqual(await user.append(A, 1, b"an entry"), 1)
+            await owner.writing.execute("DROP TABLE bank_at")
+            with self.assertRaisesRegex(Ended, "permission denied for schema public"):
+                await user.head(b"second")
+            self.assertEqual(await owner.head(b"third"), b"first")
+            await owner.report("r0", b"{}")
+            await owner.close()
+            await user.close()
 
     async def test_who_waits_in_the_server_ends_there(self):
         """The server sees no end of a connection while a call waits for another's lock. Without a

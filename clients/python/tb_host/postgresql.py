@@ -197,12 +197,20 @@ class PostgresLog:
 
     async def head(self, wanted: bytes) -> bytes:
         async def work(it: Any) -> bytes:
-            await it.execute(self._query(TABLES))
+            await self._make_tables(it)
             put = "INSERT INTO {keys} VALUES ('head', %s) ON CONFLICT DO NOTHING"
             await self._rows(it, put, wanted)
             return await self._key(it, "head") or b""
 
         return await self._call(work)
+
+    async def _make_tables(self, it: Any) -> None:
+        """Makes the tables where one is not there: to ask for that takes the right to make some,
+        also where all are there."""
+        try:
+            await it.execute(self._query("SELECT FROM {log}, {keys}, {at} LIMIT 0"))
+        except errors.UndefinedTable:
+            await it.execute(self._query(TABLES))
 
     async def _key(self, it: Any, key: str) -> Optional[bytes]:
         rows = await self._rows(it, "SELECT value FROM {keys} WHERE key = %s", key)
