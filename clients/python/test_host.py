@@ -736,6 +736,37 @@ class Etcd(unittest.IsolatedAsyncioTestCase):
         self.addAsyncCleanup(log.close)
         return log
 
+    async def test_a_foreign_key_among_the_reports(self):
+        """It is passed over: no replica's name is no UTF-8. It ended each replica by a traceback,
+        and `status` and `trim` too."""
+        from tb_host import etcd
+
+        right, found = etcd.rpc.WatchResponse(), etcd.rpc.RangeResponse()
+        for at, key in enumerate((b"bank/at/\xff", b"bank/at/r0")):
+            pair = right.events.add().kv
+            pair.mod_revision, pair.key, pair.value = 3 + at, key, b"{}"
+            found.kvs.add(key=key, value=b"{}")
+        log = await self.watched([right])
+        reading = log.read(0)
+        self.assertEqual(await asyncio.wait_for(reading.__anext__(), 9), Report("r0", b"{}"))
+        await reading.aclose()
+        with mock.patch.object(log, "_call", mock.AsyncMock(return_value=found)):
+            self.assertEqual(await log.reports(), {"r0": b"{}"})
+
+    async def test_up_to_where_the_log_was_trimmed(self):
+        """What does not tell that is named. It ended each replica by a traceback."""
+        from tb_host.etcd import EtcdLog
+
+        log = EtcdLog([("127.0.0.1", 1)], "bank", Access())
+        endless = b'{"position": 1, "place": Infinity}'
+        for value in (b"\xff", b"", b"5", b"[]", b"{}", endless, b"[" * 9999):
+            with mock.patch.object(log, "_get", mock.AsyncMock(return_value=value)):
+                with self.assertRaises(Fault) as found:
+                    await log.trimmed()
+            said = f"BadEntry: the log's `trimmed` has {value[:60]!r}"
+            self.assertEqual((str(found.exception), found.exception.status), (said, 25))
+        await log.close()
+
     async def test_a_reader_that_ends(self):
         """One that was told between two watches to look elsewhere read on when it was ended."""
         log = await self.watched([], [])
@@ -918,6 +949,15 @@ class PostgreSQL(unittest.IsolatedAsyncioTestCase):
         self.assertEqual(found, Written(1, b"an entry"))
         said = re.findall("NoLog: the log is not read: (.*)", told.getvalue())
         self.assertEqual(said, ["it is away"])
+
+    async def test_up_to_where_the_log_was_trimmed(self):
+        """What does not tell that is named. It ended each replica by a traceback."""
+        from tb_host.postgresql import PostgresLog
+
+        it = PostgresLog([("127.0.0.1", 1)], "postgres/bank", Access(), 0)
+        with mock.patch.object(it, "_call", mock.AsyncMock(return_value=b"\xff")):
+            with self.assertRaisesRegex(Fault, r"^BadEntry: the log's `trimmed` has b'\\xff'$"):
+                await it.trimmed()
 
     @unittest.skipUnless(POSTGRES, "PostgreSQL is not installed")
     async def test_a_user_who_may_make_no_tables(self):

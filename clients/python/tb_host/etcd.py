@@ -15,6 +15,7 @@ import etcd3.etcdrpc as rpc
 import grpc
 import grpc.aio
 
+from .faults import wrong_trimmed
 from .lines import Ended, say_of
 from .log import Access, LogFull, LogGone, NoLog, Report, Written
 from .tls import load_authority, load_own
@@ -335,9 +336,8 @@ class EtcdLog:
         rest = pair.key[len(self.prefix) :]
         if rest.startswith(b"log/"):
             return Written(pair.mod_revision, pair.value)
-        if rest.startswith(b"at/"):
-            return Report(rest[3:].decode(), pair.value)
-        return None
+        name = _name_of(rest[3:]) if rest.startswith(b"at/") else None
+        return None if name is None else Report(name, pair.value)
 
     def look_elsewhere(self) -> None:
         if self.watch is not None:
@@ -354,7 +354,8 @@ class EtcdLog:
         prefix = self.prefix + b"at/"
         request = rpc.RangeRequest(key=prefix, range_end=_end_of(prefix))
         found = await self._call("keys", "Range", request)
-        return {it.key[len(prefix) :].decode(): it.value for it in found.kvs}
+        named = ((_name_of(it.key[len(prefix) :]), it.value) for it in found.kvs)
+        return {name: value for name, value in named if name is not None}
 
     async def forget(self, name: str) -> None:
         request = rpc.DeleteRangeRequest(key=self.prefix + b"at/" + name.encode())
@@ -366,8 +367,11 @@ class EtcdLog:
         kept = await self._get(self.prefix + b"trimmed")
         if kept is None:
             return 0, 0
-        said = json.loads(kept)
-        return int(said["position"]), int(said["place"])
+        try:
+            said = json.loads(kept)
+            return int(said["position"]), int(said["place"])
+        except (ArithmeticError, LookupError, RecursionError, TypeError, ValueError):
+            raise wrong_trimmed(kept) from None
 
     async def trim(self, position: int, place: int) -> List[str]:
         said = []
@@ -462,6 +466,14 @@ class EtcdLog:
         for it in self.addresses:
             with contextlib.suppress(Exception):
                 await it.channel.close()
+
+
+def _name_of(key: bytes) -> Optional[str]:
+    """A replica's name. None where it is none: who else writes there is passed over."""
+    try:
+        return key.decode()
+    except UnicodeError:
+        return None
 
 
 def _test(it: Address, error: Any) -> None:

@@ -23,3 +23,8 @@ class Fault(Ended):
     def __init__(self, name: str, said: str) -> None:
         super().__init__(f"{name}: {said}", STATUS[name])
         self.name = name
+
+
+def wrong_trimmed(kept: bytes) -> Fault:
+    """The fault of a log that does not tell up to where it was trimmed."""
+    return Fault("BadEntry", f"the log's `trimmed` has {kept[:60]!r}")

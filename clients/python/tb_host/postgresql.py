@@ -27,6 +27,7 @@ from typing import (
 import psycopg
 from psycopg import errors, sql
 
+from .faults import wrong_trimmed
 from .lines import Ended, say, say_of
 from .log import Access, LogFull, LogGone, NoLog, Report, Written
 from .round_trips import results_of
@@ -351,7 +352,12 @@ class PostgresLog:
 
     async def trimmed(self) -> Tuple[int, int]:
         value = await self._call(lambda it: self._key(it, "trimmed"))
-        return (0, 0) if value is None else (int(value), int(value))
+        if value is None:
+            return 0, 0
+        try:
+            return int(value), int(value)
+        except ValueError:
+            raise wrong_trimmed(value) from None
 
     async def trim(self, position: int, place: int) -> List[str]:
         async def work(it: Any) -> None:
