@@ -65,6 +65,8 @@ def load(given: argparse.Namespace) -> int:
         raise_usage("--follow goes with --ledger; an audit on standard input is followed anyway")
     is_file = given.ledger is not None
     ledger = Ledger(given.ledger, given.tbd, given.tbt) if is_file else None
+    if is_file and os.path.exists(given.file) and os.path.samefile(given.file, given.ledger):
+        raise_usage(f"{given.file} is the ledger's own file: name another one for the tables")
     gc.set_threshold(GARBAGE)
     store = store_of(given.file)
     try:

@@ -103,6 +103,18 @@ class Sources(Tables):
         self.assertEqual(self.words(), ["tbd dump FILE", "tbt audit --after 6"])
         self.assertEqual(self.contents(), before)
 
+    def test_tables_in_the_ledger_s_own_file(self):
+        """They are refused. An empty one, as of a server that was just started, was made a file of
+        SQLite."""
+        link = self.room / "link"
+        link.symlink_to(self.file)
+        self.file.touch()
+        for path in (self.file, link):
+            self.given[1] = str(path)
+            status, said = self.loaded()
+            self.assertEqual((status, said.count("\n")), (2, 1), said)
+            self.assertEqual(self.file.read_bytes(), b"")
+
     def test_nothing_new(self):
         """A load of a file that changed and has no new entry, as one that a server was started
         over again, makes the tables newer than the file."""
