@@ -680,6 +680,52 @@ class Etcd(unittest.IsolatedAsyncioTestCase):
         done.assert_awaited_once_with(5, 9)
         await it.close()
 
+    async def trimmed_while_full(self, log, room):
+        """What is called in turn to trim an etcd with the alarm NOSPACE, which has room for a put
+        when it was defragmented so often."""
+        from tb_host import etcd
+
+        called, alarms = [], [etcd.rpc.AlarmMember(memberID=1, alarm=etcd.rpc.NOSPACE)]
+
+        async def call(kind, method, request, *_, **__):
+            called.append(method)
+            if method == "Alarm" and request.action == etcd.rpc.AlarmRequest.DEACTIVATE:
+                alarms.clear()
+            elif method == "Put" and (alarms or called.count("Defragment") < room):
+                raise LogFull("etcdserver: mvcc: database space exceeded")
+            if method == "Alarm":
+                return etcd.rpc.AlarmResponse(alarms=alarms)
+            return etcd.rpc.RangeResponse(header=etcd.rpc.ResponseHeader(revision=9))
+
+        async def defragmented(_):
+            called.append("Defragment")
+            return "done"
+
+        some = mock.AsyncMock(return_value=[(b"a", b"b")])
+        with mock.patch.multiple(log, _call=call, _numbers_up_to=some):
+            with mock.patch.object(etcd, "_defragmented", defragmented):
+                try:
+                    called += await log.trim(5, 9)
+                except LogFull as full:
+                    called.append(str(full))
+        return called
+
+    async def test_a_trim_of_what_is_full(self):
+        """No entry is removed before `trimmed` is put, and a put takes room. Who started in between
+        took what was left for the whole log, ended by BadEntry or Diverged, and named a writer."""
+        from tb_host.etcd import EtcdLog
+
+        log = EtcdLog([("127.0.0.1", 1)], "bank", Access())
+        called = await self.trimmed_while_full(log, 1)
+        puts = [at for at, it in enumerate(called) if it == "Put"]
+        self.assertGreater(called.index("DeleteRange"), puts[-1])
+        self.assertLess(called.index("Compact"), called.index("Defragment"))
+        self.assertEqual(called[-2:], ["entries up to position 5 are removed", "done"])
+        called = await self.trimmed_while_full(log, 9)
+        self.assertNotIn("DeleteRange", called)
+        self.assertIn("etcd is still full, and nothing is removed", called[-1])
+        await log.close()
+
     async def test_a_machine_that_is_lost_while_nothing_is_written(self):
         """Its connection has no end. What others write is then read at the next address."""
         import grpc.aio

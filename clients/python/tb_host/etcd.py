@@ -374,16 +374,27 @@ class EtcdLog:
             raise wrong_trimmed(kept) from None
 
     async def trim(self, position: int, place: int) -> List[str]:
+        """No entry is removed before `trimmed` tells of it: who starts in between would take what
+        is left for the whole log."""
         said = []
-        is_put = await self._put_trimmed(position, place)
+        if not await self._put_trimmed(position, place):
+            said += await self._make_room()
+            if not await self._put_trimmed(position, place):
+                why = "etcd is still full, and nothing is removed"
+                raise LogFull(f"{why}: raise --quota-backend-bytes, and trim again")
         if place:
             await self._remove(place)
-            said.append(f"entries up to position {position} are removed")
-        for it in self.addresses:
-            said.append(await _defragmented(it))
+            said = [f"entries up to position {position} are removed"]
+            said += [await _defragmented(it) for it in self.addresses]
         await self._disarm()
-        if not is_put and not await self._put_trimmed(position, place):
-            said.append("etcd is still full: raise --quota-backend-bytes")
+        return said
+
+    async def _make_room(self) -> List[str]:
+        """Gives the space of what was replaced since the last time back to the disks, and ends the
+        alarm. Replicas write again then."""
+        await self._compact(await self.last())
+        said = [await _defragmented(it) for it in self.addresses]
+        await self._disarm()
         return said
 
     async def has_removed(self, place: int) -> bool:
@@ -396,6 +407,10 @@ class EtcdLog:
         for first, last in await self._numbers_up_to(place):
             request = rpc.DeleteRangeRequest(key=first, range_end=last + b"\0")
             revision = (await self._call("keys", "DeleteRange", request)).header.revision
+        await self._compact(revision)
+
+    async def _compact(self, revision: int) -> None:
+        """Removes the history up to a revision."""
         with contextlib.suppress(NoLog, LogGone):  # it may be compacted already
             request = rpc.CompactionRequest(revision=revision, physical=True)
             await self._call("keys", "Compact", request)
@@ -406,7 +421,7 @@ class EtcdLog:
             await self._call(
                 "keys", "Put", rpc.PutRequest(key=self.prefix + b"trimmed", value=value)
             )
-        except LogFull:  # a put is possible when the trimmed entries are gone
+        except LogFull:
             return False
         return True
 
