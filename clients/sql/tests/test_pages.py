@@ -81,6 +81,23 @@ class Shown(Pages):
         self.load(Audit().register().accounts(account(1)))
         self.assertIn("There are no postings.", self.words("/account/1"))
 
+    def test_pages_beyond_the_rows(self):
+        """They say so. They told that there are none at all."""
+        self.load(history())
+        end = (1 << 63) - 1
+        for rows, address, none in (
+            ("sessions", "/sessions?", "No client has registered."),
+            ("transfers", "/transfers?", "There are no transfers."),
+            ("transfers", "/transfers?from=2026-01-01&", "There are no transfers between these"),
+            ("accounts", "/accounts?", "There are no accounts."),
+            ("accounts", "/accounts?ledger=700&", "There are no accounts of ledger 700."),
+        ):
+            for more in ("before=0", f"after={end}"):
+                with self.subTest(address + more):
+                    said = self.words(address + more)
+                    self.assertIn(f"There are no {rows} on this page.", said)
+                    self.assertNotIn(none, said)
+
     def test_statement(self):
         audit = Audit().register().accounts(account(1), account(2))
         audit.transfers(transfer(11, 1, 2, 1500), transfer(12, 2, 1, 2000))
