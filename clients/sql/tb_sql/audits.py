@@ -69,11 +69,21 @@ class Loading:
         self._entered = [0, 0]  # the same, with those that are not written yet
         self.line = 0
         self._before = store.position()
-        self._books = Books(store, _copy(self._before)) if self._before else None
+        self._books = self._kept(self._before) if self._before else None
         self._expired: List[Dict[str, Any]] = []
         self._batch: Optional[Dict[str, Any]] = None  # the entry whose events come next
         self._is_met = not self._before or self._before.commit_number == 0
         self._has_begun = False
+
+    def _kept(self, position: Position) -> Books:
+        """The ledger as the tables have it. Refuses a position that somebody else wrote."""
+        try:
+            numbers = (position.profile, position.commit_number, position.time)
+            if all(isinstance(it, int) for it in numbers):
+                return Books(self.store, _copy(position))
+        except (*WRONG, RecursionError):
+            pass
+        raise Refused(f"{self.store.path} has no position in a history. {AGAIN}")
 
     @property
     def commit_number(self) -> int:

@@ -651,6 +651,29 @@ class Words(Tables):
         status, _, said = self.command("check", self.path)
         self.assertEqual((status, said.count("\n")), (1, 1), said)
 
+    def test_edited_position(self):
+        """It is told by one line, in place of a traceback."""
+        audit = Audit().register()
+        self.load(audit)
+        for column, wrong in (
+            ("head", "{"),
+            ("head", "[]"),
+            ("head", "{}"),
+            ("head", b"\xff"),
+            ("head", '{"clients_max": null}'),
+            ("head", "[" * 200_000),
+            ("commit_number", "x"),
+            ("time", 1.5),
+            ("profile", b"1"),
+        ):
+            with self.subTest(f"{column}: {wrong[:20] if isinstance(wrong, str) else wrong}"):
+                kept = self.row(f"SELECT {column} FROM position")
+                self.change(f"UPDATE position SET {column} = ?", wrong)
+                status, _, said = self.command("load", self.path, input=audit.bytes)
+                self.assertEqual((status, said.count("\n")), (2, 1), said)
+                self.assertIn("has no position in a history", said)
+                self.change(f"UPDATE position SET {column} = ?", *kept)
+
     def test_summary(self):
         audit = Audit(time=START).register()
         status, said, _ = self.command("load", self.path, input=audit.bytes)
