@@ -120,12 +120,15 @@ class PostgresStore:
         ]
 
     def write(self, changes: Changes, position: Position, before: Optional[Position]) -> None:
-        """Writes rows and the position that they lead to, in one transaction."""
+        """Writes rows and the position that they lead to, in one transaction. Raises `ValueError`
+        where one of them cannot be there."""
         try:
             with self._connection.transaction():
                 cursor = self._connection.cursor()
                 cursor.execute("SELECT pg_advisory_xact_lock(%s)", (LOCK,))
                 self._write(cursor, changes, position, before)
+        except self._psycopg.IntegrityError as error:
+            raise ValueError(f"{self.path}: {str(error).splitlines()[0]}") from None
         except self._psycopg.Error as error:
             raise self._failed(error) from None
         self.is_new = False

@@ -157,7 +157,8 @@ class SqliteStore:
         return [OpenSession(*row) for row in rows]
 
     def write(self, changes: Changes, position: Position, before: Optional[Position]) -> None:
-        """Writes rows and the position that they lead to, in one transaction."""
+        """Writes rows and the position that they lead to, in one transaction. Raises `ValueError`
+        where one of them cannot be there."""
         if self._file() != self._opened:
             raise Failed(f"{self.path} was deleted or replaced meanwhile: load again")
         try:
@@ -169,6 +170,8 @@ class SqliteStore:
                 if self._connection.in_transaction:
                     self._connection.execute("ROLLBACK")
                 raise
+        except sqlite3.IntegrityError as error:
+            raise ValueError(f"{self.path}: {error}") from None
         except sqlite3.Error as error:
             raise Failed(f"{self.path}: {error}") from None
         self.is_new = False

@@ -439,6 +439,17 @@ class OtherHistories(Tables):
             audit.entry("lookup_accounts")
             self.refused(audit, "no line of an audit")
 
+    def test_records_that_come_twice(self):
+        """It is the audit that is wrong, and not the database."""
+        audits = [Audit().register().accounts(account(1), account(2)) for _ in range(4)]
+        self.load(audits.pop())
+        audits[0].accounts(account(1))
+        audits[1].later(-1).accounts(account(3), account(4))
+        audits[2].later(-1).accounts(account(3, result="exists"))
+        for audit, words in zip(audits, ("accounts.id", "accounts.timestamp", "entries.time")):
+            self.refused(audit, f"no audit up to line {audit.bytes.count(10)}: ")
+            self.refused(audit, f"UNIQUE constraint failed: {words}")
+
     def test_no_head(self):
         path = str(self.room / "new.sqlite")
         for data in (b"", Audit().register().bytes.split(b"\n", 1)[1]):

@@ -121,6 +121,13 @@ class PostgreSQL(Tables):
         self.assertSame()
         self.assertEqual(self.there("SELECT debits_posted FROM trial_balance"), [(str(2 * MAX),)])
 
+    def test_records_that_come_twice(self):
+        """It is the audit that is wrong, and not the database."""
+        with self.assertRaises(Refused) as raised:
+            self.load_there(Audit().register().accounts(account(1), account(1)).bytes)
+        said = str(raised.exception)
+        self.assertRegex(said, r"^no audit up to line 5: [^\n]*duplicate key[^\n]*$")
+
     def test_encodings(self):
         """A load goes on in a database of any encoding, as that of initdb in the locale C."""
         audit = Audit().register().accounts(account(1), account(2))
