@@ -27,12 +27,12 @@ WRONG = (AttributeError, KeyError, OverflowError, TypeError, ValueError)
 
 
 def lines_of(input: int) -> Iterator[Optional[bytes]]:
-    """The lines that come from a file's number, each with its end; None where none comes for a
-    while. The last one may lack its end."""
+    """The lines that come from a file's number, each with its end; None again and again where none
+    comes for a while. The last one may lack its end."""
     pieces: List[bytes] = []
     length = 0
     while True:
-        if not select.select([input], [], [], IDLE)[0]:
+        while not select.select([input], [], [], IDLE)[0]:
             yield None
         data = os.read(input, CHUNK)
         if not data:

@@ -62,6 +62,9 @@ class PostgresStore:
     def read_whole(self, began: int) -> None:
         """Nothing: pages are of a file."""
 
+    def has_time(self, before: int, now: int) -> None:
+        """Nothing: pages are of a file."""
+
     def _asked(self, text: str, *values: Any) -> Any:
         """The rows that the database answers."""
         try:

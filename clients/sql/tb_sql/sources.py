@@ -10,7 +10,7 @@ import shutil
 import signal
 import subprocess
 import time
-from typing import IO, Callable, List, Optional, Tuple, Union
+from typing import IO, Callable, Iterator, List, Optional, Tuple, Union
 
 from .audits import Loading, lines_of
 from .errors import Cut, Failed, Refused
@@ -68,7 +68,8 @@ class Ledger:
         with dump, audit:
             assert audit.stdout and audit.stderr and dump.stderr
             try:
-                loading.read(lines_of(audit.stdout.fileno()), tell)
+                lines = lines_of(audit.stdout.fileno())
+                loading.read(self._watched(lines, loading) if follow else lines, tell)
             except Refused as error:
                 refused = error
             finally:
@@ -91,6 +92,20 @@ class Ledger:
             check_end(dump, said[0])
             loading.ended()
             loading.store.read_whole(began)
+
+    def _watched(
+        self, lines: Iterator[Optional[bytes]], loading: Loading
+    ) -> Iterator[Optional[bytes]]:
+        """The lines. Where none comes it is looked whether the file got another time alone, as by
+        a server that was started again."""
+        length, written = _state(self.path)
+        for line in lines:
+            if line is None:
+                before, kept = length, written
+                length, written = _state(self.path)
+                if length == before and written != kept:
+                    loading.store.has_time(kept, written)
+            yield line
 
     def _entries(self) -> int:
         """How many entries the file has now: the number of the last one."""
@@ -119,6 +134,15 @@ class Ledger:
         finally:
             dump.stdout.close()
         return dump, audit
+
+
+def _state(path: str) -> Tuple[int, int]:
+    """A file's length, and when it was written last; of none no such numbers."""
+    try:
+        found = os.stat(path)
+    except OSError:
+        return -1, -1
+    return found.st_size, found.st_mtime_ns
 
 
 def check_end(process: "Process[bytes]", said: str) -> None:

@@ -115,6 +115,16 @@ class SqliteStore:
         that time then: what the ledger's file got later is newer."""
         self._read_at = began
 
+    def has_time(self, before: int, now: int) -> None:
+        """Says that the ledger's file has this time in place of that one, and nothing more. Tables
+        that are no older than it stay so."""
+        whole = os.path.realpath(self.path)
+        with contextlib.suppress(OSError):
+            found = [os.stat(it) for it in (whole, f"{whole}-wal")]
+            written = max((it.st_mtime_ns for it in found if it.st_size), default=now)
+            if before <= written < now:
+                os.utime(whole, ns=(now, now))
+
     def position(self) -> Optional[Position]:
         """How far the tables are; nothing where there are none."""
         if self.is_new:

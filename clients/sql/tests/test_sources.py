@@ -158,6 +158,26 @@ class Sources(Tables):
         self.assertEqual(self.loaded(), (0, ""))
         self.assertEqual(self.contents(), followed)
 
+    def test_a_file_with_another_time_alone(self):
+        """As of a server that was started again: what is followed is then no older than it. The
+        page told to load it again until the next entry."""
+        self.write(history())
+        process = self.follow()
+        self.reaches(7)
+        time.sleep(1)  # the file was looked at as it is
+        later = int(time.time()) + 500
+        os.utime(self.file, (later, later))
+        until = time.monotonic() + SECONDS
+        while os.path.getmtime(self.path) < later:
+            self.assertLess(time.monotonic(), until, "the tables stay older")
+            time.sleep(0.05)
+        with open(self.file, "ab") as file:
+            file.write(b'{"commit"')
+        os.utime(self.file, (later + 500, later + 500))
+        time.sleep(1)
+        self.assertEqual(os.path.getmtime(self.path), later)
+        self.end(process, signal.SIGTERM, 0)
+
     def test_words_of_a_follow(self):
         self.write(history())
         self.assertEqual(self.loaded()[0], 0)
