@@ -101,6 +101,32 @@ class Addresses(unittest.TestCase):
                 it.exchange(0, register(7))
             self.assertTrue(str(found.exception).startswith(wanted), found.exception)
 
+    def not_connected(self, places, **how):
+        """What a Socket says that cannot connect."""
+        with Socket(places, **how) as it, self.assertRaises(tb.CannotConnect) as found:
+            it.exchange(0, register(7))
+        return str(found.exception)
+
+    def test_a_fault_is_told_and_not_the_end_of_the_time(self):
+        with socket.socket() as listening, socket.socket() as waiting:
+            listening.bind(("127.0.0.1", 0))
+            listening.listen(0)
+            waiting.connect(listening.getsockname())  # no other one is answered
+            places = [self.path("none"), listening.getsockname()]
+            said = self.not_connected(places, timeout=0.3)
+            self.assertTrue(said.startswith(f"{places[0]}: No such file"), said)
+
+    def test_a_server_is_told_that_closes_while_tls_is_agreed_on(self):
+        with socket.socket() as listening:
+            listening.bind(("127.0.0.1", 0))
+            listening.listen()
+            closing = threading.Thread(target=lambda: listening.accept()[0].close())
+            closing.start()  # the first connection; the others are not answered
+            tls = ssl.create_default_context()
+            said = self.not_connected(listening.getsockname(), timeout=1, tls=tls)
+            closing.join()
+        self.assertNotIn("timed out", said)
+
     def test_a_host_of_many_addresses(self):
         """Where they do not answer they take the time of one, and leave some for the next."""
         with contextlib.ExitStack() as stack:

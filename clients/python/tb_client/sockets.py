@@ -53,6 +53,7 @@ class Socket(Closing):
         self._tls = _context_of(tls, self._addresses)
         self._socket: Optional[socket.socket] = None
         self.trouble = ""  # why there is no connection, since one was tried last
+        self._is_known = False  # trouble is more than the end of the time, in this exchange
         self._is_new = False  # nothing came over the connection yet
         self._lock = threading.RLock()  # a signal's handler may close it amid an exchange
         self._is_amid = False
@@ -118,7 +119,7 @@ class Socket(Closing):
 
     def _connected(self, deadline: float) -> socket.socket:
         """The connection, made again where there is none, or where the server closed it since."""
-        pause = FIRST_PAUSE
+        pause, self._is_known = FIRST_PAUSE, False
         if self._socket is not None and _is_left(self._socket):
             self._lose()
         while self._socket is None and not self._closed:
@@ -128,9 +129,7 @@ class Socket(Closing):
             left = deadline - time.monotonic()
             untrusted = all(isinstance(it, ssl.SSLCertVerificationError) for it in faults)
             if left <= 0 or untrusted:
-                why = faults[-1].strerror or faults[-1]
-                text = f"{_shown(self._gone)}: {why}{_hint(self._gone)}"
-                raise CannotConnect(text, untrusted) from None
+                raise CannotConnect(self.trouble, untrusted) from None
             time.sleep(min(pause, left))
             pause = min(2 * pause, LAST_PAUSE)
         if self._closed:  # by a signal's handler
@@ -151,11 +150,19 @@ class Socket(Closing):
                 log.info("connected to %s", _shown(self.address))
                 return []
             except OSError as error:
-                self.trouble = f"{_shown(self.address)}: {error.strerror or error}"
-                log.info("no connection to %s", self.trouble)
+                self._told(error)
                 faults.append(error)
                 self._next()
         return faults
+
+    def _told(self, error: OSError) -> None:
+        """Keeps why there is no connection. That the time ends says less than a fault before it."""
+        why = f"{_shown(self.address)}: {error.strerror or error}{_hint(self.address)}"
+        log.info("no connection to %s", why)
+        is_late = isinstance(error, socket.timeout)
+        if not (is_late and self._is_known):
+            self.trouble = why
+        self._is_known |= not is_late
 
     def _next(self) -> None:
         self._gone = self.address
