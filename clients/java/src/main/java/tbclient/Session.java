@@ -19,6 +19,10 @@ import java.util.concurrent.locks.ReentrantLock;
  * RefusedException} and a {@link CancelledException} that may have been sent, the request stays in
  * doubt, and no other one is made.
  *
+ * <p>A lookup takes a number too. Where the file has an older number than the session had, the next
+ * request gets the reply to an old one, or is refused. So a session that is saved makes its lookups
+ * the same way, or leaves them to another session.
+ *
  * <p>Each call has a form with a limit of its own, {@code within}: null is none, and one of 0 or
  * less sends nothing. Without it a call takes at most its attempts, each with the transport's
  * timeout, and the pauses between them.
@@ -287,7 +291,7 @@ public final class Session implements AutoCloseable {
     }
 
     /**
-     * Looks accounts up.
+     * Looks accounts up. It takes a number: see above for a session that is saved.
      *
      * @param ids at most 8190
      * @return the accounts that are there, in the order of the ids
@@ -297,7 +301,7 @@ public final class Session implements AutoCloseable {
     }
 
     /**
-     * Looks accounts up.
+     * Looks accounts up. It takes a number: see above for a session that is saved.
      *
      * @param ids at most 8190
      * @param within the limit of this call, or null
@@ -308,7 +312,7 @@ public final class Session implements AutoCloseable {
     }
 
     /**
-     * Looks transfers up.
+     * Looks transfers up. It takes a number: see above for a session that is saved.
      *
      * @param ids at most 8190
      * @return the transfers that are there, in the order of the ids
@@ -318,7 +322,7 @@ public final class Session implements AutoCloseable {
     }
 
     /**
-     * Looks transfers up.
+     * Looks transfers up. It takes a number: see above for a session that is saved.
      *
      * @param ids at most 8190
      * @param within the limit of this call, or null

@@ -91,6 +91,23 @@ public class ReadmeTest {
                 .start();
     }
 
+    private String printed(String path) throws IOException, InterruptedException {
+        Process sale = sale(path);
+        String said = new String(sale.getInputStream().readAllBytes());
+        assertEquals(said, 0, sale.waitFor());
+        return said;
+    }
+
+    /** Makes a transfer between the program's accounts by another client. */
+    private void sellElsewhere(long amount) {
+        Path place = folder.getRoot().toPath().resolve("ledger.sock");
+        Transfer.Builder sale = Transfer.builder().id(Ids.id()).ledger(700).code(10);
+        sale.debitAccountId(1).creditAccountId(2).amount(amount);
+        try (Session other = Session.register(new SocketTransport(Address.unix(place)))) {
+            Session.requireOk(other.createTransfers(List.of(sale.build())));
+        }
+    }
+
     @Test(timeout = 120_000)
     public void theProgramMovesMoneyOnceAmidKills() throws Exception {
         assumeTrue("python3 is not there", isPythonThere());
@@ -102,12 +119,9 @@ public class ReadmeTest {
                 killed.waitFor(kill, TimeUnit.MILLISECONDS);
                 killed.destroyForcibly().waitFor();
             }
-            for (int time = 0; time < 2; time++) {
-                Process sale = sale(path);
-                String said = new String(sale.getInputStream().readAllBytes());
-                assertEquals("1000\n", said);
-                assertEquals(0, sale.waitFor());
-            }
+            assertEquals("1000\n", printed(path));
+            sellElsewhere(5);
+            assertEquals("1005\n", printed(path)); // and not the reply of the run before
         } finally {
             listener.destroy();
             listener.waitFor();
