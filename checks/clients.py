@@ -121,9 +121,9 @@ def shown_python():
 
 
 def survival():
-    """The README's way that survives a crash: a sale, a crash before its reply came, and an
-    eviction while it is in doubt."""
-    sale, crash, eviction = shown_python()[2:5]
+    """The README's way that survives a crash: a sale, a crash before its reply came, a lookup in
+    each of two lives, and an eviction while a sale is in doubt."""
+    sale, crash, lookup, eviction = shown_python()[2:6]
     sale_again = "Transfer(id(), 1, 2, 10, ledger=700, code=10)"
     sent = f"session.prepare(Operation.create_transfers, [{sale_again}])\n"
     sent += "session.save('session.json')\n"
@@ -132,20 +132,27 @@ import os, tempfile
 from tb_client import *
 from tb_client import id
 os.chdir(tempfile.mkdtemp())
-transport = Program({PROGRAM!r}, 1)
+transport = Program({PROGRAM!r}, 2)
 first = Session.register(transport)
 require_ok(first.create_accounts([Account(it, ledger=700, code=10) for it in (1, 2)]))
 {sale}
 {sent}
 {crash}
+{lookup}
+print(sales.credits_posted)
+require_ok(first.create_transfers([Transfer(id(), 1, 2, 5, ledger=700, code=10)]))
+{crash}
+{lookup}
+print(sales.credits_posted)
 {sent}
-Session.register(transport)
+for _ in range(2):
+    Session.register(transport)
 {eviction}
 print(session.lookup_accounts([2])[0].credits_posted)
 transport.close()
 """
     output = script("the README's crash and eviction", CLIENT, "-c", textwrap.dedent(whole))
-    case("what it moves", output == "120\n", output.strip())
+    case("what it moves", output == "110\n115\n125\n", output.strip())
 
 
 def sockets():

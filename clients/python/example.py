@@ -7,7 +7,7 @@ ends, and the server is killed.
 import os
 import sys
 import tempfile
-from typing import Sequence, Union
+from typing import Any, Sequence, Union
 
 import tb_client as tb
 from tb_client import (
@@ -32,18 +32,24 @@ path = (
 CASH, SALES = 1, 2
 
 
-def credited(session: Session) -> int:
-    return session.lookup_accounts([SALES])[0].credits_posted
-
-
-def create(
-    session: Session, kept: str, operation: Operation, records: Sequence[Union[Account, Transfer]]
-) -> None:
+def ask(
+    session: Session,
+    kept: str,
+    operation: Operation,
+    items: Sequence[Union[Account, Transfer, int]],
+) -> Any:
     """The way that survives a crash: prepare, save, and only then send."""
-    session.prepare(operation, records)
+    session.prepare(operation, items)
     session.save(kept)
-    require_ok(session.retry())
+    said = session.retry()
+    require_ok(said)
     session.save(kept)
+    return said
+
+
+def credited(session: Session, kept: str) -> Any:
+    """A lookup takes a number too: it is saved as any other request."""
+    return ask(session, kept, Operation.lookup_accounts, [SALES])[0].credits_posted
 
 
 with tempfile.TemporaryDirectory() as folder, Program(
@@ -53,7 +59,7 @@ with tempfile.TemporaryDirectory() as folder, Program(
 
     # The first life of a client.
     session = Session.register(program)
-    create(
+    ask(
         session,
         kept,
         Operation.create_accounts,
@@ -67,7 +73,7 @@ with tempfile.TemporaryDirectory() as folder, Program(
     # it reaches the server, and no reply comes back
     session.transport = Faulty(program, replies=range(1, 6))
     try:
-        create(session, kept, Operation.create_transfers, [sale])
+        ask(session, kept, Operation.create_transfers, [sale])
     except ReplyLost:
         print("a transfer of 100 was sent, and no reply came")
     del session  # the client crashes here, and all that is left of it is the file
@@ -76,7 +82,7 @@ with tempfile.TemporaryDirectory() as folder, Program(
     session = Session.load(program, kept)
     require_ok(session.retry())
     session.save(kept)
-    print(f"after a crash the same bytes are sent again: credits_posted {credited(session)}")
+    print(f"after a crash the same bytes are sent again: credits_posted {credited(session, kept)}")
 
     # Another client takes the only place, and the session ends: whether the transfer was made is in
     # doubt.
@@ -85,7 +91,7 @@ with tempfile.TemporaryDirectory() as folder, Program(
     )
     Session.register(program)
     try:
-        create(session, kept, Operation.create_transfers, [second])
+        ask(session, kept, Operation.create_transfers, [second])
     except Evicted:
         doubt = session.in_doubt
         assert doubt is not None
@@ -95,12 +101,12 @@ with tempfile.TemporaryDirectory() as folder, Program(
         session.save(kept)  # from here on the old session is not needed
         print(
             "after an eviction the same records are created again: credits_posted "
-            f"{credited(session)}"
+            f"{credited(session, kept)}"
         )
 
     # The server is killed. Its history was in its memory alone, and comes back from the script that
     # restarts=True keeps.
     assert program.process is not None
     program.process.kill()
-    print(f"after a restart: credits_posted {credited(session)}")
-    assert credited(session) == 110, "the money moved more than once, or not at all"
+    print(f"after a restart: credits_posted {credited(session, kept)}")
+    assert credited(session, kept) == 110, "the money moved more than once, or not at all"

@@ -321,11 +321,13 @@ class Session(Closing):
         return cast(List[EventResult], self._ask(Operation.create_transfers, transfers))
 
     def lookup_accounts(self, ids: Iterable[int]) -> List[Account]:
-        """The accounts that are there, in the order of the ids."""
+        """The accounts that are there, in the order of the ids. It takes a number: where the
+        session is saved, use `prepare`, `save`, `retry` and `save`."""
         return cast(List[Account], self._ask(Operation.lookup_accounts, ids))
 
     def lookup_transfers(self, ids: Iterable[int]) -> List[Transfer]:
-        """The transfers that are there, in the order of the ids."""
+        """The transfers that are there, in the order of the ids. It takes a number: where the
+        session is saved, use `prepare`, `save`, `retry` and `save`."""
         return cast(List[Transfer], self._ask(Operation.lookup_transfers, ids))
 
     def _ask(self, operation: Operation, items: Iterable[Item]) -> Any:
