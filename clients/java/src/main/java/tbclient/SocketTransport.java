@@ -213,11 +213,17 @@ public final class SocketTransport implements Transport {
                 PlainLink plain = PlainLink.to(place, share);
                 return tls == null ? plain : TlsLink.over(plain, tls, address, share);
             } catch (IOException why) {
-                if (left == 1 || isOfCertificate(why)) {
+                if (left == 1 || isInterrupt(why) || isOfCertificate(why)) {
                     throw why;
                 }
             }
         }
+    }
+
+    /** Whether the thread was interrupted, which ends the call. */
+    private static boolean isInterrupt(IOException fault) {
+        return fault instanceof InterruptedIOException
+                && !(fault instanceof SocketTimeoutException);
     }
 
     /** Whether a server's certificate is why: calling it again changes nothing. */

@@ -1,5 +1,6 @@
 package tbclient;
 
+import static java.net.StandardProtocolFamily.UNIX;
 import static java.nio.charset.StandardCharsets.US_ASCII;
 import static org.junit.Assert.assertEquals;
 import static org.junit.Assert.assertFalse;
@@ -9,6 +10,7 @@ import static org.junit.Assert.assertTrue;
 
 import java.io.DataInputStream;
 import java.io.IOException;
+import java.io.InterruptedIOException;
 import java.io.OutputStream;
 import java.lang.management.BufferPoolMXBean;
 import java.lang.management.ManagementFactory;
@@ -16,6 +18,10 @@ import java.math.BigInteger;
 import java.net.InetAddress;
 import java.net.ServerSocket;
 import java.net.Socket;
+import java.net.SocketAddress;
+import java.net.SocketTimeoutException;
+import java.net.UnixDomainSocketAddress;
+import java.nio.channels.ServerSocketChannel;
 import java.nio.file.FileSystem;
 import java.nio.file.FileSystems;
 import java.nio.file.Files;
@@ -175,6 +181,45 @@ public class SocketTransportTest {
             assertTrue(why.mayHaveSent());
             assertTrue(Thread.interrupted());
             session.retry();
+        }
+    }
+
+    /** A place where a connecting waits: as many as may wait to be accepted are there. */
+    private static ServerSocket full(List<Socket> waiting) throws IOException {
+        ServerSocket it = new ServerSocket(0, 1, InetAddress.getLoopbackAddress());
+        try {
+            while (true) {
+                Socket next = new Socket();
+                waiting.add(next);
+                next.connect(it.getLocalSocketAddress(), 200);
+            }
+        } catch (SocketTimeoutException full) {
+            return it;
+        }
+    }
+
+    @Test(timeout = 30_000)
+    public void anInterruptAtOnePlaceIsNoConnectionToTheNext() throws IOException {
+        List<Socket> waiting = new ArrayList<>();
+        Path path = Files.createTempDirectory("tbclient").resolve("ledger.sock");
+        UnixDomainSocketAddress unix = UnixDomainSocketAddress.of(path);
+        try (ServerSocket full = full(waiting);
+                ServerSocketChannel atOnce = ServerSocketChannel.open(UNIX).bind(unix);
+                SocketTransport transport = transport(SHORT)) {
+            List<SocketAddress> places =
+                    List.of(full.getLocalSocketAddress(), atOnce.getLocalAddress());
+            Deadline until = Deadline.in(Duration.ofSeconds(20));
+            Thread.currentThread().interrupt();
+            assertThrows(
+                    InterruptedIOException.class,
+                    () -> transport.called(Address.tcp("localhost", 1), places, until));
+            assertTrue(Thread.interrupted());
+        } finally {
+            for (Socket it : waiting) {
+                it.close();
+            }
+            Files.delete(path);
+            Files.delete(path.getParent());
         }
     }
 
