@@ -8,8 +8,11 @@ import java.nio.ByteBuffer;
  * {@link java.io.InterruptedIOException} that the thread was interrupted.
  */
 interface Link {
-    /** Whether the server closed it, or said something while it was not asked. */
-    boolean isLeft();
+    /**
+     * Whether the server closed it, or said something while it was not asked. So it is where that is
+     * not known by the deadline.
+     */
+    boolean isLeft(Deadline until);
 
     /** Writes all of it. */
     void write(ByteBuffer data, Deadline until) throws IOException;

@@ -62,7 +62,7 @@ final class PlainLink implements Link {
     }
 
     @Override
-    public boolean isLeft() {
+    public boolean isLeft(Deadline until) {
         try {
             return tryRead(ByteBuffer.allocate(1)) != 0;
         } catch (IOException broke) {

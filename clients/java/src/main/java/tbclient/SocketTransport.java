@@ -153,7 +153,7 @@ public final class SocketTransport implements Transport {
 
     /** Makes a connection where there is none, or where the server closed it since. */
     private void connect(Deadline until, Deadline limit) {
-        if (link != null && link.isLeft()) {
+        if (link != null && link.isLeft(until)) {
             lose();
         }
         long pause = FIRST_PAUSE;

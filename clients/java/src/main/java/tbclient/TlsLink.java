@@ -127,7 +127,7 @@ final class TlsLink implements Link {
     }
 
     @Override
-    public boolean isLeft() {
+    public boolean isLeft(Deadline until) {
         try {
             while (!plain.hasRemaining()) {
                 SSLEngineResult.Status status = unwrap();
@@ -141,6 +141,7 @@ final class TlsLink implements Link {
                         return count < 0;
                     }
                 }
+                until.test();
             }
             return true;
         } catch (IOException broke) {
@@ -158,11 +159,13 @@ final class TlsLink implements Link {
         while (!plain.hasRemaining()) {
             SSLEngineResult.Status status = unwrap();
             settle(until);
-            if (status == SSLEngineResult.Status.CLOSED && !plain.hasRemaining()
-                    || status == SSLEngineResult.Status.BUFFER_UNDERFLOW
-                            && !link.read(in, until)) {
+            if (plain.hasRemaining()) {
+                break;
+            }
+            if (status == SSLEngineResult.Status.CLOSED || isCut() && !link.read(in, until)) {
                 return false;
             }
+            until.test(); // a server may send on and on records without data
         }
         int count = Math.min(plain.remaining(), into.remaining());
         into.put(into.position(), plain, plain.position(), count);

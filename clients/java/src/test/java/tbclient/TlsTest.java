@@ -6,17 +6,21 @@ import static org.junit.Assert.assertThrows;
 import static org.junit.Assert.assertTrue;
 
 import java.io.IOException;
+import java.io.OutputStream;
 import java.lang.management.ManagementFactory;
 import java.math.BigInteger;
 import java.net.InetAddress;
 import java.net.ServerSocket;
 import java.net.Socket;
 import java.net.SocketAddress;
+import java.net.SocketTimeoutException;
+import java.nio.ByteBuffer;
 import java.nio.file.Files;
 import java.nio.file.Path;
 import java.time.Duration;
 import java.util.List;
 import javax.net.ssl.SSLContext;
+import javax.net.ssl.SSLSocket;
 import org.junit.Before;
 import org.junit.Rule;
 import org.junit.Test;
@@ -114,6 +118,51 @@ public class TlsTest {
             System.arraycopy(new byte[] {21, 3, 3, 0, 2, 1, 10}, 0, warnings, at, 7);
         }
         cannotConnect(warnings, true);
+    }
+
+    /** Agrees on TLS, and then asks for new keys on and on: no record has data. */
+    private static void renewKeys(ServerSocket server, SSLContext tls) {
+        try (Socket plain = server.accept();
+                SSLSocket it = (SSLSocket) tls.getSocketFactory().createSocket(plain, null, true)) {
+            it.startHandshake();
+            new Thread(() -> passOver(plain)).start();
+            while (true) {
+                it.startHandshake();
+            }
+        } catch (IOException why) {
+            // the client is gone
+        }
+    }
+
+    private static void passOver(Socket socket) {
+        try {
+            socket.getInputStream().transferTo(OutputStream.nullOutputStream());
+        } catch (IOException why) {
+            // the client is gone
+        }
+    }
+
+    @Test(timeout = 60_000)
+    public void recordsWithoutDataDoNotPutTheLimitOff() throws Exception {
+        Files.write(key, KEY);
+        SSLContext tls = Tls.context(certificate, certificate, key);
+        try (ServerSocket server = new ServerSocket(0, 9, InetAddress.getLoopbackAddress())) {
+            new Thread(() -> renewKeys(server, tls)).start();
+            Address address = Address.tcp("localhost", server.getLocalPort());
+            Duration limit = Duration.ofSeconds(2);
+            try (SocketTransport it = new SocketTransport(List.of(address), limit, tls)) {
+                List<SocketAddress> places = List.of(server.getLocalSocketAddress());
+                Link link = it.called(address, places, Deadline.in(limit));
+                ByteBuffer into = ByteBuffer.allocate(1);
+                long begin = System.nanoTime();
+                assertThrows(
+                        SocketTimeoutException.class, () -> link.read(into, Deadline.in(limit)));
+                link.isLeft(Deadline.in(limit));
+                long took = System.nanoTime() - begin;
+                assertTrue("it takes " + took + " ns", took < 20_000_000_000L);
+                link.close();
+            }
+        }
     }
 
     @Test(timeout = 60_000)
