@@ -108,12 +108,6 @@ func openFresh(path string) (*os.File, error) {
 	}
 }
 
-// lock takes the lock of a file. A file system without such locks does without.
-func lock(file *os.File) {
-	for syscall.Flock(int(file.Fd()), syscall.LOCK_EX) == syscall.EINTR {
-	}
-}
-
 func fill(file *os.File, data []byte) error {
 	if err := file.Truncate(0); err != nil {
 		return err
