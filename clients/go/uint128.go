@@ -5,6 +5,7 @@ import (
 	"fmt"
 	"math/big"
 	"math/bits"
+	"strings"
 )
 
 // Uint128 is an unsigned integer of 128 bits: an id or an amount. It may be compared by == and be
@@ -38,10 +39,12 @@ func BigIntToUint128(value *big.Int) (Uint128, error) {
 	return Uint128{Hi: binary.BigEndian.Uint64(data[:8]), Lo: binary.BigEndian.Uint64(data[8:])}, nil
 }
 
+const uint128Digits = 39 // of 2^128 - 1
+
 // ParseUint128 reads a number in decimal digits. Anything else, as a sign or a space, is an
 // [InvalidError].
 func ParseUint128(text string) (Uint128, error) {
-	if text == "" || len(text) > 100 {
+	if text == "" {
 		return Uint128{}, invalid("Uint128", "must be decimal digits")
 	}
 	for _, digit := range text {
@@ -49,7 +52,11 @@ func ParseUint128(text string) (Uint128, error) {
 			return Uint128{}, invalid("Uint128", "must be decimal digits, not %.40q", text)
 		}
 	}
-	value, _ := new(big.Int).SetString(text, 10)
+	text = strings.TrimLeft(text, "0")
+	if len(text) > uint128Digits {
+		return Uint128{}, invalid("Uint128", "must be at most 2^128 - 1, not a number of %d digits", len(text))
+	}
+	value, _ := new(big.Int).SetString("0"+text, 10)
 	return BigIntToUint128(value)
 }
 

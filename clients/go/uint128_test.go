@@ -5,6 +5,7 @@ import (
 	"errors"
 	"fmt"
 	"math/big"
+	"strings"
 	"testing"
 
 	tb "ledger.example/tbclient"
@@ -64,6 +65,18 @@ func TestUint128Refusals(t *testing.T) {
 	for _, text := range []string{"", "-1", "+1", " 1", "1.0", "1e3", "0x1", "ten", most + "0", "340282366920938463463374607431768211456", "\u0661"} {
 		if _, err := tb.ParseUint128(text); !errors.Is(err, tb.ErrInvalid) {
 			t.Errorf("%q is answered %v", text, err)
+		}
+	}
+}
+
+func TestUint128OfManyDigits(t *testing.T) {
+	for _, count := range []int{62, 63, 1_000_000} {
+		_, err := tb.ParseUint128(most + strings.Repeat("0", count))
+		if err == nil || !strings.Contains(err.Error(), "must be at most 2^128 - 1") {
+			t.Errorf("%d digits are answered %v", len(most)+count, err)
+		}
+		if value, err := tb.ParseUint128(strings.Repeat("0", count) + most); value != tb.AmountMax {
+			t.Errorf("%d zeros in front are answered %v, %v", count, value, err)
 		}
 	}
 }
