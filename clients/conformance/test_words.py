@@ -1,4 +1,5 @@
 """The words of the kit and of the money: what they name, and what is wrong."""
+import glob
 import os
 import shutil
 import signal
@@ -6,6 +7,7 @@ import socket
 import subprocess
 import sys
 import tempfile
+import time
 import unittest
 
 HERE = os.path.dirname(os.path.abspath(__file__))
@@ -49,6 +51,27 @@ class Money(unittest.TestCase):
             status, said, faults = ran("money.py", *words, *RUNNER)
             self.assertEqual((status, said), (2, ""), words)
             self.assertIn(f"{words[0]} is ", faults)
+
+    def test_an_interrupt_is_one_line(self):
+        room = tempfile.mkdtemp()
+        self.addCleanup(shutil.rmtree, room)
+        server = f"{sys.executable} -SE {STAND_IN}"
+        it = subprocess.Popen(
+            [sys.executable, "-B", f"{HERE}/money.py", "--kills", "9999", "--server", server]
+            + RUNNER,
+            cwd=TOP,
+            env={**os.environ, "TMPDIR": room},
+            stdout=subprocess.PIPE,
+            stderr=subprocess.PIPE,
+            text=True,
+        )
+        deadline = time.monotonic() + 60
+        while not glob.glob(f"{room}/*/session.json") and time.monotonic() < deadline:
+            time.sleep(0.02)
+        it.send_signal(signal.SIGINT)
+        said, faults = it.communicate(timeout=60)
+        self.assertEqual((it.returncode, said, faults), (130, "", "interrupted\n"))
+        self.assertEqual(os.listdir(room), [])
 
 
 class WrongClients(unittest.TestCase):
