@@ -14,12 +14,14 @@ Where no tbd is built, clients/python/stand_in_tbd.py is in its place. Where myp
 types are checked.
 """
 import argparse
+import contextlib
 import glob
 import json
 import os
 import re
 import shlex
 import shutil
+import signal
 import subprocess
 import sys
 import tempfile
@@ -36,6 +38,7 @@ EMBED = f"{TOP}/embed/python"
 PROGRAM = os.path.abspath(os.environ.get("PROGRAM", f"{TOP}/crates/tbs/out/tbs"))
 TBD = os.path.abspath(os.environ.get("TBD", f"{TOP}/crates/tbd/out/tbd"))
 SECONDS = 3600  # that one command may take, also on a busy computer
+INTERRUPTED = 10  # seconds that one may take to end after Ctrl-C
 KEEPER = shlex.join(
     [TBD] if os.access(TBD, os.X_OK) else [sys.executable, "-SE", f"{CLIENT}/stand_in_tbd.py"]
 )
@@ -56,15 +59,23 @@ OVER_SOCKETS = f"on a Unix socket:\n{KILLS}on a port:\n{KILLS}"
 
 def ran(words, folder=TOP, **more):
     """Runs a command. Answers its status, its output and its standard error; the status is None
-    where it did not end in time."""
+    where it did not end in time. It and what it started is then killed."""
     there = {**os.environ, "PROGRAM": PROGRAM, "TBD": TBD, **more}
-    try:
-        it = subprocess.run(
-            words, cwd=folder, capture_output=True, text=True, timeout=SECONDS, env=there
-        )
-    except subprocess.TimeoutExpired:
-        return None, "", f"no end after {SECONDS} seconds"
-    return it.returncode, it.stdout, it.stderr
+    pipes = {"stdout": subprocess.PIPE, "stderr": subprocess.PIPE, "text": True}
+    with subprocess.Popen(words, cwd=folder, env=there, start_new_session=True, **pipes) as it:
+        try:
+            output, told = it.communicate(timeout=SECONDS)
+        except subprocess.TimeoutExpired:
+            os.killpg(it.pid, signal.SIGKILL)
+            return None, "", f"no end after {SECONDS} seconds"
+        except KeyboardInterrupt:  # which the terminal does not send to another session
+            with contextlib.suppress(ProcessLookupError, subprocess.TimeoutExpired):
+                os.killpg(it.pid, signal.SIGINT)
+                it.wait(INTERRUPTED)
+            with contextlib.suppress(ProcessLookupError):
+                os.killpg(it.pid, signal.SIGKILL)
+            raise
+    return it.returncode, output, told
 
 
 def python(*words, folder=CLIENT):
