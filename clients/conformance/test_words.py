@@ -22,6 +22,11 @@ STAND_IN = "clients/python/stand_in_tbd.py"
 JUNIT = "/usr/share/java/junit4.jar"
 
 
+def setUpModule():
+    """In the background of a shell SIGINT is ignored, and programs would inherit that."""
+    signal.signal(signal.SIGINT, signal.default_int_handler)
+
+
 def ran(program, *words):
     it = subprocess.run(
         [sys.executable, "-B", f"{HERE}/{program}", *words],
