@@ -109,7 +109,7 @@ def impl_of(home, path):
     before = text_of(home, file).partition(old)[0]
     head = re.findall(r"^impl\b.*? (?:\w+::)?(\w+)(?:<(\w+).*>)? for (\w+)", before, re.M)[-1]
     trait, argument, name = head
-    return f"{name}{trait}{argument if trait == 'From' else ''}"
+    return f"{name}{trait}{argument}"
 
 
 def is_within(home, path, function):
