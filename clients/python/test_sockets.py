@@ -123,7 +123,7 @@ class Addresses(unittest.TestCase):
             closing = threading.Thread(target=lambda: listening.accept()[0].close())
             closing.start()  # the first connection; the others are not answered
             tls = ssl.create_default_context()
-            said = self.not_connected(listening.getsockname(), timeout=1, tls=tls)
+            said = self.not_connected(listening.getsockname(), timeout=3, tls=tls)
             closing.join()
         self.assertNotIn("timed out", said)
 
