@@ -166,17 +166,22 @@ def said_under(home, texts, functions):
     before = {file: text_of(home, file) for file in texts}
     write(home, texts)
     try:
-        return subprocess.run(
-            ["rt", "check", *(word for it in functions for word in ("--only", it))],
-            cwd=home,
-            stdin=subprocess.DEVNULL,
-            stdout=subprocess.PIPE,
-            stderr=subprocess.STDOUT,
-            text=True,
-            errors="replace",
-        ).stdout
+        return said_by_rt(home, "check", *(word for it in functions for word in ("--only", it)))
     finally:
         write(home, before)
+
+
+def said_by_rt(folder, *words):
+    """What a command of `rt` prints in a folder."""
+    return subprocess.run(
+        ["rt", *words],
+        cwd=folder,
+        stdin=subprocess.DEVNULL,
+        stdout=subprocess.PIPE,
+        stderr=subprocess.STDOUT,
+        text=True,
+        errors="replace",
+    ).stdout
 
 
 def write(home, texts):

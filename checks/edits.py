@@ -127,16 +127,8 @@ def all_edits(chosen=()):
 
 def try_crate(room, crate, edits, told):
     """Runs `rt must-fail` for a crate, and tells what it says of each edit."""
-    ran = subprocess.run(
-        ["rt", "must-fail", crate],
-        cwd=room,
-        stdin=subprocess.DEVNULL,
-        stdout=subprocess.PIPE,
-        stderr=subprocess.STDOUT,
-        text=True,
-        errors="replace",
-    )
-    said = dict(re.findall(rf"must-fail {crate}/([^ :]+): (.*)", ran.stdout))
+    lines = edited.said_by_rt(room, "must-fail", crate)
+    said = dict(re.findall(rf"must-fail {crate}/([^ :]+): (.*)", lines))
     for name in edits:
         told(crate, name, said.get(name, "NOT TRIED"))
 

@@ -8,14 +8,12 @@ import signal
 import subprocess
 import sys
 import tempfile
-import threading
-import time
 import unittest
 
 import tb_client as tb
 from tb_client import Program, Session
 from test_listen import HERE, KEEPER
-from test_tb_client import account, transfer
+from test_tb_client import account, faults_at_close, transfer
 
 # sends Ctrl-C to all processes of its terminal, and then asks the program
 INTERRUPTED = """
@@ -82,22 +80,9 @@ class OverAFile(unittest.TestCase):
         """Threads that wait behind it send nothing more."""
         with open(self.path, "w", encoding="utf-8") as file:
             file.write("#!/bin/sh\necho tbd: ready >&2\nexec sleep 60\n")
-        program, faults = Program(self.path, file=self.file, timeout=2), []
-
-        def exchange(number):
-            try:
-                Session.register(program, number, attempts=1)
-            except tb.ClientError as fault:
-                faults.append(type(fault))
-
-        threads = [threading.Thread(target=exchange, args=(it,)) for it in range(1, 9)]
-        for thread in threads:
-            thread.start()
-        time.sleep(0.7)
-        program.close()
-        for thread in threads:
-            thread.join()
-        self.assertEqual(sorted(faults, key=str), [tb.Closed] * 7 + [tb.ReplyLost])
+        program = Program(self.path, file=self.file, timeout=2)
+        found = faults_at_close(program, lambda it: Session.register(program, it, attempts=1))
+        self.assertEqual(found, [tb.Closed] * 7 + [tb.ReplyLost])
 
     def test_ctrl_c_at_a_terminal_is_not_the_program_s(self):
         words = [sys.executable, "-B", "-c", INTERRUPTED, self.path, self.file]

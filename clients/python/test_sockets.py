@@ -16,6 +16,7 @@ from unittest import mock
 import tb_client as tb
 from tb_client import Socket
 from tb_client.ids import Ids
+from test_tb_client import faults_at_close
 
 sys.path.append(os.path.join(os.path.dirname(os.path.abspath(__file__)), "..", "conformance"))
 import certificates  # noqa: E402
@@ -175,22 +176,9 @@ class Addresses(unittest.TestCase):
         with socket.socket(socket.AF_UNIX) as listening:
             listening.bind(self.path("a"))
             listening.listen()  # and nobody answers
-            it, faults = Socket(self.path("a"), timeout=2), []
-
-            def exchange(number):
-                try:
-                    it.exchange(0, register(number))
-                except tb.ClientError as fault:
-                    faults.append(type(fault))
-
-            threads = [threading.Thread(target=exchange, args=(n,)) for n in range(1, 9)]
-            for thread in threads:
-                thread.start()
-            time.sleep(0.7)
-            it.close()
-            for thread in threads:
-                thread.join()
-        self.assertEqual(sorted(faults, key=str), [tb.Closed] * 7 + [tb.ReplyLost])
+            it = Socket(self.path("a"), timeout=2)
+            found = faults_at_close(it, lambda number: it.exchange(0, register(number)))
+        self.assertEqual(found, [tb.Closed] * 7 + [tb.ReplyLost])
 
     def test_a_signal_s_handler_that_closes_it(self):
         """Amid an exchange: it waited for the lock of the exchange that it interrupted, for ever.

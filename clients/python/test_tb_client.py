@@ -10,6 +10,7 @@ import os
 import signal
 import struct
 import tempfile
+import threading
 import time
 import unittest
 
@@ -39,6 +40,27 @@ def reply(frame, status=0, session=1, commit=None, body=b""):
         "<QIBB2xIQ4x", session, *struct.unpack_from("<IB", frame, 24), status, len(body), commit
     )
     return header + body
+
+
+def faults_at_close(transport, exchange):
+    """What eight threads meet that exchange over a transport, each by its number, when it is closed
+    amid the first exchange."""
+    faults = []
+
+    def run(number):
+        try:
+            exchange(number)
+        except tb.ClientError as fault:
+            faults.append(type(fault))
+
+    threads = [threading.Thread(target=run, args=(it,)) for it in range(1, 9)]
+    for thread in threads:
+        thread.start()
+    time.sleep(0.7)
+    transport.close()
+    for thread in threads:
+        thread.join()
+    return sorted(faults, key=str)
 
 
 def wrong_replies():
