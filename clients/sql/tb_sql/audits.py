@@ -8,7 +8,7 @@ import select
 import time
 from typing import Any, Callable, Dict, Iterator, List, Optional, Union
 
-from .errors import Cut, Refused
+from .errors import AGAIN, Cut, Refused
 from .model import Books, Position, entry_hash
 from .postgres_store import PostgresStore
 from .sqlite_store import SqliteStore
@@ -69,21 +69,11 @@ class Loading:
         self._entered = [0, 0]  # the same, with those that are not written yet
         self.line = 0
         self._before = store.position()
-        self._books = self._kept(self._before) if self._before else None
+        self._books = Books(store, _copy(self._before)) if self._before else None
         self._expired: List[Dict[str, Any]] = []
         self._batch: Optional[Dict[str, Any]] = None  # the entry whose events come next
         self._is_met = not self._before or self._before.commit_number == 0
         self._has_begun = False
-
-    def _kept(self, position: Position) -> Books:
-        """The ledger as the tables have it. Refuses a position that somebody else wrote."""
-        try:
-            numbers = (position.profile, position.commit_number, position.time)
-            if all(isinstance(it, int) for it in numbers):
-                return Books(self.store, _copy(position))
-        except (*WRONG, RecursionError):
-            pass
-        raise Refused(f"{self.store.path} has no position in a history. {AGAIN}")
 
     @property
     def commit_number(self) -> int:
@@ -275,9 +265,6 @@ class Loading:
                 f"ledger's history, or one that lost its end in a power loss. {AGAIN}"
             )
         self._is_met = True
-
-
-AGAIN = "Load it into a new database, or delete this one and load again: nothing is lost by that."
 
 
 def _copy(position: Position) -> Position:

@@ -1,6 +1,9 @@
 """What ends a command, each with its exit status."""
 
 
+AGAIN = "Load it into a new database, or delete this one and load again: nothing is lost by that."
+
+
 class Stop(Exception):
     """Ends a command with a line on standard error, and a status."""
 

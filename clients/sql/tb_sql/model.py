@@ -8,9 +8,9 @@ from __future__ import annotations
 
 import hashlib
 import json
-from typing import Any, Dict, List, Optional, Protocol, Tuple
+from typing import Any, Dict, List, Optional, Protocol, Sequence, Tuple
 
-from .errors import Refused
+from .errors import AGAIN, Refused
 from .numbers import (
     ACCOUNT_FLAGS,
     CLOSED,
@@ -29,6 +29,7 @@ from .numbers import (
 )
 
 Row = List[Any]
+Found = Optional[Sequence[Any]]  # a row that a database answers
 
 ACCOUNT_BITS = Flags(ACCOUNT_FLAGS)
 TRANSFER_BITS = Flags(TRANSFER_FLAGS)
@@ -109,6 +110,24 @@ class Position:
         self.time = time
         self.hash = hash
         self.accounts, self.transfers, self.refused = accounts, transfers, refused
+
+    @classmethod
+    def of(cls, path: str, row: Found, counts: Found = None) -> Position:
+        """A database's position, and how many records its entries made. Refuses another one than a
+        load writes."""
+        found = cls(*row, *(counts or (0, 0, 0))) if row else None
+        if found is None or not found._is_whole():
+            raise Refused(f"{path} has no position in a history. {AGAIN}")
+        return found
+
+    def _is_whole(self) -> bool:
+        numbers = (self.profile, self.commit_number, self.time)
+        counts = (self.accounts, self.transfers, self.refused)
+        try:
+            is_numbers = all(type(it) is int and it >= 0 for it in (*numbers, *counts))
+            return is_numbers and self.clients_max > 0
+        except (KeyError, OverflowError, RecursionError, TypeError, ValueError):
+            return False
 
     @property
     def clients_max(self) -> int:

@@ -47,7 +47,7 @@ class PostgresStore:
             row = self._connection.execute("SELECT schema FROM position").fetchone()
         except self._psycopg.Error as error:
             raise Refused(f"{self.path} has other tables: {str(error).strip()}") from None
-        if row is None or row[0] != SCHEMA:
+        if row is not None and row[0] != SCHEMA:
             raise Refused(
                 f"{self.path} has the tables of another version: drop them, and load again"
             )
@@ -82,11 +82,11 @@ class PostgresStore:
         row = self._asked(
             "SELECT head, profile, commit_number, time, hash FROM position"
         ).fetchone()
-        sums = self._asked(
+        counts = self._asked(
             "SELECT accounts_so_far, transfers_so_far, refused_so_far FROM entries"
             " ORDER BY commit_number DESC LIMIT 1"
         ).fetchone()
-        return Position(*row, *(sums or (0, 0, 0)))
+        return Position.of(self.path, row, counts)
 
     def account(self, id: Number) -> Optional[Account]:
         if self.is_new:

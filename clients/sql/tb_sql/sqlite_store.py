@@ -54,15 +54,23 @@ def check_still(connection: sqlite3.Connection, path: str, before: Optional[int]
 
 
 def check_schema(connection: sqlite3.Connection, path: str) -> None:
-    """Refuses a database without these tables."""
+    """Refuses a database without these tables, or without a position in a history."""
     try:
         found = connection.execute("SELECT schema FROM position").fetchone()
     except sqlite3.DatabaseError as error:
         raise Refused(f"{path} is no database of tb-sql: {error}") from None
-    if found is None or found[0] != SCHEMA:
+    if found is not None and found[0] != SCHEMA:
         raise Refused(
             f"{path} has the tables of another version: delete it, and load the history again"
         )
+    Position.of(path, position_row(connection))
+
+
+def position_row(connection: sqlite3.Connection) -> Optional[Sequence[Any]]:
+    found: Optional[Sequence[Any]] = connection.execute(
+        "SELECT head, profile, commit_number, time, hash FROM position"
+    ).fetchone()
+    return found
 
 
 class SqliteStore:
@@ -129,14 +137,11 @@ class SqliteStore:
         """How far the tables are; nothing where there are none."""
         if self.is_new:
             return None
-        row = self._connection.execute(
-            "SELECT head, profile, commit_number, time, hash FROM position"
-        ).fetchone()
-        sums = self._connection.execute(
+        counts = self._connection.execute(
             "SELECT accounts_so_far, transfers_so_far, refused_so_far FROM entries"
             " ORDER BY commit_number DESC LIMIT 1"
         ).fetchone()
-        return Position(*row, *(sums or (0, 0, 0)))
+        return Position.of(self.path, position_row(self._connection), counts)
 
     def account(self, id: Number) -> Optional[Account]:
         if self.is_new:

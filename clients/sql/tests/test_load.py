@@ -13,7 +13,7 @@ from support import COMMAND, Tables  # noqa: I001
 from audits import MAX, START, Audit, account, transfer
 from tb_sql.audits import Loading
 from tb_sql.commands import Progress
-from tb_sql.errors import Failed, Refused
+from tb_sql.errors import AGAIN, Failed, Refused
 from tb_sql.sqlite_store import SqliteStore
 
 SECOND = 10**9
@@ -663,7 +663,7 @@ class Words(Tables):
         self.assertEqual((status, said.count("\n")), (1, 1), said)
 
     def test_edited_position(self):
-        """It is told by one line, in place of a traceback."""
+        """A load and a check tell it by the same line."""
         audit = Audit().register()
         self.load(audit)
         for column, wrong in (
@@ -674,16 +674,25 @@ class Words(Tables):
             ("head", '{"clients_max": null}'),
             ("head", "[" * 200_000),
             ("commit_number", "x"),
+            ("commit_number", -1),
             ("time", 1.5),
             ("profile", b"1"),
         ):
             with self.subTest(f"{column}: {wrong[:20] if isinstance(wrong, str) else wrong}"):
                 kept = self.row(f"SELECT {column} FROM position")
                 self.change(f"UPDATE position SET {column} = ?", wrong)
-                status, _, said = self.command("load", self.path, input=audit.bytes)
-                self.assertEqual((status, said.count("\n")), (2, 1), said)
-                self.assertIn("has no position in a history", said)
+                self.assert_no_position(audit)
                 self.change(f"UPDATE position SET {column} = ?", *kept)
+        self.change("DELETE FROM position")
+        self.assert_no_position(audit)
+
+    def assert_no_position(self, audit):
+        wanted = f"tb-sql: {self.path} has no position in a history. {AGAIN}\n"
+        for ended in (
+            self.command("load", self.path, input=audit.bytes),
+            self.said("check", self.path),
+        ):
+            self.assertEqual(ended, (2, "", wanted))
 
     def test_summary(self):
         audit = Audit(time=START).register()

@@ -22,7 +22,7 @@ from support import COMMAND, Tables  # noqa: I001
 from audits import MAX, START, Audit, account, transfer
 from test_load import history
 from tb_sql.audits import Loading
-from tb_sql.errors import Failed
+from tb_sql.errors import Failed, Stop
 from tb_sql.pages import queries
 from tb_sql.pages.server import Handler, make_app
 from tb_sql.sqlite_store import SqliteStore
@@ -51,6 +51,18 @@ class Pages(Tables):
 
 
 class Shown(Pages):
+    def test_edited_position(self):
+        """Each page tells it as a load does, and none is served."""
+        self.load(history())
+        for column, wrong in (("commit_number", "x"), ("time", 1.5), ("head", "{")):
+            kept = self.row(f"SELECT {column} FROM position")
+            self.change(f"UPDATE position SET {column} = ?", wrong)
+            for address in ("/", "/account/1", "/csv/accounts.csv"):
+                self.assertIn("has no position in a history", self.words(address, 500))
+            with self.assertRaises(Stop):
+                queries.Tables(self.path)
+            self.change(f"UPDATE position SET {column} = ?", *kept)
+
     def test_all_pages(self):
         self.load(history())
         for address in (
