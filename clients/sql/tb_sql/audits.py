@@ -72,7 +72,8 @@ class Loading:
         self._books = Books(store, _copy(self._before)) if self._before else None
         self._expired: List[Dict[str, Any]] = []
         self._batch: Optional[Dict[str, Any]] = None  # the entry whose events come next
-        self._is_met = not self._before or self._before.commit_number == 0
+        # whether the input has the last entry that was kept
+        self.is_met = not self._before or self._before.commit_number == 0
         self._has_begun = False
 
     @property
@@ -123,7 +124,7 @@ class Loading:
         """Refuses a whole history that ends before the kept entries do."""
         if not self._has_begun:
             raise Refused("the input has no head: it is no audit of a dump")
-        if not self._is_met:
+        if not self.is_met:
             self.ends_before()
 
     def ends_before(self) -> None:
@@ -156,7 +157,7 @@ class Loading:
 
     def take(self, line: bytes) -> None:
         """Enters a line, or the part of an entry that it is."""
-        if not self._is_met and line.startswith(ENTRY):
+        if not self.is_met and line.startswith(ENTRY):
             if self._commit_of(line) < self.commit_number:
                 self._has_begun, self._expired, self._batch = True, [], None
                 return
@@ -239,13 +240,13 @@ class Loading:
             raise Refused("the input has no head: it is no audit of a dump")
         self._has_begun = True
         expired, self._expired = self._expired, []
-        if commit == books.position.commit_number and not self._is_met:
+        if commit == books.position.commit_number and not self.is_met:
             self._meet(entry, commit)
         elif commit != books.position.commit_number + 1:
             raise Refused(
                 f"entry {commit} comes where entry {books.position.commit_number + 1} is next"
             )
-        elif not self._is_met:
+        elif not self.is_met:
             raise Refused(f"entry {commit - 1} is not in the input: it cannot be compared")
         else:
             books.enter(entry, expired)
@@ -264,7 +265,7 @@ class Loading:
                 f"entry {commit} is another one than that in {self.store.path}: this is another "
                 f"ledger's history, or one that lost its end in a power loss. {AGAIN}"
             )
-        self._is_met = True
+        self.is_met = True
 
 
 def _copy(position: Position) -> Position:

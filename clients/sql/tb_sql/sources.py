@@ -58,8 +58,7 @@ class Ledger:
         """Enters what the file holds, and what comes later where it is followed. Of the entries
         that the tables have only the last one is read, to be compared."""
         kept, began = loading.commit_number, time.time_ns()
-        if follow and kept and self._entries() < kept:
-            loading.ends_before()
+        state = self._state_at_first(loading) if follow else (0, 0)
         try:
             dump, audit = self._start(follow, kept - 1)
         except OSError as error:
@@ -69,7 +68,7 @@ class Ledger:
             assert audit.stdout and audit.stderr and dump.stderr
             try:
                 lines = lines_of(audit.stdout.fileno())
-                loading.read(self._watched(lines, loading) if follow else lines, tell)
+                loading.read(self._watched(lines, loading, state) if follow else lines, tell)
             except Refused as error:
                 refused = error
             finally:
@@ -93,14 +92,24 @@ class Ledger:
             loading.ended()
             loading.store.read_whole(began)
 
+    def _state_at_first(self, loading: Loading) -> Tuple[int, int]:
+        """The file's length and time before it is followed; no time where the tables have all."""
+        length, written = _state(self.path)
+        if loading.store.is_new:
+            return length, written
+        entries = self._entries()
+        if entries < loading.commit_number:
+            loading.ends_before()
+        return length, written if entries > loading.commit_number else 0
+
     def _watched(
-        self, lines: Iterator[Optional[bytes]], loading: Loading
+        self, lines: Iterator[Optional[bytes]], loading: Loading, state: Tuple[int, int]
     ) -> Iterator[Optional[bytes]]:
         """The lines. Where none comes it is looked whether the file got another time alone, as by
         a server that was started again."""
-        length, written = _state(self.path)
+        length, written = state
         for line in lines:
-            if line is None:
+            if line is None and loading.is_met:
                 before, kept = length, written
                 length, written = _state(self.path)
                 if length == before and written != kept:

@@ -178,6 +178,20 @@ class Sources(Tables):
         self.assertEqual(os.path.getmtime(self.path), later)
         self.end(process, signal.SIGTERM, 0)
 
+    def test_a_follow_with_nothing_new(self):
+        """Tables that have all of a file are no older than it once it is followed, though it got
+        another time before. The page told to load it again until the next entry."""
+        self.write(history())
+        self.assertEqual(self.loaded(), (0, ""))
+        os.utime(self.path, (5, 5))
+        os.utime(self.file, (10, 10))
+        process = self.follow()
+        until = time.monotonic() + SECONDS
+        while os.path.getmtime(self.path) < 10:
+            self.assertLess(time.monotonic(), until, "the tables stay older")
+            time.sleep(0.05)
+        self.end(process, signal.SIGTERM, 0)
+
     def test_words_of_a_follow(self):
         self.write(history())
         self.assertEqual(self.loaded()[0], 0)
