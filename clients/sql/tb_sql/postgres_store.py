@@ -25,6 +25,13 @@ def _psycopg() -> Any:
     return psycopg
 
 
+def _said(error: Any) -> str:
+    """What the database says, in one line: its message and the detail, without the place in a
+    statement. A connection that fails has words alone."""
+    found = [it for it in (error.diag.message_primary, error.diag.message_detail) if it]
+    return " ".join((": ".join(found) or str(error)).split())
+
+
 class PostgresStore:
     """A schema of a PostgreSQL database, the first one of its search path."""
 
@@ -46,7 +53,7 @@ class PostgresStore:
         try:
             row = self._connection.execute("SELECT schema FROM position").fetchone()
         except self._psycopg.Error as error:
-            raise Refused(f"{self.path} has other tables: {str(error).strip()}") from None
+            raise Refused(f"{self.path} has other tables: {_said(error)}") from None
         if row is not None and row[0] != SCHEMA:
             raise Refused(
                 f"{self.path} has the tables of another version: drop them, and load again"
@@ -73,7 +80,7 @@ class PostgresStore:
             raise self._failed(error) from None
 
     def _failed(self, error: Exception) -> Failed:
-        return Failed(f"{self.path}: {str(error).strip()}")
+        return Failed(f"{self.path}: {_said(error)}")
 
     def position(self) -> Optional[Position]:
         """How far the tables are; nothing where there are none."""
@@ -131,7 +138,7 @@ class PostgresStore:
                 cursor.execute("SELECT pg_advisory_xact_lock(%s)", (LOCK,))
                 self._write(cursor, changes, position, before)
         except self._psycopg.IntegrityError as error:
-            raise ValueError(f"{self.path}: {str(error).splitlines()[0]}") from None
+            raise ValueError(f"{self.path}: {_said(error)}") from None
         except self._psycopg.Error as error:
             raise self._failed(error) from None
         self.is_new = False

@@ -17,7 +17,7 @@ from audits import MAX, Audit, account, transfer
 from sample import sample
 from test_load import history
 from tb_sql.audits import Loading
-from tb_sql.errors import Failed, Refused
+from tb_sql.errors import Failed, Refused, Stop
 from tb_sql.postgres_store import PostgresStore
 from tb_sql.schema import TABLES, VIEWS, columns
 
@@ -73,8 +73,8 @@ class PostgreSQL(Tables):
         self.load(audit)
         return self.load_there(audit.bytes)
 
-    def load_there(self, data):
-        store = PostgresStore(self.url)
+    def load_there(self, data, url=None):
+        store = PostgresStore(url or self.url)
         try:
             loading = Loading(store)
             loading.read(iter(data.splitlines(keepends=True)))
@@ -176,6 +176,37 @@ class PostgreSQL(Tables):
         store.close()
         self.assertIn("another load writes to it", str(raised.exception))
         self.assertSame()
+
+    def test_edited_position(self):
+        self.load_there(Audit().register().bytes)
+        with contextlib.closing(psycopg.connect(self.url, autocommit=True)) as it:
+            for change in ("UPDATE position SET head = '{'", "DELETE FROM position"):
+                it.execute(change)
+                with self.assertRaises(Refused) as raised:
+                    self.load_there(Audit().register().bytes)
+                self.assertIn("has no position in a history", str(raised.exception))
+
+    def test_faults_are_one_line(self):
+        """Those with a place, a detail, a context or a hint are."""
+        missing = self.url.replace(str(self.folder), str(self.folder / "none"))
+        with contextlib.closing(psycopg.connect(self.url, autocommit=True)) as it:
+            for url, change, data, wanted in (
+                (self.address("none"), "", b"", 'database "none" does not exist'),
+                (missing, "", b"", "No such file or directory Is the server running"),
+                (self.url, "CREATE TABLE position (one int)", b"", '"schema" does not exist'),
+                (
+                    self.url,
+                    "DROP TABLE position",
+                    Audit().register().accounts(account(1), account(10**40)).bytes,
+                    "numeric field overflow: A field with precision 39",
+                ),
+            ):
+                with self.subTest(wanted):
+                    it.execute(change)
+                    with self.assertRaises(Stop) as raised:
+                        self.load_there(data, url)
+                    self.assertIn(wanted, str(raised.exception))
+                    self.assertNotIn("\n", str(raised.exception))
 
     def test_command(self):
         status, said, fault = self.said("load", self.address("none"), "--quiet")
