@@ -151,7 +151,7 @@ class SqliteStore:
             " FROM accounts WHERE id = ?",
             (id,),
         ).fetchone()
-        return Account(id, None, *map(int, row)) if row else None
+        return Account(id, None, *self._numbers(row)) if row else None
 
     def pending_transfer(self, id: Number) -> Optional[PendingTransfer]:
         if self.is_new:
@@ -161,7 +161,10 @@ class SqliteStore:
             " WHERE id = ? AND state = 'pending'",
             (id,),
         ).fetchone()
-        return PendingTransfer(int(row[0]), *row[1:]) if row else None
+        if row is None:
+            return None
+        amount, flags = self._numbers((row[0], row[3]))
+        return PendingTransfer(amount, row[1], row[2], flags)
 
     def open_sessions(self) -> List[OpenSession]:
         if self.is_new:
@@ -169,7 +172,17 @@ class SqliteStore:
         rows = self._connection.execute(
             "SELECT session, client, requests, last_commit FROM sessions WHERE evicted_by IS NULL"
         )
-        return [OpenSession(*row) for row in rows]
+        found = []
+        for session, client, *counts in rows:
+            found.append(OpenSession(session, client, *self._numbers(counts)))
+        return found
+
+    def _numbers(self, row: Sequence[Any]) -> List[int]:
+        """The numbers of a row, which somebody else may have written."""
+        try:
+            return list(map(int, row))
+        except (TypeError, ValueError) as error:
+            raise Failed(f"{self.path}: a value that no table has: {error}") from None
 
     def write(self, changes: Changes, position: Position, before: Optional[Position]) -> None:
         """Writes rows and the position that they lead to, in one transaction. Raises `ValueError`

@@ -686,6 +686,31 @@ class Words(Tables):
         self.change("DELETE FROM position")
         self.assert_no_position(audit)
 
+    def test_edited_rows(self):
+        """What another program wrote into a row is not said of the audit."""
+        audit = Audit().register().accounts(account(1), account(2))
+        audit.transfers(transfer(5, 1, 2, 9, ["pending"]))
+        self.load(audit)
+        audit.transfers(transfer(6, 1, 2, 9, ["post_pending_transfer"], 5))
+        for table, column in (
+            ("accounts", "flags"),
+            ("accounts", "debits_posted"),
+            ("transfers", "amount"),
+            ("transfers", "flags"),
+            ("sessions", "requests"),
+        ):
+            with self.subTest(f"{table}, {column}"):
+                kept = self.row(f"SELECT {column} FROM {table} LIMIT 1")
+                self.change(f"UPDATE {table} SET {column} = 'x'")
+                with self.assertRaises(Failed) as raised:
+                    self.load(audit)
+                self.assertIn("a value that no table has", str(raised.exception))
+                self.change(f"UPDATE {table} SET {column} = ?", *kept)
+        self.change("UPDATE entries SET refused_so_far = 'x'")
+        with self.assertRaises(Refused) as raised:
+            self.load(audit)
+        self.assertIn("has no position in a history", str(raised.exception))
+
     def assert_no_position(self, audit):
         wanted = f"tb-sql: {self.path} has no position in a history. {AGAIN}\n"
         for ended in (
