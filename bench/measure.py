@@ -12,6 +12,7 @@ import subprocess
 import sys
 import tempfile
 import termios
+import threading
 import time
 
 HERE = pathlib.Path(__file__).resolve().parent
@@ -26,6 +27,7 @@ FOR_ALL_PROCESSORS = "x86-64-v2"
 PIPE_BYTES = 1 << 20
 POST_OR_VOID = 4 | 8
 PAGE_BYTES = os.sysconf("SC_PAGE_SIZE")
+LONGEST = 3600 * tried.LONGER  # seconds of a load, of which each takes minutes
 
 
 def is_newer(program, sources):
@@ -147,11 +149,28 @@ def await_idle(pid, pipe):
     unread, before = array.array("i", [0]), -1
     while True:
         fcntl.ioctl(pipe, termios.FIONREAD, unread)
-        spent = cpu_time(pid) if unread[0] == 0 and sleeps(pid) else -1
+        is_asleep = sleeps(pid)
+        spent = cpu_time(pid) if unread[0] == 0 and is_asleep else -1
         if spent >= 0 and spent == before:
             return
         before = spent
         time.sleep(0.002)
+
+
+@contextlib.contextmanager
+def limited(child, words):
+    """Kills a server that does not read, rest or end: who waits for it goes on, and tells that."""
+    late = threading.Timer(LONGEST, child.kill)
+    late.daemon = True
+    late.start()
+    try:
+        yield
+    except SystemExit:
+        if late.finished.is_set():
+            raise subprocess.TimeoutExpired(words, LONGEST) from None
+        raise
+    finally:
+        late.cancel()
 
 
 def serve(words, script, cuts, replies, at_cut=None):
@@ -160,22 +179,25 @@ def serve(words, script, cuts, replies, at_cut=None):
     size = os.path.getsize(script)
     with open(script, "rb") as source, open(replies, "wb") as sink:
         child = subprocess.Popen(words, stdin=subprocess.PIPE, stdout=sink)
-        pipe, at, costs = child.stdin.fileno(), 0, []
-        fcntl.fcntl(pipe, fcntl.F_SETPIPE_SZ, PIPE_BYTES)
-        try:
-            for end in [*cuts, size]:
-                while at < end:
-                    at += os.sendfile(pipe, source.fileno(), at, min(end - at, PIPE_BYTES))
-                await_idle(child.pid, pipe)
-                costs.append(cost_of(child.pid))
-                if at_cut:
-                    at_cut(child.pid)
-        except (BrokenPipeError, FileNotFoundError):
-            sys.exit(f"{words[0]} ended with {child.wait()} on {script}")
-        finally:
-            child.stdin.close()
-        if child.wait() != 0:
-            sys.exit(f"{words[0]} ended with {child.returncode} on {script}")
+        with limited(child, words):
+            costs = served(child, source, [*cuts, size], at_cut)
+            if child.wait() != 0 or len(costs) <= len(cuts):
+                sys.exit(f"{words[0]} ended with {child.returncode} on {script}")
+    return costs
+
+
+def served(child, source, ends, at_cut):
+    """What a server has used at each of these places in a script; fewer where it ended before."""
+    pipe, at, costs = child.stdin.fileno(), 0, []
+    fcntl.fcntl(pipe, fcntl.F_SETPIPE_SZ, PIPE_BYTES)
+    with child.stdin, contextlib.suppress(BrokenPipeError, FileNotFoundError):
+        for end in ends:
+            while at < end:
+                at += os.sendfile(pipe, source.fileno(), at, min(end - at, PIPE_BYTES))
+            await_idle(child.pid, pipe)
+            costs.append(cost_of(child.pid))
+            if at_cut:
+                at_cut(child.pid)
     return costs
 
 
@@ -183,11 +205,12 @@ def whole(words, script, replies):
     """The CPU seconds of a whole run, from its start to its end."""
     with open(script, "rb") as source, open(replies, "wb") as sink:
         child = subprocess.Popen(words, stdin=source, stdout=sink, stderr=subprocess.PIPE)
-        said = child.stderr.read().decode(errors="replace").strip()
-        _, status, usage = os.wait4(child.pid, 0)
-        child.returncode = os.waitstatus_to_exitcode(status)
-    if child.returncode != 0:
-        sys.exit(f"{words[0]} ended with {child.returncode} on {script}: {said}")
+        with limited(child, words):
+            said = child.stderr.read().decode(errors="replace").strip()
+            _, status, usage = os.wait4(child.pid, 0)
+            child.returncode = os.waitstatus_to_exitcode(status)
+            if child.returncode != 0:
+                sys.exit(f"{words[0]} ended with {child.returncode} on {script}: {said}")
     return usage.ru_utime + usage.ru_stime
 
 
