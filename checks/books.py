@@ -24,6 +24,7 @@ import json
 import os
 import pathlib
 import random
+import re
 import resource
 import shutil
 import signal
@@ -247,9 +248,7 @@ def differing(records, kept):
         row = kept[record.id]
         for name in row.keys():
             value = getattr(record, name, None)
-            if value is not None and (
-                type(value) is not type(row) and held(int(value)) != row[name]
-            ):
+            if value is not None and held(int(value)) != row[name]:
                 return f"{record.id}, {name}: {int(value)} answered, {row[name]!r} in the tables"
     return ""
 
@@ -431,7 +430,9 @@ def part_live(given, room):
     feeding.join()
     process = subprocess.Popen(words)
     deadline = time.monotonic() + PATIENCE
-    while not follows(process, path, ledger.commit) and time.monotonic() < deadline:
+    while not follows(process, path, ledger.commit) and process.poll() is None:
+        if time.monotonic() > deadline:
+            break
         time.sleep(0.2)
     process.send_signal(signal.SIGTERM)
     status = process.wait(PATIENCE)
@@ -515,7 +516,8 @@ def checked_by_server(ledger, path, socket):
                 words, stdout=subprocess.PIPE, stderr=subprocess.STDOUT, text=True
             )
             try:
-                while checking.poll() is None:
+                until = time.monotonic() + PATIENCE
+                while checking.poll() is None and time.monotonic() < until:
                     it = Transfer((1 << 101) + moved, *plain[:2], 5, ledger=700, code=10)
                     tb_client.require_ok(session.create_transfers([it]))
                     moved += 1
@@ -619,12 +621,17 @@ def tested(name, tests, modules=(), programs=()):
         return
     words = [python, "-B", "-m", "unittest", *tests]
     ran = subprocess.run(words, cwd=SQL / "tests", capture_output=True, text=True, timeout=PATIENCE)
-    said = ran.stderr.strip().splitlines()
-    tried.case(
-        name,
-        ran.returncode == 0,
-        " ".join(said[-3:]) if ran.returncode == 0 else ran.stderr[-4000:],
-    )
+    said = " ".join(ran.stderr.strip().splitlines()[-3:])
+    if ran.returncode == 0 and all_skipped(said):
+        print(f"passed over: {name}: each test is skipped: {said}")
+        return
+    tried.case(name, ran.returncode == 0, said if ran.returncode == 0 else ran.stderr[-4000:])
+
+
+def all_skipped(said):
+    """Whether a run of tests tried none, by its last lines: tests that are skipped may count."""
+    ran, skipped = re.search(r"Ran (\d+) test", said), re.search(r"skipped=(\d+)", said)
+    return not ran or int(ran[1]) <= (int(skipped[1]) if skipped else 0)
 
 
 def typed():
