@@ -52,6 +52,8 @@ KINDS = {
     "edit",
     "form",
 }
+NUMBERS = ("value", "cpu_minutes", "passed", "failed")
+NUMBER = re.compile(r"(?:-?\d+(?:\.\d+)?)?")
 # CPU minutes of a whole run of CI on the fast machine: at most, and wanted.
 CI_CPU = (114, 100)
 BLOCK = re.compile(r"(<!-- figures: (\w+) -->\n)(.*?)(<!-- end of figures -->)", re.S)
@@ -192,18 +194,28 @@ def pages() -> list[pathlib.Path]:
     return [ROOT / "README.md", ROOT / "CONTRIBUTING.md", *sorted(ROOT.glob("docs/**/*.md"))]
 
 
-def check_rows() -> None:
-    """Each row has a known kind, and where it is a run a date and a commit that is in the
-    history."""
-    for number, row in enumerate(rows(), 2):
-        wrong = [] if list(row) == COLUMNS and None not in row else ["other columns"]
-        wrong += [] if row["kind"] in KINDS else [f"unknown kind {row['kind']}"]
-        wrong += (
-            []
-            if row["kind"] == "bound" or re.fullmatch(r"\d{4}-\d\d-\d\d", row["date"])
-            else ["no date"]
-        )
+def faults_of(row: dict[str, str]) -> list[str]:
+    """What is wrong with a row: each has its columns, numbers, a known kind, and a run a date."""
+    if list(row) != COLUMNS or None in row.values():
+        return ["other columns"]
+    wrong = [f"{it} is no number" for it in NUMBERS if not NUMBER.fullmatch(row[it])]
+    wrong += [] if row["kind"] in KINDS else [f"unknown kind {row['kind']}"]
+    is_dated = row["kind"] == "bound" or re.fullmatch(r"\d{4}-\d\d-\d\d", row["date"])
+    return wrong + ([] if is_dated else ["no date"])
+
+
+def check_rows() -> bool:
+    """Whether there are rows, and none has a fault."""
+    found = {number: faults_of(row) for number, row in enumerate(rows(), 2)}
+    for number, wrong in found.items():
         tried.case(f"runs.csv, line {number}", not wrong, ", ".join(wrong), quietly=True)
+    return tried.case("runs.csv", bool(found), "it has no rows", quietly=True) and not any(
+        found.values()
+    )
+
+
+def check_commits() -> None:
+    """Each row's commit is in the history; benchmarks are of one commit and one machine."""
     for commit in sorted({row["commit"] for row in rows()} - {""}):
         known = (
             subprocess.run(
@@ -229,31 +241,45 @@ def check_ci() -> None:
     """The newest whole run of CI on the fast machine took no more CPU time than it may."""
     bound, wanted = CI_CPU
     whole = (it for it in of_kind("ci") if is_whole(it) and it["cpu_minutes"])
-    found = next(it for it in whole if it["machine"] == "fast")
+    found = next((it for it in whole if it["machine"] == "fast"), None)
+    if found is None:
+        tried.case("CPU minutes of CI, fast", False, "runs.csv has no such run")
+        return
     said = f"{found['cpu_minutes']} at {found['commit']}; bound {bound}, wanted {wanted}"
-    tried.case("CPU minutes of CI, fast", int(found["cpu_minutes"]) <= bound, said)
+    tried.case("CPU minutes of CI, fast", float(found["cpu_minutes"]) <= bound, said)
+
+
+def block_of(name: str) -> tuple[str, str]:
+    """The block of this name, and why there is none."""
+    if name not in WRITERS:
+        return "", "no writer has this name"
+    try:
+        return WRITERS[name](), ""
+    except (IndexError, StopIteration):
+        return "", "runs.csv lacks a row for it"
 
 
 def main() -> int:
     parser = tried.arguments(__doc__)
     parser.add_argument("--write", action="store_true", help="write the blocks")
     writes, seen = parser.parse_args().write, set()
-    check_rows()
+    if not check_rows():
+        return tried.status()
+    check_commits()
     check_ci()
     for page in pages():
         text = page.read_text()
 
         def written(found: re.Match) -> str:
             seen.add(found[2])
-            block = WRITERS[found[2]]() if found[2] in WRITERS else found[3]
-            holds = found[2] in WRITERS and (writes or block == found[3])
+            block, lacks = block_of(found[2])
             tried.case(
                 f"{page.relative_to(ROOT)}: {found[2]}",
-                holds,
-                "not what runs.csv gives: checks/figures.py --write",
+                not lacks and (writes or block == found[3]),
+                lacks or "not what runs.csv gives: checks/figures.py --write",
                 quietly=True,
             )
-            return found[1] + block + found[4]
+            return found[1] + (found[3] if lacks else block) + found[4]
 
         new = BLOCK.sub(written, text)
         if writes and new != text:

@@ -83,7 +83,10 @@ def measured(commit: str) -> dict[str, str]:
 def write(commit: str) -> None:
     """Puts the rows of a commit before those of FIRST, and drops those between."""
     values, every = measured(commit), figures.rows()
-    at = next(number for number, row in enumerate(every) if row["kind"] == "form")
+    lost = [name for name in FIGURES if name not in values]
+    if lost:
+        sys.exit(f"not measured at {commit}: {', '.join(lost)}")
+    at = next((number for number, row in enumerate(every) if row["kind"] == "form"), len(every))
     kept = [row for row in every if row["kind"] != "form" or row["commit"] == FIRST]
     today = datetime.date.today().isoformat()
     for name in reversed(FIGURES):
@@ -104,6 +107,8 @@ def main() -> int:
     if parser.parse_args().write:
         write(git("rev-parse", "--short=7", "HEAD"))
     rows = figures.of_kind("form")
+    if not rows:
+        sys.exit("runs.csv has no row of kind form: checks/form.py --write puts them in")
     newest = rows[0]["commit"]
     there, values = {it["subject"]: it for it in rows if it["commit"] == newest}, measured(newest)
     for name, (*_, wanted) in FIGURES.items():
