@@ -251,22 +251,18 @@ def who(every, word):
 
 
 def check_heads(every, writes):
-    """Tells, or writes, the heads that are not as they should be, and answers how many they are."""
-    wanted, wrong = dict(heads(every)), 0
-    for (crate, module), head in wanted.items():
+    """Tells, or writes, the heads that are not as they should be; the status."""
+    for (crate, module), head in heads(every):
         path = f"{TOP}/crates/{crate}/specs/{module.replace('.', '/')}.antt"
         lines = read(path)
         at = next((n for n, line in enumerate(lines) if not line.startswith("--")), len(lines))
-        if head in lines[:at]:
-            continue
-        wrong += 1
-        print(f"{os.path.relpath(path, TOP)}: {head}")
-        if writes:
+        is_there = head in lines[:at]
+        tried.case(os.path.relpath(path, TOP), is_there or writes, head, quietly=is_there)
+        if writes and not is_there:
             kept = [line for line in lines[:at] if not line.startswith(HEADS)]
             with open(path, "w", encoding="utf-8") as file:
                 file.write("\n".join(kept + [head] + lines[at:]) + "\n")
-    print(f"{len(wanted) - wrong} passed, {wrong} failed")
-    return wrong
+    return tried.status()
 
 
 def main():
@@ -286,7 +282,7 @@ def main():
             parser.error(f"no file of specs/ with definitions is {given.who}")
         return who(every, given.who)
     if given.heads:
-        return int(check_heads(every, given.write) > 0)
+        return check_heads(every, given.write)
     for crate in given.crates:
         if crate not in crates():
             parser.error(f"there is no library {crate}")
