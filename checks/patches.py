@@ -71,14 +71,11 @@ def main():
     for name in given.names:
         if name not in known:
             words.error(f"checks/patches has no {name}.patch")
-    passed = failed = 0
     whole = {}
     for name in given.names or known:
         why = judge(name, whole)
-        passed, failed = passed + (why is None), failed + (why is not None)
-        print(f"{name}: {'refused by its test' if why is None else why}", flush=True)
-    print(f"{passed} passed, {failed} failed")
-    return 1 if failed else 0
+        tried.case(name, why is None, why or "refused by its test")
+    return tried.status()
 
 
 if __name__ == "__main__":

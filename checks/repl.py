@@ -138,7 +138,7 @@ def main():
             shown, status = conversation([*words, "--connect", path], lines, folder)
         finally:
             listener.terminate()
-            listener.wait()
+            listener.wait(SECONDS)
         same = TIME.sub("TIME", shown) == TIME.sub("TIME", stored)
         tried.case("the same over a listener", same, "" if same else shown)
         tried.case("its status", status == 0, str(status))
