@@ -68,9 +68,9 @@ def work_folder(named):
 
 
 def make_script(folder, workload, events, accounts, seed=1):
-    """The path of a script, which is made where it is not there yet."""
+    """The path of a script, which is made where it is not there yet, or older than its maker."""
     path = pathlib.Path(folder) / f"{workload}-{events}-{accounts}-{seed}"
-    if not path.exists():
+    if not is_newer(path, [HERE / "make_script.py"]):
         part = path.with_suffix(".part")
         words = [HERE / "make_script.py", workload, events, seed, "--accounts", accounts]
         with open(part, "wb") as out:

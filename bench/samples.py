@@ -13,7 +13,9 @@ start over that file, and of tbt audit; `ports-PORTS-EACH-ACCOUNTS` and `takes-F
 """
 import os
 import re
+import select
 import subprocess
+import sys
 import tempfile
 
 import compare
@@ -25,6 +27,7 @@ import threads
 import tried
 
 PERF = ["perf", "record", "--quiet", "--event", "cpu-clock", "--freq", "2000"]
+PATIENCE = 60 * tried.LONGER  # seconds that perf has for its answer
 LEAST, MANY = 5, 4  # Parts of fewer per cent are not printed, and no more parts than so many.
 # What a function belongs to, by its path; the first that fits.
 PARTS = {
@@ -88,10 +91,14 @@ class Watch:
             self.perf = subprocess.Popen(
                 [*PERF, *words, "--control", f"fifo:{','.join(self.pipes)}"]
             )
-        with open(self.pipes[0], "w", encoding="ascii") as orders:
-            orders.write(f"{order}\n")
-        with open(self.pipes[1], encoding="ascii") as answers:
-            answers.readline()
+        orders, answers = (os.open(it, os.O_RDWR) for it in self.pipes)  # waits for no reader
+        os.write(orders, f"{order}\n".encode())
+        if not select.select([answers], [], [], PATIENCE)[0]:
+            self.perf.kill()
+            sys.exit(f"perf did not {order} its samples within {PATIENCE:.0f} seconds")
+        os.read(answers, 64)
+        os.close(orders)
+        os.close(answers)
 
 
 def of_load(name, scale, folder, data):
