@@ -111,7 +111,8 @@ class Tables:
     def check_entries(self) -> None:
         """Entries come one after another, and their counts are those of the other tables."""
         before, sums = (0, -1), [0, 0, 0]
-        made = self._made()
+        made = self._counted("accounts UNION ALL SELECT commit_number FROM transfers")
+        rejected = self._counted("refused")
         for commit, at, operation, events, refused, *so_far in self.connection.execute(
             "SELECT commit_number, time, operation, events, refused, accounts_so_far,"
             " transfers_so_far, refused_so_far FROM entries ORDER BY commit_number"
@@ -120,21 +121,24 @@ class Tables:
             if at <= before[1]:
                 raise Difference(f"entry {commit}: its time {at} is not after {before[1]}")
             created = events - refused if operation.startswith("create_") else 0
-            differ(f"entry {commit}: created records", made.get(commit, 0), created)
+            differ(f"entry {commit}: created records", made.pop(commit, 0), created)
+            differ(f"entry {commit}: refused events", rejected.pop(commit, 0), refused)
             sums[0] += created if operation == "create_accounts" else 0
             sums[1] += created if operation == "create_transfers" else 0
             sums[2] += refused
             differ(f"entry {commit}: accounts, transfers and refused so far", so_far, sums)
             before = commit, at
+        for commit in (*made, *rejected):
+            raise Difference(f"entry {commit} has records, and is not in the tables")
         kept = self.connection.execute("SELECT commit_number, time FROM position").fetchone()
         differ("the last entry", (kept[0], kept[1]), (before[0], max(before[1], 0)))
 
-    def _made(self) -> Dict[int, int]:
-        """How many records each entry made."""
+    def _counted(self, tables: str) -> Dict[int, int]:
+        """How many rows of these tables each entry has."""
         return dict(
             self.connection.execute(
-                "SELECT commit_number, count(*) FROM (SELECT commit_number FROM accounts UNION ALL"
-                " SELECT commit_number FROM transfers) GROUP BY commit_number"
+                f"SELECT commit_number, count(*) FROM (SELECT commit_number FROM {tables})"
+                " GROUP BY commit_number"
             ).fetchall()
         )
 

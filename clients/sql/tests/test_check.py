@@ -6,6 +6,7 @@ import unittest
 from support import Tables  # noqa: I001
 from audits import MAX, Audit, account, transfer
 from test_load import history
+from tb_sql.numbers import held
 
 
 class Check(Tables):
@@ -16,6 +17,11 @@ class Check(Tables):
     def load_again(self):
         os.unlink(self.path)
         self.load(history())
+
+    def two(self, *transfers):
+        """Tables of two accounts, and these transfers."""
+        self.path = str(self.room / "two.sqlite")
+        self.load(Audit().register().accounts(account(1), account(2)).transfers(*transfers))
 
     def found(self, *changes):
         for text in changes:
@@ -67,6 +73,73 @@ class Check(Tables):
             "its postings are not of its amount",
             self.found("DELETE FROM postings WHERE account_id = 1 AND number = 3"),
         )
+
+    def test_columns_of_postings(self):
+        self.two(transfer(5, 1, 2, 9))
+        for account_id, column, right in (
+            (1, "debit", 9),
+            (1, "credit", 0),
+            (1, "transfer_id", 5),
+            (1, "counterparty_id", 2),
+            (2, "debit", 0),
+            (2, "credit", 9),
+            (2, "transfer_id", 5),
+            (2, "counterparty_id", 1),
+        ):
+            with self.subTest(f"{column} of account {account_id}"):
+                change = f"UPDATE postings SET {column} = {{}} WHERE account_id = {account_id}"
+                said = self.found(change.format(right + 1))
+                self.assertIn("transfer 5: its postings", said)
+                self.change(change.format(right))
+
+    def test_sums_that_no_ledger_has(self):
+        """Negative ones, and those above 128 bits, though all rows agree."""
+        self.two(transfer(5, 1, 2, 9))
+        for amount in (-9, MAX + 1):
+            debit, credit = (repr(held(it)) for it in (amount, -amount))
+            self.change(f"UPDATE transfers SET amount = {debit}")
+            for id, sign, side in ((1, debit, "debit"), (2, credit, "credit")):
+                self.change(
+                    f"UPDATE postings SET {side} = {debit}, {side}s_posted = {debit},"
+                    f" balance = {sign} WHERE account_id = {id}"
+                )
+                self.change(f"UPDATE accounts SET {side}s_posted = {debit} WHERE id = {id}")
+            self.assertIn("are not of 128 bits", self.found())
+
+    def test_posting_of_no_transfer(self):
+        """One of nothing, which no sum shows."""
+        self.two(transfer(5, 1, 2, 9))
+        self.change(
+            "INSERT INTO postings SELECT 1, timestamp + 1, 2, 99, 2, 0, 0, 9, 0, 9 FROM transfers"
+        )
+        said = self.found("UPDATE accounts SET postings = 2 WHERE id = 1")
+        self.assertIn("the number of postings: 3 in the tables, 2", said)
+
+    def test_account_that_is_not_there(self):
+        self.two(transfer(5, 1, 2, 9))
+        change = "UPDATE accounts SET id = 0, credits_posted = 0, postings = 0 WHERE id = 2"
+        self.assertIn("account 2 has transfers, and is not in the tables", self.found(change))
+
+    def test_pending_sums_of_a_ledger(self):
+        self.two(transfer(5, 1, 2, 9, ["pending"]))
+        said = self.found("UPDATE accounts SET ledger = 5 WHERE id = 2")
+        self.assertIn("debits pending", said)
+
+    def test_counts_so_far(self):
+        self.two(transfer(5, 1, 2, 9), transfer(6, 1, 2, 9, result="exceeds_credits"))
+        for column in ("accounts_so_far", "transfers_so_far", "refused_so_far"):
+            change = f"UPDATE entries SET {column} = {column} + {{}} WHERE commit_number = 3"
+            self.assertIn("so far: ", self.found(change.format(1)))
+            self.change(change.format(-1))
+
+    def test_refused_events(self):
+        self.two(transfer(6, 1, 2, 9, result="exceeds_credits"))
+        self.assertEqual(self.said("check", self.path)[0], 0)
+        columns = "place, operation, result, id, event"
+        said = self.found(f"INSERT INTO refused SELECT 9, {columns} FROM refused")
+        self.assertIn("entry 9 has records, and is not in the tables", said)
+        said = self.found("DELETE FROM refused")
+        self.assertIn("entry 3: refused events: 0 in the tables, 1", said)
 
     def test_posting_of_another_amount(self):
         self.assertIn(
