@@ -192,6 +192,55 @@ class Sources(Tables):
             time.sleep(0.05)
         self.end(process, signal.SIGTERM, 0)
 
+    def put_behind(self, name, filter):
+        """What a program writes goes through a filter."""
+        program = self.room / name
+        program.write_text(program.read_text().replace('"$@"', f'"$@" | {filter}'))
+
+    def test_a_follow_of_another_ledger(self):
+        """It is refused, and the tables stay as old as they are."""
+        self.write(history())
+        self.assertEqual(self.loaded(), (0, ""))
+        os.utime(self.path, (5, 5))
+        audit = Audit().register().accounts(account(3), account(4))
+        for number in range(1, 6):
+            audit.transfers(transfer(number, 3, 4, 10))
+        self.write(audit)
+        self.put_behind("tbt", "(sleep 1; cat)")
+        status, said = self.loaded("--follow")
+        self.assertEqual(status, 2, said)
+        self.assertIn("entry 7 is another one", said)
+        self.assertEqual(os.path.getmtime(self.path), 5)
+
+    def test_a_dump_that_is_killed(self):
+        """Whole entries that came before are no whole history."""
+        self.write(history())
+        tbd = self.room / "tbd"
+        tbd.write_text("#!/bin/sh\nhead -n 7 $2\nkill -9 $$\n")
+        status, said = self.loaded()
+        self.assertEqual((status, said.count("\n")), (1, 1), said)
+        self.assertIn("ended with -9", said)
+        self.assertEqual(self.rows("SELECT commit_number FROM position"), [(3,)])
+
+    def test_a_follow_whose_entries_are_late(self):
+        """Tables that lack entries stay older than the file, whatever time it gets meanwhile."""
+        self.write(history(), 7)
+        self.assertEqual(self.loaded(), (0, ""))
+        self.write(history())
+        os.utime(self.path, (5, 5))
+        self.put_behind("tbt", "(sed -u 3q; sleep 3; cat)")
+        process, until, told = self.follow(), time.monotonic() + SECONDS, 10
+        while True:
+            os.utime(self.file, (told, told))
+            shown = os.path.getmtime(self.path)
+            if self.rows("SELECT commit_number FROM position") == [(7,)]:
+                break
+            self.assertEqual(shown, 5)
+            self.assertLess(time.monotonic(), until)
+            told += 1
+            time.sleep(0.05)
+        self.end(process, signal.SIGTERM, 0)
+
     def test_words_of_a_follow(self):
         self.write(history())
         self.assertEqual(self.loaded()[0], 0)
