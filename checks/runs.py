@@ -109,7 +109,8 @@ def main():
         "lines in all"
     )
     if not by_shape and not crates:
-        tried.case("pairs", len(rows) <= PAIRS, f"{len(rows)}; bound {PAIRS}, wanted 0")
+        said = f"{len(rows)}; bound {PAIRS}, wanted 0" if files else "there are no sources"
+        tried.case("pairs", files and len(rows) <= PAIRS, said)
     return int(tried.failed > 0)
 
 

@@ -191,7 +191,7 @@ def check_bounds():
     """Compares the figures that have a bound with it; the status."""
     product = summed(measured(it, False) for it in crates_listed(product=True))
     every = summed(measured(it, False) for it in crates_listed())
-    share = product[">100"] / product["clauses"]
+    share = product[">100"] / max(1, product["clauses"])
     tried.case(
         "joined clauses over 100 columns",
         round(share, 3) <= CLAUSES_OVER_100,
@@ -199,12 +199,15 @@ def check_bounds():
         "wanted 10.0%",
     )
     proofs = [it for crate in crates_listed() for it in files(crate, "proofs", ".antt")]
-    found = sum(1 for path in proofs for line in lines(path) if IMPORT.match(line)) / len(proofs)
+    imports = sum(1 for path in proofs for line in lines(path) if IMPORT.match(line))
+    found = imports / max(1, len(proofs))
     bound, wanted = IMPORTS_A_FILE
     said = f"{found:.2f}; bound {bound}, wanted {wanted}"
     tried.case("lines of imports in a file of proofs", found <= bound, said)
     found, (bound, wanted) = len(crates_listed()), CRATES
-    tried.case("crates", found <= bound, f"{found}; bound {bound}, wanted {wanted}")
+    tried.case("crates", 0 < found <= bound, f"{found}; bound {bound}, wanted {wanted}")
+    for crate in crates_listed():
+        tried.case(f"{crate} has sources", any(files(crate, "src", ".rt")), quietly=True)
     for figure, (bound, wanted) in BOUNDS.items():
         found = product[figure] if figure in PRODUCT_ALONE else every[figure]
         tried.case(figure, found <= bound, f"{found}; bound {bound}, wanted {wanted}")
