@@ -172,6 +172,14 @@ class Events(Tables):
         self.load(audit)
         self.assertEqual(self.row("SELECT profile, commit_number FROM position"), (2, 2))
 
+    def test_mark_alone(self):
+        """One that came behind the last entry that the tables have."""
+        audit = Audit().register()
+        self.load(audit)
+        audit.put({"profile": 2})
+        self.load(audit)
+        self.assertEqual(self.row("SELECT profile, commit_number FROM position"), (2, 1))
+
     def test_account_lines_are_passed_over(self):
         audit = Audit().register()
         audit.put({"commit": "1", "time": str(audit.time), "account": {"id": "1"}})
@@ -346,6 +354,11 @@ class OtherHistories(Tables):
     def test_another_last_entry(self):
         self.load(Audit().register().accounts(account(1)))
         self.refused(Audit().register().accounts(account(2)).register(9), "entry 2 is another one")
+
+    def test_another_result_of_the_last_entry(self):
+        self.load(Audit().register().accounts(account(1, result="exists")))
+        other = Audit().register().accounts(account(1, result="code_must_not_be_zero"))
+        self.refused(other, "entry 2 is another one")
 
     def test_shorter(self):
         self.load(Audit().register().accounts(account(1)))
