@@ -701,7 +701,8 @@ def on_terminals(tbd, folder):
     lines = b"tbd: standard input is a terminal, and run reads request frames there; tb-repl and tbt script take words\ntbd: made typed.tbk\n"
     case("requests from a terminal", (ran.returncode, ran.stdout, ran.stderr) == (0, b"", lines), ran)
     ran = subprocess.run([tbd, "run", "seen.tbk", "3"], cwd=folder, stdin=subprocess.DEVNULL, stdout=subprocess.PIPE, stderr=slave, timeout=SECONDS, check=False)
-    case("a start that is seen on a terminal", (ran.returncode, os.read(master, 4096)) == (0, b"tbd: made seen.tbk\ntbd: ready\n"), ran)
+    shown = os.read(master, 4096) if select.select([master], [], [], SECONDS)[0] else b""
+    case("a start that is seen on a terminal", (ran.returncode, shown) == (0, b"tbd: made seen.tbk\ntbd: ready\n"), ran)
     os.close(slave)
     os.close(master)
 
@@ -709,9 +710,9 @@ def on_terminals(tbd, folder):
 def told_at_once(tbd, folder):
     """A line goes out in one write: it stays whole where several programs write to one file."""
     ours, theirs = socket.socketpair(socket.AF_UNIX, socket.SOCK_SEQPACKET)
-    with ours, theirs:
-        subprocess.run([tbd, "check", "absent.tbk"], cwd=folder, stderr=theirs, timeout=SECONDS, check=False)
-        ours.settimeout(SECONDS)
+    with ours:
+        with theirs:
+            subprocess.run([tbd, "check", "absent.tbk"], cwd=folder, stderr=theirs, timeout=SECONDS, check=False)
         said = ours.recv(4096)
     case("a line goes out at once", said == b"tbd: Device: cannot find absent.tbk\n", said)
 

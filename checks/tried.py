@@ -31,7 +31,8 @@ def case(name, holds, said="", quietly=False):
     global passed, failed
     passed, failed = passed + bool(holds), failed + (not holds)
     if not (holds and quietly):
-        print(f"{'ok' if holds else 'FAILED'}: {name}{said and ': '}{said}", flush=True)
+        shown = "" if said in ("", None) else f": {said}"
+        print(f"{'ok' if holds else 'FAILED'}: {name}{shown}", flush=True)
     return bool(holds)
 
 
