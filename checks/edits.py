@@ -93,6 +93,9 @@ def page_with(edits):
     with open(PAGE, encoding="utf-8") as file:
         text = file.read()
     made = blocks(edits)
+    marked = [it[2] for it in BLOCK.finditer(text)]
+    if sorted(marked) != sorted(made):
+        sys.exit(f"{PAGE} has marks of {', '.join(marked)}: it needs {', '.join(made)}, once each")
     return text, BLOCK.sub(lambda it: f"{it[1]}{made[it[2]]}{it[4]}", text)
 
 
