@@ -6,8 +6,9 @@
 
 The crates come from crates.txt, the bars from docs/work/runs.csv, the other pictures from this
 file. A picture is an SVG with its own colours for light and dark. A crate that the picture of the
-crates does not place, a picture that no page shows, and an SVG in docs/pictures that is not drawn
-here fail too. Screenshots (PNG) are made by checks/books.py.
+crates does not place, a picture that no page shows, one that a page shows and that is not there,
+and an SVG in docs/pictures that is not drawn here fail too. Screenshots (PNG) are made by
+clients/sql/tests/test_browser.py.
 """
 import math
 import pathlib
@@ -502,9 +503,8 @@ def main() -> int:
     parser = tried.arguments(__doc__)
     parser.add_argument("--write", action="store_true", help="write the pictures")
     writes = parser.parse_args().write
-    shown = set(
-        re.findall(r"pictures/(\w+)\.svg", "".join(it.read_text() for it in figures.pages()))
-    )
+    pages = "".join(it.read_text() for it in figures.pages())
+    shown = set(re.findall(r"pictures/([\w-]+\.(?:svg|png))", pages))
     for name, draw in PICTURES.items():
         path, drawn = FOLDER / f"{name}.svg", draw()
         if writes:
@@ -516,16 +516,16 @@ def main() -> int:
             "not as drawn: checks/pictures.py --write",
             quietly=True,
         )
-        tried.case(f"{name} is shown by a page", name in shown, quietly=True)
+        tried.case(f"{name} is shown by a page", path.name in shown, quietly=True)
     for path in FOLDER.glob("*.svg"):
         tried.case(
             path.relative_to(ROOT), path.stem in PICTURES, "no picture of this script", quietly=True
         )
-    photographed = "".join(it.read_text() for it in figures.pages())
     for path in FOLDER.glob("*.png"):
-        tried.case(
-            path.relative_to(ROOT), path.name in photographed, "no page shows it", quietly=True
-        )
+        tried.case(path.relative_to(ROOT), path.name in shown, "no page shows it", quietly=True)
+    for name in sorted(shown):
+        there = (FOLDER / name).is_file()
+        tried.case(f"{name} is there", there, "a page shows it, and it is not", quietly=True)
     return tried.status()
 
 
