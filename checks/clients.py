@@ -26,6 +26,7 @@ import subprocess
 import sys
 import tempfile
 import textwrap
+import threading
 
 import frames
 import tried
@@ -38,6 +39,7 @@ EMBED = f"{TOP}/embed/python"
 PROGRAM = os.path.abspath(os.environ.get("PROGRAM", f"{TOP}/crates/tbs/out/tbs"))
 TBD = os.path.abspath(os.environ.get("TBD", f"{TOP}/crates/tbd/out/tbd"))
 SECONDS = 3600  # that one command may take, also on a busy computer
+STARTED = 60 * tried.LONGER  # that a listener may take to say that it listens
 INTERRUPTED = 10  # seconds that one may take to end after Ctrl-C
 KEEPER = shlex.join(
     [TBD] if os.access(TBD, os.X_OK) else [sys.executable, "-SE", f"{CLIENT}/stand_in_tbd.py"]
@@ -183,11 +185,15 @@ def sockets():
             text=True,
         )
         try:
-            case(
-                "the page's listener",
-                [listener.stderr.readline() for _ in range(2)]
-                == ["tb_listen: tbd: made ledger.journal\n", "tb_listen: listens on ledger.sock\n"],
-            )
+            late = threading.Timer(STARTED, listener.kill)
+            late.start()
+            told = [listener.stderr.readline() for _ in range(2)]
+            late.cancel()
+            wanted = [
+                "tb_listen: tbd: made ledger.journal\n",
+                "tb_listen: listens on ledger.sock\n",
+            ]
+            case("the page's listener", told == wanted, "" if told == wanted else told)
             output = script(
                 "the page's Python over a socket",
                 CLIENT,
