@@ -15,17 +15,22 @@ import urllib.error
 import urllib.parse
 import urllib.request
 
-from selenium import webdriver
-from selenium.common.exceptions import WebDriverException
-from selenium.webdriver.chrome.options import Options
-from selenium.webdriver.chrome.service import Service
-from selenium.webdriver.common.by import By
-from selenium.webdriver.common.keys import Keys
+try:
+    import flask  # noqa: F401
+    from selenium import webdriver
+    from selenium.common.exceptions import WebDriverException
+    from selenium.webdriver.chrome.options import Options
+    from selenium.webdriver.chrome.service import Service
+    from selenium.webdriver.common.by import By
+    from selenium.webdriver.common.keys import Keys
+except ImportError as error:
+    raise unittest.SkipTest(str(error)) from None
 
 from support import COMMAND  # noqa: I001
 from sample import BANK, GREAT, HOLDS, SALES, sample
 from audits import MAX
 
+DRIVER = "/usr/bin/chromedriver"
 WINDOW = ("--headless=new", "--no-sandbox", "--disable-gpu", "--disable-dev-shm-usage")
 CONTRAST = """
 const parts = (text) => text.match(/[\\d.]+/g).map(Number);
@@ -71,6 +76,7 @@ def png_size(data):
     return struct.unpack(">II", data[16:24])
 
 
+@unittest.skipUnless(os.path.exists(DRIVER), "chromedriver is not installed")
 class Browser(unittest.TestCase):
     @classmethod
     def setUpClass(cls):
@@ -86,7 +92,7 @@ class Browser(unittest.TestCase):
         options = Options()
         for word in (*WINDOW, "--window-size=1200,900", "--hide-scrollbars", "--lang=en-GB"):
             options.add_argument(word)
-        cls.driver = webdriver.Chrome(service=Service("/usr/bin/chromedriver"), options=options)
+        cls.driver = webdriver.Chrome(service=Service(DRIVER), options=options)
         cls.addClassCleanup(cls.driver.quit)
         cls.driver.set_page_load_timeout(120)
 

@@ -16,7 +16,11 @@ import unittest
 import unittest.mock
 import urllib.request
 
-from werkzeug.serving import make_server
+try:
+    import flask  # noqa: F401
+    from werkzeug.serving import make_server
+except ImportError as error:
+    raise unittest.SkipTest(str(error)) from None
 
 from support import COMMAND, Tables  # noqa: I001
 from audits import MAX, START, Audit, account, transfer

@@ -10,7 +10,10 @@ import subprocess
 import tempfile
 import unittest
 
-import psycopg
+try:
+    import psycopg
+except ImportError as error:
+    raise unittest.SkipTest(str(error)) from None
 
 from support import Tables  # noqa: I001
 from audits import MAX, Audit, account, transfer
