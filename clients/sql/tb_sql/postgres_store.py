@@ -42,7 +42,11 @@ class PostgresStore:
         try:
             # of a database in SQL_ASCII, whose texts would else come as bytes
             self._connection = self._psycopg.connect(url, autocommit=True, client_encoding="UTF8")
-            self._look()
+            try:
+                self._look()
+            except BaseException:
+                self.close()
+                raise
         except self._psycopg.Error as error:
             raise self._failed(error) from None
 
