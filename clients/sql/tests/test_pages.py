@@ -67,6 +67,23 @@ class Shown(Pages):
                 queries.Tables(self.path)
             self.change(f"UPDATE position SET {column} = ?", *kept)
 
+    def test_edited_rows(self):
+        """A value of another kind is told by a page, and not as a fault of the server."""
+        self.load(history())
+        for table, column, address in (
+            ("accounts", "debits_posted", "/account/1"),
+            ("accounts", "flags", "/account/1"),
+            ("transfers", "commit_number", "/transfer/1000"),
+            ("entries", "time", "/"),
+        ):
+            with self.subTest(f"{table}, {column}"):
+                kept = self.rows(f"SELECT rowid, {column} FROM {table}")
+                self.change(f"UPDATE {table} SET {column} = 'x' || {column}")
+                self.assertIn("A value that no table has", self.words(address, 500))
+                for rowid, value in kept:
+                    self.change(f"UPDATE {table} SET {column} = ? WHERE rowid = ?", value, rowid)
+                self.words(address)
+
     def test_all_pages(self):
         self.load(history())
         for address in (
