@@ -875,6 +875,23 @@ def postgres():
 
 
 @unittest.skipUnless(importlib.util.find_spec("psycopg"), "python3-psycopg is not there")
+class Broken:
+    """A connection of libpq's that breaks when it is read: its socket is closed by then."""
+
+    def __init__(self, it, closed):
+        self.it, self.socket, self.closed = it, it.fileno(), closed
+
+    def flush(self):
+        return 0
+
+    def consume_input(self):
+        import psycopg
+
+        self.it.close()
+        self.closed.set()
+        raise psycopg.OperationalError("it broke")
+
+
 class PostgreSQL(unittest.IsolatedAsyncioTestCase):
     async def _primary(self, reader, writer):
         """What a primary says to who connects."""
@@ -1029,6 +1046,34 @@ class PostgreSQL(unittest.IsolatedAsyncioTestCase):
             await owner.report("r0", b"{}")
             await owner.close()
             await user.close()
+
+    async def test_a_client_gets_the_number_of_a_broken_connection(self):
+        """It is served, and the call fails as any other. The replica ended by a traceback."""
+        import psycopg
+        from tb_host.round_trips import RoundTrip
+
+        (mine, primary), closed = socket.socketpair(), asyncio.Event()
+        number = mine.fileno()
+
+        async def taken():
+            await closed.wait()
+            it, client = socket.socketpair()
+            self.assertEqual(it.fileno(), number)
+            loop, come = asyncio.get_running_loop(), asyncio.StreamReader()
+            protocol = asyncio.StreamReaderProtocol(come)
+            transport, _ = await loop.connect_accepted_socket(lambda: protocol, it)
+            with client:
+                client.send(b"a request")
+                found = await asyncio.wait_for(come.readexactly(9), 5)
+            transport.close()
+            return found
+
+        taking = asyncio.ensure_future(taken())
+        await asyncio.sleep(0)
+        primary.send(b"x")
+        with primary, self.assertRaisesRegex(psycopg.OperationalError, "^it broke$"):
+            await RoundTrip(Broken(mine, closed), []).run()
+        self.assertEqual(await taking, b"a request")
 
     async def test_who_waits_in_the_server_ends_there(self):
         """The server sees no end of a connection while a call waits for another's lock. Without a

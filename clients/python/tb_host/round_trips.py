@@ -20,7 +20,7 @@ class RoundTrip:
         self.loop = asyncio.get_running_loop()
         self.done: asyncio.Future[None] = self.loop.create_future()
         self.results: List[pq.abc.PGresult] = []
-        self.is_sent = self.is_watched = False
+        self.is_sent = self.is_read = self.is_watched = False
         for name, values in statements:
             formats = [pq.Format.BINARY] * len(values)
             connection.send_query_prepared(name, values, formats)
@@ -29,13 +29,20 @@ class RoundTrip:
     async def run(self) -> List[pq.abc.PGresult]:
         """The result of each statement."""
         self.loop.add_reader(self.socket, self._come)
+        self.is_read = True
         try:
             self._leave()
             await self.done
             return self.results
         finally:
+            self._stop()
+
+    def _stop(self) -> None:
+        """Watches the socket no longer."""
+        if self.is_read:
+            self.is_read = False
             self.loop.remove_reader(self.socket)
-            self._watch(False)
+        self._watch(False)
 
     def _leave(self) -> None:
         """Lets leave what is held, as far as the socket takes it."""
@@ -51,10 +58,12 @@ class RoundTrip:
                 self.loop.remove_writer(self.socket)
 
     def _try(self, step: Any) -> None:
-        """Takes a step. What it fails with is told."""
+        """Takes a step. What it fails with is told. libpq may have closed the socket then, and the
+        next connection gets its number: so it is left at once."""
         try:
             step()
         except psycopg.Error as error:
+            self._stop()
             if not self.done.done():
                 self.done.set_exception(error)
 
