@@ -12,6 +12,7 @@ import io
 import json
 import os
 import pwd
+import resource
 import shutil
 import signal
 import socket
@@ -177,6 +178,21 @@ class OverTLS(unittest.TestCase):
             self.test_client(place)
             self.assertEqual(it.end(), 0)
         self.assertIn("a connection is closed: TLS: others came while it agreed", "".join(it.said))
+
+    def test_many_that_call_at_once(self):
+        """No more files are open than the limit on connections asks for, and clients are served
+        meanwhile. All that called were taken before anyone else was looked at."""
+        with self.listening("--client-ca", self.paths["ca"], "--connections", "8") as (it, place):
+            files = 3 * 8 + 64
+            resource.prlimit(it.process.pid, resource.RLIMIT_NOFILE, (files, files))
+            with contextlib.ExitStack() as silent:
+                it.process.send_signal(signal.SIGSTOP)
+                for _ in range(400):
+                    silent.enter_context(socket.create_connection(("127.0.0.1", place[1])))
+                it.process.send_signal(signal.SIGCONT)
+                self.test_client(place)
+            self.assertEqual(it.end(), 0)
+        self.assertNotIn("no more connections are taken", "".join(it.said))
 
     def test_who_does_not_agree_in_time(self):
         """It is told, and counted. Nothing said why a client got no connection."""

@@ -223,8 +223,9 @@ async def take_connections(at: Place, listener: Listener) -> None:
                 await _begin(it, listener)
             else:  # who is slow at it holds up nobody
                 if len(agreeing) >= listener.given.connections:
-                    _drop_oldest(listener)
+                    await _drop_oldest(listener)
                 _keep(asyncio.ensure_future(_begin(it, listener, at.tls)), shown(*address))
+                await asyncio.sleep(0)  # nor do many that call at once
 
 
 async def _called(place: socket.socket) -> None:
@@ -247,12 +248,12 @@ def _keep(task: asyncio.Task[None], peer: str) -> None:
     task.add_done_callback(lambda it: agreeing.pop(it, None))
 
 
-def _drop_oldest(listener: Listener) -> None:
+async def _drop_oldest(listener: Listener) -> None:
     """Ends who agrees on TLS for longest: that takes a moment, but for those who stall."""
     task, peer = next(iter(agreeing.items()))
-    del agreeing[task]
     task.cancel()
     _say_no_tls(listener, peer, "others came while it agreed")
+    await asyncio.wait([task])  # its file is closed by then
 
 
 def _say_no_tls(listener: Listener, peer: str, why: str) -> None:
