@@ -893,14 +893,26 @@ class Broken:
 
 
 class PostgreSQL(unittest.IsolatedAsyncioTestCase):
-    async def _primary(self, reader, writer):
-        """What a primary says to who connects."""
+    async def _greeted(self, reader, writer):
+        """Says what a primary says to who connects."""
         length = struct.unpack(">I", await reader.readexactly(4))[0]
         self.asked = await reader.readexactly(length - 4)
         names = ("server_version", "client_encoding", "in_hot_standby")
         facts = zip((*names, "default_transaction_read_only"), ("15.4", "UTF8", "off", "off"))
         said = [(b"R", bytes(4)), *((b"S", f"{a}\0{b}\0".encode()) for a, b in facts), (b"Z", b"I")]
         writer.write(b"".join(it + struct.pack(">I", 4 + len(more)) + more for it, more in said))
+
+    async def _primary(self, reader, writer):
+        """A primary that says nothing more."""
+        await self._greeted(reader, writer)
+        await reader.read()
+        writer.close()
+
+    async def _garbling(self, reader, writer):
+        """One whose answers are none."""
+        await self._greeted(reader, writer)
+        await reader.read(1)
+        writer.write(b"no message of PostgreSQL's")
         await reader.read()
         writer.close()
 
@@ -1074,6 +1086,27 @@ class PostgreSQL(unittest.IsolatedAsyncioTestCase):
         with primary, self.assertRaisesRegex(psycopg.OperationalError, "^it broke$"):
             await RoundTrip(Broken(mine, closed), []).run()
         self.assertEqual(await taking, b"a request")
+
+    async def test_an_answer_that_is_none(self):
+        """The call fails. It was looked for the next result without an end, and nothing else was
+        done any more."""
+        import psycopg
+        from tb_host.round_trips import results_of
+
+        server = await asyncio.start_server(self._garbling, "127.0.0.1", 0)
+        host, port = server.sockets[0].getsockname()
+        with mock.patch.dict(os.environ, PGSSLMODE="disable", PGGSSENCMODE="disable"):
+            it = await psycopg.AsyncConnection.connect(host=host, port=port, user="u")
+        self.addCleanup(signal.signal, signal.SIGALRM, signal.signal(signal.SIGALRM, self._late))
+        signal.alarm(10)  # a timer of the loop's would not come
+        with self.assertRaisesRegex(psycopg.OperationalError, "^got message type "):
+            statements = [(b"append", (b"an entry",)), (b"flushed", ())]
+            await asyncio.wait_for(results_of(it, statements), 15)
+        signal.alarm(0)
+        server.close()
+
+    def _late(self, *_):
+        raise TimeoutError("it goes on without an end")
 
     async def test_who_waits_in_the_server_ends_there(self):
         """The server sees no end of a connection while a call waits for another's lock. Without a

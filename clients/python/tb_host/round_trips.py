@@ -78,9 +78,10 @@ class RoundTrip:
             self._leave()
         while self.left and not connection.is_busy():
             result = connection.get_result()
-            if result is None:  # behind the results of a statement
-                continue
-            if result.status == pq.ExecStatus.PIPELINE_SYNC:
+            if result is None:  # behind the results of a statement, or it was closed by libpq
+                if connection.status == pq.ConnStatus.BAD:
+                    raise psycopg.OperationalError(pq.error_message(connection))
+            elif result.status == pq.ExecStatus.PIPELINE_SYNC:
                 self.left -= 1
             else:
                 self.results.append(result)
