@@ -1042,6 +1042,19 @@ class Ends(unittest.TestCase):
                     (listener.ended(), listener.said[-1]), (1, "tb_listen: sh ended by SIGKILL\n")
                 )
 
+    def test_a_server_that_reads_no_more_and_does_not_end(self):
+        """It is killed, and who waits is told. Requests were dropped, and never answered."""
+        reply = tb.Reply(1, 1, 0, tb.Operation.register, 0, 1, b"").to_bytes()
+        script = f"head -c 56 > /dev/null; exec <&-; printf '{octal(reply)}'; sleep 60"
+        with Running("--slow", "0.5", command=["sh", "-c", script, "run"]) as listener:
+            with listener.call() as it:
+                it.sendall(register(1))
+                self.assertEqual(it.recv(48, socket.MSG_WAITALL), reply)
+                it.sendall(header())
+                self.assertEqual(told(it), b"tb_listen: ProgramEnded\n")
+            ended = listener.ended(), listener.said[-1]
+            self.assertEqual(ended, (1, "tb_listen: sh ended by SIGKILL\n"))
+
     def test_what_a_server_started_holds_its_pipes(self):
         with tempfile.TemporaryDirectory() as folder:
             with Running(

@@ -89,7 +89,7 @@ class Outgoing(End):
         self.parts: List[bytes] = []
         self.held = 0  # bytes of `parts`
         self.is_due = self.is_watched = self.is_closing = False
-        self.has_room = asyncio.Event()
+        self.has_room, self.broke = asyncio.Event(), asyncio.Event()
         self.has_room.set()
 
     def write(self, data: bytes) -> None:
@@ -127,7 +127,8 @@ class Outgoing(End):
             gone = os.write(self.file, data) if data else 0
         except (BlockingIOError, InterruptedError):
             gone = 0
-        except OSError:  # its end is seen where it is read
+        except OSError:
+            self.broke.set()
             self.drop()
             return
         self.held = len(data) - gone

@@ -169,16 +169,18 @@ class ServerProcess:
         telling = asyncio.ensure_future(tail(process.stderr, self.is_news))
         reading = asyncio.ensure_future(self.read_replies(process, process.stdout))
         watching = asyncio.ensure_future(exited(process))
+        breaking = asyncio.ensure_future(process.stdin.broke.wait())  # it may live on
         if self.is_closed:
             process.stdin.close()
         self.process = process
         self.began()
         try:
-            await first(reading, watching)
+            await first(reading, watching, breaking)
             await asyncio.wait(
                 [reading], timeout=LAST_WORDS
             )  # what it wrote before it ended is read to its end
         finally:
+            breaking.cancel()
             self.process = None
             self.ready.clear()
             process.stdin.close()
