@@ -728,11 +728,42 @@ class Etcd(unittest.IsolatedAsyncioTestCase):
 
     async def test_a_machine_that_is_lost_while_nothing_is_written(self):
         """Its connection has no end. What others write is then read at the next address."""
+        from tb_host import etcd
+
+        sooner = [(name, it // 20 if it >= 5_000 else it) for name, it in etcd.OPTIONS]
+        settings = bytes([0, 0, 0, 4]) + bytes(5)  # of HTTP/2, and no more
+        async with self.beside_a_lost_one(settings, sooner) as it:
+            reading = it.read(0)
+            found = await asyncio.wait_for(reading.__anext__(), 10)
+            self.assertEqual(found, Written(3, b"an entry"))
+            await reading.aclose()
+
+    async def test_it_is_read_elsewhere_amid_a_connection(self):
+        """A reader that was told so while it connected waited for that without an end, and the
+        replica read nothing any more."""
+        from tb_host import etcd
+
+        async with self.beside_a_lost_one(b"", etcd.OPTIONS) as it:
+            reading = it.read(0)
+            first = asyncio.ensure_future(reading.__anext__())
+            while it.watch is None:
+                await asyncio.sleep(0)
+            it.look_elsewhere()
+            await asyncio.wait([first], timeout=10)
+            is_late = not first.done()
+            first.cancel()  # one that waits goes on elsewhere then
+            self.assertEqual(await first, Written(3, b"an entry"))
+            self.assertFalse(is_late)
+            await reading.aclose()
+
+    @contextlib.asynccontextmanager
+    async def beside_a_lost_one(self, said, options):
+        """A log at two addresses: the first one says this and no more, the other has an entry."""
         import grpc.aio
         from tb_host import etcd
 
         async def lost(reader, writer):
-            writer.write(bytes([0, 0, 0, 4]) + bytes(5))  # the settings of HTTP/2, and no more
+            writer.write(said)
             await reader.read()
             writer.close()
 
@@ -748,15 +779,14 @@ class Etcd(unittest.IsolatedAsyncioTestCase):
         etcd.rpc.add_WatchServicer_to_server(mock.Mock(Watch=watch), other)
         places = [first.sockets[0].getsockname(), ("127.0.0.1", other.add_insecure_port("[::]:0"))]
         await other.start()
-        sooner = [(name, it // 20 if it >= 5_000 else it) for name, it in etcd.OPTIONS]
-        with mock.patch.object(etcd, "OPTIONS", sooner):
+        with mock.patch.object(etcd, "OPTIONS", options):
             it = etcd.EtcdLog(places, "bank", Access())
-        reading = it.read(0)
-        self.assertEqual(await asyncio.wait_for(reading.__anext__(), 10), Written(3, b"an entry"))
-        await reading.aclose()
-        await it.close()
-        await other.stop(None)
-        first.close()
+        try:
+            yield it
+        finally:
+            await it.close()
+            await other.stop(None)
+            first.close()
 
     async def watched(self, *watches):
         """A log over one etcd, and what that says to each watch. One with nothing to say ends, but
@@ -874,7 +904,6 @@ def postgres():
             subprocess.run([*user, *words, *end], check=True, capture_output=True)
 
 
-@unittest.skipUnless(importlib.util.find_spec("psycopg"), "python3-psycopg is not there")
 class Broken:
     """A connection of libpq's that breaks when it is read: its socket is closed by then."""
 
@@ -892,6 +921,7 @@ class Broken:
         raise psycopg.OperationalError("it broke")
 
 
+@unittest.skipUnless(importlib.util.find_spec("psycopg"), "python3-psycopg is not there")
 class PostgreSQL(unittest.IsolatedAsyncioTestCase):
     async def _greeted(self, reader, writer):
         """Says what a primary says to who connects."""

@@ -275,7 +275,7 @@ class EtcdLog:
         )
         asked.MergeFromString(FRAGMENT)
         try:
-            await self.watch.write(rpc.WatchRequest(create_request=asked))
+            await self._ask_to_watch(rpc.WatchRequest(create_request=asked))
             while (said := await self.watch.read()) is not grpc.aio.EOF:
                 if said.compact_revision:
                     raise LogGone(f"it was trimmed up to revision {said.compact_revision}")
@@ -293,6 +293,15 @@ class EtcdLog:
         finally:
             self.watch.cancel()
             self.watch = None  # there is none to move from
+
+    async def _ask_to_watch(self, asked: Any) -> None:
+        """Sends what is to be watched. gRPC waits without an end where a call is cancelled while it
+        connects. Where the call has ended, who reads from it learns why."""
+        with contextlib.suppress(asyncio.InvalidStateError):
+            try:
+                await asyncio.wait_for(self.watch.write(asked), TRY)
+            except asyncio.TimeoutError:
+                raise NoLog(f"no connection within {TRY:.0f} s") from None
 
     def _count(self, revision: int, found: Union[Written, Report, None]) -> None:
         self.cursor = max(self.cursor, revision)
