@@ -25,7 +25,7 @@ from unittest import mock
 
 from tb_client.frames import asker, reply_fault, request_frame
 from tb_client.names import Operation
-from tb_host import backlog, checksums, connections, faults, listen, log, machines
+from tb_host import backlog, checksums, connections, faults, listen, log, machines, replica
 from tb_host import status as parts_of_status
 from tb_host.backlog import Backlog, Checkpoint
 from tb_host.connections import Connection
@@ -1449,6 +1449,25 @@ class Replicas(OverALog):
         self.log.failing = None
         reply = await self.asked(it, 8)
         self.assertEqual(reply[0], 8)
+        await self.closed(it)
+
+    async def test_many_entries_that_are_not_read(self):
+        """They are looked for elsewhere together. Each moved the reader by itself, until no place
+        had the time to be read."""
+        it = await self.began(patience=9.0)
+        await self.asked(it, 6)
+        self.log.is_read_back, looked, waiting = True, [], []
+        moves = mock.patch.object(self.log, "look_elsewhere", lambda: looked.append(1))
+        with moves, mock.patch.object(replica, "ELSEWHERE", 0.2):
+            with mock.patch.object(self.log.grown, "set", lambda: None):
+                for client in range(7, 13):
+                    waiting.append(asyncio.ensure_future(it.ask(register(client))))
+                    await asyncio.sleep(0.03)
+                await asyncio.sleep(1)
+            self.log.grown.set()
+            for client, reply in enumerate(await asyncio.gather(*waiting), 7):
+                self.assertEqual(reply[0], client)
+        self.assertIn(len(looked), range(1, 7))
         await self.closed(it)
 
     async def test_a_log_that_is_away_at_the_end(self):

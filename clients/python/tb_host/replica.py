@@ -112,6 +112,7 @@ class Replica:
         self.enough: Optional[asyncio.Future[None]] = None  # comes when requests are enough
         self.expected = 1  # those that are
         self.number = 0
+        self.looked = 0.0  # when it was last read elsewhere
         self.sent: Dict[int, Sent] = {}  # own entries that were not read yet, by their number
         self.own: Dict[int, List[Pair]] = {}  # those that were read, by their position
         self.claims: Dict[int, Set[Tuple[bytes, bytes]]] = {}  # of replies that are not there yet
@@ -307,8 +308,11 @@ class Replica:
     def _look_elsewhere(self, number: int) -> None:
         """Reads at another address where what was written is not read there."""
         if number in self.sent:
-            self.log.look_elsewhere()
-            asyncio.get_running_loop().call_later(ELSEWHERE, self._look_elsewhere, number)
+            loop = asyncio.get_running_loop()
+            if loop.time() >= self.looked + ELSEWHERE:  # for all that wait: each place needs time
+                self.looked = loop.time()
+                self.log.look_elsewhere()
+            loop.call_later(ELSEWHERE, self._look_elsewhere, number)
 
     async def _read(self) -> None:
         """Takes what the log has, in order."""
