@@ -68,10 +68,11 @@ class Server:
 
     def __init__(self, statuses=(), lost=()):
         self.frames, self.statuses, self.lost = [], list(statuses), list(lost)
-        self.body = b""
+        self.moments, self.body = [], b""
 
     def serve(self, moment, frame):
         self.frames.append(frame)
+        self.moments.append(moment)
         if len(self.frames) in self.lost:
             raise ReplyLost("no reply in 5 seconds")
         it = Request.from_bytes(frame)
@@ -186,6 +187,25 @@ class Ledger(unittest.TestCase):
             ],
         )
 
+    def test_registers_at_the_statement_s_moment(self):
+        """At the clock's all that followed came behind it, and the moment had no effect."""
+        server = Server()
+        it, _ = ledger(server)
+        serve(it, "at=7 lookup_accounts ;")
+        self.assertEqual(server.moments, [7, 7])
+
+    def test_fills_in_as_tbt_does(self):
+        """A request's number alone registers the client too, and a session that is not the
+        client's begins with number 1."""
+        server = Server(statuses=[0, 0, 0, 0, 3, 1])
+        it, _ = ledger(server)
+        for text in ("request=1", "request=2", "session=1", "session=9", "client=6 session=2"):
+            serve(it, f"{text} lookup_accounts ;")
+        self.assertEqual(
+            [it[:3] for it in server.asked()],
+            [(5, 0, 0), (5, 1, 1), (5, 1, 2), (5, 1, 3), (5, 9, 1), (6, 2, 1)],
+        )
+
     def test_a_wrong_statement_sends_nothing(self):
         server = Server()
         it, _ = ledger(server)
@@ -195,10 +215,9 @@ class Ledger(unittest.TestCase):
 
     def test_a_client_of_too_many_digits(self):
         """It is for `tbt` to refuse: Python reads no number of 5000 digits."""
-        it, _ = ledger(Server())
-        for number in ("9" * 5000, "0x" + "9" * 5000):
-            self.assertEqual(it._client_of(statements.typed(f"client={number} register;")), 5)
-        self.assertEqual(it._client_of(statements.typed("client=0x10 register;")), 16)
+        for number, read in (("9" * 5000, None), ("0x" + "9" * 5000, None), ("0x10", 16)):
+            it = statements.typed(f"client={number} register;")
+            self.assertEqual(statements.number_of(it, "client"), read)
 
     def test_a_lost_reply_sends_the_same_bytes_again(self):
         server = Server(lost=[2, 3])

@@ -1,14 +1,13 @@
 """The ledger that is asked: the sessions of this terminal, and what to do when a reply is lost."""
 from __future__ import annotations
 
-import re
 import time
 from typing import Callable, NamedTuple
 
 from tb_client import Busy, CannotConnect, NoMemory, Reply, ReplyLost, Request, Status, Transport
 from tb_client.frames import test_said
 
-from .statements import REGISTER, Tbt, Typed, Wrong, bare
+from .statements import REGISTER, Tbt, Typed, Wrong, number_of
 
 TRIES = 8
 PAUSE_MAX = 5.0
@@ -43,26 +42,19 @@ class Ledger:
 
     def serve(self, statement: Typed) -> list[Served]:
         """The answers to a statement, to a register before it among them."""
-        client = self._client_of(statement)
-        filled = {"at": time.time_ns(), "client": client}
-        if statement.operation == "register":
-            return [self._send(statement, filled)]
-        served = []
-        if not statement.fields & {"session", "request"} and client not in self.sessions:
-            # a wrong statement registers nobody
-            self._pair(statement, {**filled, "session": 1, "request": 1})
-            served.append(self._send(REGISTER, filled))
-        if not statement.fields >= {"client", "request"}:
+        named = number_of(statement, "client")
+        client = self.client if named is None else named
+        filled, served = {"at": time.time_ns(), "client": client}, []
+        if statement.operation != "register" and not statement.fields >= {"client", "request"}:
+            if "session" not in statement.fields and client not in self.sessions:
+                # a wrong statement registers nobody
+                moment, _ = self._pair(statement, {**filled, "session": 1, "request": 1})
+                served.append(self._send(REGISTER, {**filled, "at": moment}))
             session = self.sessions.get(client, Session(0, 0))
-            filled |= {"session": session.number, "request": session.last + 1}
+            is_in_it = number_of(statement, "session") in (None, session.number)
+            last = session.last if is_in_it else 0
+            filled |= {"session": session.number, "request": last + 1}
         return [*served, self._send(statement, filled)]
-
-    def _client_of(self, statement: Typed) -> int:
-        """The client that a statement names, else the one named last. A number that is none is
-        left to `tbt`, which tells its place."""
-        head = bare(statement.text).split(statement.operation or ";")[0]
-        named = re.search(r"\bclient\s*=\s*(0x[0-9a-fA-F]{1,99}|[0-9]{1,99})\b", head)
-        return int(named[1], 0 if named[1].startswith("0x") else 10) if named else self.client
 
     def _pair(self, statement: Typed, filled: dict[str, int]) -> tuple[int, bytes]:
         left_out = {it: value for it, value in filled.items() if it not in statement.fields}

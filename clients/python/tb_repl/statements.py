@@ -4,7 +4,7 @@ from __future__ import annotations
 import datetime
 import re
 import subprocess
-from typing import NamedTuple
+from typing import NamedTuple, Optional
 
 OPERATIONS = (
     "register",
@@ -60,6 +60,14 @@ def typed(text: str) -> Typed:
         head = head[: operation.start()]
     fields = re.findall(rf"\b({'|'.join(HEAD_FIELDS)})\s*=", head)
     return Typed(text, frozenset(fields), operation[1] if operation else "")
+
+
+def number_of(statement: Typed, field: str) -> Optional[int]:
+    """The number that a statement gives a field before its operation, None where it gives none. A
+    word that is no number is left to `tbt`, which tells its place."""
+    head = bare(statement.text).split(statement.operation or ";")[0]
+    named = re.search(rf"\b{field}\s*=\s*(0x[0-9a-fA-F]{{1,99}}|[0-9]{{1,99}})\b", head)
+    return int(named[1], 0 if named[1].startswith("0x") else 10) if named else None
 
 
 def moment_of(date: re.Match[str]) -> str:
