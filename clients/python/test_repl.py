@@ -351,7 +351,7 @@ class Typing(unittest.TestCase):
                 raise line
             return line
 
-        given.next = next_line
+        given.next, given.drop = next_line, given.before.clear
         repl = commands.Repl(mock.Mock(), given, False)
         with mock.patch.object(repl, "_serve", lambda it: served.append(it) or "wrong" not in it):
             with redirect_stderr(told), redirect_stdout(io.StringIO()):
@@ -744,20 +744,32 @@ class Command(unittest.TestCase):
                     self.assertEqual(commands.main(), 130)
 
     def test_an_answer_that_is_cut(self):
-        """Ctrl-C while an answer is shown: the statement was executed."""
-        served = mock.Mock(serve=mock.Mock(return_value=[mock.Mock()]))
+        """Ctrl-C while an answer is shown: the statement was executed, and those behind it in the
+        line are not sent."""
         for is_terminal in (True, False):
+            served = mock.Mock(serve=mock.Mock(return_value=[mock.Mock()]))
             repl = commands.Repl(served, mock.Mock(is_terminal=is_terminal), False)
             told = io.StringIO()
             with redirect_stderr(told), mock.patch.object(
                 commands, "answer_shown", side_effect=KeyboardInterrupt
             ):
                 if is_terminal:
-                    self.assertTrue(repl._serve("lookup_accounts id=1;"))
+                    self.assertFalse(repl._serve_each(["a;", "b;"]))
                 else:
-                    self.assertRaises(KeyboardInterrupt, repl._serve, "lookup_accounts id=1;")
+                    self.assertRaises(KeyboardInterrupt, repl._serve_each, ["a;", "b;"])
+            self.assertEqual(served.serve.call_count, 1)
             self.assertNotIn("no reply is waited for", told.getvalue())
-            self.assertEqual("the rest of the answer" in told.getvalue(), is_terminal)
+            for said in ("the rest of the answer", "1 more of this line not sent"):
+                self.assertEqual(said in told.getvalue(), is_terminal)
+
+    def test_ctrl_c_between_statements(self):
+        """It ended the command, and the ledger of its own with it."""
+        given = mock.Mock(is_terminal=True, before=[], next=mock.Mock(side_effect=["help", None]))
+        repl = commands.Repl(mock.Mock(), given, False)
+        with mock.patch.object(repl, "_is_command", side_effect=KeyboardInterrupt):
+            with redirect_stdout(io.StringIO()):
+                self.assertEqual(repl.run(), 0)
+        given.drop.assert_called_once_with()
 
     def test_several_addresses(self):
         """Blanks behind a comma are of no address: the next one was never reached."""

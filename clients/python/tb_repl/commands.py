@@ -114,24 +114,30 @@ class Repl:
         """Serves what is typed until it ends. On a terminal a wrong statement is told, and the next
         one is read; from a file or a pipe it ends the command."""
         while True:
-            rest = self.lines.before
             try:
-                line = self.lines.next(". " if rest else "> ")
+                status = self._next()
             except KeyboardInterrupt:
                 if not self.lines.is_terminal:
                     raise
-                # what was typed of a statement is dropped
+                # what was typed of a statement is dropped, and what was pasted with it
                 print()
-                rest.clear()
+                self.lines.drop()
                 continue
-            if line is None:
-                return self._ended()
-            if not rest and line.strip() in ("exit", "quit"):
-                return 0
-            if not rest and self._is_command(line.strip()):
-                continue
-            if not self._serve_each(self._whole(line)) and not self.lines.is_terminal:
-                return 2
+            if status is not None:
+                return status
+
+    def _next(self) -> Optional[int]:
+        """Serves the next line. The command's status where it ends."""
+        rest = self.lines.before
+        line = self.lines.next(". " if rest else "> ")
+        if line is None:
+            return self._ended()
+        if not rest and line.strip() in ("exit", "quit"):
+            return 0
+        if not rest and self._is_command(line.strip()):
+            return None
+        is_served = self._serve_each(self._whole(line))
+        return None if is_served or self.lines.is_terminal else 2
 
     def _whole(self, line: str) -> list[str]:
         """The statements that end in a line. What is behind them is kept for the next one."""
@@ -176,29 +182,23 @@ class Repl:
 
     def _serve(self, text: str) -> bool:
         """Whether a statement was served; what went wrong is told."""
+        answers: list[Served] = []
         try:
             answers = self.ledger.serve(typed(with_moments(text)))
-        except Wrong as why:
-            print(why, file=sys.stderr, flush=True)
-            return False
-        except ClientError as why:
-            print(f"tb-repl: {fault_shown(why)}", file=sys.stderr, flush=True)
-            return False
-        except KeyboardInterrupt:
-            if not self.lines.is_terminal:
-                raise
-            print(f"\ntb-repl: {GIVEN_UP}", file=sys.stderr, flush=True)
-            self.lines.pasted.clear()
-            return False
-        try:
             for served in answers:
                 self._print(served)
+            return True
+        except Wrong as why:
+            print(why, file=sys.stderr, flush=True)
+        except ClientError as why:
+            print(f"tb-repl: {fault_shown(why)}", file=sys.stderr, flush=True)
         except KeyboardInterrupt:
             if not self.lines.is_terminal:
                 raise
-            print("\ntb-repl: the rest of the answer is not shown", file=sys.stderr, flush=True)
+            told = "the rest of the answer is not shown" if answers else GIVEN_UP
+            print(f"\ntb-repl: {told}", file=sys.stderr, flush=True)
             self.lines.pasted.clear()
-        return True
+        return False
 
     def _print(self, served: Served) -> None:
         if self.as_json:

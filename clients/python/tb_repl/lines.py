@@ -102,6 +102,11 @@ class Lines:
         line = sys.stdin.readline()
         return line.rstrip("\n") if line else None
 
+    def drop(self) -> None:
+        """Drops what is there of a statement, and the lines behind it that were pasted."""
+        self.before.clear()
+        self.pasted.clear()
+
     def close(self) -> None:
         """Keeps what was typed, behind what other terminals kept meanwhile."""
         if readline and self.is_terminal:
