@@ -5,6 +5,7 @@ the repository. checks/repl.py runs the command over the built programs on a ter
 """
 import io
 import os
+import select
 import shlex
 import signal
 import struct
@@ -635,6 +636,91 @@ while (line := it.next("> ")) != "end":
             ):
                 repl._serve("a;")
             self.assertEqual(given.pasted, [])
+
+
+@unittest.skipUnless(lines.readline, "this Python has no readline")
+class Signals(unittest.TestCase):
+    """Signals at the prompt, where readline has changed the terminal's modes. They were left so."""
+
+    SCRIPT = """
+import os, signal, sys, termios
+from tb_repl import lines
+def tell(said):
+    modes = termios.tcgetattr(0)[3] & (termios.ECHO | termios.ICANON)
+    print(f"{said} by {modes}", flush=True)
+lines.os.kill = lambda *_: tell("stopped")
+it = lines.Lines()
+tell("begins")
+try:
+    tell(it.next("> "))
+finally:
+    tell("ends")
+"""
+    FOLDER = os.path.dirname(os.path.abspath(__file__))
+
+    def shown(self, number, then=b""):
+        """What is shown where `id=` is typed, a signal comes, and more is typed where it stops;
+        and the script's status."""
+        terminal, other = os.openpty()
+        with tempfile.TemporaryDirectory() as folder:
+            environment = {"XDG_STATE_HOME": folder, "TERM": "dumb", "INPUTRC": "/dev/null"}
+            it = subprocess.Popen(
+                [sys.executable, "-B", "-c", self.SCRIPT],
+                stdin=other,
+                stdout=other,
+                stderr=other,
+                cwd=self.FOLDER,
+                env={**os.environ, **environment},
+            )
+            os.close(other)
+            shown = b""
+
+            def is_shown(wanted, patience=60):
+                nonlocal shown
+                with suppress(OSError):  # at its end
+                    while wanted not in shown:
+                        if not select.select([terminal], [], [], patience)[0]:
+                            return False
+                        shown += os.read(terminal, 4096)
+                return True
+
+            is_shown(b"> ")
+            os.write(terminal, b"id=")
+            is_shown(b"> id=")
+            it.send_signal(number)
+            # readline waits for a key or for a signal, and does not see one that came before that
+            while not is_shown(b"stopped by" if then else b"ends by", 30):
+                it.send_signal(number)
+            os.write(terminal, then)
+            is_shown(b"the end")
+            os.close(terminal)
+            return shown.decode(), it.wait(60)
+
+    def test_ends(self):
+        for number in (signal.SIGHUP, signal.SIGQUIT, signal.SIGTERM):
+            shown, status = self.shown(number)
+            self.assertEqual(status, 128 + number)
+            self.assertRegex(shown, r"(?s)begins by (\d+)\b.*ends by \1\b")
+
+    def test_stops_and_goes_on(self):
+        """What was typed is there again."""
+        shown, status = self.shown(signal.SIGTSTP, b"7;\n")
+        self.assertEqual(status, 0)
+        self.assertRegex(shown, r"(?s)begins by (\d+)\b.*stopped by \1\b.*id=7; by \1\b")
+
+    def test_a_whole_line_is_not_lost(self):
+        script = """
+import signal
+from tb_repl import lines
+lines.input = lambda _: signal.raise_signal(signal.SIGTSTP) or "id=7;"
+print(lines.Lines()._typed("> "))
+"""
+        terminal, other = os.openpty()
+        words = [sys.executable, "-B", "-c", script]
+        it = subprocess.run(words, stdin=other, capture_output=True, cwd=self.FOLDER, timeout=60)
+        os.close(terminal)
+        os.close(other)
+        self.assertEqual((it.stdout, it.stderr), (b"id=7;\n", b""))
 
 
 class Command(unittest.TestCase):

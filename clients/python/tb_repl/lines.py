@@ -17,6 +17,7 @@ from .statements import HEAD_FIELDS, OPERATIONS, bare
 
 try:
     import readline
+    import termios
 except ImportError:  # a Python without it: lines come as the terminal gives them
     readline = None  # type: ignore[assignment]
 
@@ -57,6 +58,35 @@ def words_at(before: str) -> list[str]:
     return [f"{it}=" for it in FIELDS.get(operation, [])]
 
 
+class Stopped(Exception):
+    """Ctrl-Z at the prompt. Its text is what was typed of the line."""
+
+
+def stop(number: int, _: object) -> None:
+    # readline has given the terminal back where the line is whole, and it is not lost
+    if not termios.tcgetattr(sys.stdin)[3] & termios.ICANON:
+        raise Stopped(readline.get_line_buffer())
+
+
+def end(number: int, _: object) -> None:
+    sys.exit(128 + number)
+
+
+@contextlib.contextmanager
+def as_exceptions() -> Iterator[None]:
+    """What would end or stop the command is an exception meanwhile: readline gives the terminal
+    back as it was."""
+    handlers = {signal.SIGHUP: end, signal.SIGQUIT: end, signal.SIGTERM: end, signal.SIGTSTP: stop}
+    taken = [it for it in handlers if signal.getsignal(it) == signal.SIG_DFL]
+    for number in taken:
+        signal.signal(number, handlers[number])
+    try:
+        yield
+    finally:
+        for number in taken:
+            signal.signal(number, signal.SIG_DFL)
+
+
 class Lines:
     """Lines from a terminal or a file. `before` has the lines of the statement so far."""
 
@@ -94,13 +124,27 @@ class Lines:
         """The next line without its end; None where there is none."""
         if self.is_terminal:
             try:
-                self.pasted = self.pasted or input(prompt).split("\n")
+                self.pasted = self.pasted or self._typed(prompt).split("\n")
             except EOFError:
                 print()
                 return None
             return self.pasted.pop(0)
         line = sys.stdin.readline()
         return line.rstrip("\n") if line else None
+
+    def _typed(self, prompt: str) -> str:
+        """What is typed at a prompt; behind Ctrl-Z what was typed before it goes on."""
+        if not readline:
+            return input(prompt)
+        typed = ""
+        readline.set_startup_hook(lambda: readline.insert_text(typed))
+        while True:
+            try:
+                with as_exceptions():
+                    return input(prompt)
+            except Stopped as why:
+                typed = str(why)
+                os.kill(os.getpid(), signal.SIGTSTP)
 
     def drop(self) -> None:
         """Drops what is there of a statement, and the lines behind it that were pasted."""
