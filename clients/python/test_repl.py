@@ -533,6 +533,32 @@ while len(sys.stdin.buffer.read(56)) == 56:
             said = "tb-repl: standard input or output is closed\n"
             self.assertEqual(self.ran(script), (1, said))
 
+    def test_a_line_that_a_terminal_cuts(self):
+        """Where no readline takes it, as in `tb-repl | tee`: a number was cut, and executed."""
+        script = "from tb_repl.lines import Lines\nLines().next('')"
+        for size, is_refused in ((4094, False), (4095, True), (9000, True)):
+            terminal, other = os.openpty()
+            os.write(terminal, size * b"7" + b"\n;\n")
+            it = subprocess.run(
+                [sys.executable, "-B", "-c", script],
+                stdin=other,
+                capture_output=True,
+                cwd=os.path.dirname(os.path.abspath(__file__)),
+                timeout=60,
+            )
+            os.close(terminal)
+            os.close(other)
+            self.assertEqual(b"LineTooLong" in it.stderr, is_refused, it.stderr)
+
+    def test_a_line_that_is_refused(self):
+        for is_terminal, status in ((True, 0), (False, 2)):
+            given = mock.Mock(is_terminal=is_terminal, before=[])
+            given.next.side_effect = [statements.Wrong("too long"), None]
+            with redirect_stderr(io.StringIO()) as told:
+                self.assertEqual(commands.Repl(mock.Mock(), given, False).run(), status)
+            self.assertEqual(told.getvalue(), "too long\n")
+            given.drop.assert_called_once_with()
+
 
 class History(unittest.TestCase):
     def test_its_place(self):

@@ -129,7 +129,12 @@ class Repl:
     def _next(self) -> Optional[int]:
         """Serves the next line. The command's status where it ends."""
         rest = self.lines.before
-        line = self.lines.next(". " if rest else "> ")
+        try:
+            line = self.lines.next(". " if rest else "> ")
+        except Wrong as why:
+            print(why, file=sys.stderr, flush=True)
+            self.lines.drop()
+            return None if self.lines.is_terminal else 2
         if line is None:
             return self._ended()
         if not rest and line.strip() in ("exit", "quit"):

@@ -13,7 +13,7 @@ from typing import Iterator, Optional
 
 from tb_client import Account, AccountFlags, Transfer, TransferFlags
 
-from .statements import HEAD_FIELDS, OPERATIONS, bare
+from .statements import HEAD_FIELDS, OPERATIONS, Wrong, bare
 
 try:
     import readline
@@ -30,6 +30,7 @@ FIELDS = {
 }
 FLAGS = {"create_accounts": AccountFlags, "create_transfers": TransferFlags}
 HISTORY_MAX = 10_000
+LINE_MAX = 4095  # bytes, where a terminal cuts a line that readline does not take
 NOT_RUN = (126, 127)  # what a shell ends with where it cannot run a command
 
 
@@ -94,6 +95,7 @@ class Lines:
         self.before: list[str] = []
         self.pasted: list[str] = []  # lines that came with the last one
         self.is_terminal = sys.stdin.isatty() and sys.stdout.isatty()
+        self.may_cut = sys.stdin.isatty() and not (readline and self.is_terminal)
         if isinstance(sys.stdin, io.TextIOWrapper):  # bytes that are no text are for `tbt` to tell
             sys.stdin.reconfigure(errors="surrogateescape")
         if readline and self.is_terminal:
@@ -121,16 +123,26 @@ class Lines:
         return self.found[number] if number < len(self.found) else None
 
     def next(self, prompt: str) -> Optional[str]:
-        """The next line without its end; None where there is none."""
+        """The next line without its end; None where there is none. Raises `Wrong` of one that the
+        terminal may have cut."""
         if self.is_terminal:
             try:
                 self.pasted = self.pasted or self._typed(prompt).split("\n")
             except EOFError:
                 print()
                 return None
-            return self.pasted.pop(0)
-        line = sys.stdin.readline()
-        return line.rstrip("\n") if line else None
+            line = self.pasted.pop(0)
+        else:
+            line = sys.stdin.readline()
+            if not line:
+                return None
+        line = line.rstrip("\n")
+        if self.may_cut and len(line.encode("utf-8", "surrogateescape")) >= LINE_MAX:
+            raise Wrong(
+                f"tb-repl: LineTooLong: a terminal cuts a line at {LINE_MAX} bytes, and nothing of "
+                "it was served"
+            )
+        return line
 
     def _typed(self, prompt: str) -> str:
         """What is typed at a prompt; behind Ctrl-Z what was typed before it goes on."""
