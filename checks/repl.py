@@ -4,16 +4,18 @@ checks/repl.txt. First build the programs that it runs:
 
     (cd crates/tbs && rt run -- run 2) < examples/first.script > /dev/null
     (cd crates/tbt && rt run -- script) < examples/first.text > /dev/null
-    checks/repl.py [--tbs FILE] [--tbt FILE] [--write]
+    checks/repl.py [--tbs FILE] [--tbt FILE] [--seed N] [--write]
 
 A line is typed when the answer to the one before it was shown; TAB in it is the key. The lines are
 typed twice: to `tb-repl` over `tbs run` as a process, and by `--connect` to a listener over it,
 where moments are the listener's. Then the same statements come through a pipe, a wrong one among
-them. Ends in 'N passed, M failed'; --write keeps what was shown as the new checks/repl.txt.
+them. Random statements, which leave out some of client, session and request, are answered as by
+`tbt run`. Ends in 'N passed, M failed'; --write keeps what was shown as the new checks/repl.txt.
 """
 import os
 import pathlib
 import pty
+import random
 import re
 import select
 import subprocess
@@ -30,6 +32,15 @@ SECONDS = 60 * tried.LONGER
 # what readline writes to a terminal besides text
 CONTROLS = re.compile(r"\x1b\[[0-9;?]*[A-Za-z]|[\x07\r]")
 TIME = re.compile(r'\d{4}-\d\d-\d\dT\d\d:\d\d:\d\d\.\d{9}Z|"timestamp":"\d+"')
+
+# each with places for ids
+EVENTS = {
+    "create_accounts": "id={} ledger=1 code=1 flags=history",
+    "create_transfers": "id={} debit_account_id={} credit_account_id={} amount=1 ledger=1 code=1",
+    "lookup_accounts": "id={}",
+    "lookup_transfers": "id={}",
+}
+BLANKS = (" ", " ", "\t", "\n", "  \n", " # client=9 register;\n")
 
 
 def settings(folder):
@@ -111,10 +122,48 @@ def listening(tbs, folder):
     return listener, path
 
 
+def some_statement(rng, moment):
+    """A statement that is right, with a written moment and none or some of the other fields."""
+    head = [f"client={rng.choice(('1', '2', '0x2', '3'))}"] if rng.random() < 0.3 else []
+    operation = rng.choice((*EVENTS, "register"))
+    events = []
+    if operation != "register":
+        head += [f"session={rng.randint(0, 6)}"] if rng.random() < 0.2 else []
+        head += [f"request={rng.randint(1, 4)}"] if rng.random() < 0.2 else []
+        ids = [[rng.randint(1, 5) for _ in range(3)] for _ in range(rng.randint(0, 3))]
+        events = [",".join(EVENTS[operation].format(*it) for it in ids)]
+    head.append(f"at={moment}")
+    rng.shuffle(head)
+    words = [*head, operation, *events]
+    return "".join(f"{it}{rng.choice(BLANKS)}" for it in words) + ";\n"
+
+
+def answered_alike(words, given, folder, rounds=3):
+    """Random statements through a pipe have the replies of `tbt run`, byte for byte."""
+    for seed in range(given.seed, given.seed + rounds):
+        rng = random.Random(seed)
+        text = "".join(some_statement(rng, 10 * it) for it in range(1, 31))
+        wanted = subprocess.run(
+            [given.tbt, "run", "64"], input=text, capture_output=True, text=True, timeout=SECONDS
+        )
+        found = subprocess.run(
+            [*words, "--program", given.tbs, "--json"],
+            input=text,
+            capture_output=True,
+            text=True,
+            env=settings(folder),
+            timeout=SECONDS,
+        )
+        same = (found.returncode, found.stdout) == (wanted.returncode, wanted.stdout)
+        said = f"{text}\n{found.stdout}{found.stderr}\nby tbt run:\n{wanted.stdout}{wanted.stderr}"
+        tried.case(f"random statements, --seed {seed}", same, "" if same else said)
+
+
 def main():
     parser = tried.arguments(__doc__)
     parser.add_argument("--tbs", default=f"{ROOT}/crates/tbs/out/tbs")
     parser.add_argument("--tbt", default=f"{ROOT}/crates/tbt/out/tbt")
+    parser.add_argument("--seed", type=int, default=1, help="of the first random statements (1)")
     parser.add_argument("--write", action="store_true", help="keep what is shown")
     given = parser.parse_args()
     tried.built(given.tbs, given.tbt)
@@ -143,6 +192,8 @@ def main():
         tried.case("the same over a listener", same, "" if same else shown)
         tried.case("its status", status == 0, str(status))
         piped(words, given.tbs, lines, folder)
+        command = [sys.executable, "-B", "-m", "tb_repl", "--tbt", given.tbt]
+        answered_alike(command, given, folder)
     return tried.status()
 
 
