@@ -366,9 +366,9 @@ class Typing(unittest.TestCase):
         self.assertEqual((served, told, status), (wanted, "", 0))
 
     def test_the_last_statement_is_not_whole(self):
-        told = "tb-repl: the last statement has no `;`\n"
+        told = "tb-repl: the last statement has no `;`, and is not sent\n"
         self.assertEqual(self.run_lines(["a; b"])[1:], (told, 2))
-        self.assertEqual(self.run_lines(["a; b"], True)[1:], ("", 0))
+        self.assertEqual(self.run_lines(["a; b"], True)[1:], (told, 0))
         self.assertEqual(self.run_lines(["a; # b"])[1:], ("", 0))
 
     def test_what_follows_a_wrong_one(self):

@@ -156,10 +156,10 @@ class Repl:
         return whole
 
     def _ended(self) -> int:
-        if self.lines.before and not self.lines.is_terminal:
-            print("tb-repl: the last statement has no `;`", file=sys.stderr)
-            return 2
-        return 0
+        if not self.lines.before:
+            return 0
+        print("tb-repl: the last statement has no `;`, and is not sent", file=sys.stderr)
+        return 0 if self.lines.is_terminal else 2
 
     def _is_command(self, word: str) -> bool:
         if word == "help":
