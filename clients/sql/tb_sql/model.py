@@ -26,6 +26,7 @@ from .numbers import (
     held,
     number,
     small,
+    word,
 )
 
 Row = List[Any]
@@ -222,7 +223,7 @@ class Books:
         """Enters the next entry, after the pending transfers that expired before it."""
         position, changes = self.position, self.changes
         commit, time = int(entry["commit"]), int(entry["time"])
-        operation, events = entry["operation"], entry["events"]
+        operation, events = word(entry["operation"]), entry["events"]
         for line in expired:
             self._expire(int(line["time"]), number(line["expired"]["id"]))
         refused_before = position.refused
@@ -281,12 +282,10 @@ class Books:
                 self._refuse(commit, place, "create_transfers", judged)
 
     def _refuse(self, commit: int, place: int, operation: str, judged: Dict[str, Any]) -> None:
-        event = judged["event"]
+        event, result = judged["event"], word(judged["result"])
         shown = json.dumps(event, separators=(",", ":"))
         self.position.refused += 1
-        self.changes.refused.append(
-            (commit, place, operation, judged["result"], number(event["id"]), shown)
-        )
+        self.changes.refused.append((commit, place, operation, result, number(event["id"]), shown))
 
     def _create_account(self, commit: int, event: Dict[str, Any]) -> None:
         id, flags = number(event["id"]), ACCOUNT_BITS[tuple(event["flags"])]

@@ -49,6 +49,13 @@ def number(digits: str) -> Number:
     return value if value < INTEGER_END else digits
 
 
+def word(value: Any) -> str:
+    """The name of an operation or of a result."""
+    if not isinstance(value, str):
+        raise ValueError("a name is no text")
+    return value
+
+
 def small(value: Any) -> int:
     """A number of at most 32 bits, which an audit has without quotes."""
     if type(value) is not int or not 0 <= value < SMALL_END:

@@ -421,8 +421,6 @@ class OtherHistories(Tables):
         audit = Audit().register()
         self.load(audit)
         for change in (
-            {"operation": 5},
-            {"operation": None},
             {"operation": "\ud800"},
             {"events": [1]},
             {"events": [{}]},
@@ -434,6 +432,17 @@ class OtherHistories(Tables):
             with self.subTest(change):
                 lines = audit.bytes + json.dumps({**line, **change}).encode() + b"\n"
                 self.refused(lines, "no audit")
+
+    def test_names_that_are_no_text(self):
+        """They were a fault of the database, with exit status 1."""
+        self.load(Audit().register())
+        for name in (5, None, [1], {"linked": 1}):
+            audit = Audit().register().accounts({**account(1), "result": name})
+            self.refused(audit, "no line of an audit")
+            audit = Audit().register().later(1)
+            audit.request = 1
+            audit.entry(name)
+            self.refused(audit.accounts(account(1)), "no line of an audit")
 
     def test_fields_that_are_no_numbers_of_32_bits(self):
         """A text is neither kept nor multiplied: one of 10^9 letters takes a GB."""
