@@ -533,6 +533,12 @@ while len(sys.stdin.buffer.read(56)) == 56:
             said = "tb-repl: standard input or output is closed\n"
             self.assertEqual(self.ran(script), (1, said))
 
+    def test_faults_that_nobody_reads(self):
+        """They were written among the answers."""
+        script = "2>&- | cat >&2; exit ${PIPESTATUS[0]}"
+        found = self.ran(script, b"register;\nregister # \xe9\n;\n")
+        self.assertEqual(found, (2, "client 1 has session 1\n"))
+
     def test_a_line_that_a_terminal_cuts(self):
         """Where no readline takes it, as in `tb-repl | tee`: a number was cut, and executed."""
         script = "from tb_repl.lines import Lines\nLines().next('')"

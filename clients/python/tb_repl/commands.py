@@ -280,6 +280,8 @@ def run() -> int:
     given = parser.parse_args()
     if sys.stdin is None or sys.stdout is None:
         sys.exit("tb-repl: standard input or output is closed")
+    if sys.stderr is None:  # else `print` would write faults to standard output, amid the answers
+        sys.stderr = open(os.devnull, "w", encoding="utf-8")
     if given.key and not given.certificate:
         parser.error("--key comes with --certificate")
     if (given.ca or given.certificate) and not given.connect:
