@@ -93,6 +93,13 @@ class Pipes(unittest.IsolatedAsyncioTestCase):
         self.assertGreaterEqual(seen[0][0], 3)
         it.close()
 
+    async def test_a_write_beyond_the_limit_of_a_file(self):
+        """It fails, and the server tells why. A signal ended it, and it was started again."""
+        with test_listen.tempfile.NamedTemporaryFile() as file:
+            script = f"ulimit -f 0; exec dd if=/dev/zero of={file.name} bs=4096 count=1"
+            _, said, status = await process.finished(pipes.started(["sh", "-c", script]))
+            self.assertEqual((status, b"File too large" in said), (1, True), said)
+
 
 class Counting(unittest.IsolatedAsyncioTestCase):
     """The commits of a process that writes as tbd does: see test_access for tbd itself."""

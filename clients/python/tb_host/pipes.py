@@ -202,11 +202,18 @@ class Process:
 
 
 def started(words: Sequence[str]) -> Process:
-    """A process of these words, in a session of its own. Raises `OSError` where it does not
-    start."""
+    """A process of these words, in a session of its own. Raises `OSError` where it does not start.
+    SIGXFSZ is ignored in it, as in this one: a write beyond `ulimit -f` fails, and does not end
+    it."""
     pipe = subprocess.PIPE
     return Process(
         subprocess.Popen(
-            words, bufsize=0, stdin=pipe, stdout=pipe, stderr=pipe, start_new_session=True
+            words,
+            bufsize=0,
+            stdin=pipe,
+            stdout=pipe,
+            stderr=pipe,
+            restore_signals=False,
+            start_new_session=True,
         )
     )
