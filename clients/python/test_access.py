@@ -214,11 +214,58 @@ class OverTLS(unittest.TestCase):
                 listener.terminate()
                 self.assertEqual(listener.wait(20), 0)
 
+    def renewed(self, listener, said):
+        """Sends SIGHUP, and waits for the line that it is answered with."""
+        listener.process.send_signal(signal.SIGHUP)
+        while "SIGHUP: " not in (line := listener.tells()):
+            self.assertTrue(line)
+        self.assertIn(said, line)
+
+    def test_files_that_are_renewed(self):
+        """SIGHUP reads them again. It ended the listener."""
+        with tempfile.TemporaryDirectory() as folder:
+            names = ("server", "server_key", "ca")
+            paths = {it: shutil.copy(self.paths[it], os.path.join(folder, it)) for it in names}
+            clients = shutil.copy(self.clients, os.path.join(folder, "clients"))
+            words = ["--certificate", paths["server"], "--key", paths["server_key"]]
+            words += ["--client-ca", paths["ca"], "--clients", clients]
+            with Running("--tcp", "127.0.0.1:0", *words) as listener:
+                self.renews(listener, paths, clients)
+                self.assertEqual(listener.end(), 0)
+
+    def renews(self, listener, paths, clients):
+        place = ("localhost", listener.address[1])
+        it = Socket(place, tls=client_context(self.paths, "payments"))
+        with Session.register(it, UPPER + 7) as session:
+            write(paths["server"], "no certificate")
+            write(clients, "certificate billing 2\ncertificate forged 3\n")
+            old = f"SIGHUP: {paths['server']} and {paths['server_key']}: "
+            self.renewed(listener, old)
+            self.assertIn("; the old files stay in use", listener.said[-1])
+            self.assertEqual(session.lookup_accounts([1]), [])
+            self.assertIn("may not take", self.fault(place, "forged", 3 * UPPER))
+
+            shutil.copy(self.paths["stranger"], paths["server"])
+            shutil.copy(self.paths["stranger_key"], paths["server_key"])
+            shutil.copy(self.paths["other_ca"], paths["ca"])
+            self.renewed(listener, "SIGHUP: the files are read again")
+            with self.assertRaisesRegex(tb.ReplyLost, "NotAllowed"):
+                session.lookup_accounts([1])
+        new = {**self.paths, "ca": self.paths["other_ca"]}
+        it = Socket(place, tls=client_context(new, "forged"))
+        with Session.register(it, 3 * UPPER + 7) as session:
+            self.assertEqual(session.lookup_accounts([1]), [])
+
     def test_client(self, place=None):
         if place:
             it = Socket(place, tls=client_context(self.paths, "payments"))
             with Session.register(it) as session:
                 session.lookup_accounts([1])
+
+
+def write(path, text):
+    with open(path, "w", encoding="utf-8") as file:
+        file.write(text)
 
 
 def ended(*options):

@@ -1859,6 +1859,7 @@ class Words(unittest.TestCase):
                 self.assertTrue(found.log_json and found.status)
                 # a stop is for the host alone to hear: it lets its server answer, or ends it
                 self.assertIn("\nKillMode=mixed\n", text)
+                self.assertIn("\nExecReload=/bin/kill -HUP $MAINPID\n", text)
                 seconds = int(re.search(r"^TimeoutStopSec=([0-9]+)$", text, re.M)[1])
                 self.assertGreater(seconds, 2 * found.slow + 10)
 

@@ -79,8 +79,12 @@ class Access:
         return found
 
     def test(self, peer: Peer, client: int) -> None:
-        """Raises `Told` where a client id is not this peer's."""
-        if self.ranges is not None and client >> RANGE != self.ranges[peer.key]:
+        """Raises `Told` where a client id is not this peer's, who may be in the file no more."""
+        if self.ranges is None:
+            return
+        if peer.key not in self.ranges:
+            raise Told("NotAllowed", peer.shown)
+        if client >> RANGE != self.ranges[peer.key]:
             raise Told("ClientNotAllowed", peer.shown)
 
 

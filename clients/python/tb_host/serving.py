@@ -16,6 +16,7 @@ from .process import fault_name, first
 from .reports import reported
 from .sockets import Place, take_connections
 from .systemd import notify
+from .tls import context_of, no_passphrase
 
 
 class Server(Asked, Protocol):
@@ -46,7 +47,8 @@ class Server(Asked, Protocol):
 
 
 def stop_signals() -> asyncio.Future[Any]:
-    """Comes with the first SIGTERM or SIGINT. What a task fails with is said."""
+    """Comes with the first SIGTERM or SIGINT. What a task fails with is said. SIGHUP ends nothing:
+    until connections are taken no file is in use that would be read again."""
     loop, stopped = asyncio.get_running_loop(), asyncio.Event()
     said = "{}: {!r}".format
     loop.set_exception_handler(
@@ -54,6 +56,7 @@ def stop_signals() -> asyncio.Future[Any]:
     )
     for number in (signal.SIGTERM, signal.SIGINT):
         loop.add_signal_handler(number, stopped.set)
+    loop.add_signal_handler(signal.SIGHUP, lambda: None)
     return asyncio.ensure_future(stopped.wait())
 
 
@@ -81,8 +84,24 @@ async def listen_on(
     has at most, where all requests come through this host."""
     counts = Counts(file, command.is_serving, command.committed)
     listener = Listener(command, given, access_of(given), counts, Evictions(clients_max))
+    loop = asyncio.get_running_loop()
+    loop.add_signal_handler(signal.SIGHUP, _read_again, places, listener)
     async with reported(given, counts, command.lag):
         await _serve_until(places, command, listener, stopping)
+
+
+def _read_again(places: List[Place], listener: Listener) -> None:
+    """Reads the files of TLS and of client ids again. Where one is wrong all old ones stay."""
+    given = listener.given
+    try:
+        tls, access = context_of(given, no_passphrase), access_of(given)
+    except Ended as ended:
+        say(f"SIGHUP: {ended}; the old files stay in use", "error")
+        return
+    for place in places:
+        place.tls = place.tls and tls
+    listener.access = access
+    say("SIGHUP: the files are read again, and new connections go by them")
 
 
 async def _serve_until(

@@ -4,6 +4,7 @@ from __future__ import annotations
 import argparse
 import asyncio
 import contextlib
+import dataclasses
 import errno
 import fcntl
 import os
@@ -12,7 +13,7 @@ import socket
 import ssl
 import stat
 import time
-from typing import Any, Dict, Iterator, List, NamedTuple, Optional
+from typing import Any, Dict, Iterator, List, Optional
 
 from .connections import Connection, Listener
 from .lines import Ended, say, say_of
@@ -51,8 +52,9 @@ def _lock(folder: int) -> None:
             return
 
 
-class Place(NamedTuple):
-    """A socket that is listened on, how it is shown, and the TLS of its connections."""
+@dataclasses.dataclass
+class Place:
+    """A socket that is listened on, how it is shown, and the TLS of new connections."""
 
     socket: socket.socket
     shown: str

@@ -5,7 +5,7 @@ import argparse
 import ipaddress
 import socket
 import ssl
-from typing import Optional
+from typing import Callable, Optional
 
 from .arguments import path
 from .lines import Ended
@@ -55,24 +55,36 @@ def is_loopback(host: str) -> bool:
     return all(ipaddress.ip_address(str(it[4][0]).split("%")[0]).is_loopback for it in found)
 
 
-def context_of(given: argparse.Namespace) -> Optional[ssl.SSLContext]:
+def no_passphrase() -> str:
+    """In place of the question on the terminal, for which all clients would wait."""
+    raise Ended("a passphrase is asked for at a start alone", 1)
+
+
+def context_of(
+    given: argparse.Namespace, passphrase: Optional[Callable[[], str]] = None
+) -> Optional[ssl.SSLContext]:
     """The context of the options. Raises `Ended` where a file is not there or not what it is to
     be."""
     if not given.certificate:
         return None
     context = ssl.SSLContext(ssl.PROTOCOL_TLS_SERVER)
     context.minimum_version = ssl.TLSVersion.TLSv1_2
-    load_own(context, given.certificate, given.key)
+    load_own(context, given.certificate, given.key, passphrase)
     if given.client_ca:
         context.verify_mode = ssl.CERT_REQUIRED
         load_authority(context, given.client_ca)
     return context
 
 
-def load_own(context: ssl.SSLContext, certificate: str, key: str) -> None:
+def load_own(
+    context: ssl.SSLContext,
+    certificate: str,
+    key: str,
+    passphrase: Optional[Callable[[], str]] = None,
+) -> None:
     try:
-        context.load_cert_chain(certificate, key)
-    except OSError as error:
+        context.load_cert_chain(certificate, key, passphrase)
+    except (OSError, Ended) as error:
         raise Ended(f"{certificate} and {key}: {_why(error)}", 1) from None
 
 
@@ -83,7 +95,7 @@ def load_authority(context: ssl.SSLContext, file: str) -> None:
         raise Ended(f"{file}: {_why(error)}", 1) from None
 
 
-def _why(error: OSError) -> str:
+def _why(error: Exception) -> str:
     if isinstance(error, ssl.SSLError):
         return (error.reason or "no certificate").lower().replace("_", " ")
-    return error.strerror or str(error)
+    return getattr(error, "strerror", "") or str(error)
