@@ -44,7 +44,6 @@ class Listening:
 
     def __init__(self, server, folder):
         self.server, self.folder, self.process = server, folder, None
-        self.start()
 
     def start(self):
         """Starts them. The server before may still hold the file for a moment: then again."""
@@ -78,9 +77,10 @@ class Listening:
         raise Wrong(f"the listener does not start: {said}")
 
     def kill(self):
-        self.process.kill()
-        self.process.wait()
-        self.process.stderr.close()
+        if self.process is not None:
+            self.process.kill()
+            self.process.wait()
+            self.process.stderr.close()
 
     def kill_server(self):
         """Kills the listener's child, if it has one just now."""
@@ -215,6 +215,7 @@ class Money:
         return bool(self.ask("lookup_transfers", [str(1000 + number)])["records"])
 
     def run(self):
+        self.listening.start()
         self.opened()
         kinds = [KINDS[at % len(KINDS)] for at in range(self.given.kills)]
         for kind in kinds:
@@ -286,16 +287,14 @@ def words():
 def main():
     given = words()
     with tempfile.TemporaryDirectory(prefix="money") as folder:
-        money = None
+        money = Money(given, folder)
         try:
-            money = Money(given, folder)
             money.run()
         except (Wrong, Ended, OSError) as why:
             print(f"FAILED: {why}")
             return 1
         finally:
-            if money is not None:
-                money.stop()
+            money.stop()
     killed = ", ".join(f"the {kind} {count} times" for kind, count in money.killed.items())
     print(f"killed: {killed}")
     print(

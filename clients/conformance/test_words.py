@@ -1,6 +1,7 @@
 """The words of the kit and of the money: what they name, and what is wrong."""
 import glob
 import os
+import shlex
 import shutil
 import signal
 import socket
@@ -58,10 +59,11 @@ class Money(unittest.TestCase):
             self.assertEqual((status, said), (2, ""), words)
             self.assertIn(f"{words[0]} is ", faults)
 
-    def test_an_interrupt_is_one_line(self):
+    def interrupted(self, server, begun):
+        """Interrupts it once this file is in its room, of which it leaves nothing. What the file
+        has."""
         room = tempfile.mkdtemp()
         self.addCleanup(shutil.rmtree, room)
-        server = f"{sys.executable} -SE {STAND_IN}"
         it = subprocess.Popen(
             [sys.executable, "-B", f"{HERE}/money.py", "--kills", "9999", "--server", server]
             + RUNNER,
@@ -72,12 +74,27 @@ class Money(unittest.TestCase):
             text=True,
         )
         deadline = time.monotonic() + 60
-        while not glob.glob(f"{room}/*/session.json") and time.monotonic() < deadline:
+        while not (found := glob.glob(f"{room}/*/{begun}")) and time.monotonic() < deadline:
             time.sleep(0.02)
+        with open(found[0], encoding="utf-8") as file:
+            text = file.read()
         it.send_signal(signal.SIGINT)
         said, faults = it.communicate(timeout=60)
         self.assertEqual((it.returncode, said, faults), (130, "", "interrupted\n"))
         self.assertEqual(os.listdir(room), [])
+        return text
+
+    def test_an_interrupt_is_one_line(self):
+        self.interrupted(f"{sys.executable} -SE {STAND_IN}", "session.json")
+
+    def test_an_interrupt_before_the_listener_listens(self):
+        """Nothing is left. The listener ran on."""
+        code = "import os, sys; at = sys.argv[2]; print(os.getppid(), file=open(at + '.new', 'w'));"
+        code += "os.rename(at + '.new', at + '.ppid'); sys.stdin.read()"
+        server = shlex.join([sys.executable, "-SEc", code])
+        listener = self.interrupted(server, "ledger.journal.ppid")
+        with self.assertRaises(ProcessLookupError):
+            os.kill(int(listener), signal.SIGTERM)
 
 
 class WrongClients(unittest.TestCase):
