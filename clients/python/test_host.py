@@ -623,7 +623,33 @@ class Etcd(unittest.IsolatedAsyncioTestCase):
             gone = [it for it in keys if any(first <= it <= last for first, last in parts)]
             self.assertEqual(gone, [it for it in keys if keys[it] <= place])
             self.assertLess(len(asked), 99)
+        foreign = (b"", b"0", b"123", b"a", b"a/", b"a/!", b"a/1", b"b/x", b"b/" + b"9" * 21, b"~")
+        keys.update((b"bank/log/" + it, 1) for it in foreign)
+        with contextlib.redirect_stderr(io.StringIO()) as said:
+            self.assertEqual(await it._numbers_up_to(10**6), parts)
+        self.assertIn("the key b'bank/log/123' is no entry's, and is passed over", said.getvalue())
         await it.close()
+
+    async def test_a_foreign_key_among_the_entries(self):
+        """It is passed over, as other keys that no replica wrote. It ended each replica by
+        BadEntry, also once it was deleted, and a trim by a traceback."""
+        from tb_host import etcd
+
+        right, entry = etcd.rpc.WatchResponse(), b"bank/log/%032d/%020d" % (1, 1)
+        page = etcd.rpc.RangeResponse()
+        for at, key in enumerate((b"bank/log/x", b"bank/log/7", entry, entry + b"1")):
+            pair = right.events.add().kv
+            pair.mod_revision, pair.key, pair.value = 3 + at, key, b"it"
+            page.kvs.add(key=key, create_revision=3 + at)
+        page.header.revision = 9
+        log = await self.watched([right])
+        reading = log.read(0)
+        with contextlib.redirect_stderr(io.StringIO()) as said:
+            self.assertEqual(await asyncio.wait_for(reading.__anext__(), 9), Written(5, b"it"))
+            await reading.aclose()
+            with mock.patch.object(log, "_call", mock.AsyncMock(return_value=page)):
+                self.assertEqual(await log._keys_behind(0), (9, [(5, entry)]))
+        self.assertIn("the key b'bank/log/x' is no entry's, and is passed over", said.getvalue())
 
     async def test_a_long_log_is_listed(self):
         """In pages, each of which has time: etcd took more than two seconds for a list of all keys,
@@ -770,7 +796,7 @@ class Etcd(unittest.IsolatedAsyncioTestCase):
         async def watch(*_):
             said = etcd.rpc.WatchResponse()
             pair = said.events.add().kv
-            pair.mod_revision, pair.key, pair.value = 3, b"bank/log/0", b"an entry"
+            pair.mod_revision, pair.key, pair.value = 3, b"bank/log/0/%020d" % 1, b"an entry"
             yield said
             await asyncio.sleep(60)
 
@@ -865,7 +891,7 @@ class Etcd(unittest.IsolatedAsyncioTestCase):
         refused, right = (etcd.rpc.WatchResponse(created=True) for _ in range(2))
         refused.canceled, refused.cancel_reason = True, "permission denied"
         pair = right.events.add().kv
-        pair.mod_revision, pair.key, pair.value = 3, b"bank/log/0", b"an entry"
+        pair.mod_revision, pair.key, pair.value = 3, b"bank/log/0/%020d" % 1, b"an entry"
         log = await self.watched([refused], [refused], [right], [])
         reading = log.read(0)
         with contextlib.redirect_stderr(io.StringIO()) as told:

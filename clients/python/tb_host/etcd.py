@@ -1,13 +1,15 @@
 """The agreed log in etcd, by python3-etcd3's messages over gRPC.
 
 Keys under the log's name: `head`, `log/WRITER/NUMBER` with an entry each, `at/REPLICA` with what a
-replica says of itself, `trimmed`. An entry's place is the revision that made its key.
+replica says of itself, `trimmed`. An entry's place is the revision that made its key. Other keys
+are no replica's, and are passed over.
 """
 from __future__ import annotations
 
 import asyncio
 import contextlib
 import json
+import re
 import ssl
 from typing import Any, AsyncIterator, Dict, List, Optional, Sequence, Tuple, Union
 
@@ -42,6 +44,7 @@ OPTIONS = (
 # python3-etcd3 knows no `fragment` of a watch, field 8: a response is then cut at the size that a
 # request may have, so that a long log is not held in memory whole
 FRAGMENT = b"\x40\x01"
+ENTRY = re.compile(rb"log/([0-9a-f]+)/([0-9]{20})")  # what an entry's key has behind the log's name
 FULL = "database space exceeded"
 NO_TOKEN = (
     "invalid auth token",
@@ -329,7 +332,8 @@ class EtcdLog:
             page = await self._call("keys", "Range", request, each=WALK)
             revision = revision or int(page.header.revision)
             some = ((int(it.create_revision), bytes(it.key)) for it in page.kvs)
-            found += [it for it in some if place < it[0] <= revision]
+            some = (it for it in some if place < it[0] <= revision)
+            found += [it for it in some if self._entry_in(it[1]) is not None]
             if not page.more:
                 return revision, found
             at = page.kvs[-1].key + b"\0"
@@ -344,9 +348,19 @@ class EtcdLog:
     def _item(self, pair: Any) -> Union[Written, Report, None]:
         rest = pair.key[len(self.prefix) :]
         if rest.startswith(b"log/"):
-            return Written(pair.mod_revision, pair.value)
+            is_entry = self._entry_in(pair.key) is not None
+            return Written(pair.mod_revision, pair.value) if is_entry else None
         name = _name_of(rest[3:]) if rest.startswith(b"at/") else None
         return None if name is None else Report(name, pair.value)
+
+    def _entry_in(self, key: bytes) -> Optional[Tuple[bytes, int]]:
+        """What the keys of an entry's writer begin with, and the entry's number. None of a key that
+        no replica wrote."""
+        found = ENTRY.fullmatch(key, len(self.prefix))
+        if found is None:
+            say_of("", f"the key {key!r} is no entry's, and is passed over")
+            return None
+        return key[: found.end(1)], int(found[2])
 
     def look_elsewhere(self) -> None:
         if self.watch is not None:
@@ -445,8 +459,12 @@ class EtcdLog:
             page = await self._call("keys", "Range", request, each=WALK)
             if not page.kvs:
                 return found
-            writer, _, number = page.kvs[0].key.rpartition(b"/")
-            first, at = int(number), writer + b"0"  # behind its last key
+            at = page.kvs[0].key + b"\0"
+            entry = self._entry_in(page.kvs[0].key)
+            if entry is None:
+                continue
+            writer, first = entry
+            at = writer + b"0"  # behind its last key
             end = first + await self._count_up_to(writer, first, place)
             for it in range(first, end, REMOVED):
                 last = min(it + REMOVED, end) - 1
