@@ -1558,6 +1558,22 @@ class Replicas(OverALog):
         self.log.start = self.log.more = 3
         self.assertEqual(await self.begins(self.made()), "Trimmed")
 
+    async def test_a_beginning_that_no_trim_put(self):
+        """It is named where it contradicts the copy or the log. It was Trimmed, and an operator
+        looked for a peer's copy."""
+        it = self.made()
+        one = entry(A, 1, pair(1, register(1)))
+        self.copy.append(7, one, one.to_bytes())
+        self.log.items = [Written(place, one.to_bytes()) for place in range(1, 10)]
+        for trimmed in ((5, 7), (1, 8), (2, 10), (-1, 0)):
+            self.log.trimmed = mock.AsyncMock(return_value=trimmed)
+            self.assertEqual(await self.begins(it), "BadEntry", trimmed)
+        self.log.trimmed = mock.AsyncMock(return_value=(2, 9))
+        self.assertEqual(await self.begins(it), "Trimmed")
+        for trimmed in ((0, 0), (1, 7)):
+            self.log.trimmed = mock.AsyncMock(return_value=trimmed)
+            await it.begin()
+
     async def test_a_log_that_is_gone_where_it_is_read(self):
         it = self.made()
         await it.begin()
@@ -1620,6 +1636,21 @@ class Replicas(OverALog):
         self.assertEqual(said.getvalue(), "no replica is listed by the name r3\n")
         self.assertEqual(list(self.log.kept), ["r0"])
         await self.closed(it)
+
+    async def test_a_trim_beyond_what_a_replica_has(self):
+        """What one replica does not have stays in the log, whoever put `trimmed`. A trim went by
+        that, and removed entries that no replica had."""
+        said = dict(position=5, place=9, answered=5, clock=1, replies="", writer="", address="")
+        self.log.kept = {"r0": json.dumps({**said, "position": 8, "place": 20})}
+        self.log.kept["r1"] = json.dumps(said)
+        self.log.trim = mock.AsyncMock(return_value=[])
+        self.log.has_removed = mock.AsyncMock(return_value=False)
+        for trimmed in ((6, 11), (5, 10**6), (10**6, 9)):
+            self.log.trimmed = mock.AsyncMock(return_value=trimmed)
+            wanted = "`trimmed` has position {} at place {}, and r1 5 at 9".format(*trimmed)
+            with self.assertRaisesRegex(Ended, f"^nothing is trimmed: {wanted}: forget it"):
+                await parts_of_status.trim(argparse.Namespace(forget=[]), self.log)
+        self.log.trim.assert_not_awaited()
 
     async def test_reports_from_before_say_nothing_of_the_clock(self):
         said = {"clock": 0, "heard": {"r0": 5}, "hello": 3}

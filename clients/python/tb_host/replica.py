@@ -495,8 +495,10 @@ class Replica:
         """Compares the log's head, and tests the clock. Raises why the replica cannot serve."""
         try:
             await self._settle_head()
-            self._test_place(await self.log.last())
-            position, _ = await self.log.trimmed()
+            position, place = await self.log.trimmed()
+            last = await self.log.last()  # of later: what was trimmed before lies up to there
+            self._test_place(last)
+            self._test_trimmed(position, place, last)
             if position > self.copy.position:
                 said = f"the log begins behind position {position}, and the copy has "
                 raise Fault("Trimmed", f"{said}{self.copy.position}: take a peer's, by copy-from")
@@ -505,6 +507,14 @@ class Replica:
         except NoLog as none:
             raise Fault("NoLog", str(none)) from None
         self._test_last_moment()
+
+    def _test_trimmed(self, position: int, place: int, last: int) -> None:
+        """Raises `BadEntry` where no trim of this log has put what the log has for its beginning:
+        what lies behind the copy by its position lies behind it by its place, and in the log."""
+        is_behind = position > self.copy.position
+        if is_behind != (place > self.copy.place) or place > last or position < 0:
+            said = f"the log's `trimmed` has position {position} at place {place}, and the copy "
+            raise Fault("BadEntry", f"{said}{self.copy.position} at {self.copy.place}")
 
     async def _settle_head(self) -> None:
         """Makes the log's head, or raises `OtherRules` where another one is there. The copy keeps

@@ -90,9 +90,12 @@ async def trim(given: argparse.Namespace, log: Log) -> int:
         reports = await _reports(log)
         if not reports:
             raise Ended("no replica is listed, and nothing is trimmed", 1)
-        least = min(reports.values(), key=lambda it: int(it["position"]))
-        before = await log.trimmed()
-        to = max(before, (int(least["position"]), int(least["place"])))
+        name, least = min(reports.items(), key=lambda it: int(it[1]["position"]))
+        before, to = await log.trimmed(), (int(least["position"]), int(least["place"]))
+        if to < before:
+            said = "nothing is trimmed: `trimmed` has position {} at place {}".format(*before)
+            said += f", and {name} {to[0]} at {to[1]}: forget it, or find who wrote that"
+            raise Ended(said, 1)
         if to == before and await log.has_removed(to[1]) and not await log.full():
             tell(f"nothing to trim: the log is trimmed to position {before[0]}")
             return 0
