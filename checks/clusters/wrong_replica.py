@@ -86,6 +86,7 @@ def takes_twice_at_restart():
 def clock_ahead():
     now = time.time_ns
     time.time_ns = lambda: now() + 3600 * 10**9
+    replica.CLOCK = 2.0  # seconds in which nobody sets it right
 
 
 if __name__ == "__main__":

@@ -1581,6 +1581,7 @@ class Replicas(OverALog):
         self.running = asyncio.ensure_future(it.run())
         self.assertEqual(await self.ended(), "Trimmed")
 
+    @mock.patch.multiple(replica, CLOCK=0.0, CLOCK_AGAIN=0.01)
     async def test_a_log_ahead_of_the_clock(self):
         it = self.made()
         late = entry(A, 1, pair(time.time_ns() + 100 * 10**9, register(5)))
@@ -1591,17 +1592,62 @@ class Replicas(OverALog):
         await it.begin()
         self.assertGreater(it.moments.next(), time.time_ns())
 
-    async def test_a_clock_ahead_of_the_others(self):
+    @mock.patch.object(replica, "CLOCK_AGAIN", 0.01)
+    async def test_a_clock_that_is_behind_at_a_boot(self):
+        """The replica begins once the clock was set. It ended, and was not started again."""
+        it = self.made()
+        one = entry(A, 1, pair(time.time_ns(), register(5)))
+        self.copy.append(1, one, one.to_bytes())
+        self.log.put(one.to_bytes())
+        with mock.patch.object(time, "time_ns", lambda: 0):
+            beginning = asyncio.ensure_future(it.begin())
+            while "tested again" not in self.told.getvalue():
+                self.assertFalse(beginning.done())
+                await asyncio.sleep(0.01)
+        await asyncio.wait_for(beginning, 20)
+        self.assertEqual(self.told.getvalue().count("\n"), 1)
+
+    async def answers(self, ahead):
+        """Another replica answers once that this one's clock is so many seconds ahead of its."""
+        hello = json.loads(self.log.kept["r0"])["hello"]
+        said = {"clock": time.time_ns() - int(ahead * 10**9), "heard": {"r0": hello}}
+        await self.log.report("r1", json.dumps(said).encode())
+
+    async def meets(self):
+        """A replica that has asked another for its clock."""
         it = self.made()
         await it.begin()
         self.log.kept["r1"] = b"{}"
         self.running = asyncio.ensure_future(it.run())
         while "r0" not in self.log.kept:
             await asyncio.sleep(0.01)
-        heard = {"r0": json.loads(self.log.kept["r0"])["hello"]}
-        said = {"clock": time.time_ns() - 100 * 10**9, "heard": heard}
-        await self.log.report("r1", json.dumps(said).encode())
+        return it
+
+    @mock.patch.multiple(replica, CLOCK=0.0, CLOCK_AGAIN=0.01)
+    async def test_a_clock_ahead_of_the_others(self):
+        await self.meets()
+        await self.answers(100)
         self.assertEqual(await self.ended(), "Ahead")
+
+    @mock.patch.multiple(replica, CLOCK_AGAIN=0.01, ANSWERS=0.2)
+    async def test_a_clock_that_is_ahead_at_a_boot(self):
+        """The replica serves once the clock was set, by moments of then; and not before another one
+        has said so. It ended, and was not started again."""
+        right = time.time_ns
+        with mock.patch.object(time, "time_ns", lambda: right() + 100 * 10**9):
+            it = await self.meets()
+            await self.answers(100)
+            while "tested again" not in self.told.getvalue():
+                self.assertFalse(self.running.done())
+                await asyncio.sleep(0.01)
+        await asyncio.sleep(1)  # nobody answers
+        self.assertFalse(it.is_met)
+        while not it.is_met:
+            await self.answers(0)
+            await asyncio.sleep(0.05)
+        await self.asked(it, 6)
+        self.assertLess(it.moments.next(), time.time_ns() + 10**9)
+        await self.closed(it)
 
     async def test_reports_that_are_none(self):
         """A replica passes them over. `status` and `trim` tell whose it is."""

@@ -10,7 +10,7 @@ import json
 import math
 import os
 import time
-from typing import Any, Deque, Dict, List, Optional, Set, Tuple
+from typing import Any, Awaitable, Callable, Deque, Dict, List, Optional, Set, Tuple
 
 from tb_client.frames import asker
 
@@ -35,6 +35,7 @@ SYNC = 1.0  # seconds after which the copy is synced
 PAUSE = 0.1  # seconds before an append is tried again
 COME, GATHER = 0.002, 0.006  # seconds in which one of those who are answered comes again, and all
 ANSWERS = 2.0  # seconds for which the reports of others are waited for at the start
+CLOCK, CLOCK_AGAIN = 120.0, 1.0  # seconds for which a wrong clock is looked at again, and between
 FORMAT = 1
 RULES = 1  # grows where a server answers a script otherwise than before
 
@@ -121,6 +122,7 @@ class Replica:
         self.hello = 0  # what this clock had when the others were asked for theirs
         self.heard: Dict[str, int] = {}  # the same of others, which are to be answered
         self.ahead: Dict[str, int] = {}  # by how much this clock is ahead of another's, at least
+        self.least = 0  # the least of these, of the last time that one answered
         self.is_heard = False  # whether an own report was read
         self.is_met = False  # whether the others were asked
         self.is_away = False  # whether it was said that there is no log
@@ -446,10 +448,10 @@ class Replica:
 
     def _test_clock(self) -> None:
         """Raises `Ahead` where this clock is ahead of that of each replica that answered."""
-        least = min(self.ahead.values(), default=0) / SECOND
-        if least > self.given.ahead:
-            said = f"this computer's clock is {least:.0f} s ahead of the others': set it right"
-            raise Fault("Ahead", said)
+        self.least = min(self.ahead.values(), default=self.least)
+        if self.least > self.given.ahead * SECOND:
+            ahead = f"{self.least / SECOND:.0f} s ahead of the others'"
+            raise Fault("Ahead", f"this computer's clock is {ahead}: set it right")
 
     def _said(self, fault: str) -> bytes:
         position, place = self.copy.synced
@@ -506,7 +508,23 @@ class Replica:
             raise Fault("LogFull", str(full)) from None
         except NoLog as none:
             raise Fault("NoLog", str(none)) from None
-        self._test_last_moment()
+        await self._until_right(self._test_last_moment)
+
+    async def _until_right(self, test: Callable[[], Awaitable[None]]) -> None:
+        """Tests the clock until it is right: at a boot a wrong one may be set a moment later.
+        Raises `Ahead` where it is not."""
+        end, is_said = time.monotonic() + CLOCK, False
+        while True:
+            try:
+                await test()
+                return
+            except Fault as ahead:
+                if ahead.name != "Ahead" or time.monotonic() > end:
+                    raise
+                if not is_said:
+                    say(f"{ahead}; tested again for {CLOCK:.0f} s", "warning")
+                is_said = True
+            await asyncio.sleep(CLOCK_AGAIN)
 
     def _test_trimmed(self, position: int, place: int, last: int) -> None:
         """Raises `BadEntry` where no trim of this log has put what the log has for its beginning:
@@ -532,7 +550,7 @@ class Replica:
         if kept(self.copy.folder, "head", found) != found:
             raise Fault("OtherRules", f"{said} {self.copy.folder} is a copy of another log")
 
-    def _test_last_moment(self) -> None:
+    async def _test_last_moment(self) -> None:
         """Raises `Ahead` where the log's last moment lies far ahead of the clock."""
         last = self.copy.last_moment
         ahead = (last - time.time_ns()) / SECOND
@@ -547,14 +565,20 @@ class Replica:
             others = set(await self.log.reports()) - {self.name}
         except NoLog as none:
             raise Fault("NoLog", str(none)) from None
-        self.hello = time.time_ns()
+        await self._until_right(lambda: self._ask_for_clocks(others))
+        self.moments = Moments(self.copy.last_moment)  # the clock may have been set meanwhile
+        self.is_met = True
+        self.reporting.set()
+
+    async def _ask_for_clocks(self, others: Set[str]) -> None:
+        """Compares the clock with those of replicas that answer in time. Where none does, what was
+        found before stays true."""
+        self.hello, self.ahead = time.time_ns(), {}
         await self.report()
         end = time.monotonic() + ANSWERS
         while others - set(self.ahead) and time.monotonic() < end:
             await asyncio.sleep(0.02)
         self._test_clock()
-        self.is_met = True
-        self.reporting.set()
 
     async def run(self) -> None:
         """Runs until it is closed, or raises why it ends."""
