@@ -1164,6 +1164,33 @@ class PostgreSQL(unittest.IsolatedAsyncioTestCase):
     def _late(self, *_):
         raise TimeoutError("it goes on without an end")
 
+    @unittest.skipUnless(POSTGRES, "PostgreSQL is not installed")
+    async def test_a_trim_that_takes_longer_than_an_answer(self):
+        """A long log is removed in parts, the last of which may come later. It was one statement,
+        which was given up in the middle and tried again: a million entries were never removed."""
+        from tb_host import postgresql
+
+        insert = "INSERT INTO bank_log SELECT it, '', it, '' FROM generate_series(1, 1001) AS it"
+        slow = """
+        CREATE FUNCTION slow() RETURNS trigger AS
+            $$ BEGIN PERFORM pg_sleep(0.005); RETURN old; END $$ LANGUAGE plpgsql;
+        CREATE TRIGGER slow BEFORE DELETE ON bank_log FOR EACH ROW EXECUTE FUNCTION slow()
+        """
+        with postgres() as folder, mock.patch.object(postgresql, "ALL", 3):
+            user = Access(user="postgres")
+            log = postgresql.PostgresLog([(folder, 5432)], "postgres/bank", user, 0)
+            await log.head(b"it")
+            await log.writing.execute(insert)
+            await log.writing.execute(slow)
+            self.assertFalse(await log.has_removed(900))
+            for place, first in ((900, 901), (2000, 1001)):
+                await log.trim(place, place)
+                self.assertTrue(await log.has_removed(place))
+                least = await log.writing.execute("SELECT min(position) FROM bank_log")
+                self.assertEqual(await least.fetchall(), [(first,)])
+                self.assertEqual(await log.trimmed(), (place, place))
+            await log.close()
+
     async def test_who_waits_in_the_server_ends_there(self):
         """The server sees no end of a connection while a call waits for another's lock. Without a
         standby each try left one more, until it took no connections."""

@@ -40,6 +40,7 @@ AGAIN = 0.1  # seconds before it is
 LOCKED = 4000  # milliseconds for which a call that is tried again waits, in the server, for others
 LATEST = 0.05  # seconds after which it is looked for entries of others
 PAGE = 16  # entries that are read at a time
+REMOVED = 250  # entries that are removed at a time: more may take longer than one answer
 REPORTS = 0.2  # seconds after which it is looked for reports
 
 TABLES = """
@@ -67,6 +68,8 @@ FLUSHED = "SELECT count(*) FROM pg_stat_replication WHERE flush_lsn >= %s::pg_ls
 KEEP = """
 INSERT INTO {keys} VALUES (%s, %s) ON CONFLICT (key) DO UPDATE SET value = excluded.value
 """
+# The last entry stays: the next one counts on it.
+LEFT = "position BETWEEN %s AND %s AND position < (SELECT max(position) FROM {log})"
 SAY = """
 INSERT INTO {at} VALUES (%s, %s) ON CONFLICT (name) DO UPDATE SET value = excluded.value
 """
@@ -360,17 +363,17 @@ class PostgresLog:
             raise wrong_trimmed(value) from None
 
     async def trim(self, position: int, place: int) -> List[str]:
-        async def work(it: Any) -> None:
-            async with it.transaction():
-                await self._rows(it, KEEP, "trimmed", str(place).encode())
-                least = "position < (SELECT max(position) FROM {log})"  # the next one counts on it
-                await self._rows(it, "DELETE FROM {log} WHERE position <= %s AND " + least, place)
-
-        await self._call(work)
+        """No entry is removed before `trimmed` tells of it. One that is cut short leaves some."""
+        await self._call(lambda it: self._rows(it, KEEP, "trimmed", str(place).encode()))
+        least = await self._call(lambda it: self._rows(it, "SELECT min(position) FROM {log}"))
+        for first in range(least[0][0] or place, place + 1, REMOVED):
+            part = first, min(first + REMOVED - 1, place)
+            await self._call(lambda it: self._rows(it, "DELETE FROM {log} WHERE " + LEFT, *part))
         return [f"entries up to position {position} are removed; vacuum the table"]
 
     async def has_removed(self, place: int) -> bool:
-        return True  # one transaction trims
+        left = "SELECT position FROM {log} WHERE " + LEFT + " LIMIT 1"
+        return not await self._call(lambda it: self._rows(it, left, 0, place))
 
     async def full(self) -> str:
         return ""
