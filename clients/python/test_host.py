@@ -547,6 +547,67 @@ class Etcd(unittest.IsolatedAsyncioTestCase):
             EtcdLog([("127.0.0.1", 1)], "bank", Access(ca, client, paths["client_key"]))
 
     @unittest.skipUnless(shutil.which("openssl"), "openssl is not there")
+    async def test_files_of_tls_that_are_renewed(self):
+        """Calls and the watch go by them. A replica whose certificate was renewed did not reach
+        etcd again, once the old one had expired."""
+        import grpc.aio
+        from tb_host import etcd
+
+        holder = tempfile.TemporaryDirectory()
+        self.addCleanup(holder.cleanup)
+        paths = certificates.made(holder.name)
+        names = "ca", "client", "client_key"
+        files = {it: os.path.join(holder.name, f"own_{it}") for it in names}
+        for it, path in files.items():
+            shutil.copy(paths[it], path)
+
+        async def answer(*_):
+            return etcd.rpc.RangeResponse(header=etcd.rpc.ResponseHeader(revision=7))
+
+        async def watch(*_):
+            self.watches += 1
+            yield etcd.rpc.WatchResponse(created=True)
+            await asyncio.sleep(60)
+
+        self.watches, server = 0, grpc.aio.server()
+        etcd.rpc.add_KVServicer_to_server(mock.Mock(Range=answer), server)
+        etcd.rpc.add_WatchServicer_to_server(mock.Mock(Watch=watch), server)
+        ca, key, own = (etcd._read(paths[it]) for it in ("other_ca", "stranger_key", "stranger"))
+        credentials = grpc.ssl_server_credentials([(key, own)], ca, True)
+        port = server.add_secure_port("localhost:0", credentials)
+        await server.start()
+        log = etcd.EtcdLog([("localhost", port)], "bank", Access(*files.values()))
+        asked = etcd.rpc.RangeRequest(key=b"it")
+        with self.assertRaises(NoLog):
+            await log._call("keys", "Range", asked, 0.1)
+        for it, name in (("ca", "other_ca"), ("client", "stranger")):
+            shutil.copy(paths[name], files[it])
+        with self.assertRaisesRegex(Ended, "key values mismatch"):
+            log.renew()
+        shutil.copy(paths["stranger_key"], files["client_key"])
+        with mock.patch.object(etcd, "LEFT", 0.1):
+            with contextlib.redirect_stderr(io.StringIO()) as said:
+                await self.renewed(log, asked)
+        self.assertNotIn("NoLog", said.getvalue())
+        await log.close()
+        await server.stop(None)
+
+    async def renewed(self, log, asked):
+        """Has a log go by new files: twice, while it is read."""
+        log.renew()
+        self.assertEqual((await log._call("keys", "Range", asked, 9)).header.revision, 7)
+        reading = asyncio.ensure_future(log.read(0).__anext__())
+        for count in (1, 2):
+            while self.watches < count:
+                await asyncio.sleep(0.01)
+            log.renew()
+        await asyncio.wait_for(log.closing, 20)
+        self.assertEqual((await log._call("keys", "Range", asked, 9)).header.revision, 7)
+        self.assertFalse(reading.done())
+        reading.cancel()
+        with contextlib.suppress(asyncio.CancelledError):
+            await reading
+
     def test_a_handshake_that_fails(self):
         """It is told once, by a line of the program's own: with --log-json each line is JSON."""
         code = "import sys; from tb_host import etcd, machines; etcd.ALL = 0; "

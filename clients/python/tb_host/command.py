@@ -144,6 +144,9 @@ class Command(ServerProcess):
         while self.waiting:
             self._tell(self.waiting.popleft()[1], b"", self.ended_as)
 
+    def renew(self) -> None:
+        """The command has no files of TLS."""
+
     def lag(self) -> float:
         return self.moments.lag()
 

@@ -20,7 +20,7 @@ import grpc.aio
 from .faults import wrong_trimmed
 from .lines import Ended, say_of
 from .log import Access, LogFull, LogGone, NoLog, Report, Written
-from .tls import load_authority, load_own
+from .tls import load_authority, load_own, no_passphrase
 
 TRY = 2.0  # seconds for which one address is waited for
 ALL = 10.0  # seconds after which no address is tried any more
@@ -28,6 +28,7 @@ AGAIN = 0.1  # seconds before all addresses are tried again
 LEADER = 5.0  # seconds after which it is looked again which address is the leader's
 LISTED = 1000  # entries that are listed at a time: etcd holds a page with the values
 WALK = 30.0  # seconds for which a page is waited for: etcd goes over all keys for each
+LEFT = 60.0  # seconds after which nothing is under way over a channel that was left
 REMOVED = 10_000  # entries that are removed at a time: more may take longer than one answer
 OPTIONS = (
     ("grpc.max_receive_message_length", -1),
@@ -66,12 +67,17 @@ class Address:
     def __init__(self, host: str, port: int, access: Access) -> None:
         place = f"[{host}]:{port}" if ":" in host else f"{host}:{port}"
         self.place, self.access = place, access
-        self.channel = self._channel()
-        self.keys, self.watches = rpc.KVStub(self.channel), rpc.WatchStub(self.channel)
-        self.care, self.auth = rpc.MaintenanceStub(self.channel), rpc.AuthStub(self.channel)
+        self.use(self.made())
         self.given: List[Tuple[str, str]] = []  # what goes with each call, made once for a token
 
-    def _channel(self) -> Any:
+    def use(self, channel: Any) -> None:
+        """Has calls go over a channel from now on."""
+        self.channel = channel
+        self.keys, self.watches = rpc.KVStub(channel), rpc.WatchStub(channel)
+        self.care, self.auth = rpc.MaintenanceStub(channel), rpc.AuthStub(channel)
+
+    def made(self) -> Any:
+        """A new channel. Raises `Ended` where a file of TLS is wrong."""
         access = self.access
         if access.authority is None:
             return grpc.aio.insecure_channel(self.place, options=OPTIONS)
@@ -108,7 +114,7 @@ def _test_files(access: Access, authority: str) -> None:
     context = ssl.SSLContext(ssl.PROTOCOL_TLS_CLIENT)
     load_authority(context, authority)
     if access.certificate is not None and access.key is not None:
-        load_own(context, access.certificate, access.key)
+        load_own(context, access.certificate, access.key, no_passphrase)
 
 
 def _read(path: Optional[str]) -> Optional[bytes]:
@@ -147,9 +153,11 @@ class EtcdLog:
         self.entry = Put()  # one append is under way at a time
         self.looking: Optional[asyncio.Future[None]] = None  # for the leader
         self.looked = -LEADER
+        self.closing: Optional[asyncio.Future[None]] = None  # of channels that were left
         # the revision up to which all was read, and the place of the last entry up to there
         self.cursor = self.place = 0
         self.is_moving = self.is_unread = False
+        self.moved = ""  # why it is moving, where that is to be said
 
     # calls
 
@@ -245,8 +253,7 @@ class EtcdLog:
             except asyncio.CancelledError:
                 if not self.is_moving:
                     raise
-                why = "what was written there does not come"
-            self._say_unread(at, why)
+            self._say_unread(at, self.moved if self.is_moving else why)
             self.is_moving = False
             self.reading = (self.reading + 1) % len(self.addresses)
             await asyncio.sleep(AGAIN)
@@ -269,7 +276,8 @@ class EtcdLog:
 
     async def _watched(self) -> AsyncIterator[Union[Written, Report]]:
         it = self.addresses[self.reading]
-        self.watch = it.watches.Watch(metadata=await it.metadata())
+        given = await it.metadata()
+        self.watch = it.watches.Watch(metadata=given)
         asked = rpc.WatchCreateRequest(
             key=self.prefix,
             range_end=_end_of(self.prefix),
@@ -363,8 +371,11 @@ class EtcdLog:
         return key[: found.end(1)], int(found[2])
 
     def look_elsewhere(self) -> None:
+        self._move("what was written there does not come")
+
+    def _move(self, why: str) -> None:
         if self.watch is not None:
-            self.is_moving = True
+            self.is_moving, self.moved = True, why
             self.watch.cancel()
 
     # reports
@@ -499,15 +510,36 @@ class EtcdLog:
             )
             await self._call("care", "Alarm", request)
 
+    def renew(self) -> None:
+        if self.addresses[0].access.authority is None:
+            return
+        made = [it.made() for it in self.addresses]
+        left = [it.channel for it in self.addresses]
+        for it, channel in zip(self.addresses, made):
+            it.use(channel)
+        self._move("")
+        self.closing = asyncio.ensure_future(_closed_later(left, self.closing))
+
     async def full(self) -> str:
         return "etcd has the alarm NOSPACE" if await self._alarms() else ""
 
     async def close(self) -> None:
-        if self.looking is not None:
-            self.looking.cancel()
+        for task in (self.looking, self.closing):
+            if task is not None:
+                task.cancel()
         for it in self.addresses:
             with contextlib.suppress(Exception):
                 await it.channel.close()
+
+
+async def _closed_later(channels: List[Any], before: Optional[asyncio.Future[None]]) -> None:
+    """Closes channels once nothing is under way over them, behind those that were left before."""
+    if before is not None:
+        await before
+    await asyncio.sleep(LEFT)
+    for it in channels:
+        with contextlib.suppress(Exception):
+            await it.close()
 
 
 def _name_of(key: bytes) -> Optional[str]:

@@ -100,6 +100,10 @@ class Log(Protocol):
     async def has_removed(self, place: int) -> bool:
         """Whether no entry up to this place is left, as one is where a trim was cut short."""
 
+    def renew(self) -> None:
+        """Has new connections go by the files of TLS as they are now. Raises `Ended` where one is
+        wrong, and goes on by the old ones."""
+
     async def full(self) -> str:
         """Why the engine takes no more. Empty where it does."""
 

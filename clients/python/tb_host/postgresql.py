@@ -375,6 +375,9 @@ class PostgresLog:
         left = "SELECT position FROM {log} WHERE " + LEFT + " LIMIT 1"
         return not await self._call(lambda it: self._rows(it, left, 0, place))
 
+    def renew(self) -> None:
+        """Each connection reads the files."""
+
     async def full(self) -> str:
         return ""
 

@@ -182,6 +182,9 @@ class Replica:
     def committed(self) -> Optional[int]:
         return None  # the copy of the log is the replica's own
 
+    def renew(self) -> None:
+        self.log.renew()
+
     def lag(self) -> float:
         return self.moments.lag()
 

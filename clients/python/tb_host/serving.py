@@ -36,6 +36,9 @@ class Server(Asked, Protocol):
     def committed(self) -> Optional[int]:
         """How many commits its ledger's file has had since it runs, where that is known."""
 
+    def renew(self) -> None:
+        """Reads its files of TLS again. Raises `Ended` where one is wrong."""
+
     def lag(self) -> float:
         """How many seconds its moments lie behind the clock."""
 
@@ -85,16 +88,17 @@ async def listen_on(
     counts = Counts(file, command.is_serving, command.committed)
     listener = Listener(command, given, access_of(given), counts, Evictions(clients_max))
     loop = asyncio.get_running_loop()
-    loop.add_signal_handler(signal.SIGHUP, _read_again, places, listener)
+    loop.add_signal_handler(signal.SIGHUP, _read_again, places, command, listener)
     async with reported(given, counts, command.lag):
         await _serve_until(places, command, listener, stopping)
 
 
-def _read_again(places: List[Place], listener: Listener) -> None:
+def _read_again(places: List[Place], command: Server, listener: Listener) -> None:
     """Reads the files of TLS and of client ids again. Where one is wrong all old ones stay."""
     given = listener.given
     try:
         tls, access = context_of(given, no_passphrase), access_of(given)
+        command.renew()
     except Ended as ended:
         say(f"SIGHUP: {ended}; the old files stay in use", "error")
         return

@@ -57,7 +57,7 @@ def is_loopback(host: str) -> bool:
 
 def no_passphrase() -> str:
     """In place of the question on the terminal, for which all clients would wait."""
-    raise Ended("a passphrase is asked for at a start alone", 1)
+    raise Ended("the key has a passphrase", 1)
 
 
 def context_of(
