@@ -1742,12 +1742,18 @@ class Replicas(OverALog):
         it = await self.began()
         given = argparse.Namespace(log="etcd://a/b", forget=[])
         self.log.full = mock.AsyncMock(return_value="")
-        clocks = b'{"heard": []}', b'{"clock": "x"}', b'{"fault": 5}'
-        for data in (b"", b"[]", b"5", b"null", b"{}", b"\xff", *clocks):
+        clocks = b'{"heard": []}', b'{"clock": "x"}', b'{"fault": 5}', b'{"hello": Infinity}'
+        for data in (b"", b"[]", b"5", b"null", b"{}", b"\xff", b"[" * 99_999, *clocks):
             await self.log.report("r1", data)
             for part in (parts_of_status.status, parts_of_status.trim):
                 with self.assertRaisesRegex(Ended, "the report of r1 is none"):
                     await part(given, self.log)
+        await it.report()
+        mine = json.loads(self.log.kept["r0"])
+        for wrong in ({"fault": 5}, {"clock": 10**400}, {"position": -1}, {"replies": None}):
+            self.log.kept["r1"] = json.dumps({**mine, **wrong}).encode()
+            with self.assertRaisesRegex(Ended, "the report of r1 is none"):
+                await parts_of_status.status(given, self.log)
         await self.asked(it, 6)
         del self.log.kept["r1"]
         with contextlib.redirect_stdout(io.StringIO()) as said:

@@ -17,7 +17,7 @@ import etcd3.etcdrpc as rpc
 import grpc
 import grpc.aio
 
-from .faults import wrong_trimmed
+from .faults import NO_SUCH_JSON, wrong_trimmed
 from .lines import Ended, say_of
 from .log import Access, LogFull, LogGone, NoLog, Report, Written
 from .tls import load_authority, load_own, no_passphrase
@@ -404,7 +404,7 @@ class EtcdLog:
         try:
             said = json.loads(kept)
             return int(said["position"]), int(said["place"])
-        except (ArithmeticError, LookupError, RecursionError, TypeError, ValueError):
+        except NO_SUCH_JSON:
             raise wrong_trimmed(kept) from None
 
     async def trim(self, position: int, place: int) -> List[str]:

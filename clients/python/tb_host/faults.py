@@ -17,6 +17,10 @@ STATUS: Dict[str, int] = {
 }
 
 
+# what JSON is met with that another program wrote, and that is not what it is to be
+NO_SUCH_JSON = (ArithmeticError, LookupError, RecursionError, TypeError, ValueError)
+
+
 class Fault(Ended):
     """A fault that ends a replica, by its name."""
 

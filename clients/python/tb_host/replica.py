@@ -18,7 +18,7 @@ from .backlog import Backlog
 from .command import journal_at
 from .connections import Answered
 from .entries import MOMENT, PAIRS_MAX, Claim, Entry, test_pairs
-from .faults import Fault
+from .faults import NO_SUCH_JSON, Fault
 from .follower import Follower, KeptFollower, PositionFollower
 from .lines import Ended, Told, say
 from .local_copy import kept
@@ -431,7 +431,7 @@ class Replica:
         if report.name == self.name:
             self._test_name(report.data)
             return
-        with contextlib.suppress(ValueError, TypeError, KeyError, AttributeError):
+        with contextlib.suppress(AttributeError, *NO_SUCH_JSON):
             said = json.loads(report.data)
             if said.get("heard", {}).get(self.name) == self.hello:
                 self.ahead[report.name] = self.hello - int(said["clock"])
@@ -453,7 +453,7 @@ class Replica:
         """Raises `Ahead` where this clock is ahead of that of each replica that answered."""
         self.least = min(self.ahead.values(), default=self.least)
         if self.least > self.given.ahead * SECOND:
-            ahead = f"{self.least / SECOND:.0f} s ahead of the others'"
+            ahead = f"{self.least // SECOND} s ahead of the others'"
             raise Fault("Ahead", f"this computer's clock is {ahead}: set it right")
 
     def _said(self, fault: str) -> bytes:
@@ -546,7 +546,7 @@ class Replica:
         said = f"the log has {found.decode(errors='replace')}, and"
         try:
             is_same = {**json.loads(found), "id": ""} == {**wanted, "id": ""}
-        except (ValueError, TypeError):
+        except NO_SUCH_JSON:
             is_same = False
         if not is_same:
             raise Fault("OtherRules", f"{said} this replica {json.dumps(wanted, sort_keys=True)}")

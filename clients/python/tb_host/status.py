@@ -14,7 +14,7 @@ from tb_client.frames import asker, reply_fault, reply_length
 from tb_client.layout import HEADER
 
 from .entries import NOTHING, Entry, chained, cut
-from .faults import Fault
+from .faults import NO_SUCH_JSON, Fault
 from .lines import Ended
 from .local_copy import all_records_of
 from .log import Log, LogFull, NoLog
@@ -42,10 +42,12 @@ async def _reports(log: Log) -> Dict[str, Dict[str, Any]]:
     for name, data in sorted((await log.reports()).items()):
         try:
             found[name] = said = dict(json.loads(data))
-        except (ValueError, TypeError):
+        except NO_SUCH_JSON:
             said = {}
         is_one = all(isinstance(said.get(field), int) for field in NUMBERS)
-        if not (is_one and all(isinstance(said.get(field), str) for field in TEXTS)):
+        is_one = is_one and all(0 <= said[field] < 1 << 64 for field in NUMBERS)
+        texts = [said.get("fault", ""), *map(said.get, TEXTS)]
+        if not (is_one and all(isinstance(it, str) for it in texts)):
             raise Ended(f"the report of {name} is none: forget it", 1)
     return found
 
