@@ -19,6 +19,7 @@ import struct
 import subprocess
 import sys
 import tempfile
+import threading
 import time
 import unittest
 from unittest import mock
@@ -1983,6 +1984,19 @@ class Kept(OverALog):
         it = await self.began(patience=20.0)
         self.assertEqual(self.commit(await self.asked(it, 77)), 40)
         await self.closed(it)
+
+    def test_a_folder_of_which_the_checkpoint_is_being_written(self):
+        """It is another's only once that is done. Two wrote one new checkpoint."""
+        with tempfile.TemporaryDirectory() as folder:
+            first = Backlog(folder)
+            with first.writing:
+                closing = threading.Thread(target=first.close)
+                closing.start()
+                closing.join(0.2)
+                with self.assertRaisesRegex(Ended, "is in use"):
+                    Backlog(folder)
+            closing.join(20)
+            Backlog(folder).close()
 
     def test_a_checkpoint_of_a_peer(self):
         other = self.folder + "2"

@@ -211,4 +211,6 @@ class Backlog(Taken):
                 self.synced_end, self.synced = end, (mark.position, mark.place)
 
     def close(self) -> None:
-        os.close(self.file)
+        """Lets another replica have the folder, once no checkpoint is being written there."""
+        with self.writing:
+            os.close(self.file)
