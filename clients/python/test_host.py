@@ -329,6 +329,17 @@ class Copies(unittest.TestCase):
         self.assertEqual(str(found.exception), f"{self.folder}/name: No space left on device")
         self.assertEqual(kept(self.folder, "name", b"m2"), b"m2")
 
+    def test_the_name_of_a_new_copy_is_synced(self):
+        """A power loss could leave a folder without the copy, by which the log had been trimmed."""
+        synced = []
+
+        def sync(file):
+            synced.append(os.readlink(f"/proc/self/fd/{file}"))
+
+        self.folder += "2"
+        with mock.patch("os.fsync", sync), self.opened():
+            self.assertEqual(synced, [self.folder, f"{self.folder}/log"])
+
     def test_what_a_sync_failed_at_is_cut_off(self):
         """The system shows it, and may not write it any more: a later sync succeeds, and was taken
         for one of these bytes. So is what a replica that was killed left."""

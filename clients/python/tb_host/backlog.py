@@ -19,7 +19,7 @@ from typing import Deque, Dict, Iterator, List, Optional, Tuple
 from .entries import NOTHING, Entry
 from .faults import Fault
 from .lines import Ended
-from .local_copy import head_in, kept, opened_alone
+from .local_copy import head_in, kept, opened_alone, sync_folder
 from .taken import Item, Taken
 
 HELD = 1 << 26  # bytes of entries that are held before the log is read on
@@ -65,11 +65,7 @@ def put_checkpoint(folder: str, data: bytes) -> None:
             file.flush()
             os.fsync(file.fileno())
         os.replace(path + ".new", path)
-        at = os.open(folder, os.O_RDONLY)
-        try:
-            os.fsync(at)
-        finally:
-            os.close(at)
+        sync_folder(folder)
     except OSError as error:
         raise Ended(f"{path}: {error.strerror}", 1) from None
 

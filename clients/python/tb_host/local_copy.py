@@ -79,6 +79,15 @@ def opened_alone(folder: str, name: str) -> int:
     return file
 
 
+def sync_folder(folder: str) -> None:
+    """Syncs the names of a folder's files: else a power loss may leave a new one without a name."""
+    at = os.open(folder, os.O_RDONLY)
+    try:
+        os.fsync(at)
+    finally:
+        os.close(at)
+
+
 class Copy(Taken):
     """A copy in a folder. It is one replica's alone."""
 
@@ -99,6 +108,7 @@ class Copy(Taken):
             if length < len(MAGIC):
                 os.ftruncate(self.file, 0)
                 os.pwrite(self.file, MAGIC, 0)
+                sync_folder(self.folder)
             elif os.pread(self.file, len(MAGIC), 0) != MAGIC:
                 raise Fault("Damaged", f"{self.path} is no copy of a log")
             for record in self.records(len(MAGIC), length):
