@@ -2082,6 +2082,9 @@ class Words(unittest.TestCase):
                 # a stop is for the host alone to hear: it lets its server answer, or ends it
                 self.assertIn("\nKillMode=mixed\n", text)
                 self.assertIn("\nExecReload=/bin/kill -HUP $MAINPID\n", text)
+                # systemd gives up after five starts in ten seconds
+                pause = int(re.search(r"^RestartSec=([0-9]+)$", text, re.M)[1])
+                self.assertGreaterEqual(pause, 2)
                 seconds = int(re.search(r"^TimeoutStopSec=([0-9]+)$", text, re.M)[1])
                 self.assertGreater(seconds, 2 * found.slow + 10)
 
