@@ -97,10 +97,15 @@ class OverTLS(unittest.TestCase):
             self.assertEqual(listener.end(), 0)
 
     def test_who_has_no_certificate_or_a_wrong_one(self):
+        """TLS's own alert says why, where the loop of asyncio says nothing."""
         with self.listening("--client-ca", self.paths["ca"]) as (listener, place):
-            for name in (None, "gone", "forged"):
+            for name, alert in (
+                (None, "certificate required"),
+                ("gone", "certificate expired"),
+                ("forged", "unknown ca"),
+            ):
                 with self.subTest(name):
-                    self.assertIn("may not take this client's certificate", self.fault(place, name))
+                    self.assertIn(f"alert {alert}", self.fault(place, name))
             plain = Socket(place, timeout=2)
             with self.assertRaises(tb.ClientError):
                 Session.register(plain, attempts=1)

@@ -18,7 +18,7 @@ from typing import Any, Dict, Iterator, List, Optional
 from .connections import Connection, Listener
 from .lines import Ended, say, say_of
 from .systemd import passed_sockets
-from .tls import context_of, is_loopback
+from .tls import agreeing_on, context_of, is_loopback
 
 BACKLOG = 1024  # connections that wait to be taken
 ACCEPT_AGAIN = 0.5  # seconds before a connection is taken again for which there was no file
@@ -269,6 +269,7 @@ async def _begin(
     """Lets a connection be served, once it has agreed on TLS where that is wanted."""
     peer = ""
     if tls:
+        agreeing_on.set(it)
         with contextlib.suppress(OSError):
             peer = shown(*it.getpeername())
     loop: Any = asyncio.get_running_loop()  # mypy 1.0 knows no connect_accepted_socket

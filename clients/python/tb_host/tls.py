@@ -2,10 +2,12 @@
 from __future__ import annotations
 
 import argparse
+import contextlib
+import contextvars
 import ipaddress
 import socket
 import ssl
-from typing import Callable, Optional
+from typing import Any, Callable, Optional
 
 from .arguments import path
 from .lines import Ended
@@ -55,6 +57,36 @@ def is_loopback(host: str) -> bool:
     return all(ipaddress.ip_address(str(it[4][0]).split("%")[0]).is_loopback for it in found)
 
 
+# the socket on which a task agrees on TLS
+agreeing_on: contextvars.ContextVar[socket.socket] = contextvars.ContextVar("agreeing_on")
+
+
+class _Agreement(ssl.SSLObject):
+    """TLS of one connection. Where it is not agreed on, the alert that says why is sent: a loop of
+    asyncio closes the connection without it, and the client would take that for a lost one."""
+
+    outgoing: ssl.MemoryBIO
+
+    def do_handshake(self) -> None:
+        try:
+            super().do_handshake()
+        except (ssl.SSLWantReadError, ssl.SSLWantWriteError):
+            raise
+        except ssl.SSLError:
+            with contextlib.suppress(OSError, LookupError):  # the client may be gone
+                agreeing_on.get().send(self.outgoing.read())
+            raise
+
+
+class _Context(ssl.SSLContext):
+    sslobject_class = _Agreement
+
+    def wrap_bio(self, incoming: Any, outgoing: ssl.MemoryBIO, *more: Any, **named: Any) -> Any:
+        made = super().wrap_bio(incoming, outgoing, *more, **named)
+        made.outgoing = outgoing  # type: ignore[attr-defined]
+        return made
+
+
 def no_passphrase() -> str:
     """In place of the question on the terminal, for which all clients would wait."""
     raise Ended("the key has a passphrase", 1)
@@ -67,7 +99,7 @@ def context_of(
     be."""
     if not given.certificate:
         return None
-    context = ssl.SSLContext(ssl.PROTOCOL_TLS_SERVER)
+    context = _Context(ssl.PROTOCOL_TLS_SERVER)
     context.minimum_version = ssl.TLSVersion.TLSv1_2
     load_own(context, given.certificate, given.key, passphrase)
     if given.client_ca:
