@@ -207,20 +207,45 @@ func (it *Socket) Exchange(ctx context.Context, frame []byte) ([]byte, error) {
 	}
 	within, cancel := context.WithTimeout(ctx, it.timeout)
 	defer cancel()
+	refusing := make(map[Address]bool)
 	for pause := firstPause; ; pause = doubled(pause, lastPause) {
 		reply, err := it.once(ctx, within, frame, asked)
-		var lost *LostError
-		if !errors.As(err, &lost) || lost.Told != toldStarting {
+		var fault *notTakenError
+		if !errors.As(err, &fault) {
 			return reply, err
 		}
-		if !sleep(within, pause) { // the server still reads its ledger, and takes no request
-			if ctx.Err() != nil {
-				return nil, &CancelledError{Err: ctx.Err()}
-			}
-			return nil, fmt.Errorf("%w: %v", ErrCannotConnect, err)
+		if fault.isRefusal {
+			refusing[fault.address] = true
 		}
+		if !it.areAll(refusing) && sleep(within, pause) {
+			continue
+		}
+		if ctx.Err() != nil {
+			return nil, &CancelledError{Err: ctx.Err()}
+		}
+		return nil, fmt.Errorf("%w: %v", ErrCannotConnect, fault)
 	}
 }
+
+// areAll reports whether these are all addresses.
+func (it *Socket) areAll(some map[Address]bool) bool {
+	for _, address := range it.addresses {
+		if !some[address] {
+			return false
+		}
+	}
+	return true
+}
+
+// notTakenError says that a server did not take a request: it reads its ledger, or refuses this
+// client by TLS.
+type notTakenError struct {
+	address   Address
+	isRefusal bool
+	err       error
+}
+
+func (it *notTakenError) Error() string { return fmt.Sprintf("%v: %v", it.address, it.err) }
 
 // once sends the frame once, and returns the frame of its reply.
 func (it *Socket) once(ctx, within context.Context, frame []byte, asked requestHeader) ([]byte, error) {
@@ -238,8 +263,18 @@ func (it *Socket) once(ctx, within context.Context, frame []byte, asked requestH
 	if err == nil {
 		return reply, nil
 	}
+	address := it.addresses[it.at]
 	it.lose(conn)
+	isRefused := !conn.isUsed && isRefusal(err)
+	if isRefused || isStarting(err) {
+		return nil, &notTakenError{address, isRefused, err}
+	}
 	return nil, it.failed(ctx, within, err)
+}
+
+func isStarting(err error) bool {
+	var lost *LostError
+	return errors.As(err, &lost) && lost.Told == toldStarting
 }
 
 // failed is the error of an exchange that did not end in its reply.
@@ -289,14 +324,15 @@ func (it *Socket) connected(ctx context.Context) (*connection, error) {
 	}
 	var told error // the last fault; the end of the time says less than one before it
 	for pause := firstPause; conn == nil; pause = doubled(pause, lastPause) {
-		err := error(nil)
-		if conn, err = it.callEach(ctx); err == nil {
+		var err error
+		var isDistrust bool
+		if conn, isDistrust, err = it.callEach(ctx); err == nil {
 			break
 		}
 		if told == nil || !errors.Is(err, context.DeadlineExceeded) {
 			told = err
 		}
-		if isCertificate(err) || !sleep(ctx, pause) {
+		if isDistrust || !sleep(ctx, pause) {
 			return nil, fmt.Errorf("%w: %v", ErrCannotConnect, told)
 		}
 	}
@@ -316,9 +352,10 @@ func (it *Socket) keep(conn *connection) error {
 }
 
 // callEach calls the addresses in turn, from the present one on, until one answers. Each gets a
-// share of the time that is left.
-func (it *Socket) callEach(ctx context.Context) (*connection, error) {
-	var fault error
+// share of the time that is left. Where none answers it returns the last fault, and whether each is
+// of a side that does not trust the other.
+func (it *Socket) callEach(ctx context.Context) (conn *connection, areDistrust bool, fault error) {
+	areDistrust = true
 	for left := len(it.addresses); left > 0; left-- {
 		deadline, _ := ctx.Deadline()
 		share, cancel := context.WithTimeout(ctx, time.Until(deadline)/time.Duration(left))
@@ -326,12 +363,13 @@ func (it *Socket) callEach(ctx context.Context) (*connection, error) {
 		conn, err := call(share, address, it.tls)
 		cancel()
 		if err == nil {
-			return conn, nil
+			return conn, false, nil
 		}
 		fault = fmt.Errorf("%v: %w", address, err)
+		areDistrust = areDistrust && (isCertificate(err) || isRefusal(err))
 		it.next()
 	}
-	return nil, fault
+	return nil, areDistrust, fault
 }
 
 func (it *Socket) next() {
@@ -358,6 +396,19 @@ func isCertificate(err error) bool {
 	return errors.As(err, &authority) || errors.As(err, &host) || errors.As(err, &other)
 }
 
+// isRefusal reports whether the server refuses this client by an alert of TLS: it does not take its
+// certificate, or wants one. In TLS 1.3 the alert comes when the client has agreed, and may have sent
+// a request, which the server does not read. The package tls names alerts by their text alone.
+func isRefusal(err error) bool {
+	var remote *net.OpError
+	if !errors.As(err, &remote) || remote.Op != "remote error" {
+		return false
+	}
+	alert := remote.Err.Error()
+	return strings.Contains(alert, "certificate") || strings.HasSuffix(alert, "access denied") ||
+		strings.HasSuffix(alert, "handshake failure") // in TLS 1.2 where it wants a certificate
+}
+
 func doubled(pause, most time.Duration) time.Duration {
 	if 2*pause < most {
 		return 2 * pause
@@ -380,7 +431,8 @@ func sleep(ctx context.Context, pause time.Duration) bool {
 // connection is a connection to a server. One exchange at a time uses it.
 type connection struct {
 	net.Conn
-	plain *plainConn // below TLS, or the same
+	plain  *plainConn // below TLS, or the same
+	isUsed bool       // a reply came over it
 }
 
 // call makes a connection.
@@ -426,13 +478,17 @@ func (it *connection) exchange(ctx context.Context, frame []byte, asked requestH
 	defer it.until(ctx)()
 	if _, err := it.Write(frame); err != nil {
 		var said [HeaderSize]byte // what the server said before it closed the connection
-		count, _ := io.ReadFull(it, said[:])
+		count, why := io.ReadFull(it, said[:])
+		if isRefusal(why) {
+			err = why
+		}
 		return nil, told(said[:count], err)
 	}
 	var header [HeaderSize]byte
 	if count, err := io.ReadFull(it, header[:]); err != nil {
 		return nil, told(header[:count], err)
 	}
+	it.isUsed = true
 	reply, err := decodeReplyHeader(header[:])
 	if err != nil {
 		return nil, err

@@ -125,8 +125,8 @@ WRONG = {
     ),
     "a late reply is waited for on the old connection": (
         "socket.go",
-        "\tit.lose(conn)\n\treturn nil, it.failed(",
-        "\tif within.Err() == nil {\n\t\tit.lose(conn)\n\t}\n\treturn nil, it.failed(",
+        "\tit.lose(conn)\n\tisRefused",
+        "\tif within.Err() == nil {\n\t\tit.lose(conn)\n\t}\n\tisRefused",
     ),
     "a connection that was closed is not looked at": (
         "socket.go",

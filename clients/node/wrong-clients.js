@@ -113,8 +113,9 @@ const WRONG = {
   ],
   "a late reply is waited for on the old connection": [
     "lib/socket.js",
-    "          this.#lose();\n          // a server",
-    '          if (!fault.message.startsWith("no reply")) this.#lose();\n          // a server',
+    "          this.#lose();\n          if (fault instanceof",
+    '          if (!fault.message.startsWith("no reply")) this.#lose();\n' +
+      "          if (fault instanceof",
   ],
   "a connection that was closed is not looked at": [
     "lib/socket.js",

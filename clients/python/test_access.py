@@ -97,15 +97,18 @@ class OverTLS(unittest.TestCase):
             self.assertEqual(listener.end(), 0)
 
     def test_who_has_no_certificate_or_a_wrong_one(self):
-        """TLS's own alert says why, where the loop of asyncio says nothing."""
+        """TLS's own alert says why, where the loop of asyncio says nothing. The client is told so
+        at once, and does not call on and on."""
         with self.listening("--client-ca", self.paths["ca"]) as (listener, place):
             for name, alert in (
                 (None, "certificate required"),
                 ("gone", "certificate expired"),
                 ("forged", "unknown ca"),
             ):
-                with self.subTest(name):
-                    self.assertIn(f"alert {alert}", self.fault(place, name))
+                tls = client_context(self.paths, name)
+                with self.subTest(name), tb.ClientSync(0, place, tls=tls, timeout=30) as client:
+                    with self.assertRaisesRegex(tb.CannotConnect, f"refuses this client: {alert}"):
+                        client.lookup_accounts([1])
             plain = Socket(place, timeout=2)
             with self.assertRaises(tb.ClientError):
                 Session.register(plain, attempts=1)

@@ -161,21 +161,22 @@ def tls():
             servers={"a": {"tls": {"cert": cert, **kind}}},
         )
 
-    def refused(name, says, cert="server", given=ca, handshake="fails", wants=None, **kind):
-        call = {"do": "register", "session": "s", "transport": "t", "client": "7", "attempts": 1}
-        row = one(
+    def refused(name, says, cert="server", given=ca, **kind):
+        """Waiting does not mend it: it is reported at once."""
+        call = {"do": "register", "session": "s", "transport": "t", "client": "7", "attempts": 2}
+        return one(
             name,
             says,
-            connect(tls=given, timeout=SHORT),
+            connect(tls=given),
             {
                 "call": call,
-                "server": [{"accept": "c", "handshake": handshake}],
-                "wants": wants or error("CannotConnect", sent=False),
+                "server": [{"accept": "c", "handshake": "fails"}],
+                "wants": error("CannotConnect", sent=False),
+                "at_most": LONG / 2,
             },
             cert=cert,
             **kind,
         )
-        return {**row, "ignored": ["a"]}
 
     found = reply(2, FIND_ACCOUNTS, account_bytes(account(1)), commit=9)
     yield one(
@@ -288,12 +289,56 @@ def tls():
     yield refused("stranger", "A certificate of another authority.", cert="stranger")
     yield refused("expired", "A certificate that has expired.", cert="expired")
     yield refused("other-host", "A certificate of another host.", cert="other_host")
-    yield refused(
-        "no-client-certificate",
-        "The server asks for a certificate, and the client has none.",
-        handshake="either",
-        wants=error(["CannotConnect", "ReplyLost"]),
-        clients=True,
+    for version in (None, "TLSv1_2"):
+        by = {"clients": True, "version": version} if version else {"clients": True}
+        end = "-1.2" if version else ""
+        yield refused(
+            f"no-client-certificate{end}",
+            "The server asks for a certificate, and the client has none.",
+            **by,
+        )
+        for name, says in (
+            ("stranger", "The client's certificate is of another authority."),
+            ("expired", "The client's certificate has expired."),
+        ):
+            theirs = {"cert": {"certificate": name}, "key": {"certificate": f"{name}_key"}}
+            yield refused(f"client-{name}{end}", says, given={**ca, **theirs}, **by)
+    servers = {"a": {"tls": {"cert": "server", "clients": True}}, "b": {"tls": {"cert": "server"}}}
+    call = {"do": "register", "session": "s", "transport": "t", "client": "7", "attempts": 1}
+    yield scenario(
+        "tls-refused-by-one",
+        "One address refuses the client's certificate: the next one is taken.",
+        connect(tls=ca, servers=("a", "b")),
+        {
+            "call": call,
+            "server": [
+                {"accept": "c", "handshake": "fails"},
+                {"accept": "d", "server": "b"},
+                *served(registers(), registered(), "d"),
+            ],
+            "wants": {"ok": {"client": "7", "session": "1"}},
+        },
+        begin=None,
+        over="tcp",
+        needs=["tls", "addresses"],
+        servers=servers,
+    )
+    servers = {"a": {"listens": False}, "b": {"tls": {"cert": "stranger"}}}
+    yield scenario(
+        "tls-distrust-and-nobody",
+        "One address does not listen yet, and one is not trusted: the first may be back in time.",
+        connect(tls=ca, servers=("a", "b"), timeout=SHORT),
+        {
+            "call": call,
+            "server": [{"accept": "c", "server": "b", "handshake": "fails"}],
+            "wants": error("CannotConnect", sent=False),
+            "at_least": SHORT * 0.9,
+        },
+        begin=None,
+        over="tcp",
+        needs=["tls", "addresses"],
+        servers=servers,
+        ignored=["b"],
     )
     yield scenario(
         "tls-plain-server",

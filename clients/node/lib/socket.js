@@ -21,11 +21,22 @@ const { bytesOf, kindOf, milliseconds, narrow, optionsOf, pathOf } = require("./
 const TIMEOUT = 5000; // milliseconds
 const FIRST_PAUSE = 20; // milliseconds, before the server is called again; doubled each time
 const LAST_PAUSE = 500;
+const TICKET_MAX = 100; // milliseconds: not all servers send one
 const PATH_MAX = { linux: 107, win32: 255 }[process.platform] ?? 103; // bytes of a socket's path
 const CLOSED = "this Socket was closed";
 // begins what a server says before it closes a connection: fewer bytes than a frame has
 const TOLD = "tb_listen: ";
 const STARTING = "Starting";
+// alerts of TLS by which a server refuses this client, whose request it does not read. The last
+// one says so in TLS 1.2, where the server wants a certificate
+const REFUSAL = /_ALERT_(?:\w*CERTIFICATE\w*|UNKNOWN_CA|ACCESS_DENIED|HANDSHAKE_FAILURE)$/;
+
+/** The server refuses this client by TLS, and did not take the request. */
+class Distrusted extends ReplyLost {}
+
+function isRefusal(fault) {
+  return REFUSAL.test(fault?.code ?? "");
+}
 
 /** Lets the system's news of connections come in: all that was there when this was called. */
 function news() {
@@ -60,20 +71,45 @@ class Connection {
   #said = [];
   #size = 0;
   #end = ""; // how it ended
+  #fault; // the system's, where one ended it
   #asked; // the request that is in flight
   #isUsed = false;
+  #isAnswered = false;
 
   constructor(socket) {
     this.#socket = socket;
     socket.on("data", (data) => this.#take(data));
     socket.on("end", () => this.#ended("the server closed the connection"));
-    socket.on("error", (fault) => this.#ended(`the connection broke: ${fault.message}`));
+    socket.on("error", (fault) => {
+      this.#fault = fault;
+      this.#ended(`the connection broke: ${fault.message}`);
+    });
     socket.on("close", () => this.#ended("the connection was closed"));
   }
 
   /** Whether it ended, or something came while nothing was asked. */
   get isLeft() {
     return this.#end !== "" || this.#size > 0;
+  }
+
+  /**
+   * Lets the server's first word come: that it takes no more, or over TLS 1.3 whether it takes this
+   * client, whose ticket it then sends. Node gives up a connection on which a write fails, and with
+   * it what came over it.
+   */
+  async welcome() {
+    await news();
+    const it = this.#socket;
+    if (this.isLeft || it.getProtocol?.() !== "TLSv1.3") return;
+    await new Promise((resolve) => {
+      const timer = after(TICKET_MAX, resolve);
+      for (const word of ["session", "close"]) {
+        it.once(word, () => {
+          clearTimeout(timer);
+          news().then(resolve); // nothing is written amid the reading of a ticket
+        });
+      }
+    });
   }
 
   /** Sends a request, and waits for the reply to it. */
@@ -128,7 +164,14 @@ class Connection {
       this.#finish(fault);
       return;
     }
-    if (this.#end !== "") this.#finish(lost(this.#whole(), this.#end));
+    if (this.#end !== "") this.#finish(this.#lost());
+  }
+
+  #lost() {
+    // in TLS 1.3 the server says so when the client has agreed
+    if (this.#isAnswered || !isRefusal(this.#fault)) return lost(this.#whole(), this.#end);
+    const { reason, message } = this.#fault;
+    return new Distrusted(`the server refuses this client: ${reason ?? message}`);
   }
 
   /** All that came, in one piece. */
@@ -138,6 +181,7 @@ class Connection {
   }
 
   #answer(data, length) {
+    this.#isAnswered = true;
     this.#said = data.length > length ? [data.subarray(length)] : [];
     this.#size = data.length - length;
     this.#finish(undefined, data.subarray(0, length));
@@ -192,7 +236,7 @@ function call(address, secure, ms, signal, hold) {
     const timer = after(ms, () => end(late()));
     it.once(it instanceof tls.TLSSocket ? "secureConnect" : "connect", () => end(undefined));
     it.on("error", (fault) => {
-      if (it.authorizationError) fault.isDistrust = true;
+      fault.isDistrust = Boolean(it.authorizationError) || isRefusal(fault);
       end(fault);
     });
     off = onAbort(signal, () => end(new Cancelled(false, signal.reason)));
@@ -276,15 +320,18 @@ class Socket {
     try {
       this.#testOpen();
       const deadline = performance.now() + this.#timeout;
+      const refusing = new Set();
       for (let pause = FIRST_PAUSE; ; pause = Math.min(2 * pause, LAST_PAUSE)) {
         const connection = await this.#connected(deadline, signal);
         try {
           return await connection.ask(request, deadline - performance.now(), signal);
         } catch (fault) {
           this.#lose();
+          if (fault instanceof Distrusted) refusing.add(shownAddress(this.#gone));
           // a server that still reads its ledger takes no request
-          if (fault.told !== STARTING) throw fault;
-          if (deadline - performance.now() <= pause) {
+          else if (fault.told !== STARTING) throw fault;
+          const isRefused = this.#addresses.every((it) => refusing.has(shownAddress(it)));
+          if (isRefused || deadline - performance.now() <= pause) {
             throw new CannotConnect(`${shownAddress(this.#gone)}: ${fault.message}`, { cause: fault });
           }
         }
@@ -317,11 +364,12 @@ class Socket {
     let told; // the last fault; the end of the time says less than one before it
     let place; // the address that has it
     for (let pause = FIRST_PAUSE; this.#connection === undefined; ) {
-      const fault = await this.#callEach(deadline, signal);
-      if (fault === undefined) break;
+      const faults = await this.#callEach(deadline, signal);
+      if (faults.length === 0) break;
+      const fault = faults.at(-1);
       if (told === undefined || !fault.isLate) [told, place] = [fault, shownAddress(this.#gone)];
       const left = deadline - performance.now();
-      if (left <= 0 || fault.isDistrust) {
+      if (left <= 0 || faults.every((it) => it.isDistrust)) {
         throw new CannotConnect(`${place}: ${told.message || told.code}`, { cause: told });
       }
       await paused(Math.min(pause, left), signal, false);
@@ -332,11 +380,11 @@ class Socket {
   }
 
   /**
-   * Calls the addresses in turn, from the present one on, until one answers. Answers the last
-   * fault where none does.
+   * Calls the addresses in turn, from the present one on, until one answers. Answers their faults
+   * where none does.
    */
   async #callEach(deadline, signal) {
-    let fault;
+    const faults = [];
     for (let left = this.#addresses.length; left > 0; left -= 1) {
       try {
         // of the time, so that one that does not answer leaves some
@@ -345,18 +393,18 @@ class Socket {
           this.#endCall = end;
         };
         const connection = await call(this.address, this.#secure, share, signal, hold);
-        await news(); // a server that takes no more says so at once
+        await connection.welcome();
         if (this.#isClosed) connection.close();
         this.#testOpen();
         this.#connection = connection;
-        return undefined;
+        return [];
       } catch (why) {
         if (why instanceof Cancelled || why instanceof Closed) throw why;
-        fault = why;
+        faults.push(why);
         this.#next();
       }
     }
-    return fault;
+    return faults;
   }
 
   #next() {

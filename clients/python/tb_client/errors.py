@@ -71,7 +71,7 @@ class CannotStart(NotSent):
 
 class CannotConnect(NotSent):
     """No connection to the server can be made. `untrusted` where its certificate is not trusted,
-    which waiting does not mend."""
+    or it refuses this client's: waiting does not mend that."""
 
     def __init__(self, text: str = "", untrusted: bool = False) -> None:
         super().__init__(text)

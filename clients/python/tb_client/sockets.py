@@ -26,6 +26,18 @@ WAIT_MAX = 2_000_000.0  # seconds: Python cuts the milliseconds of a longer wait
 # begins what a server says before it closes a connection: fewer bytes than a frame has
 TOLD = b"tb_listen: "
 UNTRUSTED = " (over TLS it may not take this client's certificate, or wants one)"
+# TLS's alerts by which a server refuses this client, whose request it does not read
+REFUSALS = {
+    "BAD_CERTIFICATE",
+    "UNSUPPORTED_CERTIFICATE",
+    "CERTIFICATE_REVOKED",
+    "CERTIFICATE_EXPIRED",
+    "CERTIFICATE_UNKNOWN",
+    "CERTIFICATE_REQUIRED",
+    "UNKNOWN_CA",
+    "ACCESS_DENIED",
+    "HANDSHAKE_FAILURE",  # in TLS 1.2 where it wants a certificate
+}
 log = logging.getLogger("tb_client")
 
 
@@ -92,14 +104,16 @@ class Socket(Closing):
 
     def _exchanged(self, frame: bytes) -> bytes:
         deadline = time.monotonic() + seconds("timeout", self.timeout, 0)
-        pause = FIRST_PAUSE
+        pause, refusing = FIRST_PAUSE, set()
         while True:
             try:
                 return self._asked(frame, deadline)
-            except Starting as why:
-                # a server that still reads its ledger takes no request
-                if deadline - time.monotonic() <= pause:
-                    raise CannotConnect(f"{_shown(self._gone)}: {why}") from None
+            except (Starting, Distrusted) as why:  # the server did not take the request
+                if isinstance(why, Distrusted):
+                    refusing.add(self._gone)
+                untrusted = refusing == set(self._addresses)
+                if untrusted or deadline - time.monotonic() <= pause:
+                    raise CannotConnect(f"{_shown(self._gone)}: {why}", untrusted) from None
                 time.sleep(pause)
                 pause = min(2 * pause, LAST_PAUSE)
 
@@ -112,6 +126,8 @@ class Socket(Closing):
             return self._reply(it, frame, deadline)
         except OSError as error:
             self._lose()
+            if self._is_new and _refusal_of(error):
+                raise Distrusted(f"the server refuses this client: {_refusal_of(error)}") from None
             raise ReplyLost(self._lost_by(error)) from None
         except BaseException:
             self._lose()
@@ -127,7 +143,7 @@ class Socket(Closing):
             if not faults:
                 break
             left = deadline - time.monotonic()
-            untrusted = all(isinstance(it, ssl.SSLCertVerificationError) for it in faults)
+            untrusted = all(map(_is_distrust, faults))
             if left <= 0 or untrusted:
                 raise CannotConnect(self.trouble, untrusted) from None
             time.sleep(min(pause, left))
@@ -179,9 +195,9 @@ class Socket(Closing):
         told."""
         try:
             it.sendall(frame)
-        except ConnectionError:
+        except (ConnectionError, ssl.SSLEOFError):
             said = b""
-            with contextlib.suppress(OSError):
+            with contextlib.suppress(ConnectionError, socket.timeout):
                 while len(said) < HEADER and (more := it.recv(HEADER - len(said))):
                     said += more
             if said.startswith(TOLD):
@@ -266,6 +282,23 @@ def _is_left(it: socket.socket) -> bool:
 
 class Starting(ReplyLost):
     """The server reads its ledger, and did not take the request."""
+
+
+class Distrusted(ReplyLost):
+    """The server refuses this client's certificate, or that it has none, and did not take the
+    request. In TLS 1.3 it says so when the client has agreed, and may have sent the request."""
+
+
+def _refusal_of(error: OSError) -> str:
+    """The alert by which a server refuses this client, or nothing."""
+    reason = error.reason if isinstance(error, ssl.SSLError) else None
+    alert = (reason or "").partition("_ALERT_")[2]
+    return alert.lower().replace("_", " ") if alert in REFUSALS else ""
+
+
+def _is_distrust(error: OSError) -> bool:
+    """Whether one side does not trust the other, which waiting does not mend."""
+    return isinstance(error, ssl.SSLCertVerificationError) or bool(_refusal_of(error))
 
 
 def _closed(said: bytes, hint: str = "") -> ReplyLost:

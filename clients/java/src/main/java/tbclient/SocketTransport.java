@@ -10,9 +10,14 @@ import java.nio.charset.StandardCharsets;
 import java.security.cert.CertificateException;
 import java.security.cert.CertPathValidatorException;
 import java.time.Duration;
+import java.util.ArrayList;
+import java.util.HashSet;
 import java.util.List;
+import java.util.Set;
 import java.util.concurrent.locks.ReentrantLock;
+import java.util.regex.Pattern;
 import javax.net.ssl.SSLContext;
+import javax.net.ssl.SSLHandshakeException;
 
 /**
  * A connection to a server that listens, at one of some addresses.
@@ -31,6 +36,12 @@ public final class SocketTransport implements Transport {
     private static final long LAST_PAUSE = 500_000_000;
     private static final String TOLD = "tb_listen: "; // begins what is told before a closing
     private static final String STARTING = "Starting";
+    // alerts by which a server refuses this client, whose request it does not read. The last one
+    // says so in TLS 1.2, where the server wants a certificate
+    private static final Pattern REFUSAL =
+            Pattern.compile(
+                    "Received fatal alert: (\\w*certificate\\w*|unknown_ca|access_denied"
+                            + "|handshake_failure)$");
 
     private final List<Address> addresses;
     private final Duration timeout;
@@ -39,6 +50,7 @@ public final class SocketTransport implements Transport {
     private int at;
     private Address gone; // the one that was given up last
     private Link link;
+    private boolean isUsed; // a reply came over the link
     private volatile boolean closed; // also for who waits for the lock
 
     /**
@@ -100,18 +112,37 @@ public final class SocketTransport implements Transport {
         }
     }
 
-    /** The reply. A server that still reads its ledger takes no request, and is called again. */
+    /**
+     * The reply. A server that still reads its ledger takes no request, and is called again. So is
+     * one that refuses this client by TLS, where another address may take it.
+     */
     private byte[] answered(byte[] frame, Deadline until, Deadline limit) {
+        Set<Address> refusing = new HashSet<>();
         for (long pause = FIRST_PAUSE; ; pause = Math.min(2 * pause, LAST_PAUSE)) {
             connect(until, limit);
             try {
                 return exchanged(frame, until, limit);
+            } catch (DistrustedException why) {
+                refusing.add(gone);
+                if (refusing.containsAll(addresses)) {
+                    throw notConnected(limit, why.getMessage(), why);
+                }
+                rest(pause, until, limit, why);
             } catch (ReplyLostException why) {
                 if (!why.told().equals(STARTING)) {
                     throw why;
                 }
                 rest(pause, until, limit, why);
             }
+        }
+    }
+
+    /** The server refuses this client by TLS, and did not take the request. */
+    private static final class DistrustedException extends ReplyLostException {
+        private static final long serialVersionUID = 1L;
+
+        DistrustedException(IOException why) {
+            super("the server refuses this client: " + why.getMessage(), "", why);
         }
     }
 
@@ -141,6 +172,9 @@ public final class SocketTransport implements Transport {
         } catch (InterruptedIOException why) {
             throw Deadline.interrupted(true);
         } catch (IOException why) {
+            if (!isUsed && isRefusal(why)) {
+                throw new DistrustedException(why);
+            }
             throw new ReplyLostException("the connection broke: " + why.getMessage(), "", why);
         } finally {
             if (!isDone) { // a late reply is then never met
@@ -160,8 +194,9 @@ public final class SocketTransport implements Transport {
         while (link == null) {
             testOpen();
             try {
-                IOException fault = callEach(until);
-                if (fault != null && (isOfCertificate(fault) || !until.sleep(pause))) {
+                List<IOException> faults = callEach(until);
+                if (link == null && (areDistrust(faults) || !until.sleep(pause))) {
+                    IOException fault = faults.get(faults.size() - 1);
                     throw notConnected(limit, said(fault), fault);
                 }
                 pause = Math.min(2 * pause, LAST_PAUSE);
@@ -184,24 +219,25 @@ public final class SocketTransport implements Transport {
         return isName ? "the host's name cannot be looked up: " + said : said;
     }
 
-    /** Calls the addresses in order until one answers: the last fault where none does, or null. */
-    private IOException callEach(Deadline until) throws InterruptedIOException {
-        IOException fault = null;
+    /** Calls the addresses in order until one answers. Their faults where none does. */
+    private List<IOException> callEach(Deadline until) throws InterruptedIOException {
+        List<IOException> faults = new ArrayList<>();
         for (int left = addresses.size(); left > 0; left--) {
             try {
                 Address address = addresses.get(at);
                 link = called(address, address.places(), until.sooner(until.left() / left));
-                return null;
+                isUsed = false;
+                return List.of();
             } catch (SocketTimeoutException late) {
-                fault = late;
+                faults.add(late);
             } catch (InterruptedIOException why) {
                 throw why;
             } catch (IOException why) {
-                fault = why;
+                faults.add(why);
             }
             next();
         }
-        return fault;
+        return faults;
     }
 
     /** Calls the places of an address in order. Each has a share of the time. */
@@ -234,6 +270,16 @@ public final class SocketTransport implements Transport {
             }
         }
         return false;
+    }
+
+    /** Whether the server refuses this client. In TLS 1.3 it says so when the client has agreed. */
+    private static boolean isRefusal(IOException fault) {
+        return fault instanceof SSLHandshakeException && REFUSAL.matcher(fault.getMessage()).find();
+    }
+
+    /** Whether at each address one side does not trust the other. */
+    private static boolean areDistrust(List<IOException> faults) {
+        return faults.stream().allMatch(it -> isOfCertificate(it) || isRefusal(it));
     }
 
     private void next() {
@@ -273,6 +319,7 @@ public final class SocketTransport implements Transport {
     private byte[] reply(byte[] frame, Deadline until) throws IOException {
         ByteBuffer header = ByteBuffer.allocate(Layout.HEADER_SIZE);
         fill(header, until, null);
+        isUsed = true;
         Frames.testReply(header.array());
         Frames.testAsked(frame, header.array());
         int length = (int) Frames.length(header.array()); // of at most 8190 items
