@@ -183,7 +183,7 @@ WRONG = {
     ),
     "a connection that was closed is not looked at": (
         "SocketTransport",
-        "        if (link != null && link.isLeft()) {\n            lose();\n        }\n",
+        "        if (link != null && link.isLeft(until)) {\n            lose();\n        }\n",
         "",
     ),
     "always the first address": (
