@@ -6,6 +6,7 @@ import (
 	"crypto/tls"
 	"encoding/json"
 	"errors"
+	"io"
 	"net"
 	"os"
 	"path/filepath"
@@ -249,6 +250,31 @@ func TestCannotConnectTellsWhy(t *testing.T) {
 	defer socket.Close()
 	_, err = tb.Register(background, socket)
 	if !errors.Is(err, tb.ErrCannotConnect) || strings.Contains(err.Error(), "deadline") {
+		t.Error(err)
+	}
+}
+
+// A server that was starting, and is silent then.
+func TestTheEndOfTheTimeTellsWhatWasBefore(t *testing.T) {
+	path := filepath.Join(t.TempDir(), "ledger.sock")
+	listener, err := net.Listen("unix", path)
+	if err != nil {
+		t.Fatal(err)
+	}
+	defer listener.Close()
+	go func() {
+		if conn, err := listener.Accept(); err == nil {
+			io.WriteString(conn, "tb_listen: Starting\n")
+			conn.Close()
+		}
+	}()
+	socket, err := tb.NewSocket([]tb.Address{tb.Unix(path)}, tb.WithTimeout(time.Second))
+	if err != nil {
+		t.Fatal(err)
+	}
+	defer socket.Close()
+	_, err = tb.Register(background, socket, tb.WithAttempts(1))
+	if !errors.Is(err, tb.ErrReplyLost) || !strings.HasSuffix(err.Error(), "Starting") {
 		t.Error(err)
 	}
 }

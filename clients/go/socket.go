@@ -127,8 +127,9 @@ type Socket struct {
 	timeout   time.Duration
 	tls       *tls.Config
 
-	turn chan struct{} // holds a value while an exchange goes on
-	at   int           // the address of the connection, or of the next one
+	turn  chan struct{} // holds a value while an exchange goes on
+	at    int           // the address of the connection, or of the next one
+	cause error         // why no reply came to this exchange so far
 
 	closed chan struct{} // is closed with the Socket
 	mu     sync.Mutex    // of what follows
@@ -207,6 +208,7 @@ func (it *Socket) Exchange(ctx context.Context, frame []byte) ([]byte, error) {
 	}
 	within, cancel := context.WithTimeout(ctx, it.timeout)
 	defer cancel()
+	it.cause = nil
 	refusing := make(map[Address]bool)
 	for pause := firstPause; ; pause = doubled(pause, lastPause) {
 		reply, err := it.once(ctx, within, frame, asked)
@@ -214,6 +216,7 @@ func (it *Socket) Exchange(ctx context.Context, frame []byte) ([]byte, error) {
 		if !errors.As(err, &fault) {
 			return reply, err
 		}
+		it.keepCause(err)
 		if fault.isRefusal {
 			refusing[fault.address] = true
 		}
@@ -223,8 +226,19 @@ func (it *Socket) Exchange(ctx context.Context, frame []byte) ([]byte, error) {
 		if ctx.Err() != nil {
 			return nil, &CancelledError{Err: ctx.Err()}
 		}
-		return nil, fmt.Errorf("%w: %v", ErrCannotConnect, fault)
+		return nil, it.notConnected()
 	}
+}
+
+// keepCause keeps why no reply came. The end of the time says less than a fault before it.
+func (it *Socket) keepCause(err error) {
+	if it.cause == nil || !errors.Is(err, context.DeadlineExceeded) {
+		it.cause = err
+	}
+}
+
+func (it *Socket) notConnected() error {
+	return fmt.Errorf("%w: %v", ErrCannotConnect, it.cause)
 }
 
 // areAll reports whether these are all addresses.
@@ -288,6 +302,9 @@ func (it *Socket) failed(ctx, within context.Context, err error) error {
 	case it.isClosed():
 		return &LostError{Err: errors.New("the Socket was closed meanwhile")}
 	case within.Err() != nil, errors.Is(err, os.ErrDeadlineExceeded):
+		if it.cause != nil {
+			return &LostError{Err: fmt.Errorf("none within %v, after %v", it.timeout, it.cause)}
+		}
 		return &LostError{Err: fmt.Errorf("none within %v", it.timeout)}
 	}
 	return &LostError{Err: fmt.Errorf("the connection broke: %w", err)}
@@ -322,18 +339,11 @@ func (it *Socket) connected(ctx context.Context) (*connection, error) {
 			}
 		}()
 	}
-	var told error // the last fault; the end of the time says less than one before it
 	for pause := firstPause; conn == nil; pause = doubled(pause, lastPause) {
-		var err error
-		var isDistrust bool
-		if conn, isDistrust, err = it.callEach(ctx); err == nil {
-			break
-		}
-		if told == nil || !errors.Is(err, context.DeadlineExceeded) {
-			told = err
-		}
-		if isDistrust || !sleep(ctx, pause) {
-			return nil, fmt.Errorf("%w: %v", ErrCannotConnect, told)
+		var areDistrust bool
+		conn, areDistrust = it.callEach(ctx)
+		if conn == nil && (areDistrust || !sleep(ctx, pause)) {
+			return nil, it.notConnected()
 		}
 	}
 	return conn, it.keep(conn)
@@ -352,9 +362,9 @@ func (it *Socket) keep(conn *connection) error {
 }
 
 // callEach calls the addresses in turn, from the present one on, until one answers. Each gets a
-// share of the time that is left. Where none answers it returns the last fault, and whether each is
-// of a side that does not trust the other.
-func (it *Socket) callEach(ctx context.Context) (conn *connection, areDistrust bool, fault error) {
+// share of the time that is left. Where none answers it reports whether at each one side does not
+// trust the other.
+func (it *Socket) callEach(ctx context.Context) (conn *connection, areDistrust bool) {
 	areDistrust = true
 	for left := len(it.addresses); left > 0; left-- {
 		deadline, _ := ctx.Deadline()
@@ -363,13 +373,13 @@ func (it *Socket) callEach(ctx context.Context) (conn *connection, areDistrust b
 		conn, err := call(share, address, it.tls)
 		cancel()
 		if err == nil {
-			return conn, false, nil
+			return conn, false
 		}
-		fault = fmt.Errorf("%v: %w", address, err)
+		it.keepCause(fmt.Errorf("%v: %w", address, err))
 		areDistrust = areDistrust && (isCertificate(err) || isRefusal(err))
 		it.next()
 	}
-	return nil, areDistrust, fault
+	return nil, areDistrust
 }
 
 func (it *Socket) next() {

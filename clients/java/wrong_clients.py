@@ -177,9 +177,9 @@ WRONG = {
     ),
     "a late reply is waited for on the old connection": (
         "SocketTransport",
-        '            throw new ReplyLostException("no reply within " + timeout, "", late);\n',
+        '            String before = cause == null ? "" : ", after " + causeText;\n',
         "            isDone = true;\n"
-        '            throw new ReplyLostException("no reply within " + timeout, "", late);\n',
+        '            String before = cause == null ? "" : ", after " + causeText;\n',
     ),
     "a connection that was closed is not looked at": (
         "SocketTransport",

@@ -113,9 +113,9 @@ const WRONG = {
   ],
   "a late reply is waited for on the old connection": [
     "lib/socket.js",
-    "          this.#lose();\n          if (fault instanceof",
+    "          this.#lose();\n          if (fault.isDistrust",
     '          if (!fault.message.startsWith("no reply")) this.#lose();\n' +
-      "          if (fault instanceof",
+      "          if (fault.isDistrust",
   ],
   "a connection that was closed is not looked at": [
     "lib/socket.js",

@@ -117,6 +117,29 @@ class Addresses(unittest.TestCase):
             said = self.not_connected(places, timeout=0.3)
             self.assertTrue(said.startswith(f"{places[0]}: No such file"), said)
 
+    def test_what_was_before_the_end_of_the_time_is_told(self):
+        """A server that was starting, and then cannot be called in time, or is silent."""
+        for is_silent in (False, True):
+            begins, told = socket.socketpair()
+            told.sendall(b"tb_listen: Starting\n")
+            told.shutdown(socket.SHUT_WR)
+            silent, other = socket.socketpair()
+            made = [begins, silent] if is_silent else [begins]
+
+            def call(address, timeout, tls, made=made):
+                if made:
+                    return made.pop(0)
+                time.sleep(timeout)
+                raise socket.timeout("timed out")
+
+            kind = tb.ReplyLost if is_silent else tb.CannotConnect
+            with mock.patch("tb_client.sockets._call", call), self.subTest(is_silent):
+                with Socket(self.path("a"), timeout=0.3) as it, self.assertRaises(kind) as found:
+                    it.exchange(0, register(7))
+            for it in (begins, told, silent, other):
+                it.close()
+            self.assertTrue(str(found.exception).endswith("Starting"), found.exception)
+
     def test_a_server_is_told_that_closes_while_tls_is_agreed_on(self):
         with socket.socket() as listening:
             listening.bind(("127.0.0.1", 0))

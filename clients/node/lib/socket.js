@@ -31,9 +31,6 @@ const STARTING = "Starting";
 // one says so in TLS 1.2, where the server wants a certificate
 const REFUSAL = /_ALERT_(?:\w*CERTIFICATE\w*|UNKNOWN_CA|ACCESS_DENIED|HANDSHAKE_FAILURE)$/;
 
-/** The server refuses this client by TLS, and did not take the request. */
-class Distrusted extends ReplyLost {}
-
 function isRefusal(fault) {
   return REFUSAL.test(fault?.code ?? "");
 }
@@ -112,14 +109,14 @@ class Connection {
     });
   }
 
-  /** Sends a request, and waits for the reply to it. */
-  ask(frame, ms, signal) {
+  /** Sends a request, and waits for the reply to it. `late` says that none came in time. */
+  ask(frame, ms, signal, late) {
     this.#socket.ref();
     this.#isUsed = true;
     return new Promise((resolve, reject) => {
       const asked = { frame, need: HEADER_SIZE, resolve, reject, off: () => {} };
       asked.timer = after(ms, () => {
-        if (this.#asked === asked) this.#finish(new ReplyLost("no reply came in time"));
+        if (this.#asked === asked) this.#finish(new ReplyLost(late));
       });
       this.#asked = asked;
       if (this.#end === "") this.#socket.write(frame);
@@ -171,7 +168,8 @@ class Connection {
     // in TLS 1.3 the server says so when the client has agreed
     if (this.#isAnswered || !isRefusal(this.#fault)) return lost(this.#whole(), this.#end);
     const { reason, message } = this.#fault;
-    return new Distrusted(`the server refuses this client: ${reason ?? message}`);
+    const refused = new ReplyLost(`the server refuses this client: ${reason ?? message}`);
+    return Object.assign(refused, { isDistrust: true });
   }
 
   /** All that came, in one piece. */
@@ -290,6 +288,7 @@ class Socket {
   #addresses;
   #at = 0;
   #gone; // the address that was given up last
+  #cause; // the fault that is told where no reply comes to this exchange, or undefined
   #timeout;
   #secure;
   #connection;
@@ -321,19 +320,20 @@ class Socket {
       this.#testOpen();
       const deadline = performance.now() + this.#timeout;
       const refusing = new Set();
+      this.#cause = undefined;
       for (let pause = FIRST_PAUSE; ; pause = Math.min(2 * pause, LAST_PAUSE)) {
         const connection = await this.#connected(deadline, signal);
         try {
-          return await connection.ask(request, deadline - performance.now(), signal);
+          const left = deadline - performance.now();
+          return await connection.ask(request, left, signal, this.#late());
         } catch (fault) {
           this.#lose();
-          if (fault instanceof Distrusted) refusing.add(shownAddress(this.#gone));
+          if (fault.isDistrust) refusing.add(shownAddress(this.#gone));
           // a server that still reads its ledger takes no request
           else if (fault.told !== STARTING) throw fault;
+          this.#keep(fault);
           const isRefused = this.#addresses.every((it) => refusing.has(shownAddress(it)));
-          if (isRefused || deadline - performance.now() <= pause) {
-            throw new CannotConnect(`${shownAddress(this.#gone)}: ${fault.message}`, { cause: fault });
-          }
+          if (isRefused || deadline - performance.now() <= pause) throw this.#notConnected();
         }
         await paused(pause, signal, false);
         this.#testOpen();
@@ -361,22 +361,32 @@ class Socket {
     this.#testOpen();
     testLimit(signal, false);
     if (this.#connection?.isLeft) this.#lose();
-    let told; // the last fault; the end of the time says less than one before it
-    let place; // the address that has it
     for (let pause = FIRST_PAUSE; this.#connection === undefined; ) {
       const faults = await this.#callEach(deadline, signal);
       if (faults.length === 0) break;
-      const fault = faults.at(-1);
-      if (told === undefined || !fault.isLate) [told, place] = [fault, shownAddress(this.#gone)];
       const left = deadline - performance.now();
-      if (left <= 0 || faults.every((it) => it.isDistrust)) {
-        throw new CannotConnect(`${place}: ${told.message || told.code}`, { cause: told });
-      }
+      if (left <= 0 || faults.every((it) => it.isDistrust)) throw this.#notConnected();
       await paused(Math.min(pause, left), signal, false);
       this.#testOpen();
       pause = Math.min(2 * pause, LAST_PAUSE);
     }
     return this.#connection;
+  }
+
+  /** Keeps why no reply came. The end of the time says less than a fault before it. */
+  #keep(fault) {
+    if (this.#cause !== undefined && fault.isLate) return;
+    this.#cause = { fault, place: shownAddress(this.#gone) };
+  }
+
+  #late() {
+    if (this.#cause === undefined) return "no reply came in time";
+    return `no reply came in time, after ${this.#notConnected().message}`;
+  }
+
+  #notConnected() {
+    const { fault, place } = this.#cause;
+    return new CannotConnect(`${place}: ${fault.message || fault.code}`, { cause: fault });
   }
 
   /**
@@ -402,6 +412,7 @@ class Socket {
         if (why instanceof Cancelled || why instanceof Closed) throw why;
         faults.push(why);
         this.#next();
+        this.#keep(why);
       }
     }
     return faults;

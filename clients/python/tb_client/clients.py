@@ -73,10 +73,10 @@ class _Client:
         else what became of the call is raised."""
         if not call.future.cancelled():
             return call.future.result()
-        within = f"within {self.timeout:g} seconds"
+        within, trouble = f"within {self.timeout:g} seconds", self._pool.trouble()
         if call.may_be_sent:
-            raise ReplyLost(f"no reply {within}: what was asked for may be executed yet")
-        raise CannotConnect(f"not sent {within}, and will not be{self._pool.trouble()}")
+            raise ReplyLost(f"no reply {within}, and it may be executed yet{trouble}")
+        raise CannotConnect(f"not sent {within}, and will not be{trouble}")
 
 
 class ClientSync(_Client, Closing):

@@ -163,7 +163,7 @@ class Pool:
         return self._stopped.wait(seconds)
 
     def trouble(self) -> str:
-        """Why there is no connection, where there is none."""
+        """Why no reply came of late, where a transport says that."""
         for worker in list(self._workers):
             found = str(getattr(worker.transport, "trouble", ""))
             if found:

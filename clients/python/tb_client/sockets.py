@@ -64,7 +64,7 @@ class Socket(Closing):
         self.timeout = seconds("timeout", timeout, 0.001)
         self._tls = _context_of(tls, self._addresses)
         self._socket: Optional[socket.socket] = None
-        self.trouble = ""  # why there is no connection, since one was tried last
+        self.trouble = ""  # why no reply came since the last one, or since the beginning
         self._is_known = False  # trouble is more than the end of the time, in this exchange
         self._is_new = False  # nothing came over the connection yet
         self._lock = threading.RLock()  # a signal's handler may close it amid an exchange
@@ -104,18 +104,24 @@ class Socket(Closing):
 
     def _exchanged(self, frame: bytes) -> bytes:
         deadline = time.monotonic() + seconds("timeout", self.timeout, 0)
-        pause, refusing = FIRST_PAUSE, set()
+        pause, refusing, self._is_known = FIRST_PAUSE, set(), False
         while True:
             try:
-                return self._asked(frame, deadline)
+                reply = self._asked(frame, deadline)
+                self.trouble = ""
+                return reply
             except (Starting, Distrusted) as why:  # the server did not take the request
+                self._keep(self._gone, str(why))
                 if isinstance(why, Distrusted):
                     refusing.add(self._gone)
                 untrusted = refusing == set(self._addresses)
                 if untrusted or deadline - time.monotonic() <= pause:
-                    raise CannotConnect(f"{_shown(self._gone)}: {why}", untrusted) from None
+                    raise CannotConnect(self.trouble, untrusted) from None
                 time.sleep(pause)
                 pause = min(2 * pause, LAST_PAUSE)
+            except ReplyLost as why:
+                self._keep(self._gone, str(why))
+                raise
 
     def _asked(self, frame: bytes, deadline: float) -> bytes:
         """The reply to one sending of a request."""
@@ -135,7 +141,7 @@ class Socket(Closing):
 
     def _connected(self, deadline: float) -> socket.socket:
         """The connection, made again where there is none, or where the server closed it since."""
-        pause, self._is_known = FIRST_PAUSE, False
+        pause = FIRST_PAUSE
         if self._socket is not None and _is_left(self._socket):
             self._lose()
         while self._socket is None and not self._closed:
@@ -162,7 +168,7 @@ class Socket(Closing):
                 # of the time, so that one that does not answer leaves some
                 share = (deadline - time.monotonic()) / left
                 self._socket = _call(self.address, share, self._tls)
-                self._is_new, self.trouble = True, ""
+                self._is_new = True
                 log.info("connected to %s", _shown(self.address))
                 return []
             except OSError as error:
@@ -172,12 +178,14 @@ class Socket(Closing):
         return faults
 
     def _told(self, error: OSError) -> None:
-        """Keeps why there is no connection. That the time ends says less than a fault before it."""
-        why = f"{_shown(self.address)}: {error.strerror or error}{_hint(self.address)}"
-        log.info("no connection to %s", why)
-        is_late = isinstance(error, socket.timeout)
+        why = f"{error.strerror or error}{_hint(self.address)}"
+        log.info("no connection to %s: %s", _shown(self.address), why)
+        self._keep(self.address, why, isinstance(error, socket.timeout))
+
+    def _keep(self, address: Place, why: str, is_late: bool = False) -> None:
+        """Keeps why no reply came. That the time ends says less than a fault before it."""
         if not (is_late and self._is_known):
-            self.trouble = why
+            self.trouble = f"{_shown(address)}: {why}"
         self._is_known |= not is_late
 
     def _next(self) -> None:
@@ -230,7 +238,8 @@ class Socket(Closing):
         if self._closed:
             return "this Socket was closed before the reply came"
         if isinstance(error, socket.timeout):
-            return f"no reply within {self.timeout:g} seconds"
+            before = f", after {self.trouble}" if self._is_known else ""
+            return f"no reply within {self.timeout:g} seconds{before}"
         return f"the connection broke: {error}{self._hint()}"
 
     def _hint(self) -> str:
@@ -362,13 +371,13 @@ def _call(address: Place, timeout: float, tls: Optional[ssl.SSLContext] = None) 
 def _host_called(address: Tuple[str, int], deadline: float) -> socket.socket:
     """A connection to one of a host's addresses, each of which has its share of the time."""
     found = socket.getaddrinfo(*address, type=socket.SOCK_STREAM)
-    fault = OSError("the host has no address")
+    fault = None  # the last one, but the end of the time says less than another
     for left, (family, _, _, _, place) in zip(range(len(found), 0, -1), found):
         try:
             return _connected_to(family, place, _left(deadline) / left)
         except OSError as error:
-            fault = error
-    raise fault
+            fault = error if not isinstance(error, socket.timeout) else fault or error
+    raise fault or OSError("the host has no address")
 
 
 def _connected_to(family: int, place: Any, timeout: float) -> socket.socket:

@@ -10,7 +10,6 @@ import java.nio.charset.StandardCharsets;
 import java.security.cert.CertificateException;
 import java.security.cert.CertPathValidatorException;
 import java.time.Duration;
-import java.util.ArrayList;
 import java.util.HashSet;
 import java.util.List;
 import java.util.Set;
@@ -49,6 +48,8 @@ public final class SocketTransport implements Transport {
     private final ReentrantLock lock = new ReentrantLock(true);
     private int at;
     private Address gone; // the one that was given up last
+    private Exception cause; // why no reply came to this exchange so far, or null
+    private String causeText;
     private Link link;
     private boolean isUsed; // a reply came over the link
     private volatile boolean closed; // also for who waits for the lock
@@ -99,6 +100,7 @@ public final class SocketTransport implements Transport {
         limit.take(lock);
         try {
             testOpen();
+            cause = null;
             Deadline until = limit.sooner(timeout.toNanos());
             return answered(frame, until, limit);
         } finally {
@@ -123,17 +125,27 @@ public final class SocketTransport implements Transport {
             try {
                 return exchanged(frame, until, limit);
             } catch (DistrustedException why) {
+                keep(why, why.getMessage());
                 refusing.add(gone);
                 if (refusing.containsAll(addresses)) {
-                    throw notConnected(limit, why.getMessage(), why);
+                    throw notConnected(limit);
                 }
-                rest(pause, until, limit, why);
+                rest(pause, until, limit);
             } catch (ReplyLostException why) {
                 if (!why.told().equals(STARTING)) {
                     throw why;
                 }
-                rest(pause, until, limit, why);
+                keep(why, why.getMessage());
+                rest(pause, until, limit);
             }
+        }
+    }
+
+    /** Keeps why no reply came. That the time went by says less than a fault before it. */
+    private void keep(Exception why, String text) {
+        if (cause == null || !(why instanceof SocketTimeoutException)) {
+            cause = why;
+            causeText = gone + ": " + text;
         }
     }
 
@@ -146,7 +158,7 @@ public final class SocketTransport implements Transport {
         }
     }
 
-    private void rest(long pause, Deadline until, Deadline limit, ReplyLostException why) {
+    private void rest(long pause, Deadline until, Deadline limit) {
         try {
             if (until.sleep(pause)) {
                 return;
@@ -154,7 +166,7 @@ public final class SocketTransport implements Transport {
         } catch (InterruptedException interrupt) {
             throw Deadline.interrupted(false);
         }
-        throw notConnected(limit, why.getMessage(), why);
+        throw notConnected(limit);
     }
 
     private byte[] exchanged(byte[] frame, Deadline until, Deadline limit) {
@@ -168,7 +180,8 @@ public final class SocketTransport implements Transport {
             if (limit.isOver()) {
                 throw Deadline.late(true);
             }
-            throw new ReplyLostException("no reply within " + timeout, "", late);
+            String before = cause == null ? "" : ", after " + causeText;
+            throw new ReplyLostException("no reply within " + timeout + before, "", late);
         } catch (InterruptedIOException why) {
             throw Deadline.interrupted(true);
         } catch (IOException why) {
@@ -194,10 +207,9 @@ public final class SocketTransport implements Transport {
         while (link == null) {
             testOpen();
             try {
-                List<IOException> faults = callEach(until);
-                if (link == null && (areDistrust(faults) || !until.sleep(pause))) {
-                    IOException fault = faults.get(faults.size() - 1);
-                    throw notConnected(limit, said(fault), fault);
+                boolean areDistrust = callEach(until);
+                if (link == null && (areDistrust || !until.sleep(pause))) {
+                    throw notConnected(limit);
                 }
                 pause = Math.min(2 * pause, LAST_PAUSE);
             } catch (InterruptedIOException | InterruptedException why) {
@@ -206,11 +218,10 @@ public final class SocketTransport implements Transport {
         }
     }
 
-    private ClientException notConnected(Deadline limit, String why, Exception fault) {
-        String text = gone + ": " + why;
+    private ClientException notConnected(Deadline limit) {
         return limit.isOver()
-                ? new CancelledException("the limit of the call went by: " + text, false)
-                : new CannotConnectException(text, fault);
+                ? new CancelledException("the limit of the call went by: " + causeText, false)
+                : new CannotConnectException(causeText, cause);
     }
 
     private static String said(IOException fault) {
@@ -219,29 +230,36 @@ public final class SocketTransport implements Transport {
         return isName ? "the host's name cannot be looked up: " + said : said;
     }
 
-    /** Calls the addresses in order until one answers. Their faults where none does. */
-    private List<IOException> callEach(Deadline until) throws InterruptedIOException {
-        List<IOException> faults = new ArrayList<>();
+    /**
+     * Calls the addresses in order until one answers. Answers whether at each address one side does
+     * not trust the other.
+     */
+    private boolean callEach(Deadline until) throws InterruptedIOException {
+        boolean areDistrust = true;
         for (int left = addresses.size(); left > 0; left--) {
+            IOException fault;
             try {
                 Address address = addresses.get(at);
                 link = called(address, address.places(), until.sooner(until.left() / left));
                 isUsed = false;
-                return List.of();
+                return false;
             } catch (SocketTimeoutException late) {
-                faults.add(late);
+                fault = late;
             } catch (InterruptedIOException why) {
                 throw why;
             } catch (IOException why) {
-                faults.add(why);
+                fault = why;
             }
+            areDistrust &= isOfCertificate(fault) || isRefusal(fault);
             next();
+            keep(fault, said(fault));
         }
-        return faults;
+        return areDistrust;
     }
 
     /** Calls the places of an address in order. Each has a share of the time. */
     Link called(Address address, List<SocketAddress> places, Deadline until) throws IOException {
+        IOException fault = null; // the last one, but the end of the time says less than another
         for (int left = places.size(); ; left--) {
             SocketAddress place = places.get(places.size() - left);
             Deadline share = until.sooner(until.left() / left);
@@ -249,8 +267,12 @@ public final class SocketTransport implements Transport {
                 PlainLink plain = PlainLink.to(place, share);
                 return tls == null ? plain : TlsLink.over(plain, tls, address, share);
             } catch (IOException why) {
-                if (left == 1 || isInterrupt(why) || isOfCertificate(why)) {
+                if (isInterrupt(why) || isOfCertificate(why)) {
                     throw why;
+                }
+                fault = fault == null || !(why instanceof SocketTimeoutException) ? why : fault;
+                if (left == 1) {
+                    throw fault;
                 }
             }
         }
@@ -275,11 +297,6 @@ public final class SocketTransport implements Transport {
     /** Whether the server refuses this client. In TLS 1.3 it says so when the client has agreed. */
     private static boolean isRefusal(IOException fault) {
         return fault instanceof SSLHandshakeException && REFUSAL.matcher(fault.getMessage()).find();
-    }
-
-    /** Whether at each address one side does not trust the other. */
-    private static boolean areDistrust(List<IOException> faults) {
-        return faults.stream().allMatch(it -> isOfCertificate(it) || isRefusal(it));
     }
 
     private void next() {

@@ -244,6 +244,26 @@ public class SocketTransportTest {
         }
     }
 
+    @Test(timeout = 30_000)
+    public void aSilentServerThatWasStartingIsToldAsThat() throws IOException {
+        try (ServerSocket starting = new ServerSocket(0, 50, InetAddress.getLoopbackAddress())) {
+            start(
+                    () -> {
+                        try (Socket client = starting.accept()) {
+                            client.getOutputStream().write("tb_listen: Starting\n".getBytes(US_ASCII));
+                        }
+                        return null;
+                    });
+            Address address = Address.tcp("127.0.0.1", starting.getLocalPort());
+            Duration timeout = Duration.ofSeconds(1);
+            try (SocketTransport it = new SocketTransport(List.of(address), timeout, null)) {
+                ReplyLostException why =
+                        assertThrows(ReplyLostException.class, () -> registered(it));
+                assertTrue(why.getMessage(), why.getMessage().endsWith(": Starting"));
+            }
+        }
+    }
+
     /** A server that tells this in place of each reply, and closes the connection. */
     private static ServerSocket telling(String line) throws IOException {
         ServerSocket it = new ServerSocket(0, 50, InetAddress.getLoopbackAddress());
