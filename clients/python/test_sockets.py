@@ -176,6 +176,31 @@ class Addresses(unittest.TestCase):
                 self.assertLess(time.monotonic() - began, 1.5)
             server.end()
 
+    def test_a_name_that_is_looked_up_for_long(self):
+        """The lookup is within the timeout, and one that fails is told. A number needs none."""
+        done = threading.Event()
+        found = socket.getaddrinfo
+
+        def late(*words, flags=0, **how):
+            if flags:
+                return found(*words, flags=flags, **how)
+            done.wait(20)
+            raise socket.gaierror(socket.EAI_AGAIN, "no name server answers")
+
+        with mock.patch("socket.getaddrinfo", late):
+            began = time.monotonic()
+            said = self.not_connected(("ledger.example", 1), timeout=0.3)
+            self.assertLess(time.monotonic() - began, 10)
+            self.assertEqual(said, "ledger.example:1: the lookup of the host's name timed out")
+            done.set()
+            said = self.not_connected(("ledger.example", 1), timeout=0.3)
+            self.assertIn("no name server answers", said)
+            with mock.patch.object(threading.Thread, "start", side_effect=RuntimeError):
+                said = self.not_connected(("ledger.example", 1), timeout=0.3)
+                self.assertIn("no name server answers", said)
+                said = self.not_connected(("127.0.0.1", 1), timeout=0.3)
+                self.assertIn("Connection refused", said)
+
     def test_a_long_time(self):
         """It is no short one: Python cuts its milliseconds to 32 bits."""
         listening = socket.socket(socket.AF_UNIX)

@@ -1,6 +1,7 @@
 """A connection to a server that listens on a socket, as `tb_listen.py` does."""
 from __future__ import annotations
 
+import concurrent.futures
 import contextlib
 import logging
 import os
@@ -368,9 +369,36 @@ def _call(address: Place, timeout: float, tls: Optional[ssl.SSLContext] = None) 
     return it if tls is None else _agreed(it, tls, address[0])
 
 
+Found = List[Tuple[Any, ...]]  # what the system's lookup of a host gives
+
+
+def _looked_up(address: Tuple[str, int], timeout: float) -> Found:
+    """The places of a host. A name is looked up by a thread, since the system's lookup has no limit
+    that a caller may give. One that comes too late is passed over."""
+    with contextlib.suppress(socket.gaierror):
+        numeric = socket.AI_NUMERICHOST  # no lookup: it is a number
+        return list(socket.getaddrinfo(*address, type=socket.SOCK_STREAM, flags=numeric))
+    coming: concurrent.futures.Future[Found] = concurrent.futures.Future()
+
+    def look_up() -> None:
+        try:
+            coming.set_result(list(socket.getaddrinfo(*address, type=socket.SOCK_STREAM)))
+        except Exception as error:
+            coming.set_exception(error)
+
+    try:
+        threading.Thread(target=look_up, name="tb_client lookup", daemon=True).start()
+    except RuntimeError:  # the system has no thread for it, or Python ends
+        look_up()
+    try:
+        return coming.result(timeout)
+    except concurrent.futures.TimeoutError:
+        raise socket.timeout("the lookup of the host's name timed out") from None
+
+
 def _host_called(address: Tuple[str, int], deadline: float) -> socket.socket:
     """A connection to one of a host's addresses, each of which has its share of the time."""
-    found = socket.getaddrinfo(*address, type=socket.SOCK_STREAM)
+    found = _looked_up(address, _left(deadline))
     fault = None  # the last one, but the end of the time says less than another
     for left, (family, _, _, _, place) in zip(range(len(found), 0, -1), found):
         try:
