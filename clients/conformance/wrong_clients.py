@@ -227,9 +227,9 @@ WRONG = {
     ),
     "a session that two threads use at once": (
         "sessions.py",
-        "        self._lock = threading.RLock()\n",
+        "        self._lock = threading.RLock()\n        left_by",
         "        self._lock = type('None_', (), {'__enter__': lambda it: it, "
-        "'__exit__': lambda it, *a: None})()\n",
+        "'__exit__': lambda it, *a: None})()\n        left_by",
     ),
     "a closed transport calls again": (
         "sockets.py",

@@ -14,6 +14,7 @@ import unittest.mock
 
 import tb_client as tb
 from tb_client import Direct, Program, Session
+from test_sockets import Server, register, registered
 from test_tb_client import PROGRAM, account, at_ten, has_program, reply, transfer
 
 
@@ -445,9 +446,58 @@ class Programs(unittest.TestCase):
             self.assertEqual(session.lookup_accounts([1]), [])
 
 
+class Forks(unittest.TestCase):
+    """A forked child has copies of its parent's files, and none of its threads."""
+
+    def setUp(self):
+        folder = tempfile.TemporaryDirectory()
+        self.addCleanup(folder.cleanup)
+        self.path = os.path.join(folder.name, "a")
+
+    def forked(self):
+        """A child that does nothing for a while."""
+        child = os.fork()
+        if not child:
+            time.sleep(60)
+            os._exit(0)
+        self.addCleanup(os.waitpid, child, 0)
+        self.addCleanup(os.kill, child, signal.SIGKILL)
+
+    def test_a_connection_ends_while_a_child_runs(self):
+        server = Server(self.path, registered(7))
+        it = tb.Socket(self.path)
+        it.exchange(0, register(7))
+        self.forked()
+        it.close()
+        server.end()
+        self.assertEqual(server.left, [b""])
+
+    def test_a_program_ends_while_a_child_runs(self):
+        with open(self.path, "w", encoding="ascii") as file:
+            file.write("#!/bin/sh\nexec cat > /dev/null\n")
+        os.chmod(self.path, 0o700)
+        program = Program(self.path, 2, timeout=5)
+        process = program.process
+        self.forked()
+        program.close()
+        self.assertEqual(process.returncode, 0, "it was waited for, and killed")
+
+    def test_a_session_that_a_thread_of_the_parent_holds(self):
+        session = Session(tb.Socket(self.path), 7, session=1)
+        session.prepare(tb.Operation.lookup_accounts, [1])
+
+        def retry():
+            self.assertRaises(tb.Closed, session.retry)
+
+        self.assertEqual(status_in_a_child(retry, session._lock), 0)
+
+
 def closed_in_a_child(transport, lock):
-    """The status of a forked child that closes a transport while a thread of its parent has this
-    lock."""
+    return status_in_a_child(transport.close, lock)
+
+
+def status_in_a_child(call, lock):
+    """The status of a forked child that calls this while a thread of its parent has this lock."""
     held, done = threading.Event(), threading.Event()
 
     def hold():
@@ -461,7 +511,7 @@ def closed_in_a_child(transport, lock):
     child = os.fork()
     if not child:
         signal.alarm(10)
-        transport.close()
+        call()
         os._exit(0)
     status = os.waitpid(child, 0)[1]
     done.set()

@@ -22,6 +22,7 @@ from .errors import (
     ReplyLost,
     ScriptFull,
 )
+from .forks import left_by_children
 from .frames import header_of, reply_length, test_reply
 from .layout import CLIENTS_MAX, HEADER
 from .transports import Closing
@@ -83,6 +84,7 @@ class Program(Closing):
         self._is_closed = False
         self._is_amid = False  # between what the system did and what is kept of it here
         self._start()
+        left_by_children(self)
 
     def __repr__(self) -> str:
         state = "not running" if self.process is None else f"process {self.process.pid}"
@@ -306,15 +308,14 @@ class Program(Closing):
         """Ends the script, and waits for the program's end. Each exchange afterwards is
         `Closed`."""
         if self._owner != os.getpid():
-            self._close_copies()
-            return
+            return  # a forked child: its copies are closed, and a thread that is not here may lock
         self._is_closed = True  # who waits for the lock sends nothing more
         with self._lock:
             self._let_go()
 
-    def _close_copies(self) -> None:
-        """Closes the pipes that a forked child has. The program is its parent's, and a thread
-        that is not here may hold the lock."""
+    def leave_copy(self) -> None:
+        """Closes a forked child's copies of the pipes: the program, which is its parent's, would
+        not see their end for as long as the child runs."""
         if self.process is not None:
             for pipe in self._pipes():
                 with contextlib.suppress(BrokenPipeError):

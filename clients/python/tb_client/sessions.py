@@ -39,6 +39,7 @@ from .errors import (
     ReplyLost,
 )
 from .files import Path, read_saved, write_whole
+from .forks import left_by_children
 from .frames import (
     Item,
     Reply,
@@ -170,6 +171,12 @@ class Session(Closing):
         self._may_be_sent = pending is not None
         self._is_abandoned = False
         self._moments = _Moments()
+        self._lock = threading.RLock()
+        left_by_children(self)
+
+    def leave_copy(self) -> None:
+        """In a forked child no thread is there that may have held the lock: a call gets what the
+        transport says."""
         self._lock = threading.RLock()
 
     def __repr__(self) -> str:

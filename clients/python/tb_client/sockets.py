@@ -13,6 +13,7 @@ import time
 from typing import Any, List, Optional, Tuple, Union, cast
 
 from .errors import Busy, CannotConnect, Closed, InvalidType, InvalidValue, NotSent, ReplyLost
+from .forks import left_by_children
 from .frames import header_of, reply_length, test_asked, test_reply
 from .layout import HEADER
 from .transports import Closing
@@ -72,6 +73,7 @@ class Socket(Closing):
         self._is_amid = False
         self._owner = os.getpid()
         self._closed = False
+        left_by_children(self)
 
     def __repr__(self) -> str:
         state = "closed" if self._closed else "not connected" if self._socket is None else ""
@@ -261,12 +263,15 @@ class Socket(Closing):
     def close(self) -> None:
         """Closes the connection. Each exchange afterwards is `Closed`."""
         if self._owner != os.getpid():
-            # the copy that a forked child has. A thread that is not here may hold the lock
-            self._hang_up()
-            return
+            return  # a forked child: its copy is closed, and a thread that is not here may lock it
         self._closed = True  # who waits for the lock sends nothing more
         with self._lock:
             self._hang_up()
+
+    def leave_copy(self) -> None:
+        """Closes a forked child's copy of the connection, or that would stay open for as long as
+        the child runs. The parent's goes on."""
+        self._hang_up()
 
 
 def _is_left(it: socket.socket) -> bool:
