@@ -3,6 +3,7 @@
 package tbclient
 
 import (
+	"errors"
 	"io/fs"
 	"os"
 	"path/filepath"
@@ -16,15 +17,13 @@ func openRegular(path string) (*os.File, error) {
 	return os.Open(path)
 }
 
-func testRegular(info fs.FileInfo, err error) error {
-	if err == nil && !info.Mode().IsRegular() {
-		return invalid("path", "is no file, but a folder, a pipe or a device")
-	}
-	return err
-}
-
-// writeWhole puts a file at this path, with these bytes, by a rename.
+// writeWhole puts a file at this path, or where a link there leads, with these bytes, by a rename.
+// It syncs no folder: Windows has no call for that.
 func writeWhole(path string, data []byte) error {
+	path = linked(path)
+	if err := testRegular(os.Stat(path)); err != nil && !errors.Is(err, fs.ErrNotExist) {
+		return err
+	}
 	file, err := os.CreateTemp(filepath.Dir(path), filepath.Base(path)+".*.new")
 	if err != nil {
 		return err

@@ -24,31 +24,6 @@ func openRegular(path string) (*os.File, error) {
 	return file, nil
 }
 
-func testRegular(info fs.FileInfo, err error) error {
-	if err == nil && !info.Mode().IsRegular() {
-		return invalid("path", "is no file, but a folder, a pipe or a device")
-	}
-	return err
-}
-
-const linksMax = 40 // that the system follows
-
-// linked is where the symbolic links at a path lead, whether a file is there or not.
-func linked(path string) string {
-	for left := linksMax; left > 0; left-- {
-		to, err := os.Readlink(path)
-		if err != nil {
-			break // it is no link
-		}
-		if !filepath.IsAbs(to) {
-			folder, _ := filepath.Split(path)
-			to = folder + to // as it is: ".." behind a link is not the name before it
-		}
-		path = to
-	}
-	return path
-}
-
 // writeWhole puts a file at this path, or where a link there leads, with these bytes, and with the
 // old one's permissions. Where that fails the old file is left, and nothing next to it.
 func writeWhole(path string, data []byte) error {

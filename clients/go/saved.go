@@ -6,7 +6,10 @@ import (
 	"encoding/json"
 	"fmt"
 	"io"
+	"io/fs"
 	"math/big"
+	"os"
+	"path/filepath"
 	"strings"
 )
 
@@ -160,6 +163,31 @@ func testPath(path string) error {
 		return invalid("path", "is no path")
 	}
 	return nil
+}
+
+func testRegular(info fs.FileInfo, err error) error {
+	if err == nil && !info.Mode().IsRegular() {
+		return invalid("path", "is no file, but a folder, a pipe or a device")
+	}
+	return err
+}
+
+const linksMax = 40 // that the system follows
+
+// linked is where the symbolic links at a path lead, whether a file is there or not.
+func linked(path string) string {
+	for left := linksMax; left > 0; left-- {
+		to, err := os.Readlink(path)
+		if err != nil {
+			break // it is no link
+		}
+		if !filepath.IsAbs(to) {
+			folder, _ := filepath.Split(path)
+			to = folder + to // as it is: ".." behind a link is not the name before it
+		}
+		path = to
+	}
+	return path
 }
 
 const savedMax = 1 << 22 // bytes of a file: the largest request takes half of that, in hex

@@ -146,6 +146,7 @@ async function writeSynced(name, text, mode) {
 }
 
 async function syncFolder(name) {
+  if (process.platform === "win32") return; // where that is EPERM
   const it = await fs.open(name, "r");
   try {
     await it.sync();

@@ -2,8 +2,15 @@
 
 const assert = require("node:assert/strict");
 const { spawn } = require("node:child_process");
-const { mkdtempSync, readFileSync, readdirSync, rmSync, utimesSync, writeFileSync } =
-  require("node:fs");
+const {
+  mkdtempSync,
+  promises: fs,
+  readFileSync,
+  readdirSync,
+  rmSync,
+  utimesSync,
+  writeFileSync,
+} = require("node:fs");
 const net = require("node:net");
 const { tmpdir } = require("node:os");
 const { performance } = require("node:perf_hooks");
@@ -204,6 +211,27 @@ test("wrong addresses and options", () => {
       return true;
     });
   }
+});
+
+test("a session is saved where the system syncs no folder, as on Windows", async (t) => {
+  const session = new tb.Session(new tb.Socket(path.join(folder, "none.sock")));
+  const { open } = fs;
+  t.mock.method(fs, "open", async (name, ...how) => {
+    const it = await open(name, ...how);
+    const denied = Object.assign(new Error("EPERM: fsync"), { code: "EPERM" });
+    if ((await it.stat()).isDirectory()) it.sync = () => Promise.reject(denied);
+    return it;
+  });
+  const place = path.join(folder, "windows.json");
+  await assert.rejects(session.save(place), { name: "FileError", code: "EPERM" });
+  const { platform } = process;
+  Object.defineProperty(process, "platform", { value: "win32" });
+  try {
+    await session.save(place);
+  } finally {
+    Object.defineProperty(process, "platform", { value: platform });
+  }
+  assert.equal((await tb.Session.load(new tb.Socket("none"), place)).client, session.client);
 });
 
 test("saves at once leave the last one whole, and nothing next to it", async () => {

@@ -165,9 +165,15 @@ final class SavedFile {
             Files.deleteIfExists(beside);
             throw why;
         }
-        try (FileChannel folder = FileChannel.open(path.getParent(), StandardOpenOption.READ)) {
-            folder.force(true);
+        if (isPosix(path)) { // Windows opens no folder, and has no call to sync one
+            try (FileChannel folder = FileChannel.open(path.getParent(), StandardOpenOption.READ)) {
+                folder.force(true);
+            }
         }
+    }
+
+    private static boolean isPosix(Path path) {
+        return path.getFileSystem().supportedFileAttributeViews().contains("posix");
     }
 
     /** A new file with these bytes, on the device. No other process, or thread, has its name. */

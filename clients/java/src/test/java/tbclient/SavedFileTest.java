@@ -6,11 +6,15 @@ import static org.junit.Assert.assertTrue;
 
 import java.io.IOException;
 import java.math.BigInteger;
+import java.nio.file.FileSystem;
+import java.nio.file.FileSystems;
 import java.nio.file.Files;
 import java.nio.file.Path;
 import java.util.List;
+import java.util.Map;
 import java.util.concurrent.atomic.AtomicBoolean;
 import java.util.concurrent.locks.LockSupport;
+import java.util.stream.Stream;
 import org.junit.Before;
 import org.junit.Rule;
 import org.junit.Test;
@@ -37,6 +41,22 @@ public class SavedFileTest {
         assertEquals(SAVED, SavedFile.read(path));
         SavedFile.write(path, SAVED);
         assertEquals(1, folder.getRoot().list().length);
+    }
+
+    /** As on Windows: a folder cannot be opened, and there are no permissions of POSIX. */
+    @Test
+    public void aFileSystemThatIsNotOfPosix() throws IOException {
+        Path zip = folder.getRoot().toPath().resolve("a.zip");
+        try (FileSystem inside = FileSystems.newFileSystem(zip, Map.of("create", "true"))) {
+            Path saved = inside.getPath("/session.json");
+            for (int count = 0; count < 2; count++) { // over nothing, and over a file
+                SavedFile.write(saved, SAVED);
+                assertEquals(SAVED, SavedFile.read(saved));
+            }
+            try (Stream<Path> found = Files.list(inside.getPath("/"))) {
+                assertEquals(List.of(saved), found.toList());
+            }
+        }
     }
 
     @Test
