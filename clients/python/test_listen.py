@@ -1399,7 +1399,7 @@ class Words(unittest.TestCase):
             (("--again", "--", "true"), "unrecognized arguments: --again"),
             (("--idl=5", "--", "true"), "unrecognized arguments: --idl=5"),
         ):
-            self.assertEqual(self.ended(*given), (2, f"tb_listen.py: error: {said}"))
+            self.assertEqual(self.ended(*given), (2, f"tb_listen: error: {said}"))
 
     def test_each_wrong_value(self):
         cases = {

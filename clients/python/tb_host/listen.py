@@ -59,6 +59,7 @@ def words(given: Sequence[str]) -> argparse.Namespace:
     """The words of the command line. A wrong one is told, and ends the program with status 2."""
     usage = "%(prog)s [OPTIONS] -- COMMAND [WORD ..]"
     parser = argparse.ArgumentParser(
+        prog="tb_listen",
         usage=usage,
         description=__doc__,
         formatter_class=argparse.RawDescriptionHelpFormatter,
