@@ -235,6 +235,12 @@ WRONG = {
         "sockets.py",
         "            if self._closed:\n",
         "            if False:\n",
+        "sockets.py",
+        "while self._socket is None and not self._closed:",
+        "while self._socket is None:",
+        "sockets.py",
+        "        if self._closed:  # by a signal's handler\n",
+        "        if False:\n",
     ),
 }
 
