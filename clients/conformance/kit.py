@@ -4,6 +4,11 @@
     clients/conformance/kit.py -- python3 -B clients/python/conformance_runner.py
     clients/conformance/kit.py --only 'reply-late*' -- COMMAND [WORD ..]
     clients/conformance/kit.py --list
+    clients/conformance/kit.py --drawn 200 --seed 1 -- COMMAND [WORD ..]
+
+With --drawn it runs so many scenarios that are drawn, each by a seed of its own, in place of those
+of scenarios/ (made/sequences.py): what callers do, and what a server does at each sending. A seed
+draws the same scenario again.
 
 Prints a line for each scenario that fails, what was passed over, and 'N passed, M failed, K passed
 over'. Status 0 where none failed, 1 where one did, 2 where the runner does not start or the words
@@ -30,6 +35,7 @@ sys.path.insert(0, HERE)
 
 import certificates  # noqa: E402
 from driver import CALL, Run, Skipped  # noqa: E402
+from made import sequences  # noqa: E402
 from runner import Ended, Runner  # noqa: E402
 from server import Failed  # noqa: E402
 
@@ -169,6 +175,8 @@ def words():
     parser.add_argument(
         "--list", action="store_true", help="print the scenarios, and what each says"
     )
+    parser.add_argument("--drawn", metavar="N", type=int, help="run so many that are drawn")
+    parser.add_argument("--seed", metavar="N", type=int, default=1, help="of the first of them (1)")
     parser.add_argument("--jobs", metavar="N", type=int, default=4, help="runners at once (4)")
     parser.add_argument(
         "--over",
@@ -185,12 +193,16 @@ def words():
         parser.error("no COMMAND of a runner is given")
     if given.jobs < 1:
         parser.error("--jobs is 1 or more: with none no scenario would run")
+    if given.seed < 0 or given.drawn is not None and given.drawn < 1:
+        parser.error("--drawn is 1 or more, and --seed is 0 or more")
     return parser, given
 
 
 def main():
     parser, given = words()
     found, begins = scenarios()
+    if given.drawn:
+        found = list(map(sequences.drawn, range(given.seed, given.seed + given.drawn)))
     chosen = [
         it
         for it in found
