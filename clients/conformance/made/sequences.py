@@ -22,6 +22,7 @@ from .frames import (
     TRANSFER_CODES,
     TRANSFER_FLAGS,
     TRANSFERS,
+    U32,
     account_bytes,
     accept,
     ask,
@@ -59,6 +60,7 @@ CREATES = {
 }
 FOUND = {FIND_ACCOUNTS: ACCOUNTS, FIND_TRANSFERS: TRANSFERS}
 SERVERS = ("a", "b", "c")
+UNREAD_MAX = 10_000  # bytes that a socket takes while nobody reads them
 
 
 @dataclasses.dataclass
@@ -119,7 +121,8 @@ class Ledger:
     """The sessions of a server. What a request does is drawn, so that no two replies are alike."""
 
     def __init__(self, draw):
-        self.draw, self.rows, self.commit = draw, {}, 0
+        self.draw, self.rows = draw, {}
+        self.commit = draw.choice((0, 0, 2**32 - 2, 2**63 - 2, 2**64 - 10**6))
         self.replies = []  # to all requests that were executed
 
     def reply_to(self, client, asked, session):
@@ -272,6 +275,7 @@ class Drawn:
             "loads": 1.5 if self.files else 0,
             "is_killed": 0.7 if self.files else 0,
             "registers_another": 1 if len(self.held) < 4 else 0.1,
+            "resumes": 0.3,
             "rests": 2,
             "unlistens": 0.7,
             "closes": 0.2,
@@ -344,8 +348,21 @@ class Drawn:
     def registers_another(self):
         self.registers(f"s{next(self.names)}")
 
+    def resumes(self):
+        """A session whose numbers are nearly used up."""
+        name, line, client = f"s{next(self.names)}", self.open_line(), next(self.ids)
+        held = Held(client, self.ledger.commit or 1, U32 - self.draw.randrange(4))
+        self.ledger.commit = held.session
+        self.ledger.rows[client] = Row(held.session, held.number, b"", b"", {})
+        self.held[name], self.on[name], self.attempts[name] = held, line, 2
+        call = {"do": "resume", "session": name, "transport": line, "saved": held.shown}
+        call = {**call, "attempts": 2, "pause": 0.01}
+        self.steps.append({"call": call, "wants": {"ok": held.shown}})
+
     def drawn_items(self, operation):
         count = self.draw.choice((0, 1, 1, 2, 3, 8))
+        if self.draw.random() < 0.02:
+            count = 2000  # more than a socket holds
         ids = [next(self.ids) for _ in range(count)]
         if operation in CREATES:
             return [record(self.draw, operation, it) for it in ids]
@@ -358,6 +375,8 @@ class Drawn:
             return error("InDoubt", sent=False)
         if not held.session:
             return error("InvalidValue", sent=False, field="session")
+        if held.number == U32:
+            return error("InvalidValue", sent=False, field="number")
         number = held.number + 1
         frame = request(number, operation, BODIES[operation](items), held.session, held.client)
         held.asked = Asked(number, operation, items, frame)
@@ -639,6 +658,9 @@ class Drawn:
     def answers_twice(self, line, held):
         self.reads(line, held)
         frame, says = self.executed(held)
+        if len(frame) > UNREAD_MAX:
+            self.server.append(send(frame, line.connection))
+            return self.taken(held, says)
         self.server.append(send(frame + frame, line.connection))
         line.is_left, line.is_read = True, False
         return self.taken(held, says)
@@ -731,7 +753,9 @@ class Drawn:
         return self.answers(line, held)
 
     def stale(self):
-        return self.draw.choice(self.ledger.replies or [registers()])
+        """The reply to a request of before."""
+        short = [it for it in self.ledger.replies if len(it) <= UNREAD_MAX]
+        return self.draw.choice(short or [registers()])
 
     def answers_another(self, line, held):
         """The reply to a request of before, or one that differs in one field of its header."""
@@ -782,7 +806,7 @@ class Drawn:
             _, _, as_bytes, whole = CREATES[kind]
             body = as_bytes(whole(record(self.draw, kind, next(self.ids))))
         frame = reply(
-            asked.number, asked.operation, body, held.session, held.client, commit=2**62
+            asked.number, asked.operation, body, held.session, held.client, commit=2**64 - 1
         )
         self.lose(line, send(frame, line.connection), {"close": line.connection})
         return False, error("BadReply", sent=True)
