@@ -16,6 +16,8 @@ TOP = os.path.dirname(os.path.dirname(HERE))
 sys.path[:0] = [HERE, f"{TOP}/checks"]
 
 import clients  # noqa: E402
+import wrong_clients  # noqa: E402
+from made import sequences  # noqa: E402
 from server import Connections, readable  # noqa: E402
 
 RUNNER = ["--", sys.executable, "-B", "clients/python/conformance_runner.py"]
@@ -115,6 +117,35 @@ class WrongClients(unittest.TestCase):
             status, said, faults = ran(f"../{name}/wrong_clients.py", "--jobs", "0")
             self.assertNotEqual(status, 0, said)
             self.assertIn("--jobs is 1 or more", faults)
+
+
+class Drawn(unittest.TestCase):
+    """Scenarios that are drawn by a seed (made/sequences.py)."""
+
+    def test_a_seed_draws_the_same_again(self):
+        self.assertEqual(sequences.drawn(7), sequences.drawn(7))
+        self.assertNotEqual(sequences.drawn(7)["steps"], sequences.drawn(8)["steps"])
+
+    def test_each_step_is_one_that_the_kit_knows(self):
+        for seed in range(300):
+            for step in sequences.drawn(seed)["steps"]:
+                for action in step.get("server", ()):
+                    known = [it for it in action if hasattr(Connections, f"do_{it}")]
+                    self.assertEqual(len(known), 1, (seed, action))
+
+    def test_no_seed_and_no_scenario(self):
+        for words in (["--drawn", "0"], ["--drawn", "-1"], ["--drawn", "1", "--seed", "-1"]):
+            status, said, faults = ran("kit.py", *words, *RUNNER)
+            self.assertEqual((status, said), (2, ""), words)
+            self.assertIn("--drawn is 1 or more, and --seed is 0 or more", faults)
+
+    def test_a_wrong_client_is_caught_and_its_seed_told(self):
+        with tempfile.TemporaryDirectory() as folder:
+            wrong_clients.edited(folder, wrong_clients.WRONG["a refusal ends the doubt"])
+            runner = ["--", sys.executable, "-B", f"{folder}/conformance_runner.py"]
+            status, said, faults = ran("kit.py", "--first", "--drawn", "100", *runner)
+        self.assertEqual((status, faults), (1, ""), said)
+        self.assertRegex(said, r"(?m)^FAILED: drawn-(\d+): .*\n.*--drawn 1 --seed \1$")
 
 
 class Check(unittest.TestCase):
