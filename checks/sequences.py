@@ -7,8 +7,10 @@ The parts are the languages that have a clients/*/conformance.json, calls and wr
 the conformance kit plays drawn scenarios: batches, lookups, savings, crashes amid a call, and at
 each sending a reply, a lost, late, cut or wrong one, a refusal, what a listener tells, or no
 listener. All clients have to send the same bytes and to report the same (clients/conformance/kit.py
---drawn). calls are those of ClientSync and ClientAsync in Python (clients/python/drawn_calls.py).
-wrong sees that both find faults: those of clients that are made wrong.
+--drawn). Then calls go to it at once, and some close what others use
+(clients/conformance/crowds.py). calls are those of ClientSync and ClientAsync in Python
+(clients/python/drawn_calls.py). wrong sees that each of these finds faults: those of clients that
+are made wrong.
 
 A seed draws the same again. Where one fails the words to repeat it are printed. Prints a line for
 each part, and 'N passed, M failed'. A language that is not installed is passed over by name.
@@ -25,6 +27,7 @@ from tried import case
 
 CONFORMANCE = f"{clients.TOP}/clients/conformance"
 CALLS = f"{clients.CLIENT}/drawn_calls.py"
+RUNNER = [sys.executable, "-B", "conformance_runner.py"]  # of a client that is made wrong
 SEED_MAX = 10**9
 sys.dont_write_bytecode = True
 sys.path.insert(0, CONFORMANCE)
@@ -38,7 +41,7 @@ WRONG_CALLS = {
         "            if not isinstance(why, NotSent) or self._is_in_doubt():\n",
         "            if not isinstance(why, NotSent):\n",
     ),
-    "a list that may be executed is sent in another session": (
+    "a list that may be executed is told as not sent": (
         "pools.py",
         "                if not is_lost and not is_doubtful:\n                    raise\n",
         "                raise\n",
@@ -53,6 +56,13 @@ WRONG_SESSIONS = {
         "any reply will do",
         "a connection that was closed is not looked at",
         "a file forgets the request in doubt",
+    )
+}
+WRONG_CROWDS = {
+    name: WRONG[name]
+    for name in (
+        "a session that two threads use at once",
+        "two requests in flight on a connection",
     )
 }
 
@@ -77,6 +87,9 @@ def language(name, about, given):
     kit = [f"{CONFORMANCE}/kit.py", "--drawn", str(given.count), *drawn(given), "--"]
     words = [*kit, *about["runner"]]
     played(f"{about['language']}: drawn scenarios", words, about["folder"], name)
+    crowds = [f"{CONFORMANCE}/crowds.py", "--count", str(given.count), *drawn(given), "--"]
+    words = [*crowds, *about["runner"]]
+    played(f"{about['language']}: drawn calls at once", words, about["folder"], name)
 
 
 def calls(given):
@@ -91,7 +104,10 @@ def wrong(given):
         caught(name, edit, words)
     kit = [f"{CONFORMANCE}/kit.py", "--first", *drawn(given), "--drawn", "1000", "--"]
     for name, edit in WRONG_SESSIONS.items():
-        caught(name, edit, [*kit, sys.executable, "-B", "conformance_runner.py"])
+        caught(name, edit, [*kit, *RUNNER])
+    crowds = [f"{CONFORMANCE}/crowds.py", "--first", *drawn(given), "--count", "1000", "--"]
+    for name, edit in WRONG_CROWDS.items():
+        caught(name, edit, [*crowds, *RUNNER])
 
 
 def caught(name, edit, words):

@@ -139,6 +139,21 @@ class Drawn(unittest.TestCase):
             self.assertEqual((status, said), (2, ""), words)
             self.assertIn("--drawn is 1 or more, and --seed is 0 or more", faults)
 
+    def test_no_crowd(self):
+        for words in (["--count", "0"], ["--seed", "-1"]):
+            status, said, faults = ran("crowds.py", *words, *RUNNER)
+            self.assertEqual((status, said), (2, ""), words)
+            self.assertIn("--seed is 0 or more, and --count is 1 or more", faults)
+
+    def test_a_crowd_of_a_wrong_client(self):
+        with tempfile.TemporaryDirectory() as folder:
+            name = "a session that two threads use at once"
+            wrong_clients.edited(folder, wrong_clients.WRONG[name])
+            runner = ["--", sys.executable, "-B", f"{folder}/conformance_runner.py"]
+            status, said, faults = ran("crowds.py", "--first", "--count", "200", *runner)
+        self.assertEqual((status, faults), (1, ""), said)
+        self.assertRegex(said, r"(?m)^FAILED: --seed \d+ --count 1: ask \d+ is told InDoubt")
+
     def test_a_wrong_client_is_caught_and_its_seed_told(self):
         with tempfile.TemporaryDirectory() as folder:
             wrong_clients.edited(folder, wrong_clients.WRONG["a refusal ends the doubt"])
