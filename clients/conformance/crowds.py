@@ -71,7 +71,7 @@ class World:
         self.kinds, self.weights = ["replies", *drawn], [20, *drawn.values()]
         self.executed = collections.Counter()  # by the first item of a request
         self.says = {}
-        self.last = {}  # by client and session: the greatest number, and its frame
+        self.seen = {}  # by client and session: the frame of each number
 
     def take(self, frame):
         """What becomes of a request, and the reply to it."""
@@ -91,12 +91,13 @@ class World:
             return kind, reply
 
     def see(self, asked, session, client):
-        last, frame = self.last.get((client, session), (asked.number, asked.frame))
-        if not last <= asked.number <= last + 1:
-            self.wrong.append(f"request {asked.number} came behind request {last}")
-        if asked.number == last and asked.frame != frame:
-            self.wrong.append(f"request {last} came with other bytes")
-        self.last[client, session] = asked.number, asked.frame
+        """Tests a request's number. What came over a connection that the client left may be read
+        late: the same bytes as those of its number before."""
+        seen, number = self.seen.setdefault((client, session), {}), asked.number
+        if seen and number not in seen and number != max(seen) + 1:
+            self.wrong.append(f"request {number} came behind request {max(seen)}")
+        if seen.setdefault(number, asked.frame) != asked.frame:
+            self.wrong.append(f"request {number} came with other bytes")
 
     def draws(self):
         with self.lock:
