@@ -683,6 +683,30 @@ class Systemd(unittest.TestCase):
                 self.assertIn(f"listens on {path}", said.read())
             self.assertTrue(os.path.exists(path), "it is not this program's to remove")
 
+    def test_a_file_that_was_passed_and_is_no_such_socket(self):
+        """It ended the listener by a traceback."""
+        with contextlib.ExitStack() as files:
+            idle = files.enter_context(socket.socket(socket.AF_UNIX))
+            packets = files.enter_context(socket.socket(type=socket.SOCK_DGRAM))
+            joined, _ = map(files.enter_context, socket.socketpair())
+            it = files.enter_context(open(os.devnull))
+            for place in (idle, packets, joined, it):
+                self.refused(place.fileno(), "1", "file 3, which was passed, is no socket")
+            self.refused(it.fileno(), "some", "LISTEN_FDS is no number of sockets: some")
+
+    def refused(self, file, count, wanted):
+        words = f'exec 3<&{file}; LISTEN_FDS={count} LISTEN_PID=$$ exec "$@"'
+        command = [sys.executable, "-B", os.path.join(HERE, "tb_listen.py"), "--", "true"]
+        ran = subprocess.run(
+            ["sh", "-c", words, "sh", *command],
+            pass_fds=[file],
+            capture_output=True,
+            text=True,
+            timeout=20,
+        )
+        self.assertEqual((ran.returncode, ran.stderr.count("\n")), (2, 1), ran.stderr)
+        self.assertIn(wanted, ran.stderr)
+
     @unittest.skipUnless(shutil.which("systemd-analyze"), "systemd-analyze is not installed")
     def test_units(self):
         folder = os.path.join(HERE, "systemd")

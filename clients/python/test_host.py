@@ -1188,6 +1188,20 @@ class PostgreSQL(unittest.IsolatedAsyncioTestCase):
             await owner.close()
             await user.close()
 
+    def test_a_fault_is_one_line(self):
+        """What PostgreSQL says has more, as the place in a statement."""
+        from psycopg import errors
+        from tb_host import postgresql
+
+        said = "could not extend file\nHINT:  Check free disk space."
+        for fault, told in (
+            (errors.DiskFull, postgresql.LogFull),
+            (errors.InsufficientPrivilege, postgresql.Ended),
+        ):
+            with self.assertRaises(told) as raised:
+                postgresql._tested(fault(said))
+            self.assertEqual(str(raised.exception), "could not extend file")
+
     async def test_a_client_gets_the_number_of_a_broken_connection(self):
         """It is served, and the call fails as any other. The replica ended by a traceback."""
         import psycopg

@@ -389,9 +389,9 @@ class PostgresLog:
 def _tested(error: BaseException) -> str:
     """What an error says. Raises what is not to be tried again."""
     if isinstance(error, errors.DiskFull):
-        raise LogFull(str(error)) from None
+        raise LogFull(_first_line(error)) from None
     if isinstance(error, (errors.UndefinedTable, errors.InsufficientPrivilege)):
-        raise Ended(str(error).splitlines()[0], 1) from None
+        raise Ended(_first_line(error), 1) from None
     if isinstance(error, asyncio.TimeoutError):
         return f"no answer within {TRY:.0f} s"
     return _first_line(error)

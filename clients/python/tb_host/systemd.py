@@ -6,16 +6,31 @@ import os
 import socket
 from typing import List
 
+from .lines import Ended
+
 FIRST = 3  # the first file that is passed to a process
+FAMILIES = (socket.AF_UNIX, socket.AF_INET, socket.AF_INET6)
 
 
 def passed_sockets() -> List[socket.socket]:
-    """The sockets that are passed to this process, where some are."""
+    """The sockets that are passed to this process, where some are. Raises `Ended` where what is
+    passed is none that takes connections."""
     if os.environ.get("LISTEN_PID") != str(os.getpid()):
         return []
-    count = int(os.environ.pop("LISTEN_FDS", "0"))
+    count = os.environ.pop("LISTEN_FDS", "0")
     del os.environ["LISTEN_PID"]
-    return [socket.socket(fileno=FIRST + at) for at in range(count)]
+    if not (count.isascii() and count.isdigit() and len(count) < 4):
+        raise Ended(f"LISTEN_FDS is no number of sockets: {count}", 2)
+    return [_socket(FIRST + at) for at in range(int(count))]
+
+
+def _socket(file: int) -> socket.socket:
+    with contextlib.suppress(OSError):
+        it = socket.socket(fileno=file)
+        if it.family in FAMILIES and it.getsockopt(socket.SOL_SOCKET, socket.SO_ACCEPTCONN):
+            return it
+        it.detach()  # it is not this program's
+    raise Ended(f"file {file}, which was passed, is no socket that takes connections", 2)
 
 
 def notify(state: str) -> None:
