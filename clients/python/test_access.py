@@ -4,6 +4,8 @@ systemd passes, counts and evictions. Certificates are made by openssl for one r
     python3 -m unittest test_access
 """
 import argparse
+import asyncio
+import collections
 import concurrent.futures
 import contextlib
 import fcntl
@@ -733,6 +735,25 @@ class Places(unittest.TestCase):
             said = len(listener.said)
             self.assertEqual(listener.end(), 0)
             self.assertEqual(listener.said[said:], [])
+
+    def test_two_places_that_drop_who_agrees_on_tls(self):
+        """Each drops one for the one that it takes. Both dropped the same one, and took two."""
+        told = []
+
+        async def dropped():
+            stalled = [asyncio.ensure_future(asyncio.sleep(60)) for _ in range(3)]
+            for peer, it in enumerate(stalled):
+                sockets._keep(it, str(peer))
+            listener = unittest.mock.Mock()
+            listener.counts.closed = collections.Counter()
+            with unittest.mock.patch.object(sockets, "say_of", lambda *it: told.append(it[0])):
+                await asyncio.gather(*(sockets._drop_oldest(listener) for _ in range(2)))
+            found = [it.cancelled() for it in stalled]
+            stalled[2].cancel()
+            return found
+
+        self.assertEqual(asyncio.run(dropped()), [True, True, False])
+        self.assertEqual(told, ["0", "1"])
 
     def test_a_name_that_has_no_address_at_first(self):
         """What it is later is held to the same rule: only who was allowed gets in."""

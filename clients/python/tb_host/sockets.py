@@ -253,6 +253,7 @@ def _keep(task: asyncio.Task[None], peer: str) -> None:
 async def _drop_oldest(listener: Listener) -> None:
     """Ends who agrees on TLS for longest: that takes a moment, but for those who stall."""
     task, peer = next(iter(agreeing.items()))
+    del agreeing[task]  # so that another place drops another one meanwhile
     task.cancel()
     _say_no_tls(listener, peer, "others came while it agreed")
     await asyncio.wait([task])  # its file is closed by then
