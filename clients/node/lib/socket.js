@@ -95,9 +95,14 @@ class Connection {
    * it what came over it.
    */
   async welcome() {
+    const ticket = this.#ticket(); // it may come at once
     await news();
+    if (!this.isLeft) await ticket;
+  }
+
+  async #ticket() {
     const it = this.#socket;
-    if (this.isLeft || it.getProtocol?.() !== "TLSv1.3") return;
+    if (it.getProtocol?.() !== "TLSv1.3") return;
     await new Promise((resolve) => {
       const timer = after(TICKET_MAX, resolve);
       for (const word of ["session", "close"]) {
@@ -370,6 +375,7 @@ class Socket {
       this.#testOpen();
       pause = Math.min(2 * pause, LAST_PAUSE);
     }
+    testLimit(signal, false); // which may have ended while the server's first word was waited for
     return this.#connection;
   }
 

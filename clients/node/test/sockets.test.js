@@ -1,7 +1,7 @@
 "use strict";
 
 const assert = require("node:assert/strict");
-const { spawn } = require("node:child_process");
+const { execFileSync, spawn, spawnSync } = require("node:child_process");
 const {
   mkdtempSync,
   promises: fs,
@@ -16,6 +16,7 @@ const { tmpdir } = require("node:os");
 const { performance } = require("node:perf_hooks");
 const path = require("node:path");
 const { after, test } = require("node:test");
+const tls = require("node:tls");
 
 const tb = require("../index.js");
 
@@ -98,6 +99,51 @@ test("why no connection can be made is told, also where no time is left for the 
     assert.ok(message.startsWith(`127.0.0.1:${port}: ${cause.message}`), message);
     return true;
   });
+});
+
+/** A server over TLS that answers, and the options for it. */
+async function listeningOverTls(serve) {
+  const [key, cert] = ["key.pem", "cert.pem"].map((name) => path.join(folder, name));
+  const words = ["req", "-x509", "-newkey", "ec", "-pkeyopt", "ec_paramgen_curve:prime256v1"];
+  words.push("-nodes", "-days", "2", "-subj", "/CN=localhost");
+  words.push("-addext", "subjectAltName=DNS:localhost", "-keyout", key, "-out", cert);
+  execFileSync("openssl", words, { stdio: "ignore" });
+  const ca = readFileSync(cert);
+  const server = tls.createServer({ key: readFileSync(key), cert: ca }, serve);
+  servers.push(server);
+  await new Promise((resolve) => server.listen(0, "127.0.0.1", resolve));
+  return [{ host: "localhost", port: server.address().port }, { ca }];
+}
+
+const noOpenssl = spawnSync("openssl", ["version"]).status !== 0;
+
+test("over TLS a ticket that came at once is not waited for", { skip: noOpenssl }, async (t) => {
+  const [place, secure] = await listeningOverTls((it) => answers(it));
+  const { setTimeout } = globalThis;
+  t.mock.method(globalThis, "setImmediate", (call) => setTimeout(call, 20)); // it comes meanwhile
+  t.mock.method(globalThis, "setTimeout", (call, ms) => setTimeout(call, ms === 100 ? 9000 : ms));
+  const began = performance.now();
+  const socket = new tb.Socket(place, { timeout: 60_000, tls: secure });
+  await tb.Session.register(socket);
+  socket.close();
+  assert.ok(performance.now() - began < 9000);
+});
+
+test("a call that is given up while a ticket is waited for sends nothing", {
+  skip: noOpenssl,
+}, async (t) => {
+  let count = 0;
+  const [place, secure] = await listeningOverTls((it) => it.on("data", () => (count += 1)));
+  const limit = new AbortController();
+  t.mock.method(tls.TLSSocket.prototype, "getProtocol", () => {
+    limit.abort(); // it has agreed
+    return "TLSv1.3";
+  });
+  const socket = new tb.Socket(place, { tls: secure });
+  const call = tb.Session.register(socket, { signal: limit.signal });
+  call.catch(() => {}).then(() => socket.close());
+  await assert.rejects(call, { name: "Cancelled", sent: false });
+  assert.equal(count, 0);
 });
 
 test("of several addresses the one is named whose fault is told", async () => {
