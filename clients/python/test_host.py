@@ -1597,7 +1597,9 @@ class Replicas(OverALog):
         it = await self.began(patience=9.0)
         await self.asked(it, 6)
         self.log.is_read_back, looked, waiting = True, [], []
-        moves = mock.patch.object(self.log, "look_elsewhere", lambda: looked.append(1))
+        moves = mock.patch.object(
+            self.log, "look_elsewhere", lambda: looked.append(time.monotonic())
+        )
         with moves, mock.patch.object(replica, "ELSEWHERE", 0.2):
             with mock.patch.object(self.log.grown, "set", lambda: None):
                 for client in range(7, 13):
@@ -1607,7 +1609,9 @@ class Replicas(OverALog):
             self.log.grown.set()
             for client, reply in enumerate(await asyncio.gather(*waiting), 7):
                 self.assertEqual(reply[0], client)
-        self.assertIn(len(looked), range(1, 7))
+        self.assertGreater(len(looked), 1)
+        for before, now in zip(looked, looked[1:]):
+            self.assertGreater(now - before, 0.19)
         await self.closed(it)
 
     async def test_a_log_that_is_away_at_the_end(self):
