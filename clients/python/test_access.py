@@ -253,7 +253,7 @@ class OverTLS(unittest.TestCase):
             self.renewed(listener, old)
             self.assertIn("; the old files stay in use", listener.said[-1])
             self.assertEqual(session.lookup_accounts([1]), [])
-            self.assertIn("refuses this client", self.fault(place, "forged", 3 * UPPER))
+            self.assertIn("refuses this client: unknown ca", self.fault(place, "forged", 3 * UPPER))
 
             shutil.copy(self.paths["stranger"], paths["server"])
             shutil.copy(self.paths["stranger_key"], paths["server_key"])
