@@ -1710,6 +1710,29 @@ class Replicas(OverALog):
         await it.begin()
         self.assertGreater(it.moments.next(), time.time_ns())
 
+    async def test_files_that_are_renewed_before_it_serves(self):
+        """A replica that waits for its clock reaches the engine by them. SIGHUP did nothing."""
+        given = argparse.Namespace(
+            command=COMMAND, copy=self.folder, name="r0", positions=False, distrust=[], slow=1
+        )
+        begun, renewed = asyncio.Event(), asyncio.Event()
+
+        async def begin(_):
+            begun.set()
+            await asyncio.sleep(60)
+
+        self.log.renew = renewed.set
+        with mock.patch.object(Replica, "begin", begin):
+            serving = asyncio.ensure_future(machines.serve(given, self.log))
+            await asyncio.wait_for(begun.wait(), 20)
+            os.kill(os.getpid(), signal.SIGHUP)
+            try:
+                await asyncio.wait_for(renewed.wait(), 5)
+            finally:
+                os.kill(os.getpid(), signal.SIGTERM)
+                await asyncio.wait_for(serving, 20)
+        self.assertIn("SIGHUP: the files are read again", self.told.getvalue())
+
     @mock.patch.object(replica, "CLOCK_AGAIN", 0.01)
     async def test_a_clock_that_is_behind_at_a_boot(self):
         """The replica begins once the clock was set. It ended, and was not started again."""

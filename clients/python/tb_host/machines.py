@@ -24,6 +24,7 @@ import argparse
 import asyncio
 import os
 import re
+import signal
 import socket
 import sys
 from typing import Any, List, Sequence
@@ -47,7 +48,7 @@ from .log import Access, Log, opened, parts
 from .loops import fill_standard_files, run as run_loop
 from .replica import Replica, head_of, kept_at
 from .reports import add_reports
-from .serving import listen_on, stop_signals, until
+from .serving import listen_on, read_again, stop_signals, until
 from .sockets import bound, make_room
 from .status import hashes, script, status, tell, trim
 from .taken import Taken
@@ -59,6 +60,8 @@ PARTS = ("run", "status", "trim", "copy-from", "script", "hashes")
 async def serve(given: argparse.Namespace, log: Log) -> None:
     """Serves until a signal comes, or until the replica ends."""
     stopping = stop_signals()
+    # it may wait for the engine, or for its clock, by files that are renewed meanwhile
+    asyncio.get_running_loop().add_signal_handler(signal.SIGHUP, read_again, log.renew)
     kind = Copy if kept_at(given.command) is None else Backlog
     copy: Taken = kind(given.copy)
     try:

@@ -4,8 +4,9 @@ from __future__ import annotations
 import argparse
 import asyncio
 import contextlib
+import functools
 import signal
-from typing import Any, List, Optional, Protocol
+from typing import Any, Callable, List, Optional, Protocol
 
 from .access import access_of
 from .connections import Asked, Listener
@@ -51,7 +52,7 @@ class Server(Asked, Protocol):
 
 def stop_signals() -> asyncio.Future[Any]:
     """Comes with the first SIGTERM or SIGINT. What a task fails with is said. SIGHUP ends nothing:
-    until connections are taken no file is in use that would be read again."""
+    until connections are taken a listener uses no file that would be read again."""
     loop, stopped = asyncio.get_running_loop(), asyncio.Event()
     said = "{}: {!r}".format
     loop.set_exception_handler(
@@ -88,24 +89,30 @@ async def listen_on(
     counts = Counts(file, command.is_serving, command.committed)
     listener = Listener(command, given, access_of(given), counts, Evictions(clients_max))
     loop = asyncio.get_running_loop()
-    loop.add_signal_handler(signal.SIGHUP, _read_again, places, command, listener)
+    renew = functools.partial(_renew, places, command, listener)
+    loop.add_signal_handler(signal.SIGHUP, read_again, renew)
     async with reported(given, counts, command.lag):
         await _serve_until(places, command, listener, stopping)
 
 
-def _read_again(places: List[Place], command: Server, listener: Listener) -> None:
-    """Reads the files of TLS and of client ids again. Where one is wrong all old ones stay."""
-    given = listener.given
+def read_again(renew: Callable[[], None]) -> None:
+    """Reads files again at a SIGHUP, and says so. Where one is wrong all old ones stay."""
     try:
-        tls, access = context_of(given, no_passphrase), access_of(given)
-        command.renew()
+        renew()
     except Ended as ended:
         say(f"SIGHUP: {ended}; the old files stay in use", "error")
-        return
+    else:
+        say("SIGHUP: the files are read again, and new connections go by them")
+
+
+def _renew(places: List[Place], command: Server, listener: Listener) -> None:
+    """Reads the files of TLS and of client ids again. Raises `Ended` where one is wrong."""
+    given = listener.given
+    tls, access = context_of(given, no_passphrase), access_of(given)
+    command.renew()
     for place in places:
         place.tls = place.tls and tls
     listener.access = access
-    say("SIGHUP: the files are read again, and new connections go by them")
 
 
 async def _serve_until(
