@@ -336,9 +336,11 @@ class Copies(unittest.TestCase):
         def sync(file):
             synced.append(os.readlink(f"/proc/self/fd/{file}"))
 
-        self.folder += "2"
+        above = self.folder
+        self.folder += "/new/copy"
+        made = [f"{above}/new", above]  # a folder that is made has a name too
         with mock.patch("os.fsync", sync), self.opened():
-            self.assertEqual(synced, [self.folder, f"{self.folder}/log"])
+            self.assertEqual(synced, [*made, self.folder, f"{self.folder}/log"])
 
     def test_what_a_sync_failed_at_is_cut_off(self):
         """The system shows it, and may not write it any more: a later sync succeeds, and was taken

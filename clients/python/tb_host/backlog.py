@@ -19,7 +19,7 @@ from typing import Deque, Dict, Iterator, List, Optional, Tuple
 from .entries import NOTHING, Entry
 from .faults import Fault
 from .lines import Ended
-from .local_copy import head_in, kept, opened_alone, sync_folder
+from .local_copy import faults_of, head_in, kept, make_folder, opened_alone, sync_folder
 from .taken import Item, Taken
 
 HELD = 1 << 26  # bytes of entries that are held before the log is read on
@@ -83,7 +83,8 @@ def copied_checkpoint(source: str, folder: str) -> Optional[Tuple[int, int]]:
     except (ValueError, TypeError) as error:
         raise Fault("Damaged", f"{source}/checkpoint is no checkpoint: {error}") from None
     head = head_in(source)
-    os.makedirs(folder, mode=0o700, exist_ok=True)
+    with faults_of(folder):
+        make_folder(folder)
     kept(folder, "head", head)
     put_checkpoint(folder, data)
     return it.position, it.place

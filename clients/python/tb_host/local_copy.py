@@ -66,11 +66,22 @@ def faults_of(path: str) -> Iterator[None]:
         raise Ended(f"{path}: {error.strerror}", 1) from None
 
 
+def make_folder(folder: str) -> None:
+    """Makes a folder where it is not there, and syncs the names of those that are made."""
+    holders, at = [], os.path.abspath(folder)
+    while not os.path.exists(at):
+        at = os.path.dirname(at)
+        holders.append(at)
+    os.makedirs(folder, mode=0o700, exist_ok=True)
+    for it in holders:
+        sync_folder(it)
+
+
 def opened_alone(folder: str, name: str) -> int:
     """A file of a folder, which is made where it is not there, and is one replica's alone."""
     path = os.path.join(folder, name)
     try:
-        os.makedirs(folder, mode=0o700, exist_ok=True)
+        make_folder(folder)
         file = os.open(path, os.O_RDWR | os.O_CREAT | os.O_CLOEXEC, 0o600)
         fcntl.flock(file, fcntl.LOCK_EX | fcntl.LOCK_NB)
     except OSError as error:
