@@ -359,7 +359,7 @@ def played(seed, runner, features, folder):
 
 
 def main():
-    given, failed = words(), 0
+    given, played_so_far, failed = words(), 0, 0
     with tempfile.TemporaryDirectory(prefix="crowds") as folder:
         runner = Runner(given.command, folder)
         features = runner.start()["ok"]["features"]
@@ -372,9 +372,10 @@ def main():
             wrong = played(seed, runner, features, folder)
             for it in wrong:
                 print(f"FAILED: --seed {seed} --count 1: {it}", flush=True)
+            played_so_far += 1
             failed += bool(wrong)
         runner.end()
-    print(f"{given.count} seeds, {failed} failed")
+    print(f"{played_so_far} seeds, {failed} failed")
     return 1 if failed else 0
 
 

@@ -341,6 +341,9 @@ class Copies(unittest.TestCase):
         made = [f"{above}/new", above]  # a folder that is made has a name too
         with mock.patch("os.fsync", sync), self.opened():
             self.assertEqual(synced, [*made, self.folder, f"{self.folder}/log"])
+            synced.clear()
+            kept(self.folder, "name", b"m1")
+            self.assertEqual(synced, [f"{self.folder}/name.new", self.folder])
 
     def test_what_a_sync_failed_at_is_cut_off(self):
         """The system shows it, and may not write it any more: a later sync succeeds, and was taken

@@ -313,7 +313,8 @@ def head_in(folder: str) -> bytes:
 
 
 def kept(folder: str, name: str, made: bytes) -> bytes:
-    """What a file of the folder has; made where it is not there."""
+    """What a file of the folder has; made where it is not there. Its name is synced too: a replica
+    that lost its own would be another one, and the old one would stay listed."""
     path = os.path.join(folder, name)
     with faults_of(path):
         with contextlib.suppress(FileNotFoundError):
@@ -324,4 +325,5 @@ def kept(folder: str, name: str, made: bytes) -> bytes:
             file.flush()
             os.fsync(file.fileno())
         os.replace(path + ".new", path)
+        sync_folder(folder)
     return made

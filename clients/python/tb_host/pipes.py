@@ -203,8 +203,8 @@ class Process:
 
 def started(words: Sequence[str]) -> Process:
     """A process of these words, in a session of its own. Raises `OSError` where it does not start.
-    SIGXFSZ is ignored in it, as in this one: a write beyond `ulimit -f` fails, and does not end
-    it."""
+    SIGXFSZ and SIGPIPE are ignored in it, as in this one: a write beyond `ulimit -f`, or to a pipe
+    that nobody reads, fails and does not end it."""
     pipe = subprocess.PIPE
     return Process(
         subprocess.Popen(
