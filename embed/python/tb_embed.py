@@ -16,6 +16,7 @@ import weakref
 from typing import Any, Dict, Optional, Type, Union
 
 import tb_client
+from tb_client.forks import left_by_children
 from tb_client.transports import Closing
 from tb_client.values import MOMENT_MAX, U64, U128, kind_of, path_of, whole
 
@@ -143,7 +144,8 @@ def _library(path: str) -> Any:
 class Server(Closing):
     """A server by profile 1 or 2, where 1 to CLIENTS_MAX clients can have a session at one time.
     Threads may share it: it takes one call at a time. One that is not closed is freed with its
-    object."""
+    object. In a forked child it is closed: what it did there would be in no history but the
+    child's."""
 
     def __init__(
         self,
@@ -162,6 +164,13 @@ class Server(Closing):
         self._check(self._library.tb_embed_open(self._handle, profile, places))
         # not at the end of Python, when another thread may be within a call
         weakref.finalize(self, self._library.tb_embed_close, self._handle).atexit = False
+        left_by_children(self)
+
+    def leave_copy(self) -> None:
+        """Closes a forked child's handle. Its copy of the server is not freed: a thread that is
+        not here may have been within a call, and may hold the lock."""
+        self._handle.at, self._handle.is_open = None, 0
+        self._lock = threading.Lock()
 
     def serve(self, moment: int, request: bytes) -> bytes:
         """The reply's frame to the frame of a request that comes at a moment, in nanoseconds."""

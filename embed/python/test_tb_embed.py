@@ -12,6 +12,7 @@ import io
 import os
 import pathlib
 import shutil
+import signal
 import subprocess
 import sys
 import tempfile
@@ -224,6 +225,33 @@ void tb_embed_close(tb_server *s) {
 """
 
 
+def status_in_a_child(server, call):
+    """The status of a child that calls, forked while another thread is within a call: what the
+    call answers, 3 where it is Closed, and SIGALRM's where it does not return."""
+    entered, done = threading.Event(), threading.Event()
+
+    def hold():
+        with server._lock:
+            entered.set()
+            done.wait()
+
+    holder = threading.Thread(target=hold)
+    holder.start()
+    entered.wait()
+    child = os.fork()
+    if not child:
+        signal.alarm(5)
+        try:
+            os._exit(call())
+        except tb_embed.Closed:
+            os._exit(3)
+        finally:
+            os._exit(4)
+    done.set()
+    holder.join()
+    return os.waitstatus_to_exitcode(os.waitpid(child, 0)[1])
+
+
 @unittest.skipUnless(shutil.which("cc"), "cc is not there")
 class OverCtypes(unittest.TestCase):
     """What goes through ctypes arrives whole: by a library in C that gives back what it was
@@ -259,6 +287,7 @@ class OverCtypes(unittest.TestCase):
             self.assertRaises(tb_embed.Closed, server.account, 5)
             self.assertEqual(repr(server), f"<Server {path}, closed>")
             self.count_freed(path, server)
+            self.fork(path)
 
     def count_freed(self, path, closed):
         """Each server is freed once: with its object, where nobody closed it."""
@@ -271,6 +300,19 @@ class OverCtypes(unittest.TestCase):
         servers.clear()
         gc.collect()
         self.assertEqual(freed.value, 4)
+
+    def fork(self, path):
+        """A forked child has a closed server and frees nothing, though a thread that is not there
+        held the lock; its parent's goes on."""
+        freed = ctypes.c_int.in_dll(ctypes.CDLL(str(path)), "freed")
+        with Server(path, 64, 2) as server:
+            before = freed.value
+            self.assertEqual(status_in_a_child(server, lambda: server.serve(5, b"")), 3)
+            self.assertEqual(status_in_a_child(server, lambda: server.account(5)), 3)
+            self.assertEqual(
+                status_in_a_child(server, lambda: (server.close(), freed.value - before)[1]), 0
+            )
+            self.assertEqual(server.account(5), tb_client.Account(5))
 
 
 class Examples(unittest.TestCase):
