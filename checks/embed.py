@@ -13,6 +13,7 @@ where they are not there. KIT is the toolchain's folder (else `rt doc` prints it
 """
 import os
 import random
+import re
 import shutil
 import subprocess
 import sys
@@ -109,7 +110,8 @@ def headers(folder):
 
 def programs(folder):
     """The programs that serve a script, each as the words of its command before CLIENTS_MAX and
-    PROFILE. The first requests are built next to them, as first_c, first_asan and first_rs."""
+    PROFILE. The first requests are built next to them, as first_c, first_own, first_asan and
+    first_rs."""
     heap = f"{kit()}/c/liblibc_c.a"
     found, shared = {}, f"{folder}/libtb_embed.so"
     flags = ["-O2", "-Wall", "-Wextra", "-Werror", "-std=gnu11"]
@@ -124,6 +126,20 @@ def programs(folder):
         heap,
         "-o",
         f"{folder}/first_c",
+    )
+    built(
+        "the first requests in C over another allocator",
+        "cc",
+        "-O2",
+        "-std=c11",
+        "-Wall",
+        "-Wextra",
+        "-Werror",
+        f"{EMBED}/c/first.c",
+        f"{TOP}/checks/embed/allocator.c",
+        LIBRARY,
+        "-o",
+        f"{folder}/first_own",
     )
     if built(
         "the script in C",
@@ -256,6 +272,7 @@ def first_requests(folder):
         language: [f"{folder}/{name}"]
         for language, name in (
             ("C", "first_c"),
+            ("C over another allocator", "first_own"),
             ("C under AddressSanitizer", "first_asan"),
             ("Rust", "first_rs"),
         )
@@ -271,10 +288,19 @@ def first_requests(folder):
             holds,
             "" if holds else (ran.stdout + ran.stderr).decode(errors="replace"),
         )
-    case(
-        "the page shows what the first requests print",
-        f"```text\n{FIRST}```" in read(f"{TOP}/docs/use/EMBEDDING.md").decode(),
-    )
+    case("the page shows what the first requests print", f"```text\n{FIRST}```" in page())
+
+
+def page():
+    return read(f"{TOP}/docs/use/EMBEDDING.md").decode()
+
+
+def called():
+    """What the library calls, which a program without the kit's archive has to define."""
+    calls = set(re.findall(r" U (\w+)", run("nm", "-u", LIBRARY).stdout.decode()))
+    named = re.search(r"It calls ([^.]*)\.", page())
+    told = set(re.findall(r"\w+", named[1])) - {"and"} if named else set()
+    case("the page names what the library calls", calls == told, " ".join(sorted(calls ^ told)))
 
 
 def served(found, script, replies, what, *words):
@@ -477,6 +503,7 @@ def main():
         headers(folder)
         found = programs(folder)
         first_requests(folder)
+        called()
         first = f"{TOP}/examples/first.script", f"{TOP}/examples/first.replies"
         served(found, *first, "the first script", "2")
         not_written(found, first[0])
