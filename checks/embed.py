@@ -30,6 +30,7 @@ PROGRAM = f"{TOP}/crates/tbs/out/tbs"
 sys.path[:0] = [f"{TOP}/checks/embed", f"{EMBED}/python", f"{TOP}/clients/python"]
 
 import names  # noqa: E402
+import refused  # noqa: E402
 import wrappers  # noqa: E402
 from tb_client import ClientError  # noqa: E402
 
@@ -215,6 +216,9 @@ def programs(folder):
             f"{folder}/libtb_embed.rlib",
         )
         linked = ["--extern", f"tb_embed={folder}/libtb_embed.rlib"]
+        if wrapper:
+            for what, holds, why in refused.cases([*words, *linked], folder):
+                case(what, holds, "" if holds else why)
         if wrapper and built(
             "the script in Rust",
             *words,
