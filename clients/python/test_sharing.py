@@ -491,6 +491,26 @@ class Forks(unittest.TestCase):
 
         self.assertEqual(status_in_a_child(retry, session._lock), 0)
 
+    def test_a_function_that_a_thread_of_the_parent_is_in(self):
+        direct = Direct(lambda moment, frame: frame)
+        for it in (direct, tb.Faulty(direct)):
+            self.assertEqual(status_in_a_child(lambda: it.exchange(0, b""), it._lock), 0)
+
+    def test_transports_that_are_equal(self):
+        """Each is closed in a child, though a subclass says that they are one, or has no hash."""
+
+        class Equal(tb.Socket):
+            def __eq__(self, other):
+                return True
+
+        one, other = Equal(self.path), Equal(self.path)
+
+        def exchange():
+            for it in (one, other):
+                self.assertRaises(tb.Closed, it.exchange, 0, register(7))
+
+        self.assertEqual(status_in_a_child(exchange, threading.Lock()), 0)
+
 
 def closed_in_a_child(transport, lock):
     return status_in_a_child(transport.close, lock)

@@ -2,8 +2,8 @@
 from __future__ import annotations
 
 import os
-import weakref
 from typing import Protocol
+from weakref import WeakValueDictionary
 
 
 class Copied(Protocol):
@@ -13,16 +13,16 @@ class Copied(Protocol):
         """Is called in a child. Threads of the parent are not there, and may have held locks."""
 
 
-_copied: weakref.WeakSet[Copied] = weakref.WeakSet()
+_copied: WeakValueDictionary[int, Copied] = WeakValueDictionary()  # by `id`: equal ones are two
 
 
 def left_by_children(it: Copied) -> None:
     """Has each forked child leave its copy of this."""
-    _copied.add(it)
+    _copied[id(it)] = it
 
 
 def _leave_copies() -> None:
-    for it in list(_copied):
+    for it in list(_copied.values()):
         it.leave_copy()
 
 

@@ -6,6 +6,7 @@ from types import TracebackType
 from typing import Any, Callable, Iterable, Optional, Protocol, Set, Type, TypeVar
 
 from .errors import Closed, InvalidType, ReplyLost
+from .forks import left_by_children
 from .values import U64, callable_of, kind_of, listed, whole
 
 Self = TypeVar("Self", bound="Closing")
@@ -44,6 +45,11 @@ class Direct(Closing):
 
     def __init__(self, serve: Callable[[int, bytes], bytes]) -> None:
         self._serve, self._lock, self._closed = callable_of("serve", serve), threading.Lock(), False
+        left_by_children(self)
+
+    def leave_copy(self) -> None:
+        """A thread of the parent may have held the lock."""
+        self._lock = threading.Lock()
 
     def __repr__(self) -> str:
         return f"<Direct {self._serve!r}{', closed' if self._closed else ''}>"
@@ -69,6 +75,11 @@ class Faulty(Closing):
         self.inner = transport_of("inner", inner)
         self.requests, self.replies = _numbers("requests", requests), _numbers("replies", replies)
         self.count = 0
+        self._lock = threading.Lock()
+        left_by_children(self)
+
+    def leave_copy(self) -> None:
+        """A thread of the parent may have held the lock."""
         self._lock = threading.Lock()
 
     def __repr__(self) -> str:
