@@ -13,7 +13,6 @@ Prints a line for each case, and 'N passed, M failed'. PROGRAM names another tbs
 Where no tbd is built, clients/python/stand_in_tbd.py is in its place. Where mypy is not there, no
 types are checked.
 """
-import argparse
 import contextlib
 import glob
 import json
@@ -427,17 +426,7 @@ def main():
         "wrong": wrong,
     }
     names = [*languages, *parts]
-    parser = argparse.ArgumentParser(
-        description=__doc__, formatter_class=argparse.RawDescriptionHelpFormatter
-    )
-    parser.add_argument(
-        "--only",
-        metavar="PART",
-        nargs="+",
-        choices=names,
-        default=names,
-        help=f"one or more of {', '.join(names)}",
-    )
+    parser = tried.arguments_of_parts(__doc__, names)
     parser.add_argument(
         "--kills",
         metavar="N",

@@ -126,15 +126,7 @@ def main():
     languages = clients.described()
     parts = {"calls": calls, "wrong": wrong}
     names = [*languages, *parts]
-    parser = tried.arguments(__doc__)
-    parser.add_argument(
-        "--only",
-        metavar="PART",
-        nargs="+",
-        choices=names,
-        default=names,
-        help=f"one or more of {', '.join(names)}",
-    )
+    parser = tried.arguments_of_parts(__doc__, names)
     parser.add_argument(
         "--seed", metavar="N", type=tried.count, default=1, help="the first seed (1)"
     )

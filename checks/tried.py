@@ -57,6 +57,20 @@ def arguments(page):
     )
 
 
+def arguments_of_parts(page, names):
+    """The same of a script that has parts: --only names some of them, and without it all run."""
+    parser = arguments(page)
+    parser.add_argument(
+        "--only",
+        metavar="PART",
+        nargs="+",
+        choices=names,
+        default=names,
+        help=f"one or more of {', '.join(names)}",
+    )
+    return parser
+
+
 def count(text):
     """An argument that is a whole number from 1 on."""
     if not text.isascii() or not text.isdigit() or int(text) == 0:
