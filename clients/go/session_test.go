@@ -254,50 +254,39 @@ func TestCannotConnectTellsWhy(t *testing.T) {
 	}
 }
 
-// A server that was starting, and is silent then.
-func TestTheEndOfTheTimeTellsWhatWasBefore(t *testing.T) {
+// telling is a socket to a server that tells this to the first who connects, and is silent then.
+func telling(t *testing.T, text string, options ...tb.SocketOption) *tb.Socket {
 	path := filepath.Join(t.TempDir(), "ledger.sock")
 	listener, err := net.Listen("unix", path)
 	if err != nil {
 		t.Fatal(err)
 	}
-	defer listener.Close()
+	t.Cleanup(func() { listener.Close() })
 	go func() {
 		if conn, err := listener.Accept(); err == nil {
-			io.WriteString(conn, "tb_listen: Starting\n")
+			io.WriteString(conn, "tb_listen: "+text+"\n")
 			conn.Close()
 		}
 	}()
-	socket, err := tb.NewSocket([]tb.Address{tb.Unix(path)}, tb.WithTimeout(time.Second))
+	socket, err := tb.NewSocket([]tb.Address{tb.Unix(path)}, options...)
 	if err != nil {
 		t.Fatal(err)
 	}
-	defer socket.Close()
-	_, err = tb.Register(background, socket, tb.WithAttempts(1))
+	t.Cleanup(func() { socket.Close() })
+	return socket
+}
+
+func TestTheEndOfTheTimeTellsWhatWasBefore(t *testing.T) {
+	socket := telling(t, "Starting", tb.WithTimeout(time.Second))
+	_, err := tb.Register(background, socket, tb.WithAttempts(1))
 	if !errors.Is(err, tb.ErrReplyLost) || !strings.HasSuffix(err.Error(), "Starting") {
 		t.Error(err)
 	}
 }
 
 func TestWhatAServerTellsIsShownWithoutControlCharacters(t *testing.T) {
-	path := filepath.Join(t.TempDir(), "ledger.sock")
-	listener, err := net.Listen("unix", path)
-	if err != nil {
-		t.Fatal(err)
-	}
-	defer listener.Close()
-	go func() {
-		for conn, err := listener.Accept(); err == nil; conn, err = listener.Accept() {
-			conn.Write([]byte("tb_listen: \x1b[2J\x9bIdle\n"))
-			conn.Close()
-		}
-	}()
-	socket, err := tb.NewSocket([]tb.Address{tb.Unix(path)})
-	if err != nil {
-		t.Fatal(err)
-	}
-	defer socket.Close()
-	_, err = tb.Register(background, socket, tb.WithAttempts(1))
+	socket := telling(t, "\x1b[2J\x9bIdle")
+	_, err := tb.Register(background, socket, tb.WithAttempts(1))
 	var lost *tb.LostError
 	if !errors.As(err, &lost) || lost.Told != "?[2J?Idle" || !strings.HasSuffix(err.Error(), lost.Told) {
 		t.Errorf("%q", err)

@@ -59,7 +59,7 @@ NOT_SENT = {
     "clock jumped": lambda: tb.ClockJumped("the clock jumped"),
     "not sent": lambda: tb.NotSent("nothing was sent"),
 }
-# how often each is drawn, beside a reply
+# how often each is drawn, next to a reply
 USUAL = {
     "lost before": 4,
     "lost after": 6,

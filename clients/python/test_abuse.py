@@ -1,4 +1,4 @@
-"""Connections that do anything, beside honest clients: each batch of these is executed once and
+"""Connections that do anything, next to honest clients: each batch of these is executed once and
 answered in time, and nothing is left open. SEED in the environment repeats a run.
 
     python3 -m unittest test_abuse
