@@ -460,7 +460,11 @@ def told_of_words(tbd, folder):
         told = told_of(tbd, folder, words.split())
         case(f"wrong words: {words}", told == (2, b"", f"tbd: Usage: {line}\n"), told)
     told = told_of(tbd, folder, ["check", b"\xff"])
-    case("a word that is no text", told == (2, b"", "tbd: Usage\n"), told)
+    case("a word that is no text", told == (2, b"", "tbd: Usage: a word is not UTF-8\n"), told)
+    told = told_of(tbd, folder, ["check", "a\x1b[2J\n\x9bb"])
+    case("a path with an escape code", told == (1, b"", "tbd: Device: cannot find a?[2J??b\n"), told)
+    told = told_of(tbd, folder, ["serve\x07"])
+    case("a word with a control character", told == (2, b"", "tbd: Usage: serve?: unknown; tbd --help shows the forms\n"), told)
     told_of(tbd, folder, ["run", "words.tbk", "3"], pair_of_a_register())
     for form in ("dump", "check"):
         with open("/dev/full", "wb") as full:

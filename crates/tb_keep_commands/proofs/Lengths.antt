@@ -5,6 +5,7 @@ use Rattle.tb_keep_commands.specs.declared.arguments.TheConstants.{CLIENTS_WRONG
 use Rattle.tb_keep_commands.specs.declared.help.TheConstants.{USAGE}
 use Rattle.tb_keep_commands.specs.Forms.{form_by, wrong_clients, so_wrong, wrong}
 use Rattle.tb_keep_commands.specs.ExitStatuses.{shown_words, usage_lines, wrong_line}
+use Rattle.tb_keep_commands.specs.Printable.{printable}
 
 module _ {X : Type 0} (bytes : X → List ℕ) where
   pub three_said : (words : List X) → 3 ≤ length words → length words < 4 → wrong_clients (map bytes words) ≡ so_wrong (map bytes words) CLIENTS_WRONG.now
@@ -38,7 +39,7 @@ module _ {X : Type 0} (bytes : X → List ℕ) where
 
   -- a word and those behind it
   pub shown_front : (words : List X) (word d : X) → 1 ≤ length words → word ≡ get_or words 0 d
-      → (32 ∷ bytes word) ++ shown_words (map bytes (take (length words - 1) (drop 1 words))) ≡ shown_words (map bytes words)
+      → (32 ∷ printable (bytes word)) ++ shown_words (map bytes (take (length words - 1) (drop 1 words))) ≡ shown_words (map bytes words)
   shown_front [] word d some same = absurd (omega (arith, some))
   shown_front (x ∷ xs) word d some same =
       let all : take (length (x ∷ xs) - 1) xs ≡ xs = take_all _ xs (omega arith) in

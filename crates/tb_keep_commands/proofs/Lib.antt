@@ -5,5 +5,6 @@ pub mod Lives
 pub mod PartCauses
 pub mod DumpPrefixes
 pub mod Passing
+pub mod PrintedText
 pub mod Rounds
 pub mod WholeFiles

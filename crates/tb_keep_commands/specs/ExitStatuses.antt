@@ -3,6 +3,7 @@
 use Rattle.std.specs.Prelude.{ℕ, zero, suc, Bool, true, false, ◌≡◌, ◌⊎◌, ◌==◌, ◌+◌, ◌-◌, ◌/◌, ◌^◌, ◌&&◌, min, nat_le, nat_eq, ◌++◌, List, [], ◌∷◌, Option, Some, None, Result, Ok, Err, IfOk, if◌then◌else◌, flat_map, codes, string_bytes, refl}
 use Rattle.std.specs.Fmt.{decimal, digits}
 use Rattle.std.specs.IoError.{error_kind}
+use Rattle.std.specs.Str.{chars}
 use Rattle.std.specs.declared.io.Error.{Error}
 use Rattle.std.specs.declared.io.ErrorKind.{ErrorKind}
 use Rattle.std.specs.declared.io.ErrorKind.TheVariants as kinds
@@ -50,6 +51,7 @@ use Rattle.tb_keep_commands.specs.declared.openers.OpeningFault.{OpeningFault}
 use Rattle.tb_keep_commands.specs.declared.openers.OpeningFault.TheVariants as opening
 use Rattle.tb_keep_commands.specs.declared.reports.Reported.{Reported}
 use Rattle.tb_keep_commands.specs.Forms.{Wrong, wrong}
+use Rattle.tb_keep_commands.specs.Printable.{printable}
 
 -- what the faults of the system and of the libraries are here
 
@@ -82,7 +84,7 @@ abbrev pub words_fault_of : ErrorKind → KeepCommandFault
 words_fault_of kinds.OutOfMemory = NoMemory
 words_fault_of kind = Usage
 
--- a word of the command line is no text, or there is no memory for one
+-- a word of the command line is not UTF-8, or there is no memory for one
 abbrev pub words_fault : Error → KeepCommandFault
 words_fault error = words_fault_of (error_kind error)
 
@@ -172,9 +174,9 @@ fault_exit_status SyncFailed = 9
 abbrev pub numbered : List ℕ → ℕ → List ℕ
 numbered text number = text ++ decimal number
 
--- a path between two texts
+-- a path between two texts, as it is shown
 abbrev pub named : List ℕ → List ℕ → List ℕ → List ℕ
-named first path last = first ++ (path ++ last)
+named first path last = first ++ (printable path ++ last)
 
 -- a text to the end of its line
 abbrev pub line_of : List ℕ → List ℕ
@@ -196,31 +198,31 @@ sync_text = codes "SyncFailed: restart the machine or copy the file before the n
 -- why a file was not opened; where the words may be wrong they are reported
 abbrev pub opening_text : OpeningFault → List ℕ → List ℕ
 opening_text opening.Locked path = codes "Locked: another program has the file open"
-opening_text opening.Missing path = codes "Device: cannot find " ++ path
-opening_text opening.Forbidden path = codes "Device: no permission to open " ++ path
+opening_text opening.Missing path = codes "Device: cannot find " ++ printable path
+opening_text opening.Forbidden path = codes "Device: no permission to open " ++ printable path
 opening_text opening.NoMemory path = codes "NoMemory"
 opening_text opening.SyncFailed path = sync_text
-opening_text opening.Exists path = codes "Usage: " ++ (path ++ codes " exists")
-opening_text opening.NotAFile path = codes "Device: " ++ (path ++ codes " is no regular file")
-opening_text opening.Dangling path = codes "Device: " ++ (path ++ codes " is a link to nothing")
-opening_text opening.Unopened path = codes "Device: cannot open " ++ path
-opening_text opening.Unread path = codes "Device: " ++ path
+opening_text opening.Exists path = codes "Usage: " ++ (printable path ++ codes " exists")
+opening_text opening.NotAFile path = codes "Device: " ++ (printable path ++ codes " is no regular file")
+opening_text opening.Dangling path = codes "Device: " ++ (printable path ++ codes " is a link to nothing")
+opening_text opening.Unopened path = codes "Device: cannot open " ++ printable path
+opening_text opening.Unread path = codes "Device: " ++ printable path
 
 -- what failed
 abbrev pub failed_text : Failed → List ℕ → List ℕ
 failed_text Input path = codes "Device: standard input"
 failed_text OutputSide path = codes "Device: standard output"
-failed_text File path = codes "Device: " ++ path
-failed_text New path = codes "Device: " ++ path
+failed_text File path = codes "Device: " ++ printable path
+failed_text New path = codes "Device: " ++ printable path
 
 -- a file that is no ledger, and what it is; nothing more where it was not looked at
 abbrev pub kind_text : Kind → List ℕ → List ℕ
 kind_text kind.Unread path = codes "NotAJournal"
-kind_text kind.Empty path = codes "NotAJournal: " ++ (path ++ codes " is empty; tbd run makes a ledger in it")
-kind_text kind.Dump path = codes "NotAJournal: " ++ (path ++ codes " is a dump; tbs replay and tbt read it")
-kind_text kind.Script path = codes "NotAJournal: " ++ (path ++ codes " is a script; tbs and tbd run read it as standard input")
-kind_text kind.Text path = codes "NotAJournal: " ++ (path ++ codes " is a text; tbt script makes request frames of statements")
-kind_text kind.Other path = codes "NotAJournal: " ++ (path ++ codes " does not begin as a ledger's file")
+kind_text kind.Empty path = codes "NotAJournal: " ++ (printable path ++ codes " is empty; tbd run makes a ledger in it")
+kind_text kind.Dump path = codes "NotAJournal: " ++ (printable path ++ codes " is a dump; tbs replay and tbt read it")
+kind_text kind.Script path = codes "NotAJournal: " ++ (printable path ++ codes " is a script; tbs and tbd run read it as standard input")
+kind_text kind.Text path = codes "NotAJournal: " ++ (printable path ++ codes " is a text; tbt script makes request frames of statements")
+kind_text kind.Other path = codes "NotAJournal: " ++ (printable path ++ codes " does not begin as a ledger's file")
 
 -- rules in words
 unfoldable pub numbers_text : Numbers → List ℕ
@@ -232,11 +234,11 @@ both_text both between = numbers_text both.made ++ (between ++ numbers_text both
 
 abbrev pub mismatch_text : Option Mismatch → List ℕ → List ℕ
 mismatch_text None path = codes "OtherRules: tbd check shows those that the file was made with"
-mismatch_text (Some both) path = (codes "OtherRules: " ++ (path ++ codes " was made with ")) ++ both_text both (codes ", not with ")
+mismatch_text (Some both) path = (codes "OtherRules: " ++ (printable path ++ codes " was made with ")) ++ both_text both (codes ", not with ")
 
 -- the fault's name, and words behind it where there is more to say, of a file with this path
 abbrev pub fault_text : KeepCommandFault → List ℕ → List ℕ
-fault_text Usage path = codes "Usage"
+fault_text Usage path = codes "Usage: a word is not UTF-8"
 fault_text (Device which) path = failed_text which path
 fault_text (Opening fault) path = opening_text fault path
 fault_text (Making fault) path = opening_text fault path
@@ -262,7 +264,7 @@ fault_line fault path = codes "tbd: " ++ (fault_text fault path ++ codes "\n")
 
 -- what a start says that made a file of this path
 abbrev pub made_line : List ℕ → List ℕ
-made_line path = codes "tbd: made " ++ (path ++ codes "\n")
+made_line path = codes "tbd: made " ++ (printable path ++ codes "\n")
 
 -- a line is reported, or none is
 abbrev pub TellsWhere : Bool → List ℕ → Output → Output → Type 0
@@ -282,7 +284,7 @@ abbrev pub read_text : ℕ → ℕ → List ℕ
 read_text read all = (decimal read ++ codes " of ") ++ (decimal all ++ codes " MB")
 
 abbrev pub reading_line : List ℕ → ℕ → ℕ → List ℕ
-reading_line path read all = (codes "tbd: reading " ++ (path ++ codes ", ")) ++ (read_text read all ++ codes "\n")
+reading_line path read all = (codes "tbd: reading " ++ (printable path ++ codes ", ")) ++ (read_text read all ++ codes "\n")
 
 -- of a start that is reported: that it begins to read a file of a million bytes or more
 abbrev pub TellsReading : Bool → List ℕ → ℕ → Output → Output → Type 0
@@ -332,9 +334,9 @@ abbrev pub Passes : Result (Unit {0}) FrameFault → Output → Output → Type 
 Passes (Ok done) before after = Sent [] before after × (after.held ≡ false)
 Passes (Err fault) before after = after ≡ before
 
--- words, a space before each
+-- words as they are shown, a space before each
 abbrev pub shown_words : List (List ℕ) → List ℕ
-shown_words words = flat_map (λ word. 32 ∷ word) words
+shown_words words = flat_map (λ word. 32 ∷ printable word) words
 
 -- words that are no form: those that are wrong, and what is wrong with them
 abbrev pub said_text : List (List ℕ) → List ℕ → List ℕ
@@ -373,9 +375,11 @@ unfolding digits
 line_of_a_block = refl
 
 pub line_of_a_name : fault_line (Opening opening.Missing) (codes "ledger") ≡ codes "tbd: Device: cannot find ledger\n"
+unfolding printable chars lib.Utf8.encode
 line_of_a_name = refl
 
 pub line_of_a_new_name : fault_line (Making opening.Exists) (codes "new") ≡ codes "tbd: Usage: new exists\n"
+unfolding printable chars lib.Utf8.encode
 line_of_a_new_name = refl
 
 pub line_of_a_cut : cut_line 5 182 ≡ codes "tbd: cut 5 bytes of a batch that was not committed, behind byte 182\n"
@@ -388,17 +392,19 @@ line_of_a_pipe = refl
 pub line_of_other_rules :
     fault_line (OtherRules (Some (record { made = record { clients_max = 3; profile = 1 }; asked = record { clients_max = 64; profile = 2 } }))) (codes "ledger")
     ≡ codes "tbd: OtherRules: ledger was made with CLIENTS_MAX 3 and PROFILE 1, not with CLIENTS_MAX 64 and PROFILE 2\n"
-unfolding digits numbers_text
+unfolding digits numbers_text printable chars lib.Utf8.encode
 line_of_other_rules = refl
 
 pub line_of_reading : reading_line (codes "ledger") 128 900 ≡ codes "tbd: reading ledger, 128 of 900 MB\n"
-unfolding digits
+unfolding digits printable chars lib.Utf8.encode
 line_of_reading = refl
 
 pub line_of_a_new_file : made_line (codes "ledger") ≡ codes "tbd: made ledger\n"
+unfolding printable chars lib.Utf8.encode
 line_of_a_new_file = refl
 
 pub line_of_words : usage_lines (codes "run" ∷ []) ≡ codes "tbd: Usage: run: FILE and CLIENTS_MAX are missing\n"
+unfolding printable chars lib.Utf8.encode
 line_of_words = refl
 
 -- the texts about a number of clients say its range

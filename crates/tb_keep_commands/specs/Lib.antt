@@ -10,6 +10,7 @@ pub mod Live
 pub mod Naming
 pub mod Outcomes
 pub mod Outlets
+pub mod Printable
 pub mod ExitStatuses
 pub mod Summaries
 pub mod private

@@ -67,7 +67,7 @@ pub enum Damage {
 /// Why a command ends with an exit status other than 0.
 #[derive(Clone, Copy, Debug, PartialEq, Eq)]
 pub enum KeepCommandFault {
-    /// The arguments are none of the program's forms.
+    /// The words of the command line are none of the program's forms, or one is not UTF-8.
     Usage,
     /// A pipe, or a read or write of the file failed.
     Device(Failed),
@@ -191,7 +191,7 @@ pub fn kept_fault(fault: KeepFault, pipe: Failed) -> KeepCommandFault
     }
 }
 
-/// The fault where the words cannot be had: there is no memory for them, or a word is no text.
+/// The fault where the words cannot be had: there is no memory for them, or one is not UTF-8.
 pub fn words_fault(error: &io::Error) -> KeepCommandFault
     ensures { result ≡ words_fault error.now }
 {

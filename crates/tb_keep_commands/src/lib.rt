@@ -11,6 +11,7 @@
 //! - `ends`: `Files` and `Ends`, what contracts know of what a command works with.
 //! - `kinds`: what a file is that holds no ledger, by its first bytes.
 //! - `faults`: why a command ends with an exit status other than 0.
+//! - `printable`: a path or a word as a line shows it, without control characters.
 //! - `lines`: the lines that say so.
 //! - `reports`: `Reported`, a file that reports how far it was read.
 //! - `summaries`: what `check` reports of a file.
@@ -45,6 +46,7 @@ mod live;
 mod naming;
 mod openers;
 mod outlets;
+mod printable;
 mod reports;
 mod summaries;
 

@@ -2,6 +2,7 @@
 ghost use Rattle.std.specs.Prelude.{◌≡◌, ◌++◌, Some, map, string_bytes};
 ghost use Rattle.tb_keep_commands.specs.ExitStatuses.{damage_text, opening_text, failed_text, kind_text, numbers_text, both_text, mismatch_text, fault_text, fault_line, reading_line, shown_words, said_text, wrong_line, usage_lines, counted, line_of, named, numbered, place_line, read_line, rules_text, said_with, Passes, Says, TellsMade, TellsCut, TellsReading, TellsReady, TellsFrames};
 ghost use Rattle.tb_keep_commands.specs.Forms.{wrong};
+ghost use Rattle.tb_keep_commands.specs.Printable.{printable};
 ghost use Rattle.tb_keep_commands.specs.private.Changes.{Puts};
 
 use crate::arguments::wrong;
@@ -9,6 +10,7 @@ use crate::faults::{Damage, Failed, KeepCommandFault, Mismatch, Numbers};
 use crate::help::USAGE;
 use crate::kinds::Kind;
 use crate::openers::OpeningFault;
+use crate::printable::put_printable;
 use itoa::Buffer;
 use tb_records::{FrameFault, Sink, put_all};
 
@@ -22,12 +24,32 @@ fn put_both<E: Sink>(faults: &mut E, first: &str, second: &str) -> Result<(), Fr
     }
 }
 
+/// Writes a text, and a path or a word behind it.
+fn put_shown<E: Sink>(faults: &mut E, first: &str, path: &str) -> Result<(), FrameFault>
+    ensures { Puts E.Sink result (first.now ++ printable path.now) faults }
+{
+    match put_all(faults, first.as_bytes()) {
+        Ok(()) => put_printable(faults, path),
+        Err(fault) => Err(fault),
+    }
+}
+
+/// Writes a path and a text behind it.
+fn put_shown_before<E: Sink>(faults: &mut E, path: &str, last: &str) -> Result<(), FrameFault>
+    ensures { Puts E.Sink result (printable path.now ++ last.now) faults }
+{
+    match put_printable(faults, path) {
+        Ok(()) => put_all(faults, last.as_bytes()),
+        Err(fault) => Err(fault),
+    }
+}
+
 /// Writes a text, the path of a file and a text behind it.
 fn put_named<E: Sink>(faults: &mut E, first: &str, path: &str, last: &str) -> Result<(), FrameFault>
     ensures { Puts E.Sink result (named first.now path.now last.now) faults }
 {
     match put_all(faults, first.as_bytes()) {
-        Ok(()) => put_both(faults, path, last),
+        Ok(()) => put_shown_before(faults, path, last),
         Err(fault) => Err(fault),
     }
 }
@@ -104,8 +126,8 @@ fn put_opening<E: Sink>(faults: &mut E, fault: OpeningFault, path: &str) -> Resu
 {
     match fault {
         OpeningFault::Locked => put_all(faults, b"Locked: another program has the file open"),
-        OpeningFault::Missing => put_both(faults, "Device: cannot find ", path),
-        OpeningFault::Forbidden => put_both(faults, "Device: no permission to open ", path),
+        OpeningFault::Missing => put_shown(faults, "Device: cannot find ", path),
+        OpeningFault::Forbidden => put_shown(faults, "Device: no permission to open ", path),
         OpeningFault::NoMemory => put_all(faults, b"NoMemory"),
         OpeningFault::SyncFailed => put_all(
             faults,
@@ -114,8 +136,8 @@ fn put_opening<E: Sink>(faults: &mut E, fault: OpeningFault, path: &str) -> Resu
         OpeningFault::Exists => put_named(faults, "Usage: ", path, " exists"),
         OpeningFault::NotAFile => put_named(faults, "Device: ", path, " is no regular file"),
         OpeningFault::Dangling => put_named(faults, "Device: ", path, " is a link to nothing"),
-        OpeningFault::Unopened => put_both(faults, "Device: cannot open ", path),
-        OpeningFault::Unread => put_both(faults, "Device: ", path),
+        OpeningFault::Unopened => put_shown(faults, "Device: cannot open ", path),
+        OpeningFault::Unread => put_shown(faults, "Device: ", path),
     }
 }
 
@@ -136,7 +158,7 @@ fn put_failed<E: Sink>(faults: &mut E, which: Failed, path: &str) -> Result<(), 
     match which {
         Failed::Input => put_all(faults, b"Device: standard input"),
         Failed::Output => put_all(faults, b"Device: standard output"),
-        Failed::File | Failed::New => put_both(faults, "Device: ", path),
+        Failed::File | Failed::New => put_shown(faults, "Device: ", path),
     }
 }
 
@@ -279,7 +301,7 @@ fn put_fault<E: Sink>(faults: &mut E, fault: KeepCommandFault, path: &str) -> Re
     ensures { Puts E.Sink result (fault_text fault path.now) faults }
 {
     match fault {
-        KeepCommandFault::Usage => put_all(faults, b"Usage"),
+        KeepCommandFault::Usage => put_all(faults, b"Usage: a word is not UTF-8"),
         KeepCommandFault::Device(which) => put_failed(faults, which, path),
         KeepCommandFault::Opening(fault) | KeepCommandFault::Making(fault) => put_opening(
             faults, fault, path,
@@ -440,7 +462,7 @@ fn put_words<E: Sink>(faults: &mut E, words: &[String]) -> Result<(), FrameFault
 {
     match words {
         [] => Ok(()),
-        [word, rest @ ..] => match put_both(faults, " ", word.as_str()) {
+        [word, rest @ ..] => match put_shown(faults, " ", word.as_str()) {
             Ok(()) => put_words(faults, rest),
             Err(fault) => Err(fault),
         },
@@ -502,7 +524,7 @@ pub fn tell_made<E: Sink>(len: usize, path: &str, faults: &mut E)
     ensures { TellsMade len path.now (E.output faults.old) (E.output faults.new) }
 {
     if len == 0 {
-        pass(put_behind(faults, "tbd: made ", path), faults);
+        pass(put_named(faults, "tbd: made ", path, "\n"), faults);
     }
 }
 

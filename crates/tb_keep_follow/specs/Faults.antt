@@ -2,6 +2,7 @@
 -- Cited by public contracts of: faults.
 use Rattle.std.specs.Prelude.{ℕ, ◌≡◌, ◌++◌, List, [], codes, refl}
 use Rattle.std.specs.Fmt.{decimal, digits}
+use Rattle.std.specs.Str.{chars}
 use Rattle.tb_records.specs.Faults as frames
 use Rattle.tb_journal.specs.declared.opening.OpenFault.{OpenFault}
 use Rattle.tb_journal.specs.declared.opening.OpenFault.TheVariants as opened
@@ -23,6 +24,7 @@ use Rattle.tb_keep_commands.specs.declared.faults.KeepCommandFault.{KeepCommandF
 use Rattle.tb_keep_commands.specs.declared.faults.KeepCommandFault.TheVariants.{Device, NoMemory, NotAJournal, Damaged, Full}
 use Rattle.tb_keep_commands.specs.declared.kinds.Kind.TheVariants as kind
 use Rattle.tb_keep_commands.specs.ExitStatuses.{disk_fault, opened_fault, fault_exit_status, fault_line}
+use Rattle.tb_keep_commands.specs.Printable.{printable}
 use Rattle.tb_keep_follow.specs.declared.faults.FollowFault.{FollowFault}
 use Rattle.tb_keep_follow.specs.declared.faults.FollowFault.TheVariants.{Kept, Plain, OtherRules, NoEntry, Entry, OtherHashes, Unwritten, Item}
 
@@ -77,7 +79,7 @@ abbrev pub place_line : List ℕ → ℕ → List ℕ → List ℕ
 place_line first place what = ((first ++ decimal place) ++ (codes ": " ++ what)) ++ codes "\n"
 
 abbrev pub path_line : List ℕ → List ℕ → List ℕ → List ℕ
-path_line first path last = (first ++ (path ++ last)) ++ codes "\n"
+path_line first path last = (first ++ (printable path ++ last)) ++ codes "\n"
 
 -- the position of a fault of an entry; 0 where it has none
 abbrev pub place_of : LogFault → ℕ
@@ -122,6 +124,7 @@ unfolding digits
 line_of_a_gap = refl
 
 pub line_of_a_plain_ledger : follow_line Plain (codes "ledger") ≡ codes "tbd: Plain: ledger is a ledger without positions; tbd run serves it\n"
+unfolding printable chars lib.Utf8.encode
 line_of_a_plain_ledger = refl
 
 pub line_of_a_position : wanted_line 12 ≡ codes "tbd: has the log up to position 12\n"

@@ -1,10 +1,11 @@
 //! Words, and what is said of those that are no form.
 use crate::keep_commands::files::Has;
 use crate::keep_commands::rows::{Out, Row, WELL, run_all, run_making};
-use crate::steps::expect_same;
+use crate::steps::{expect_given, expect_same};
 use std::io::{self, ErrorKind};
 use tb_journal::{FileFault, JournalFault};
-use tb_keep_commands::{KeepCommandFault, OpeningFault, USAGE, opening_fault, words_fault};
+use tb_keep_commands::{KeepCommandFault, OpeningFault, USAGE, opening_fault, refuse, words_fault};
+use tb_records::Counting;
 
 // Words that are no form, and what is reported of them.
 macro_rules! wrong {
@@ -184,6 +185,28 @@ const FILES: &[Row] = &[
     missing!(&["check", ""], "tbd: Device: cannot find \n"),
 ];
 
+/// Of a path or a word each control character is shown as `?`: an escape code, a line end, a tab, U+007F, U+009B.
+const CONTROLS: &[Row] = &[
+    missing!(
+        &["check", "a\x1b[2J\nb"],
+        "tbd: Device: cannot find a?[2J?b\n",
+    ),
+    missing!(
+        &["dump", "\u{9b}\tä\x7f"],
+        "tbd: Device: cannot find ??ä?\n",
+    ),
+    wrong!(
+        &["run", "a\r\n", "\x1b]0;"],
+        "tbd: Usage: run a?? ?]0;: CLIENTS_MAX is 1 to 64\n",
+    ),
+    wrong!(
+        &["\x07"],
+        "tbd: Usage: ?: unknown; tbd --help shows the forms\n",
+    ),
+    missing!(&["run", "a\nb", "2"], "tbd: Device: cannot find a?b\n"),
+    missing!(&["backup", "\0", "new"], "tbd: Device: cannot find ?\n"),
+];
+
 #[test]
 fn words_that_are_no_form_are_told(rt: HostRuntime) {
     run_all(&rt, rt.alloc(), WRONG);
@@ -197,6 +220,11 @@ fn a_number_or_an_option_names_no_file(rt: HostRuntime) {
 #[test]
 fn what_looks_like_neither_names_a_file(rt: HostRuntime) {
     run_all(&rt, rt.alloc(), FILES);
+}
+
+#[test]
+fn no_control_character_is_printed(rt: HostRuntime) {
+    run_all(&rt, rt.alloc(), CONTROLS);
 }
 
 const TEXTS: &[Row] = &[
@@ -249,4 +277,13 @@ fn a_fault_of_the_system_is_told_as_what_it_is(rt: HostRuntime) {
     expect_same(&rt, words, KeepCommandFault::NoMemory);
     let words = told_of_words(ErrorKind::InvalidData);
     expect_same(&rt, words, KeepCommandFault::Usage);
+}
+
+#[test]
+fn a_word_that_is_not_utf_8_is_told(rt: HostRuntime) {
+    let mut lines = Counting::new(Vec::new(rt.alloc()));
+    let status = refuse(told_of_words(ErrorKind::InvalidData), &mut lines);
+    expect_same(&rt, status, 2);
+    let lines = lines.into_inner();
+    expect_given(&rt, lines, b"tbd: Usage: a word is not UTF-8\n");
 }

@@ -1,5 +1,8 @@
 use Rattle.tb_keep_commands.proofs.lines.put_fault.Goals as goal
 
+pub returns-in-Usage : goal.returns-in-Usage
+returns-in-Usage g c = rw c.in-Usage.is c.put_all.ensures
+
 pub returns-in-NotAJournal : goal.returns-in-NotAJournal
 returns-in-NotAJournal g c = rw c.in-NotAJournal.is c.put_kind.ensures
 

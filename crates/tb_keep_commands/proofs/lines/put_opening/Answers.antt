@@ -4,10 +4,10 @@ pub returns-in-Locked : goal.returns-in-Locked
 returns-in-Locked g c = rw c.in-Locked.is c.put_all.ensures
 
 pub returns-in-Missing : goal.returns-in-Missing
-returns-in-Missing g c = rw c.in-Missing.is c.put_both.ensures
+returns-in-Missing g c = rw c.in-Missing.is c.put_shown.ensures
 
 pub returns-in-Unopened : goal.returns-in-Unopened
-returns-in-Unopened g c = rw c.in-Unopened.is c.put_both-in-Unopened.ensures
+returns-in-Unopened g c = rw c.in-Unopened.is c.put_shown-in-Unopened.ensures
 
 pub returns-in-SyncFailed : goal.returns-in-SyncFailed
 returns-in-SyncFailed g c = rw c.in-SyncFailed.is c.put_all-in-SyncFailed.ensures
@@ -22,4 +22,4 @@ pub returns-in-Dangling : goal.returns-in-Dangling
 returns-in-Dangling g c = rw c.in-Dangling.is c.put_named-in-Dangling.ensures
 
 pub returns-in-Unread : goal.returns-in-Unread
-returns-in-Unread g c = rw c.in-Unread.is c.put_both-in-Unread.ensures
+returns-in-Unread g c = rw c.in-Unread.is c.put_shown-in-Unread.ensures
