@@ -15,7 +15,7 @@ use Rattle.tb_machine.specs.Histories.{State, fits, step}
 use Rattle.tb_machine.proofs.Rows.{each_snoc}
 use Rattle.tb_machine.proofs.Running.{sends_none, sends_then}
 use Rattle.tb_text_commands.specs.declared.faults.TextCommandFault.{TextCommandFault}
-use Rattle.tb_text_commands.specs.declared.faults.TextCommandFault.TheVariants.{Usage, Device, Reader, Writer, NoMemory, TimeExhausted, TooLong, Frame, Dump, Arguments, Text, Late}
+use Rattle.tb_text_commands.specs.declared.faults.TextCommandFault.TheVariants.{Usage, NotUtf8, Device, Reader, Writer, NoMemory, TimeExhausted, TooLong, Frame, Dump, Arguments, Text, Late}
 use Rattle.tb_text_commands.specs.AuditLines.{IsJsonLine}
 use Rattle.tb_text_commands.specs.Audits.{NoneIsDue, TakesDue, Waiting, waits_behind}
 use Rattle.tb_text_commands.specs.AuditRuns.{AreLines, Audited, AuditsAll, AuditsEntry, AuditsItems, AuditsNext, AuditsOne, Finds, GivesUp, Goes, IsCut, PutsAll, PutsNothing, RefusesEntry, ShowsAccount, StopsTelling, Telling, Tells, TellsAccount, TellsDue, account_of, entry_told, events_told, expiry_of, next_told}
@@ -98,6 +98,7 @@ module _ (IsLine : Told → List ℕ → Type 0) (wants : Told → Bool) where
 by_device : (f : TextCommandFault) (bytes : List ℕ) (a b : Output) → PutsAll (Err f) bytes a b → (f ≡ Device) × CutOff bytes a b
 by_device Device bytes a b cut = (refl, cut)
 by_device Usage bytes a b none = absurd none
+by_device NotUtf8 bytes a b none = absurd none
 by_device Reader bytes a b none = absurd none
 by_device Writer bytes a b none = absurd none
 by_device NoMemory bytes a b none = absurd none

@@ -46,6 +46,7 @@ pub wrong_taken : (f : TextCommandFault) (i j : Intake) → TakesIfWrong f i j �
 wrong_taken (fault.Text lines) i j t = part_of IsWrong IsTypedPart (λ bytes is. inr (inr (inl is))) i j t
 wrong_taken (fault.Late lines) i j t = absurd (false≢true (sym t))
 wrong_taken fault.Usage i j t = tt
+wrong_taken fault.NotUtf8 i j t = tt
 wrong_taken fault.Device i j t = tt
 wrong_taken fault.Reader i j t = tt
 wrong_taken fault.Writer i j t = tt

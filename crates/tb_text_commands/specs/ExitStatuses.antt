@@ -11,7 +11,7 @@ use Rattle.tb_records.specs.Faults.{fault_name}
 use Rattle.tb_records.specs.Transport.{Output}
 use Rattle.tb_commands.specs.ExitStatuses.{frame_exit_status, dump_exit_status, TellsLine}
 use Rattle.tb_text_commands.specs.declared.faults.TextCommandFault.{TextCommandFault}
-use Rattle.tb_text_commands.specs.declared.faults.TextCommandFault.TheVariants.{Usage, Device, NoMemory, Reader, Writer, TimeExhausted, TooLong, Frame, Dump, Arguments, Text, Late}
+use Rattle.tb_text_commands.specs.declared.faults.TextCommandFault.TheVariants.{Usage, NotUtf8, Device, NoMemory, Reader, Writer, TimeExhausted, TooLong, Frame, Dump, Arguments, Text, Late}
 
 -- the faults of a frame and of a dump: a device that failed and out of memory are the program's own
 
@@ -53,6 +53,7 @@ line_named name = codes "tbt: " ++ name ++ codes "\n"
 -- the line of a fault; without arguments there is none, but the page of usage
 abbrev pub fault_line : TextCommandFault → List ℕ
 fault_line Usage = []
+fault_line NotUtf8 = line_named (codes "a word is not UTF-8")
 fault_line Device = line_named (codes "Device")
 fault_line Reader = line_named (codes "Device: standard input")
 fault_line Writer = line_named (codes "Device: standard output")

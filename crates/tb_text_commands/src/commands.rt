@@ -66,9 +66,32 @@ fn perform<C: Clock, R: Source, W: Sink, E: Sink>(
     }
 }
 
+/// A word in one line: each control character is `?`.
+fn in_one_line(alloc: Global, word: &str) -> Result<String, AllocError> {
+    let mut shown = String::new(alloc);
+    for character in word.chars() {
+        shown.push(if character.is_control() {
+            '?'
+        } else {
+            character
+        })?;
+    }
+    Ok(shown)
+}
+
+/// Words in one line.
+fn all_in_one_line(alloc: Global, words: &[String]) -> Result<Vec<String>, AllocError> {
+    let mut shown = Vec::with_capacity(alloc, words.len())?;
+    for word in words {
+        shown.push(in_one_line(alloc, word.as_str())?)?;
+    }
+    Ok(shown)
+}
+
 /// The line of words that are none of the program's forms, as a terminal is shown it.
 fn usage_line(alloc: Global, word: &str, rest: &[String]) -> Result<Lines, AllocError> {
-    let line = wrong_words(alloc, word, rest)?;
+    let (word, rest) = (in_one_line(alloc, word)?, all_in_one_line(alloc, rest)?);
+    let line = wrong_words(alloc, word.as_str(), rest.as_slice())?;
     Lines::new(alloc, line.as_bytes())
 }
 

@@ -18,6 +18,8 @@ use tb_text::{TextFault, Word, explain_fault};
 pub enum TextCommandFault {
     /// There are no arguments.
     Usage,
+    /// An argument is not UTF-8.
+    NotUtf8,
     /// The reader or the writer failed.
     Device,
     /// The reader failed.
@@ -179,6 +181,7 @@ impl TextCommandFault {
     {
         match self {
             TextCommandFault::Usage => put_line(USAGE.as_bytes(), faults),
+            TextCommandFault::NotUtf8 => put_name("a word is not UTF-8", faults),
             TextCommandFault::Device => put_name("Device", faults),
             TextCommandFault::Reader => put_name("Device: standard input", faults),
             TextCommandFault::Writer => put_name("Device: standard output", faults),

@@ -12,11 +12,11 @@ use std::time::Clock;
 use tb_commands::{BUFFER_BYTES, put_line};
 use tb_records::{Buffered, Counting, Sink};
 
-/// The fault where the words cannot be had: a word is no text, or there is no memory for them.
+/// The fault where the words cannot be had: a word is not UTF-8, or there is no memory for them.
 pub fn fault_of(error: &io::Error) -> TextCommandFault {
     match error.kind() {
         io::ErrorKind::OutOfMemory => TextCommandFault::NoMemory,
-        _ => TextCommandFault::Usage,
+        _ => TextCommandFault::NotUtf8,
     }
 }
 

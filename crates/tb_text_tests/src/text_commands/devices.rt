@@ -216,9 +216,9 @@ fn refuses(rt: &(impl Abort + AllocGlobal), kind: ErrorKind, status: u8, start: 
     holds(rt, left == status, &left);
 }
 
-/// Where there is no memory for the words, that is reported; where one is no text, the page of usage is.
+/// Where there is no memory for the words, or one is not UTF-8, that is reported.
 #[test]
 fn words_that_cannot_be_had(rt: HostRuntime) {
     refuses(&rt, ErrorKind::OutOfMemory, 1, "tbt: NoMemory\n");
-    refuses(&rt, ErrorKind::InvalidData, 2, "Usage: tbt FORM\n");
+    refuses(&rt, ErrorKind::InvalidData, 2, "tbt: a word is not UTF-8\n");
 }

@@ -399,7 +399,7 @@ fn faults_of_what_is_left_out(rt: HostRuntime) {
 }
 
 /// Arguments that are named, and the line that says what is wrong with them.
-const WRONG_WORDS: [(&[&str], &str); 19] = [
+const WRONG_WORDS: [(&[&str], &str); 21] = [
     (
         &["audit", "--after", "-1"],
         "tbt: audit --after -1: a commit number is 0 to 2^63 - 1, in decimal digits\n",
@@ -447,6 +447,14 @@ const WRONG_WORDS: [(&[&str], &str); 19] = [
     (&["run", "0", "2"], "tbt: run 0 2: CLIENTS_MAX is 1 to 64\n"),
     (&["run", "2", "3"], "tbt: run 2 3: PROFILE is 1 or 2\n"),
     (&["script", "x"], "tbt: script x: too many words\n"),
+    (
+        &["audit", "a\nb\t"],
+        "tbt: audit a?b?: its options are --account, --after, --from, --to, --utc and --follow\n",
+    ),
+    (
+        &["run\n"],
+        "tbt: run?: unknown; did you mean run? tbt --help shows the forms\n",
+    ),
     (
         &["audit", "1"],
         "tbt: audit 1: its options are --account, --after, --from, --to, --utc and --follow\n",
