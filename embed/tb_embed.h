@@ -339,8 +339,8 @@ TB_ASSERT(sizeof(tb_u128) == TB_ID_SIZE && offsetof(tb_u128, high) == 8, "128 bi
 uint32_t tb_embed_open(tb_server *server, uint32_t profile, uint32_t clients_max);
 
 /* Serves the frame of one request that comes at a moment, in nanoseconds, and writes the frame of its reply to the beginning
- * of the room. written is the number of bytes at DONE, those needed at TOO_SMALL, and else 0. DONE, CLOSED, NO_MEMORY,
- * MALFORMED, TIME_EXHAUSTED, TOO_SMALL. */
+ * of the room. written is the number of bytes at DONE, those needed at TOO_SMALL, and else 0. At TOO_SMALL the whole room is
+ * overwritten, with the first bytes of the reply. DONE, CLOSED, NO_MEMORY, MALFORMED, TIME_EXHAUSTED, TOO_SMALL. */
 uint32_t tb_embed_serve(tb_server *server, uint64_t moment, const uint8_t *request, size_t request_length, uint8_t *reply,
                         size_t reply_room, size_t *written);
 

@@ -885,7 +885,7 @@ pub enum Refusal {
     Malformed,
     /// The request is new, and no time is left for it; nothing changed.
     TimeExhausted,
-    /// The reply needs so many bytes. The request was served: sent again, it gets this reply.
+    /// The reply needs so many bytes, of which the whole room has the first. The request was served: sent again, it gets this reply.
     TooSmall(usize),
     /// The call answered a status that it does not have: another library is linked.
     Unknown(u32),
