@@ -13,6 +13,8 @@
 - Each file that a page names by its path from the top is there, but for what is built; and each
   script of checks/ and bench/ that a page names may be run as it is written there.
 - So may each file that begins with #!.
+- Each section that is named behind a page, as docs/use/CLIENTS.md, Clocks, is one of that page.
+- Each option of a program that users start is on a page of docs/use/.
 - Each name that docs/work/GLOSSARY.md gives a word in the code is in the sources, the
   definitions or the Python client, and where it gives a crate with the name, there.
 
@@ -38,6 +40,16 @@ PATH = re.compile(
 ABSENT = re.compile(r"/out(?:/|$)|^checks/mutants\.py$|^crates/NAME")
 FILE = re.compile(r"`([\w./-]+\.(?:antt|rt|py|rs|h|md|txt))`")
 COMMAND = re.compile(r"(?:checks|bench)/\w+\.py")
+SECTION = re.compile(r'(docs/[\w/]+\.md), "?([A-Z][a-z]+(?: [a-z]+)*)(?=["),]| \|)')
+OPTION = re.compile(r"(?<![\w-])--[a-z][a-z-]*")
+STRING = re.compile(r'"(--[a-z][a-z-]*)"')
+# Where the options of the programs that users start are.
+OPTIONS = (
+    "crates/*/src/help.rt",
+    "clients/python/tb_host/*.py",
+    "clients/python/tb_repl/*.py",
+    "clients/sql/tb_sql/commands.py",
+)
 
 
 def without_imports(block: str) -> str:
@@ -167,8 +179,8 @@ def named_files():
 
 def paths():
     """Each path that a page names from the top."""
-    pages = [*ROOT.glob("*.md"), *ROOT.glob("docs/**/*.md"), *ROOT.glob("crates/*/CALLING.md")]
-    for page in sorted(pages):
+    pages = ("*.md", "docs/**/*.md", "clients/**/*.md", "crates/*/CALLING.md")
+    for page in sorted(it for pattern in pages for it in ROOT.glob(pattern)):
         for path in sorted(set(PATH.findall(page.read_text()))):
             if not ABSENT.search(path):
                 there = (ROOT / path).exists()
@@ -186,6 +198,26 @@ def scripts():
         if is_script:
             runs = os.access(ROOT / name, os.X_OK)
             yield name, None if runs else "begins with #!, and may not be run"
+
+
+def sections():
+    """Each section that a file names behind a page, where that page has none of this name."""
+    for name in repository.files(ROOT):
+        if name.endswith((".md", ".py")):
+            for page, section in SECTION.findall((ROOT / name).read_text()):
+                found = re.search(rf"^##+ {section}", (ROOT / page).read_text(), re.M)
+                yield name, None if found else f"{page} has no section {section}"
+
+
+def options():
+    """Each option of a program, where no page of docs/use/ names it."""
+    pages = [page.read_text() for page in ROOT.glob("docs/use/*.md")]
+    named = {it for page in pages for it in OPTION.findall(page)}
+    for path in sorted(it for pattern in OPTIONS for it in ROOT.glob(pattern)):
+        words = OPTION if path.suffix == ".rt" else STRING
+        for option in sorted({*words.findall(path.read_text())} - named):
+            yield path.relative_to(ROOT), f"{option} is on no page of docs/use/"
+        yield path.relative_to(ROOT), None
 
 
 def first_statements():
@@ -267,6 +299,8 @@ CHECKS = (
     named_files,
     paths,
     scripts,
+    sections,
+    options,
     believed,
     glossed,
 )
