@@ -15,6 +15,7 @@
 - So may each file that begins with #!.
 - Each section that is named behind a page, as docs/use/CLIENTS.md, Clocks, is one of that page.
 - Each option of a program that users start is on a page of docs/use/.
+- The numbers of the conformance kit's scenarios and of the wrong clients are those that are there.
 - Each name that docs/work/GLOSSARY.md gives a word in the code is in the sources, the
   definitions or the Python client, and where it gives a crate with the name, there.
 
@@ -22,6 +23,7 @@ Usage: checks/pages.py. Ends in 'N passed, 0 failed'. checks/blocks.py looks at 
 """
 
 import functools
+import json
 import os
 import pathlib
 import re
@@ -43,6 +45,13 @@ COMMAND = re.compile(r"(?:checks|bench)/\w+\.py")
 SECTION = re.compile(r'(docs/[\w/]+\.md), "?([A-Z][a-z]+(?: [a-z]+)*)(?=["),]| \|)')
 OPTION = re.compile(r"(?<![\w-])--[a-z][a-z-]*")
 STRING = re.compile(r'"(--[a-z][a-z-]*)"')
+# The wrong clients of each language.
+WRONG = (
+    "clients/conformance/wrong_clients.py",
+    "clients/go/wrong_clients.py",
+    "clients/java/wrong_clients.py",
+    "clients/node/wrong-clients.js",
+)
 # Where the options of the programs that users start are.
 OPTIONS = (
     "crates/*/src/help.rt",
@@ -220,6 +229,34 @@ def options():
         yield path.relative_to(ROOT), None
 
 
+def wrong_clients(path: str) -> int:
+    """How many wrong clients a script has."""
+    listed = re.search(r"^(?:const )?WRONG = \{$(.*?)^\}", (ROOT / path).read_text(), re.S | re.M)
+    return len(re.findall(r'^ +"[^"\n]+": [(\[]', listed[1], re.M)) if listed else 0
+
+
+def counted():
+    """The numbers of scenarios and of wrong clients, where a page gives others."""
+    groups = {
+        path.stem: len(json.loads(path.read_text()))
+        for path in ROOT.glob("clients/conformance/scenarios/*.json")
+    }
+    count, limits = sum(groups.values()) - groups["begins"], groups["cancel"]
+    python, go, java, node = map(wrong_clients, WRONG)
+    said = (
+        ("docs/trust/TESTED.md", f"{count} scenarios ({count - limits} in Python)"),
+        ("docs/trust/TESTED.md", f"{python} wrong ones in Python, {go} in Go, {java} in Java"),
+        ("docs/trust/TESTED.md", f"in Java, {node} in Node"),
+        ("docs/use/CLIENTS.md", f"# {count} scenarios"),
+        ("docs/use/CLIENTS.md", f"| {count - limits} of {count}; {limits} are of a limit"),
+        ("docs/use/CLIENTS.md", 3 * f" | {count} of {count}"),
+        ("clients/python/README.md", f"the conformance kit: {count} scenarios"),
+    )
+    for page, text in said:
+        there = text in (ROOT / page).read_text()
+        yield page, None if there else f"it does not say '{text}'"
+
+
 def first_statements():
     """The statements that a reader of README.md meets first, and the file that they are run
     from."""
@@ -301,6 +338,7 @@ CHECKS = (
     scripts,
     sections,
     options,
+    counted,
     believed,
     glossed,
 )
