@@ -1,7 +1,7 @@
 /* Serves a script with trouble at each step, and compares its replies with those of a file: careful MODE SCRIPT REPLIES.
  *
  *     memory    the k-th allocation fails, for each k until none does; what was refused is sent again
- *     small     each reply is first asked for in a room that is too small by one byte
+ *     small     each reply is first asked for in a room that is too small by one byte, which then has its first bytes
  *     time      no trouble: prints how many requests a second were served, the least of five runs
  *
  * Linked with -Wl,--wrap=malloc,--wrap=realloc. */
@@ -68,8 +68,11 @@ static void serve_all(int too_small_first) {
         size_t length = 48 + body_length(frame), wanted = 48 + body_length(replies + told);
         memcpy(&moment, script + at, 8);
         if (too_small_first) {
+            uint8_t behind = room[wanted - 1] = (uint8_t)~replies[told + wanted - 1];
             status = tb_embed_serve(&server, moment, frame, length, room, wanted - 1, &written);
             if (status != TB_TOO_SMALL || written != wanted) fail("a small room was not told", at);
+            if (memcmp(room, replies + told, wanted - 1)) fail("a small room has other bytes than the reply's first", at);
+            if (room[wanted - 1] != behind) fail("a byte behind a small room was written", at);
         }
         status = tb_embed_serve(&server, moment, frame, length, room, sizeof room, &written);
         if (status == TB_NO_MEMORY) {
