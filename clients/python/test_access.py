@@ -31,7 +31,7 @@ import urllib.request
 
 import tb_client as tb
 from tb_client import Session, Socket
-from tb_host import access, lines, listen, sockets
+from tb_host import access, lines, listen, sockets, tls
 from tb_host.evictions import Evictions
 from tb_host.lines import Ended
 from test_listen import HERE, KEEPER, Running, has_ipv6, register, told
@@ -292,6 +292,31 @@ class Words(unittest.TestCase):
         self.assertIn("0.0.0.0 is no loopback address: give --client-ca FILE", line)
         with Running("--tcp", "0.0.0.0:0", "--insecure") as listener:
             self.assertEqual(listener.end(), 0)
+
+    def test_which_addresses_are_loopback(self):
+        """An address of IPv4 that is mapped into IPv6 was refused."""
+        for host, is_one in (
+            ("127.0.0.1", True),
+            ("127.0.0.2", True),
+            ("127.1", True),
+            ("::1", True),
+            ("::ffff:127.0.0.1", True),
+            ("::ffff:7f00:2", True),
+            ("0.0.0.0", False),
+            ("0", False),
+            ("10.0.0.1", False),
+            ("::", False),
+            ("::ffff:0.0.0.0", False),
+            ("::ffff:10.0.0.1", False),
+            ("::127.0.0.1", False),
+            ("fe80::1%lo", False),
+        ):
+            with self.subTest(host):
+                self.assertEqual(tls.is_loopback(host), is_one)
+        both = [(0, 0, 0, "", ("127.0.0.1", 0)), (0, 0, 0, "", ("10.0.0.1", 0))]
+        for found, is_one in ((both[:1], True), (both, False)):
+            with unittest.mock.patch("socket.getaddrinfo", return_value=found):
+                self.assertEqual(tls.is_loopback("ledger.example"), is_one)
 
     def test_what_does_not_go_together(self):
         for options, said in (

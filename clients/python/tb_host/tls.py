@@ -7,7 +7,7 @@ import contextvars
 import ipaddress
 import socket
 import ssl
-from typing import Any, Callable, Optional
+from typing import Any, Callable, Optional, Union
 
 from .arguments import path
 from .lines import Ended
@@ -54,7 +54,14 @@ def is_loopback(host: str) -> bool:
         found = socket.getaddrinfo(host, None, type=socket.SOCK_STREAM)
     except (OSError, UnicodeError):
         return True
-    return all(ipaddress.ip_address(str(it[4][0]).split("%")[0]).is_loopback for it in found)
+    return all(_address_in(str(it[4][0])).is_loopback for it in found)
+
+
+def _address_in(text: str) -> Union[ipaddress.IPv4Address, ipaddress.IPv6Address]:
+    """An address as the system writes it. One of IPv4 that is mapped into IPv6 is that of IPv4:
+    what Python says of such a one differs between its versions."""
+    it = ipaddress.ip_address(text.partition("%")[0])
+    return getattr(it, "ipv4_mapped", None) or it
 
 
 # the socket on which a task agrees on TLS
