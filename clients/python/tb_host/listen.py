@@ -26,8 +26,14 @@ It runs by uvloop where that is installed, unless TB_LOOP=asyncio is in its envi
 """
 from __future__ import annotations
 
-import argparse
 import sys
+
+from . import early
+
+if __name__ == "__main__":  # before what takes long to load
+    sys.exit(early.listen())
+
+import argparse
 from typing import Sequence
 
 from .access import add_access
@@ -97,7 +103,3 @@ def main() -> int:
         say(str(ended), "error")
         return ended.status
     return 0
-
-
-if __name__ == "__main__":
-    sys.exit(main())

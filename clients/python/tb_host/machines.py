@@ -20,13 +20,19 @@ fault that the command named is passed on, with its own line and status.
 """
 from __future__ import annotations
 
+import sys
+
+from . import early
+
+if __name__ == "__main__":  # before what takes long to load
+    sys.exit(early.replica())
+
 import argparse
 import asyncio
 import os
 import re
 import signal
 import socket
-import sys
 from typing import Any, List, Sequence
 
 from .access import add_access
@@ -54,7 +60,7 @@ from .status import hashes, script, status, tell, trim
 from .taken import Taken
 from .tls import add_tls, test_tls
 
-PARTS = ("run", "status", "trim", "copy-from", "script", "hashes")
+PARTS = ("run", *early.PARTS)
 
 
 async def serve(given: argparse.Namespace, log: Log) -> None:
@@ -287,13 +293,9 @@ def main() -> int:
         say(str(ended), "error")
         return ended.status
     except KeyboardInterrupt:  # of a part that serves nothing
-        return 130
+        return early.INTERRUPTED
     except OSError as error:
         if error.filename is None:
             raise
         say(f"{error.filename}: {error.strerror}", "error")
         return 1
-
-
-if __name__ == "__main__":
-    sys.exit(main())

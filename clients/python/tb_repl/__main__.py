@@ -1,7 +1,7 @@
 """`python3 -m tb_repl`."""
 import sys
 
-from .commands import main
+from . import main
 
 if __name__ == "__main__":
     sys.exit(main())

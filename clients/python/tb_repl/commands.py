@@ -20,6 +20,7 @@ from tb_client import (
     Transport,
 )
 from tb_client.layout import CLIENTS_MAX
+from tb_host.early import INTERRUPTED, raise_interrupts
 
 from .ledgers import Ledger, Served
 from .lines import Lines, print_pages
@@ -269,10 +270,11 @@ def drawn_client(given: argparse.Namespace) -> int:
 
 def main() -> int:
     try:
+        raise_interrupts()
         return run()
     except KeyboardInterrupt:  # also before the first prompt, and while a server is closed
         print()
-        return 130
+        return INTERRUPTED
 
 
 def run() -> int:

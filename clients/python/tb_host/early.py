@@ -1,0 +1,70 @@
+"""The commands of hosts from their first moment on. Their modules take some tenths of a second to
+load, and their own handlers of signals come behind that. Until then nothing is begun: a signal ends
+the program at once, with the status that it has for that signal later."""
+from __future__ import annotations
+
+import os
+import signal
+import sys
+
+INTERRUPTED = 130
+PARTS = ("status", "trim", "copy-from", "script", "hashes")  # of tb-replica, which serve nothing
+
+
+def end_at(status: int, *numbers: int) -> None:
+    """Has each of these signals end the program at once, where it is not ignored."""
+    for number in numbers:
+        if signal.getsignal(number) != signal.SIG_IGN:
+            signal.signal(number, lambda *_: os._exit(status))
+
+
+def raise_interrupts() -> None:
+    """Has SIGINT raise KeyboardInterrupt from now on, where it is not ignored."""
+    if signal.getsignal(signal.SIGINT) != signal.SIG_IGN:
+        signal.signal(signal.SIGINT, signal.default_int_handler)
+
+
+def _begin_to_serve() -> None:
+    signal.signal(signal.SIGHUP, signal.SIG_IGN)  # no file that it would have read again was read
+    end_at(0, signal.SIGINT, signal.SIGTERM)
+
+
+def _ignore() -> None:
+    """Has a second signal change nothing about how a host ends."""
+    for number in (signal.SIGINT, signal.SIGTERM, signal.SIGHUP):
+        signal.signal(number, signal.SIG_IGN)
+
+
+def listen() -> int:
+    """The command tb-listen."""
+    _begin_to_serve()
+    from .listen import main
+
+    try:
+        return main()
+    finally:
+        _ignore()
+
+
+def replica() -> int:
+    """The command tb-replica."""
+    if sys.argv[1:2] and sys.argv[1] in PARTS:
+        return _part()
+    _begin_to_serve()
+    from .machines import main
+
+    try:
+        return main()
+    finally:
+        _ignore()
+
+
+def _part() -> int:
+    end_at(INTERRUPTED, signal.SIGINT)
+    from .machines import main
+
+    try:
+        raise_interrupts()
+        return main()
+    except KeyboardInterrupt:
+        return INTERRUPTED
