@@ -14,6 +14,7 @@ from typing import Any, List, Optional
 
 from . import __version__
 from .audits import Loading, lines_of, store_of
+from .early import INTERRUPTED, end_by
 from .errors import Failed, Stop
 from .numbers import time_text
 from .sources import Ledger
@@ -97,7 +98,6 @@ def read(loading: Loading, ledger: Optional[Ledger], follow: bool, progress: Pro
     elif not follow:
         ledger.read(loading, progress.tell)
     else:
-        signal.signal(signal.SIGTERM, signal.default_int_handler)
         try:
             ledger.read(loading, progress.tell, follow=True)
         except KeyboardInterrupt:
@@ -194,7 +194,9 @@ def main(arguments: Optional[List[str]] = None) -> int:
     given: Any = words().parse_args(arguments)
     if isinstance(sys.stdout, io.TextIOWrapper):
         sys.stdout.reconfigure(errors="backslashreplace")  # names of files may be of any bytes
+    is_endless = given.command == "serve" or given.command == "load" and given.follow
     try:
+        end_by(is_endless, signal.default_int_handler)
         status = int(given.run(given))
         if sys.stdout is not None:
             sys.stdout.flush()
@@ -209,4 +211,4 @@ def main(arguments: Optional[List[str]] = None) -> int:
         print(f"tb-sql: {error}", file=sys.stderr)
         return 1
     except KeyboardInterrupt:
-        return 130
+        return 0 if is_endless else INTERRUPTED

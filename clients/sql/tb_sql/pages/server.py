@@ -6,7 +6,6 @@ import csv
 import errno
 import io
 import os
-import signal
 import socket
 import sqlite3
 import time
@@ -457,15 +456,11 @@ def listen(port: int) -> socket.socket:
 
 
 def serve_pages(path: str, port: int, ledger: Optional[str]) -> int:
-    """Serves until a signal."""
+    """Serves until a signal raises KeyboardInterrupt."""
     Tables(path).close()
     listening = listen(port)
     app, place = make_app(path, ledger), listening.fileno()
     server = make_server(HOST, port, app, threaded=True, request_handler=Handler, fd=place)
-    signal.signal(signal.SIGTERM, signal.default_int_handler)
     print(f"http://{HOST}:{server.port}/ shows {path}; Ctrl-C ends it", flush=True)
-    try:
-        server.serve_forever()
-    except KeyboardInterrupt:
-        pass
+    server.serve_forever()
     return 0
