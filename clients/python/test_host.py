@@ -1775,24 +1775,40 @@ class Replicas(OverALog):
         await self.answers(100)
         self.assertEqual(await self.ended(), "Ahead")
 
-    @mock.patch.multiple(replica, CLOCK_AGAIN=0.01, ANSWERS=0.2)
-    async def test_a_clock_that_is_ahead_at_a_boot(self):
-        """The replica serves once the clock was set, by moments of then; and not before another one
-        has said so. It ended, and was not started again."""
-        right = time.time_ns
-        with mock.patch.object(time, "time_ns", lambda: right() + 100 * 10**9):
-            it = await self.meets()
-            await self.answers(100)
-            while "tested again" not in self.told.getvalue():
-                self.assertFalse(self.running.done())
+    async def asks_again(self, it, count=3):
+        """A replica that is ahead asks others again, and does not serve."""
+        for _ in range(count):
+            before = it.hello
+            while it.hello == before:
+                self.assertFalse(self.running.done() or it.is_met)
                 await asyncio.sleep(0.01)
-        await asyncio.sleep(1)  # nobody answers
-        self.assertFalse(it.is_met)
+
+    @mock.patch.multiple(replica, CLOCK_AGAIN=0.01, ANSWERS=0.1)
+    async def test_a_clock_that_is_ahead_at_a_boot(self):
+        """The replica serves once the clock was set, by moments of then; also where nobody answers
+        any more. It ended, and was not started again."""
+        right = time.time_ns
+        with mock.patch.object(time, "time_ns", lambda: right() + 1000 * 10**9):
+            it = await self.meets()
+            await self.answers(1000)
+            await self.asks_again(it)
+        self.assertIn("s ahead of the others': set it right; tested again", self.told.getvalue())
+        with mock.patch.object(time, "time_ns", lambda: right() + 500 * 10**9):  # by too little
+            await self.asks_again(it)
+        await self.asked(it, 6)
+        self.assertLess(it.moments.next(), time.time_ns() + 10**9)
+        await self.closed(it)
+
+    @mock.patch.multiple(replica, CLOCK_AGAIN=0.01, ANSWERS=0.1)
+    async def test_others_whose_clocks_are_behind(self):
+        """The replica, whose own clock is not set, serves once another one has said that its is."""
+        it = await self.meets()
+        await self.answers(1000)
+        await self.asks_again(it)
         while not it.is_met:
             await self.answers(0)
             await asyncio.sleep(0.05)
         await self.asked(it, 6)
-        self.assertLess(it.moments.next(), time.time_ns() + 10**9)
         await self.closed(it)
 
     async def test_reports_that_are_none(self):

@@ -23,7 +23,7 @@ from .follower import Follower, KeptFollower, PositionFollower
 from .lines import Ended, Told, say
 from .local_copy import kept
 from .log import Log, LogFull, LogGone, NoLog, Report, Written
-from .moments import SECOND, Moments
+from .moments import SECOND, Moments, running_ns
 from .process import came, cancelled, first
 from .taken import KEPT, Item, Taken
 
@@ -61,6 +61,11 @@ def head_of(words: List[str], has_positions: bool = False) -> Dict[str, int]:
             head = {"format": FORMAT, "rules": RULES, "clients_max": clients_max}
             return {**head, "profile": profile}
     raise ValueError(f"COMMAND does not end in {' '.join([*lead, 'CLIENTS_MAX [PROFILE]'])}")
+
+
+def _beyond() -> int:
+    """What this computer's clock has beyond one that nobody sets: it changes as it is set."""
+    return time.time_ns() - running_ns()
 
 
 class Pair:
@@ -122,7 +127,8 @@ class Replica:
         self.hello = 0  # what this clock had when the others were asked for theirs
         self.heard: Dict[str, int] = {}  # the same of others, which are to be answered
         self.ahead: Dict[str, int] = {}  # by how much this clock is ahead of another's, at least
-        self.least = 0  # the least of these, of the last time that one answered
+        # what a clock that is not ahead has beyond one that nobody sets, by who answered last
+        self.right: Optional[int] = None
         self.is_heard = False  # whether an own report was read
         self.is_met = False  # whether the others were asked
         self.is_away = False  # whether it was said that there is no log
@@ -451,10 +457,10 @@ class Replica:
 
     def _test_clock(self) -> None:
         """Raises `Ahead` where this clock is ahead of that of each replica that answered."""
-        self.least = min(self.ahead.values(), default=self.least)
-        if self.least > self.given.ahead * SECOND:
-            ahead = f"{self.least // SECOND} s ahead of the others'"
-            raise Fault("Ahead", f"this computer's clock is {ahead}: set it right")
+        ahead = 0 if self.right is None else _beyond() - self.right
+        if ahead > self.given.ahead * SECOND:
+            said = f"{ahead // SECOND} s ahead of the others'"
+            raise Fault("Ahead", f"this computer's clock is {said}: set it right")
 
     def _said(self, fault: str) -> bytes:
         position, place = self.copy.synced
@@ -575,12 +581,14 @@ class Replica:
 
     async def _ask_for_clocks(self, others: Set[str]) -> None:
         """Compares the clock with those of replicas that answer in time. Where none does, what was
-        found before stays true."""
-        self.hello, self.ahead = time.time_ns(), {}
+        found before stays true, but for how far this clock was set since."""
+        self.hello, beyond, self.ahead = time.time_ns(), _beyond(), {}
         await self.report()
         end = time.monotonic() + ANSWERS
         while others - set(self.ahead) and time.monotonic() < end:
             await asyncio.sleep(0.02)
+        if self.ahead:
+            self.right = beyond - min(self.ahead.values())
         self._test_clock()
 
     async def run(self) -> None:
