@@ -625,6 +625,29 @@ class Etcd(unittest.IsolatedAsyncioTestCase):
         with contextlib.suppress(asyncio.CancelledError):
             await reading
 
+    async def test_channels_that_were_left_are_closed(self):
+        """After a while, or at the end where that comes before; each once."""
+        from tb_host import etcd
+
+        for is_ended_before in (True, False):
+            made = []
+
+            def channel(_):
+                made.append(mock.Mock(close=mock.AsyncMock()))
+                return made[-1]
+
+            seconds = 60.0 if is_ended_before else 0.0
+            with mock.patch.object(etcd.Address, "made", channel):
+                with mock.patch.object(etcd, "LEFT", seconds):
+                    log = etcd.EtcdLog([("a", 1), ("b", 1)], "bank", Access("ca"))
+                    log.renew()
+                    log.renew()
+                    if not is_ended_before:
+                        await log.closing
+                        self.assertEqual([it.close.await_count for it in made], [1, 1, 1, 1, 0, 0])
+                    await log.close()
+            self.assertEqual([it.close.await_count for it in made], [1] * 6)
+
     def test_a_handshake_that_fails(self):
         """It is told once, by a line of the program's own: with --log-json each line is JSON."""
         code = "import sys; from tb_host import etcd, machines; etcd.ALL = 0; "

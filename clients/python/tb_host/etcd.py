@@ -153,7 +153,8 @@ class EtcdLog:
         self.entry = Put()  # one append is under way at a time
         self.looking: Optional[asyncio.Future[None]] = None  # for the leader
         self.looked = -LEADER
-        self.closing: Optional[asyncio.Future[None]] = None  # of channels that were left
+        self.left: List[Any] = []  # channels over which something may be under way yet
+        self.closing: Optional[asyncio.Future[None]] = None  # of these
         # the revision up to which all was read, and the place of the last entry up to there
         self.cursor = self.place = 0
         self.is_moving = self.is_unread = False
@@ -515,10 +516,23 @@ class EtcdLog:
             return
         made = [it.made() for it in self.addresses]
         left = [it.channel for it in self.addresses]
+        self.left += left
         for it, channel in zip(self.addresses, made):
             it.use(channel)
         self._move("")
-        self.closing = asyncio.ensure_future(_closed_later(left, self.closing))
+        self.closing = asyncio.ensure_future(self._close_later(left, self.closing))
+
+    async def _close_later(
+        self, channels: List[Any], before: Optional[asyncio.Future[None]]
+    ) -> None:
+        """Closes channels once nothing is under way over them, behind those that were left
+        before."""
+        if before is not None:
+            await before
+        await asyncio.sleep(LEFT)
+        for it in channels:
+            await _close(it)
+            self.left.remove(it)
 
     async def full(self) -> str:
         return "etcd has the alarm NOSPACE" if await self._alarms() else ""
@@ -527,19 +541,13 @@ class EtcdLog:
         for task in (self.looking, self.closing):
             if task is not None:
                 task.cancel()
-        for it in self.addresses:
-            with contextlib.suppress(Exception):
-                await it.channel.close()
+        for it in [*self.left, *(it.channel for it in self.addresses)]:
+            await _close(it)
 
 
-async def _closed_later(channels: List[Any], before: Optional[asyncio.Future[None]]) -> None:
-    """Closes channels once nothing is under way over them, behind those that were left before."""
-    if before is not None:
-        await before
-    await asyncio.sleep(LEFT)
-    for it in channels:
-        with contextlib.suppress(Exception):
-            await it.close()
+async def _close(channel: Any) -> None:
+    with contextlib.suppress(Exception):
+        await channel.close()
 
 
 def _name_of(key: bytes) -> Optional[str]:
