@@ -83,6 +83,33 @@ class Shown(Pages):
                 for rowid, value in kept:
                     self.change(f"UPDATE {table} SET {column} = ? WHERE rowid = ?", value, rowid)
                 self.words(address)
+        for table, column, wrong, address in (
+            ("accounts", "debits_pending", 1.5, "/accounts"),
+            ("accounts", "user_data_128", "", "/account/1"),
+            ("transfers", "amount", b"7", "/transfers"),
+            ("transfers", "state", b"pending", "/transfer/2000"),
+            ("entries", "operation", b"register", "/transfer/1000"),
+            ("entries", "refused_so_far", "one", "/"),
+            ("sessions", "requests", 0.5, "/sessions"),
+        ):
+            with self.subTest(f"{table}, {column}: {wrong}"):
+                kept = self.rows(f"SELECT rowid, {column} FROM {table}")
+                self.change(f"UPDATE {table} SET {column} = ?", wrong)
+                said = f"A value that no table has: {column} is {wrong!r}."
+                self.assertIn(said, self.words(address, 500))
+                for rowid, value in kept:
+                    self.change(f"UPDATE {table} SET {column} = ? WHERE rowid = ?", value, rowid)
+
+    def test_a_fault_of_a_page_itself(self):
+        """It is told as one, and is logged: it was told as a wrong value in a row."""
+        self.load(history())
+        for kind in (TypeError, ValueError, OverflowError):
+            fault = unittest.mock.patch.object(queries.Tables, "refusals", side_effect=kind("it"))
+            with fault, self.assertLogs("tb_sql.pages.server", "ERROR") as logged:
+                said = self.words("/refusals", 500)
+            self.assertIn("Internal Server Error", said)
+            self.assertNotIn("A value that no table has", said)
+            self.assertIn(f"{kind.__name__}: it", logged.output[0])
 
     def test_all_pages(self):
         self.load(history())
@@ -219,9 +246,9 @@ class Shown(Pages):
         """In tables that another program changed."""
         self.load(Audit().register().accounts(account(1)))
         self.change("UPDATE accounts SET user_data_32 = '<script>', user_data_128 = '\"<b>'")
-        page = self.get("/account/1")
+        page = self.get("/account/1", 500)
         self.assertIsNone(re.search("<script|<b>", page))
-        self.assertEqual(page.count("&lt;"), 2)
+        self.assertEqual(page.count("&lt;b&gt;"), 1)
 
     def test_a_million_postings(self):
         """Of one account, made in the database: pages and the chart take a bounded time."""

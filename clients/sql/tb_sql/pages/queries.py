@@ -4,10 +4,13 @@ at each refused event, and what is pending at each open transfer (of the account
 
 from __future__ import annotations
 
+import re
 import sqlite3
 from typing import Any, Dict, Iterator, List, NamedTuple, Optional, Tuple
 
+from ..errors import AGAIN, Failed
 from ..numbers import Number
+from ..schema import TABLES
 from ..sqlite_store import check_schema, check_still, connect_read_only, write_time
 
 ROWS = 50  # of a page
@@ -16,6 +19,28 @@ BARS = 48
 LAST = (1 << 63) - 1
 
 Row = sqlite3.Row
+
+# the columns of text: of tables, and times as a view spells them. All others hold numbers
+TEXTS = {it.split()[0] for table in TABLES.values() for it in table if it.split()[1] == "text"}
+TEXTS |= {"registered", "last", "evicted"}
+DIGITS = re.compile("-?[0-9]{1,40}")
+
+
+def _row(cursor: sqlite3.Cursor, values: Tuple[Any, ...]) -> Row:
+    """A row. Raises `Failed` where another program wrote a value of another kind."""
+    for (name, *_), value in zip(cursor.description, values):
+        if not _may_hold(name, value):
+            raise Failed(f"A value that no table has: {name} is {value!r:.60}. {AGAIN}")
+    return Row(cursor, values)
+
+
+def _may_hold(name: str, value: Any) -> bool:
+    """Whether a column of this name may hold a value."""
+    if value is None:  # which SQLite itself refuses where there is to be one
+        return True
+    if isinstance(value, str):
+        return name in TEXTS or DIGITS.fullmatch(value) is not None
+    return isinstance(value, int) and name not in TEXTS
 
 
 class Range(NamedTuple):
@@ -59,7 +84,6 @@ class Tables:
     def __init__(self, path: str) -> None:
         self._path, self._connection = path, connect_read_only(path)
         self._written = write_time(self._connection, path)
-        self._connection.row_factory = sqlite3.Row
         check_schema(self._connection, path)
         self._connection.isolation_level = None
         self._connection.execute("BEGIN")
@@ -71,16 +95,22 @@ class Tables:
         """Says that what was read is of one moment."""
         check_still(self._connection, self._path, self._written)
 
+    def _asked(self, text: str, values: Tuple[Any, ...], made: Any = _row) -> sqlite3.Cursor:
+        """The answer to a question, whose rows are made by this."""
+        cursor = self._connection.cursor()
+        cursor.row_factory = made
+        return cursor.execute(text, values)
+
     def one(self, text: str, *values: Any) -> Optional[Row]:
-        row: Optional[Row] = self._connection.execute(text, values).fetchone()
+        row: Optional[Row] = self._asked(text, values).fetchone()
         return row
 
     def all(self, text: str, *values: Any) -> List[Row]:
-        return self._connection.execute(text, values).fetchall()
+        return self._asked(text, values).fetchall()
 
     def each(self, text: str, *values: Any) -> Tuple[List[str], Iterator[Row]]:
-        """The names of the columns, and the rows one after another."""
-        cursor = self._connection.execute(text, values)
+        """The names of the columns, and the rows as they are, one after another."""
+        cursor = self._asked(text, values, Row)
         return [it[0] for it in cursor.description], cursor
 
     def position(self) -> Row:

@@ -398,8 +398,6 @@ def make_app(path: str, ledger: Optional[str] = None) -> Flask:
     app.register_error_handler(HTTPException, _http_fault)
     app.register_error_handler(Stop, _stop)
     app.register_error_handler(sqlite3.Error, _stop)
-    for kind in (TypeError, ValueError, OverflowError):
-        app.register_error_handler(kind, _wrong_value)
     return app
 
 
@@ -426,11 +424,6 @@ def _http_fault(error: HTTPException) -> Tuple[str, int]:
 
 def _stop(error: Exception) -> Tuple[str, int]:
     return render_template("fault.html", name="The tables", fault=shown_name(str(error))), 500
-
-
-def _wrong_value(error: Exception) -> Tuple[str, int]:
-    """The page in place of one that would show what another program wrote into a row."""
-    return _stop(Failed(f"A value that no table has: {error}. tb-sql check finds the first."))
 
 
 class Handler(WSGIRequestHandler):
