@@ -2043,6 +2043,15 @@ class Kept(OverALog):
             self.made()
         self.assertEqual(found.exception.name, "Damaged")
 
+    async def test_an_end_while_the_file_is_read(self):
+        """It comes at once, as a listener's. It waited until the file was read, or the server was
+        killed, which was told as a fault."""
+        command = ["sh", "-c", "exec sleep 60", "sh", *self.command[-3:]]
+        it = await self.began(command=command, slow=60.0)
+        while it.follower.process is None:
+            await asyncio.sleep(0.01)
+        await self.closed(it)
+
     async def test_a_file_that_another_process_has_for_a_moment(self):
         """It is waited for at each start of the server, however long the replica has run."""
         flag = f"{self.folder}.flag"

@@ -326,6 +326,10 @@ class KeptFollower(PositionFollower):
         self.stdin = None
         self.standing = asyncio.get_running_loop().create_future()
 
+    def takes_requests(self) -> bool:
+        """One that has not told its position reads its file."""
+        return self.standing is not None and self.standing.done()
+
     async def begin_to_feed(self, stdin: Outgoing) -> None:
         """Asks for the position, and compares the hash of the log there."""
         assert self.standing is not None

@@ -113,6 +113,10 @@ class ServerProcess:
         """The process has started."""
         self.ready.set()
 
+    def takes_requests(self) -> bool:
+        """Whether the process takes requests by now."""
+        return self.ready.is_set()
+
     def is_news(self, line: str) -> bool:
         """Takes a line of its standard error. Says that it is no fault."""
         return False
@@ -216,7 +220,7 @@ class ServerProcess:
         requests yet is killed."""
         self.is_closed = True
         self.stopping.set()
-        if self.process is not None and not self.ready.is_set():
+        if self.process is not None and not self.takes_requests():
             self.is_given_up = True
             kill(self.process)
         elif self.process is not None:
