@@ -8,6 +8,7 @@ import asyncio
 import collections
 import concurrent.futures
 import contextlib
+import errno
 import fcntl
 import importlib.util
 import io
@@ -31,7 +32,7 @@ import urllib.request
 
 import tb_client as tb
 from tb_client import Session, Socket
-from tb_host import access, lines, listen, sockets, tls
+from tb_host import access, lines, listen, reports, sockets, tls
 from tb_host.evictions import Evictions
 from tb_host.lines import Ended
 from test_listen import HERE, KEEPER, Running, has_ipv6, register, told
@@ -519,6 +520,18 @@ class Reports(unittest.TestCase):
             self.assertLess(len(os.listdir(f"/proc/{listener.process.pid}/fd")), 50)
             self.assertEqual(listener.end(), 0)
             self.assertEqual(len(listener.said), 1, listener.said)
+
+    def test_a_reader_of_metrics_for_whom_there_is_no_file(self):
+        """It is taken later. The page's thread took all of a processor's time meanwhile."""
+        with sockets.tcp_socket("127.0.0.1", 0) as place:
+            pages = reports._Pages(place, None)
+            none = OSError(errno.EMFILE, os.strerror(errno.EMFILE))
+            taking = unittest.mock.patch("socketserver.TCPServer.get_request", side_effect=none)
+            with taking, unittest.mock.patch("time.sleep") as slept:
+                for count in (1, 2):
+                    pages._handle_request_noblock()
+                    self.assertEqual(slept.call_count, count)
+            self.assertGreater(min(it.args[0] for it in slept.call_args_list), 0.1)
 
     def no_metrics_at(self, place, why):
         with tempfile.TemporaryDirectory() as folder:

@@ -10,13 +10,14 @@ import socket
 import socketserver
 import sys
 import threading
+import time
 from typing import Any, AsyncIterator, Callable, Iterator, Optional
 from wsgiref import simple_server
 
 from .arguments import address, path
 from .counts import BUCKETS, SYNCS, Counts, _name
 from .lines import Ended
-from .sockets import faults_of, folder_of, shown, tcp_socket, unix_socket
+from .sockets import ACCEPT_AGAIN, faults_of, folder_of, shown, tcp_socket, unix_socket
 
 READERS = 24  # threads of this process, beyond which no more readers of the page are taken
 STALL = 10.0  # seconds for which a reader of the page may say nothing
@@ -113,6 +114,15 @@ class _Pages(socketserver.ThreadingMixIn, simple_server.WSGIServer):
         self.server_name, self.server_port = place.getsockname()[:2]
         self.setup_environ()
         self.set_app(app)
+
+    def get_request(self) -> Any:
+        """Where a connection cannot be taken, as for want of a file, it would be tried again and
+        again without a pause."""
+        try:
+            return super().get_request()
+        except OSError:
+            time.sleep(ACCEPT_AGAIN)
+            raise
 
     def verify_request(self, *_: object) -> bool:
         return threading.active_count() < READERS
