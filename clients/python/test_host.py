@@ -1148,6 +1148,26 @@ class PostgreSQL(unittest.IsolatedAsyncioTestCase):
         said = [f"127.0.0.1:{port}: connection failed: Connection refused" for _, port in places]
         self.assertEqual(str(found.exception), "; ".join(said))
 
+    async def test_a_connection_that_another_call_leaves(self):
+        """What was asked over it meanwhile is not known, and is asked again over another one. It
+        ended the replica by a traceback."""
+        from tb_host.postgresql import PostgresLog
+
+        class Connection(mock.Mock):
+            closed = False
+            close = mock.AsyncMock()
+
+            async def execute(self, *_):
+                if self is left:
+                    await it._lose(self)
+                return mock.Mock(fetchall=mock.AsyncMock(return_value=[(self,)]))
+
+        it = PostgresLog([("127.0.0.1", 1)], "postgres/bank", Access(), 0)
+        left, good = Connection(), Connection()
+        with mock.patch.object(it, "_first_connected", side_effect=[left, good]):
+            found = await it._call(lambda connection: it._rows(connection, "SELECT 1"))
+        self.assertEqual(found, [(good,)])
+
     async def first_read(self, *rows):
         """What is read first, over connections that answer so in turn, the last one with an entry.
         A reader is told to look elsewhere meanwhile."""

@@ -186,14 +186,21 @@ class PostgresLog:
     async def _rows(self, it: Any, text: str, *given: Any) -> List[Any]:
         """The rows of a query. Raises `Unknown` where the server warns: a wait for a standby was
         cancelled, and what was written may be lost with the primary."""
-        self.said[id(it)].clear()
+        self._said_over(it).clear()
         cursor = await it.execute(self._query(text), given)
         rows = await cursor.fetchall() if cursor.description else []
         self._test_said(it)
         return list(rows)
 
+    def _said_over(self, it: Any) -> List[str]:
+        """What the server noticed over a connection. Raises `Unknown` where another call has left
+        it meanwhile: each of them uses the one that is written over."""
+        if id(it) not in self.said:
+            raise Unknown("the connection was left")
+        return self.said[id(it)]
+
     def _test_said(self, it: Any) -> None:
-        for text in self.said[id(it)]:
+        for text in self._said_over(it):
             if text.startswith("WARNING"):
                 raise Unknown(text)
 
@@ -248,7 +255,7 @@ class PostgresLog:
             for text in (APPEND, ALL_FLUSHED):
                 await self._rows(it, text)
             self.appending = it
-        self.said[id(it)].clear()
+        self._said_over(it).clear()
         entry = (b"append", (writer, NUMBER.pack(number), data))
         place, count = await results_of(it, [entry, (b"flushed", ())])
         self._test_said(it)
