@@ -1202,6 +1202,22 @@ class PostgreSQL(unittest.IsolatedAsyncioTestCase):
         said = re.findall("NoLog: the log is not read: (.*)", told.getvalue())
         self.assertEqual(said, ["it is away"])
 
+    async def test_a_disk_that_is_full_where_it_is_read(self):
+        """It is read again, and a part of the command tells it. Both ended by a traceback."""
+        from tb_host.postgresql import errors
+
+        with contextlib.redirect_stderr(io.StringIO()) as told:
+            full = errors.DiskFull("No space left on device")
+            found = await self.first_read(full, [(1, b"an entry", "0/1")])
+        self.assertEqual(found, Written(1, b"an entry"))
+        self.assertIn("the log is not read: No space left on device", told.getvalue())
+        given = machines._status_words(["--log", "postgresql://127.0.0.1:1/postgres/bank"])
+        for fault, status in ((LogFull("it is full"), 26), (NoLog("it is away"), 20)):
+            with self.assertRaises(Fault) as found:
+                await machines._with_log(given, mock.AsyncMock(side_effect=fault))
+            self.assertEqual(found.exception.status, status)
+            self.assertEqual(str(found.exception), f"{type(fault).__name__}: {fault}")
+
     async def test_up_to_where_the_log_was_trimmed(self):
         """What does not tell that is named. It ended each replica by a traceback."""
         from tb_host.postgresql import PostgresLog

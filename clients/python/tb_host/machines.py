@@ -48,9 +48,10 @@ from .arguments import (
     settle_places,
 )
 from .backlog import Backlog, copied_checkpoint
+from .faults import Fault
 from .lines import Ended, say, speak_as, speak_json
 from .local_copy import Copy, copied, kept
-from .log import Access, Log, opened, parts
+from .log import Access, Log, LogFull, NoLog, opened, parts
 from .loops import fill_standard_files, run as run_loop
 from .replica import Replica, head_of, kept_at
 from .reports import add_reports
@@ -99,6 +100,8 @@ async def _with_log(given: argparse.Namespace, work: Any) -> Any:
     log = opened(given.log, access, given.standbys)
     try:
         return await work(given, log)
+    except (NoLog, LogFull) as fault:
+        raise Fault(type(fault).__name__, str(fault)) from None
     finally:
         await log.close()
 

@@ -295,7 +295,7 @@ class PostgresLog:
                             said[name] = data
                             yield Report(name, data)
             except (psycopg.Error, OSError, asyncio.TimeoutError, Unknown) as error:
-                self._say_unread(_tested(error))
+                self._say_unread(_why_unread(error))
                 await self._leave()
                 await asyncio.sleep(AGAIN)
             with contextlib.suppress(asyncio.TimeoutError):
@@ -402,6 +402,14 @@ def _tested(error: BaseException) -> str:
     if isinstance(error, asyncio.TimeoutError):
         return f"no answer within {TRY:.0f} s"
     return _first_line(error)
+
+
+def _why_unread(error: BaseException) -> str:
+    """Why nothing is read, which is tried again, also where a disk is full."""
+    try:
+        return _tested(error)
+    except LogFull as full:
+        return str(full)
 
 
 def _first_line(error: BaseException) -> str:

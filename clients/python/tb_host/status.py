@@ -17,7 +17,7 @@ from .entries import NOTHING, Entry, chained, cut
 from .faults import NO_SUCH_JSON, Fault
 from .lines import Ended
 from .local_copy import all_records_of
-from .log import Log, LogFull, NoLog
+from .log import Log
 from .moments import SECOND
 from .pipes import Process
 from .process import LAST_WORDS, end_of, exited, kill, last_line, started, tail
@@ -55,11 +55,8 @@ async def _reports(log: Log) -> Dict[str, Dict[str, Any]]:
 async def status(given: argparse.Namespace, log: Log) -> int:
     """Prints a line for the log and one for each replica. Answers the status of a fault that they
     have, or 0."""
-    try:
-        position, place = await log.trimmed()
-        reports, full = await _reports(log), await log.full()
-    except NoLog as none:
-        raise Fault("NoLog", str(none)) from None
+    position, place = await log.trimmed()
+    reports, full = await _reports(log), await log.full()
     tell(f"log {given.log} trimmed to position {position} place {place}")
     for name, it in reports.items():
         age = (time.time_ns() - it["clock"]) / SECOND
@@ -87,26 +84,21 @@ def _compare(reports: Dict[str, Dict[str, Any]]) -> None:
 
 async def trim(given: argparse.Namespace, log: Log) -> int:
     """Removes the entries that all listed replicas have on their disks."""
-    try:
-        await _forget(given.forget, log)
-        reports = await _reports(log)
-        if not reports:
-            raise Ended("no replica is listed, and nothing is trimmed", 1)
-        name, least = min(reports.items(), key=lambda it: int(it[1]["position"]))
-        before, to = await log.trimmed(), (int(least["position"]), int(least["place"]))
-        if to < before:
-            said = "nothing is trimmed: `trimmed` has position {} at place {}".format(*before)
-            said += f", and {name} {to[0]} at {to[1]}: forget it, or find who wrote that"
-            raise Ended(said, 1)
-        if to == before and await log.has_removed(to[1]) and not await log.full():
-            tell(f"nothing to trim: the log is trimmed to position {before[0]}")
-            return 0
-        for line in await log.trim(*to):
-            tell(line)
-    except NoLog as none:
-        raise Fault("NoLog", str(none)) from None
-    except LogFull as full:
-        raise Fault("LogFull", str(full)) from None
+    await _forget(given.forget, log)
+    reports = await _reports(log)
+    if not reports:
+        raise Ended("no replica is listed, and nothing is trimmed", 1)
+    name, least = min(reports.items(), key=lambda it: int(it[1]["position"]))
+    before, to = await log.trimmed(), (int(least["position"]), int(least["place"]))
+    if to < before:
+        said = "nothing is trimmed: `trimmed` has position {} at place {}".format(*before)
+        said += f", and {name} {to[0]} at {to[1]}: forget it, or find who wrote that"
+        raise Ended(said, 1)
+    if to == before and await log.has_removed(to[1]) and not await log.full():
+        tell(f"nothing to trim: the log is trimmed to position {before[0]}")
+        return 0
+    for line in await log.trim(*to):
+        tell(line)
     return 0
 
 
