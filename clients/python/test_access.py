@@ -728,9 +728,13 @@ class Systemd(unittest.TestCase):
         with contextlib.ExitStack() as files:
             idle = files.enter_context(socket.socket(socket.AF_UNIX))
             packets = files.enter_context(socket.socket(type=socket.SOCK_DGRAM))
+            kind = socket.AF_UNIX, socket.SOCK_SEQPACKET
+            sequence = files.enter_context(socket.socket(*kind))
+            sequence.bind("")  # at an address that the system chooses
+            sequence.listen()
             joined, _ = map(files.enter_context, socket.socketpair())
             it = files.enter_context(open(os.devnull))
-            for place in (idle, packets, joined, it):
+            for place in (idle, packets, sequence, joined, it):
                 self.refused(place.fileno(), "1", "file 3, which was passed, is no socket")
             self.refused(it.fileno(), "some", "LISTEN_FDS is no number of sockets: some")
 

@@ -27,7 +27,8 @@ def passed_sockets() -> List[socket.socket]:
 def _socket(file: int) -> socket.socket:
     with contextlib.suppress(OSError):
         it = socket.socket(fileno=file)
-        if it.family in FAMILIES and it.getsockopt(socket.SOL_SOCKET, socket.SO_ACCEPTCONN):
+        is_kind = it.family in FAMILIES and it.type == socket.SOCK_STREAM
+        if is_kind and it.getsockopt(socket.SOL_SOCKET, socket.SO_ACCEPTCONN):
             return it
         it.detach()  # it is not this program's
     raise Ended(f"file {file}, which was passed, is no socket that takes connections", 2)
