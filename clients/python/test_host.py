@@ -1583,6 +1583,15 @@ class Replicas(OverALog):
         said = json.loads(self.log.kept["r0"])
         self.assertIn(B.hex(), said["fault"])
 
+    async def test_a_fault_that_may_not_be_reported(self):
+        """It ends the replica by its own status. With another one the replica was started again."""
+        it = await self.began()
+        await self.asked(it, 6)
+        self.log.report = mock.AsyncMock(side_effect=Ended("permission denied", 1))
+        self.log.put(entry(A, 1, position=7, digest=b"x" * 32).to_bytes())
+        self.assertEqual(await self.ended(), "Diverged")
+        self.log.report.assert_awaited()
+
     async def test_a_writer_that_is_distrusted(self):
         self.log.put(entry(A, 1, pair(1, register(5))).to_bytes())
         self.log.put(entry(B, 1, position=1, digest=b"x" * 32).to_bytes())

@@ -661,7 +661,8 @@ class Replica:
             if fault is not None:
                 self.fault = fault
                 if isinstance(fault, Fault):
-                    await self.report(fault=str(fault))
+                    with contextlib.suppress(Ended):  # it ends by its own fault in any case
+                        await self.report(fault=str(fault))
                 raise fault
         self.copy.sync(*self.copy.mark())
         with contextlib.suppress(asyncio.TimeoutError):  # what is left is the server's, to end in
