@@ -5,6 +5,7 @@
 //
 //     clients/conformance/kit.py -- node clients/node/conformance-runner.js
 
+const { AsyncLocalStorage } = require("node:async_hooks");
 const { readFileSync } = require("node:fs");
 
 const tb = require("./index.js");
@@ -18,6 +19,8 @@ const CALLS = {
   lookup_accounts: "lookupAccounts",
   lookup_transfers: "lookupTransfers",
 };
+const CREATES = new Set([tb.Operation.create_accounts, tb.Operation.create_transfers]);
+const OPERATION_AT = LAYOUTS.request_header.find((it) => it.name === "operation").at;
 const FLAGS = { account: tb.AccountFlags, transfer: tb.TransferFlags };
 const WIDE = new Set(
   [...LAYOUTS.account, ...LAYOUTS.transfer].filter((it) => it.bytes >= 8).map((it) => it.name),
@@ -136,6 +139,17 @@ function secureOf({ ca, cert, key }) {
 
 // Calls
 
+const sending = new AsyncLocalStorage();
+
+/** Keeps the operation that a call sent last: `retry` sends what is in doubt at its turn. */
+class KeepingSocket extends tb.Socket {
+  exchange(frame, options) {
+    const call = sending.getStore();
+    if (call !== undefined) call.operation = frame[OPERATION_AT];
+    return super.exchange(frame, options);
+  }
+}
+
 class Runner {
   #transports = new Map();
   #sessions = new Map();
@@ -184,7 +198,7 @@ class Runner {
     if ("timeout" in line) options.timeout = optionOf("timeout", line.timeout);
     if ("tls" in line) options.tls = secureOf(line.tls);
     const place = addresses.length === 1 ? addresses[0] : addresses;
-    this.#transports.set(line.transport, new tb.Socket(place, options));
+    this.#transports.set(line.transport, new KeepingSocket(place, options));
   }
 
   do_open(line) {
@@ -221,8 +235,9 @@ class Runner {
 
   async do_retry(line) {
     const session = this.#session(line);
-    const operation = session.inDoubt?.operation;
-    return this.#said(session, await session.retry(optionsOf(line)), line, operation);
+    const call = {};
+    const said = await sending.run(call, () => session.retry(optionsOf(line)));
+    return this.#said(session, said, line, call.operation);
   }
 
   async do_ask(line) {
@@ -230,17 +245,16 @@ class Runner {
     const session = this.#session(line);
     if (operation in CALLS) {
       const call = session[CALLS[operation]](itemsOf(operation, items), optionsOf(line));
-      return this.#said(session, await call, line, operation);
+      return this.#said(session, await call, line, operationOf(operation));
     }
     session.prepare(operationOf(operation), itemsOf(operation, items));
-    return this.#said(session, await session.retry(optionsOf(line)), line, operation);
+    return this.do_retry(line);
   }
 
   #said(session, said, line, operation) {
     if (line.require_ok) tb.requireOk(said);
     if (said === undefined) return { session: String(session.session) };
-    if (operation.startsWith("create")) return { results: said };
-    return { records: said.map(shownRecord) };
+    return CREATES.has(operation) ? { results: said } : { records: said.map(shownRecord) };
   }
 
   do_saved(line) {
