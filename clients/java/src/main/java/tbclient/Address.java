@@ -85,13 +85,13 @@ public final class Address {
         return port;
     }
 
-    /** The places to connect to, in order. */
-    List<SocketAddress> places() throws IOException {
+    /** The places to connect to, in order. A host's name is looked up by the deadline. */
+    List<SocketAddress> places(Lookup lookup, Deadline until) throws IOException {
         List<SocketAddress> found = new ArrayList<>();
         if (isUnix()) {
             found.add(UnixDomainSocketAddress.of(path));
         } else {
-            for (InetAddress it : InetAddress.getAllByName(host)) {
+            for (InetAddress it : lookup.addresses(host, until)) {
                 found.add(new InetSocketAddress(it, port));
             }
         }

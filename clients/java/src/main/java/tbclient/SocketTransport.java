@@ -45,6 +45,7 @@ public final class SocketTransport implements Transport {
     private final List<Address> addresses;
     private final Duration timeout;
     private final SSLContext tls;
+    private final Lookup lookup;
     private final ReentrantLock lock = new ReentrantLock(true);
     private int at;
     private Address gone; // the one that was given up last
@@ -74,9 +75,14 @@ public final class SocketTransport implements Transport {
      * @throws InvalidValueException where there is no address, no such timeout, or TLS for a path
      */
     public SocketTransport(List<Address> addresses, Duration timeout, SSLContext tls) {
+        this(addresses, timeout, tls, Lookup.SYSTEM);
+    }
+
+    SocketTransport(List<Address> addresses, Duration timeout, SSLContext tls, Lookup lookup) {
         this.addresses = listed(addresses);
         this.timeout = Values.time("timeout", timeout, TIMEOUT_MIN);
         this.tls = tls;
+        this.lookup = lookup;
         if (tls != null && this.addresses.stream().anyMatch(Address::isUnix)) {
             throw new InvalidValueException("tls", "is for a host and a port, not for a path");
         }
@@ -240,7 +246,8 @@ public final class SocketTransport implements Transport {
             IOException fault;
             try {
                 Address address = addresses.get(at);
-                link = called(address, address.places(), until.sooner(until.left() / left));
+                Deadline share = until.sooner(until.left() / left);
+                link = called(address, address.places(lookup, share), share);
                 isUsed = false;
                 return false;
             } catch (SocketTimeoutException late) {

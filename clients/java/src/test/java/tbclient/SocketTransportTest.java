@@ -21,6 +21,7 @@ import java.net.Socket;
 import java.net.SocketAddress;
 import java.net.SocketTimeoutException;
 import java.net.UnixDomainSocketAddress;
+import java.net.UnknownHostException;
 import java.nio.channels.ServerSocketChannel;
 import java.nio.file.FileSystem;
 import java.nio.file.FileSystems;
@@ -32,6 +33,7 @@ import java.util.Collections;
 import java.util.List;
 import java.util.Map;
 import java.util.concurrent.Callable;
+import java.util.concurrent.CountDownLatch;
 import java.util.concurrent.ExecutionException;
 import java.util.concurrent.ExecutorService;
 import java.util.concurrent.Executors;
@@ -111,8 +113,12 @@ public class SocketTransportTest {
     }
 
     private SocketTransport transport(Duration timeout) {
-        Address address = Address.tcp("127.0.0.1", server.getLocalPort());
+        Address address = Address.tcp("127.0.0.1", port());
         return new SocketTransport(List.of(address), timeout, null);
+    }
+
+    private int port() {
+        return server.getLocalPort();
     }
 
     private static Session registered(Transport transport) {
@@ -320,6 +326,68 @@ public class SocketTransportTest {
                     assertThrows(CannotConnectException.class, () -> registered(none)).getMessage();
             assertTrue(told, told.startsWith("no.invalid:1: the host's name cannot be looked up"));
         }
+    }
+
+    private SocketTransport looking(Lookup.Resolver resolver, Duration timeout, Address... more) {
+        List<Address> addresses = new ArrayList<>(List.of(Address.tcp("ledger", port())));
+        addresses.addAll(List.of(more));
+        return new SocketTransport(addresses, timeout, null, new Lookup(resolver));
+    }
+
+    @Test(timeout = 60_000)
+    public void aNameServerThatDoesNotAnswerHoldsNoCall() throws Exception {
+        CountDownLatch answers = new CountDownLatch(1);
+        AtomicInteger lookups = new AtomicInteger();
+        Lookup.Resolver late =
+                host -> {
+                    lookups.incrementAndGet();
+                    try {
+                        answers.await();
+                    } catch (InterruptedException why) {
+                        throw new InterruptedIOException();
+                    }
+                    return new InetAddress[] {InetAddress.getLoopbackAddress()};
+                };
+        SocketTransport it = looking(late, SHORT);
+        for (int time = 0; time < 5; time++) {
+            String told =
+                    assertThrows(CannotConnectException.class, () -> registered(it)).getMessage();
+            assertTrue(told, told.endsWith(": the host's name was not looked up in time"));
+        }
+        CancelledException why =
+                assertThrows(
+                        CancelledException.class,
+                        () -> Session.register(it, Ids.id(), ONCE, Duration.ofMillis(50)));
+        assertFalse(why.mayHaveSent());
+        Thread.currentThread().interrupt();
+        assertThrows(CancelledException.class, () -> registered(it));
+        assertTrue(Thread.interrupted());
+        assertEquals(1, lookups.get()); // all wait for one, in one thread
+        Address other = Address.tcp("127.0.0.1", port());
+        Lookup.Resolver either =
+                host -> host.equals("ledger") ? late.resolve(host) : InetAddress.getAllByName(host);
+        registered(looking(either, Duration.ofSeconds(2), other)).close();
+        answers.countDown();
+        Session session = new Session(it, Ids.id(), ONCE);
+        session.prepare(Operation.REGISTER, List.of());
+        session.retry();
+        session.close();
+    }
+
+    @Test(timeout = 30_000)
+    public void aNameThatWasNotFoundIsLookedUpAgain() {
+        AtomicInteger lookups = new AtomicInteger();
+        SocketTransport it =
+                looking(
+                        host -> {
+                            if (lookups.incrementAndGet() == 1) {
+                                throw new UnknownHostException(host);
+                            }
+                            return new InetAddress[] {InetAddress.getLoopbackAddress()};
+                        },
+                        Duration.ofSeconds(20));
+        registered(it).close();
+        assertEquals(2, lookups.get());
     }
 
     @Test(timeout = 30_000)
