@@ -100,17 +100,32 @@ class Money(unittest.TestCase):
 
 
 class WrongClients(unittest.TestCase):
-    def test_a_name_that_none_has(self):
+    @staticmethod
+    def said(*words):
+        """By each language's script: its words before these, its status, and what it says."""
         programs = [
-            [sys.executable, "-B", f"{TOP}/clients/{it}/wrong_clients.py", "--only", "none such"]
+            [sys.executable, "-B", f"{TOP}/clients/{it}/wrong_clients.py"]
             for it in ("conformance", "go", "java")
         ]
         if shutil.which("node"):
-            programs.append(["node", f"{TOP}/clients/node/wrong-clients.js", "none such"])
-        for words in programs:
-            it = subprocess.run(words, capture_output=True, text=True, timeout=60)
-            self.assertEqual(it.returncode, 1, words)
-            self.assertIn("no wrong client has such a name: none such", it.stdout + it.stderr)
+            programs.append(["node", f"{TOP}/clients/node/wrong-clients.js"])
+        for program in programs:
+            it = subprocess.run([*program, *words], capture_output=True, text=True, timeout=60)
+            yield program, it.returncode, it.stdout + it.stderr
+
+    def test_a_name_that_none_has(self):
+        for program, status, said in self.said("--only", "none such"):
+            self.assertEqual(status, 1, program)
+            self.assertIn("no wrong client has such a name: none such", said)
+
+    def test_from_one_of_them_on(self):
+        everyone = {tuple(program): said for program, _, said in self.said("--list")}
+        for program, status, said in self.said("--list", "--from", "21"):
+            names = everyone[tuple(program)].splitlines()
+            self.assertEqual((status, said.splitlines()), (0, names[20:]), program)
+            self.assertTrue(names[0].startswith("1 ") and names[20].startswith("21 "), names)
+        for program, status, said in self.said("--from", "99"):
+            self.assertEqual((status, said), (1, "no wrong client is there from number 99 on\n"))
 
     def test_no_jobs(self):
         for name in ("conformance", "go"):

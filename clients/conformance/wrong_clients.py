@@ -1,7 +1,7 @@
 #!/usr/bin/env python3
 """Sees that the kit catches wrong clients: the client in Python with one thing wrong, each in turn.
 
-    clients/conformance/wrong_clients.py [--only PATTERN] [--jobs N] [--texts]
+    clients/conformance/wrong_clients.py [--only PATTERN] [--from N] [--list] [--jobs N] [--texts]
 
 Each wrong client is an edit of clients/python/tb_client in a copy of its own. The kit has to fail
 for it; the client as it is has to pass. Prints which scenario caught it, and 'N of M wrong clients
@@ -9,7 +9,6 @@ are caught'. Status 1 where one is not.
 """
 import argparse
 import concurrent.futures
-import fnmatch
 import os
 import re
 import shutil
@@ -20,6 +19,9 @@ import tempfile
 sys.dont_write_bytecode = True
 HERE = os.path.dirname(os.path.abspath(__file__))
 PYTHON = os.path.join(os.path.dirname(HERE), "python")
+sys.path.insert(0, HERE)
+
+from choice import add_words, chosen  # noqa: E402
 
 SECONDS = 1800  # that the kit may take for one wrong client
 
@@ -288,9 +290,7 @@ def words():
     parser = argparse.ArgumentParser(
         description=__doc__, formatter_class=argparse.RawDescriptionHelpFormatter
     )
-    parser.add_argument(
-        "--only", metavar="PATTERN", default="*", help="wrong clients with such a name"
-    )
+    add_words(parser)
     parser.add_argument(
         "--texts", action="store_true", help="see that each text is there, and run nothing"
     )
@@ -301,34 +301,32 @@ def words():
     return given
 
 
-def texts(chosen):
+def texts(tried):
     """Whether each wrong client can be made."""
     gone = 0
-    for name, edits in chosen.items():
+    for name, edits in tried.items():
         with tempfile.TemporaryDirectory() as folder:
             try:
                 edited(folder, edits)
             except LookupError as why:
                 print(f"FAILED: {name}: {why}")
                 gone += 1
-    print(f"{len(chosen) - gone} of {len(chosen)} wrong clients can be made")
+    print(f"{len(tried) - gone} of {len(tried)} wrong clients can be made")
     return 1 if gone else 0
 
 
 def main():
     given = words()
-    chosen = {name: edits for name, edits in WRONG.items() if fnmatch.fnmatch(name, given.only)}
-    if not chosen:
-        sys.exit(f"no wrong client has such a name: {given.only}")
+    tried = chosen(WRONG, given)
     if given.texts:
-        return texts(chosen)
+        return texts(tried)
     status, said = caught((), 4)
     if status:
         print(f"FAILED: the client as it is: {said}")
         return 1
     missed = 0
     with concurrent.futures.ThreadPoolExecutor(given.jobs) as pool:
-        runs = {name: pool.submit(caught, edits, 1) for name, edits in chosen.items()}
+        runs = {name: pool.submit(caught, edits, 1) for name, edits in tried.items()}
         for name, run in runs.items():
             try:
                 status, said = run.result()
@@ -341,7 +339,7 @@ def main():
                 else f"FAILED: not caught: {name}: {said}",
                 flush=True,
             )
-    print(f"{len(chosen) - missed} of {len(chosen)} wrong clients are caught")
+    print(f"{len(tried) - missed} of {len(tried)} wrong clients are caught")
     return 1 if missed else 0
 
 

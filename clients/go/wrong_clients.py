@@ -1,7 +1,7 @@
 #!/usr/bin/env python3
 """Sees that the kit catches wrong clients: the client in Go with one thing wrong, each in turn.
 
-    clients/go/wrong_clients.py [--only PATTERN] [--jobs N] [--over KIND]
+    clients/go/wrong_clients.py [--only PATTERN] [--from N] [--list] [--jobs N] [--over KIND]
 
 Each wrong client is an edit of this folder's sources in a copy of its own, which is built. The kit
 has to fail for it; the client as it is has to pass. Prints which scenario caught it, and 'N of M
@@ -9,7 +9,6 @@ wrong clients are caught'. Status 1 where one is not.
 """
 import argparse
 import concurrent.futures
-import fnmatch
 import os
 import re
 import shutil
@@ -18,9 +17,14 @@ import sys
 import tempfile
 
 HERE = os.path.dirname(os.path.abspath(__file__))
-KIT = os.path.join(os.path.dirname(HERE), "conformance", "kit.py")
+CONFORMANCE = os.path.join(os.path.dirname(HERE), "conformance")
+KIT = os.path.join(CONFORMANCE, "kit.py")
 
 SECONDS = 1800  # that one command may take for one wrong client
+sys.dont_write_bytecode = True
+sys.path.insert(0, CONFORMANCE)
+
+from choice import add_words, chosen  # noqa: E402
 
 # Each: what is wrong, the file, the text that is there once, and the text in its place.
 WRONG = {
@@ -224,9 +228,7 @@ def words():
     parser = argparse.ArgumentParser(
         description=__doc__, formatter_class=argparse.RawDescriptionHelpFormatter
     )
-    parser.add_argument(
-        "--only", metavar="PATTERN", default="*", help="wrong clients with such a name"
-    )
+    add_words(parser)
     parser.add_argument("--jobs", metavar="N", type=int, default=2, help="kits at once (2)")
     parser.add_argument("--over", choices=("unix", "tcp"), default="unix", help="unix, or tcp")
     return parser.parse_args()
@@ -234,18 +236,16 @@ def words():
 
 def main():
     given = words()
-    chosen = {name: edits for name, edits in WRONG.items() if fnmatch.fnmatch(name, given.only)}
     if given.jobs < 1:
         sys.exit("--jobs is 1 or more")
-    if not chosen:
-        sys.exit(f"no wrong client has such a name: {given.only}")
+    tried = chosen(WRONG, given)
     status, said = caught((), given.over)
     if status:
         print(f"FAILED: the client as it is: {said}")
         return 1
     missed = 0
     with concurrent.futures.ThreadPoolExecutor(given.jobs) as pool:
-        runs = {name: pool.submit(caught, edits, given.over) for name, edits in chosen.items()}
+        runs = {name: pool.submit(caught, edits, given.over) for name, edits in tried.items()}
         for name, run in runs.items():
             try:
                 status, said = run.result()
@@ -258,7 +258,7 @@ def main():
                 else f"FAILED: not caught: {name}: {said}",
                 flush=True,
             )
-    print(f"{len(chosen) - missed} of {len(chosen)} wrong clients are caught")
+    print(f"{len(tried) - missed} of {len(tried)} wrong clients are caught")
     return 1 if missed else 0
 
 

@@ -1,14 +1,13 @@
 #!/usr/bin/env python3
 """Sees that the conformance kit catches wrong clients: this one with one thing wrong, each in turn.
 
-    sh build.sh && python3 wrong_clients.py [--only PATTERN]
+    sh build.sh && python3 wrong_clients.py [--only PATTERN] [--from N] [--list]
 
 Each wrong client is an edit of one class of src/main/java. The kit has to fail for it; the
 client as it is has to pass. Prints which scenario caught it, and 'N of M wrong clients are caught'.
 Status 1 where one is not.
 """
 import argparse
-import fnmatch
 import os
 import re
 import subprocess
@@ -16,10 +15,15 @@ import sys
 import tempfile
 
 HERE = os.path.dirname(os.path.abspath(__file__))
-KIT = os.path.join(os.path.dirname(HERE), "conformance", "kit.py")
+CONFORMANCE = os.path.join(os.path.dirname(HERE), "conformance")
+KIT = os.path.join(CONFORMANCE, "kit.py")
 BUILT = f"{HERE}/out/classes:{HERE}/out/test-classes"
 SECONDS = 1800  # that the kit may take for one wrong client
 JAVA = ["java", "-XX:TieredStopAtLevel=1", "-XX:+UseSerialGC", "-Xshare:auto", "-cp"]
+sys.dont_write_bytecode = True
+sys.path.insert(0, CONFORMANCE)
+
+from choice import add_words, chosen  # noqa: E402
 
 # Each: what is wrong, the class, and texts that are there once, each with the text in its place.
 WRONG = {
@@ -313,19 +317,14 @@ def main():
     parser = argparse.ArgumentParser(
         description=__doc__, formatter_class=argparse.RawDescriptionHelpFormatter
     )
-    parser.add_argument(
-        "--only", metavar="PATTERN", default="*", help="wrong clients with such a name"
-    )
-    given = parser.parse_args()
-    chosen = {name: edit for name, edit in WRONG.items() if fnmatch.fnmatch(name, given.only)}
-    if not chosen:
-        sys.exit(f"no wrong client has such a name: {given.only}")
+    add_words(parser)
+    tried = chosen(WRONG, parser.parse_args())
     status, said = caught(None)
     if status:
         print(f"FAILED: the client as it is: {said}")
         return 1
     missed = 0
-    for name, edit in chosen.items():
+    for name, edit in tried.items():
         try:
             status, said = caught(edit)
         except LookupError as why:
@@ -333,7 +332,7 @@ def main():
         missed += status != 1
         how = "caught: " if status == 1 else "FAILED: not caught: "
         print(f"{how}{name}: by {said}" if status == 1 else f"{how}{name}: {said}", flush=True)
-    print(f"{len(chosen) - missed} of {len(chosen)} wrong clients are caught")
+    print(f"{len(tried) - missed} of {len(tried)} wrong clients are caught")
     return 1 if missed else 0
 
 

@@ -3,16 +3,18 @@
 
 // Sees that the kit catches wrong clients: this client with one thing wrong, each in turn.
 //
-//     node wrong-clients.js [PATTERN]
+//     node wrong-clients.js [--only PART] [--from N] [--list]
 //
 // Each wrong client is an edit in a copy. The kit has to fail for it; the client as it is has to
 // pass. Prints which scenario caught it, and 'N of M wrong clients are caught'. Status 1 where one
-// is not.
+// is not. --only takes those with this part in their names, --from those from the Nth of all on.
+// --list prints their names, and tries none.
 
 const { spawnSync } = require("node:child_process");
 const { cpSync, mkdtempSync, readFileSync, rmSync, writeFileSync } = require("node:fs");
 const { tmpdir } = require("node:os");
 const path = require("node:path");
+const { parseArgs } = require("node:util");
 
 const KIT = path.join(__dirname, "..", "conformance", "kit.py");
 const COPIED = ["index.js", "names.js", "lib", "conformance-runner.js"];
@@ -236,12 +238,24 @@ function caught(edits) {
   }
 }
 
+/** Those that were asked for, by number and name, and whether they are only to be listed. */
+function asked() {
+  const text = { type: "string" };
+  const { values } = parseArgs({ options: { only: text, from: text, list: { type: "boolean" } } });
+  const { only = "", from = "1", list } = values;
+  const all = Object.entries(WRONG).map(([name, edits], at) => ({ number: at + 1, name, edits }));
+  const named = all.filter((it) => it.name.includes(only));
+  if (named.length === 0) throw new Error(`no wrong client has such a name: ${only}`);
+  const found = named.filter((it) => it.number >= Number(from));
+  if (found.length === 0) throw new Error(`no wrong client is there from number ${from} on`);
+  return { isList: list, chosen: found.map((it) => [`${it.number} ${it.name}`, it.edits]) };
+}
+
 function main() {
-  const pattern = process.argv[2] ?? "";
-  const chosen = Object.entries(WRONG).filter(([name]) => name.includes(pattern));
-  if (chosen.length === 0) {
-    console.log(`no wrong client has such a name: ${pattern}`);
-    return 1;
+  const { isList, chosen } = asked();
+  if (isList) {
+    for (const [name] of chosen) console.log(name);
+    return 0;
   }
   const asItIs = caught([]);
   if (asItIs.status !== 0) {
@@ -259,4 +273,9 @@ function main() {
   return missed === 0 ? 0 : 1;
 }
 
-process.exitCode = main();
+try {
+  process.exitCode = main();
+} catch (fault) {
+  console.error(fault.message);
+  process.exitCode = 1;
+}
