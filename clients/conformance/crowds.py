@@ -227,8 +227,7 @@ class Crowd:
 
     def round(self):
         doubtful = {it for it in self.sessions if self.call("in_doubt", session=it)["ok"]}
-        left = {*doubtful}
-        calls = [self.drawn(left) for _ in range(self.draw.choice((1, 2, 3, 6)))]
+        calls = [self.drawn() for _ in range(self.draw.choice((1, 2, 3, 6)))]
         answers = self.call("parallel", calls=calls)["ok"]
         for call, answer in zip(calls, answers):
             self.test(call, answer)
@@ -244,13 +243,12 @@ class Crowd:
             self.connect(self.timeout)
             self.resume()
 
-    def drawn(self, doubtful):
+    def drawn(self):
         name, kind = self.draw.choice(list(self.sessions)), self.draw.random()
         limit = {}
         if "cancel" in self.features and self.draw.random() < 0.15:
             limit = {"within": self.draw.choice((0.0001, 0.01, 0.05, 0.2))}
-        if kind < 0.15 and name in doubtful:  # once: a second one might be of another request
-            doubtful.remove(name)
+        if kind < 0.15:
             return {"do": "retry", "session": name, **limit}
         if kind < 0.75:
             return {"do": "ask", "session": name, **self.request(), **limit}

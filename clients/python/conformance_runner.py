@@ -14,6 +14,7 @@ import threading
 from typing import Any, Callable, Dict, Iterator, List, Optional
 
 import tb_client as tb
+from tb_client.frames import header_of
 from tb_client.ids import MILLISECOND, Ids
 
 FEATURES = ["unix", "tcp", "addresses", "tls", "parallel"]
@@ -126,6 +127,17 @@ def error_of(error: Exception) -> Dict[str, Any]:
 # Calls
 
 
+class KeepingSocket(tb.Socket):
+    """Keeps the operation that each thread sent last: `retry` sends what is in doubt at its
+    turn."""
+
+    last = threading.local()
+
+    def exchange(self, moment: int, frame: bytes) -> bytes:
+        self.last.operation = header_of(frame).operation
+        return super().exchange(moment, frame)
+
+
 class Runner:
     def __init__(self) -> None:
         self.transports: Dict[str, tb.Socket] = {}
@@ -170,7 +182,7 @@ class Runner:
         if "tls" in line:
             given["tls"] = context_of(line["tls"])
         place = addresses[0] if len(addresses) == 1 else addresses
-        self.transports[line["transport"]] = tb.Socket(place, **given)
+        self.transports[line["transport"]] = KeepingSocket(place, **given)
 
     def do_open(self, line: Dict[str, Any]) -> Any:
         client = value_of(line["client"]) if "client" in line else tb.id()
@@ -212,8 +224,8 @@ class Runner:
 
     def do_retry(self, line: Dict[str, Any]) -> Any:
         session = self.session(line)
-        asked = session.in_doubt
-        return self.said(session, session.retry(), line, asked.operation.name if asked else "")
+        said = session.retry()
+        return self.said(session, said, line, KeepingSocket.last.operation.name)
 
     def do_ask(self, line: Dict[str, Any]) -> Any:
         session, operation = self.session(line), line["operation"]

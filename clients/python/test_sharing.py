@@ -12,6 +12,7 @@ import time
 import unittest
 import unittest.mock
 
+import conformance_runner
 import tb_client as tb
 from tb_client import Direct, Program, Session
 from test_sockets import Server, register, registered
@@ -537,6 +538,22 @@ def status_in_a_child(call, lock):
     done.set()
     holder.join()
     return status
+
+
+class TheKitsRunner(unittest.TestCase):
+    def test_a_retry_answers_for_what_it_sent(self):
+        """At its turn another request may be in doubt than when it was called."""
+        runner, answer = conformance_runner.Runner(), tb.Reply(7, 1, 1, 130, 0, 2, b"")
+        saved = {"client": "7", "session": "1", "number": "0", "pending": ""}
+        with tempfile.TemporaryDirectory() as folder:
+            server = Server(os.path.join(folder, "a"), answer.to_bytes())
+            runner.do_connect({"transport": "t", "addresses": [{"unix": server.path}]})
+            runner.do_resume({"session": "s", "transport": "t", "saved": saved})
+            runner.do_prepare({"session": "s", "operation": "create_transfers"})
+            with unittest.mock.patch.object(tb.Session, "in_doubt", None):
+                self.assertEqual(runner.do_retry({"session": "s"}), {"results": []})
+            runner.do_reset({})
+            server.end()
 
 
 @has_program
