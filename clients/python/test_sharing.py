@@ -14,6 +14,7 @@ import unittest.mock
 
 import conformance_runner
 import tb_client as tb
+from children import status_in_a_child
 from tb_client import Direct, Program, Session
 from test_sockets import Server, register, registered
 from test_tb_client import PROGRAM, account, at_ten, has_program, reply, transfer
@@ -515,29 +516,6 @@ class Forks(unittest.TestCase):
 
 def closed_in_a_child(transport, lock):
     return status_in_a_child(transport.close, lock)
-
-
-def status_in_a_child(call, lock):
-    """The status of a forked child that calls this while a thread of its parent has this lock."""
-    held, done = threading.Event(), threading.Event()
-
-    def hold():
-        with lock:
-            held.set()
-            done.wait()
-
-    holder = threading.Thread(target=hold)
-    holder.start()
-    held.wait()
-    child = os.fork()
-    if not child:
-        signal.alarm(10)
-        call()
-        os._exit(0)
-    status = os.waitpid(child, 0)[1]
-    done.set()
-    holder.join()
-    return status
 
 
 class TheKitsRunner(unittest.TestCase):

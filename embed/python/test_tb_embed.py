@@ -12,7 +12,6 @@ import io
 import os
 import pathlib
 import shutil
-import signal
 import subprocess
 import sys
 import tempfile
@@ -27,6 +26,7 @@ sys.path.append(
 
 import tb_client  # noqa: E402
 import tb_embed  # noqa: E402
+from children import status_in_a_child  # noqa: E402
 from tb_client import Direct, Session  # noqa: E402
 from tb_embed import Server  # noqa: E402
 
@@ -225,33 +225,6 @@ void tb_embed_close(tb_server *s) {
 """
 
 
-def status_in_a_child(server, call):
-    """The status of a child that calls, forked while another thread is within a call: what the
-    call answers, 3 where it is Closed, and SIGALRM's where it does not return."""
-    entered, done = threading.Event(), threading.Event()
-
-    def hold():
-        with server._lock:
-            entered.set()
-            done.wait()
-
-    holder = threading.Thread(target=hold)
-    holder.start()
-    entered.wait()
-    child = os.fork()
-    if not child:
-        signal.alarm(5)
-        try:
-            os._exit(call())
-        except tb_embed.Closed:
-            os._exit(3)
-        finally:
-            os._exit(4)
-    done.set()
-    holder.join()
-    return os.waitstatus_to_exitcode(os.waitpid(child, 0)[1])
-
-
 @unittest.skipUnless(shutil.which("cc"), "cc is not there")
 class OverCtypes(unittest.TestCase):
     """What goes through ctypes arrives whole: by a library in C that gives back what it was
@@ -307,11 +280,17 @@ class OverCtypes(unittest.TestCase):
         freed = ctypes.c_int.in_dll(ctypes.CDLL(str(path)), "freed")
         with Server(path, 64, 2) as server:
             before = freed.value
-            self.assertEqual(status_in_a_child(server, lambda: server.serve(5, b"")), 3)
-            self.assertEqual(status_in_a_child(server, lambda: server.account(5)), 3)
-            self.assertEqual(
-                status_in_a_child(server, lambda: (server.close(), freed.value - before)[1]), 0
-            )
+
+            def is_closed():
+                self.assertRaises(tb_embed.Closed, server.serve, 5, b"")
+                self.assertRaises(tb_embed.Closed, server.account, 5)
+
+            def frees():
+                server.close()
+                return freed.value - before
+
+            for call in (is_closed, frees):
+                self.assertEqual(status_in_a_child(call, server._lock), 0)
             self.assertEqual(server.account(5), tb_client.Account(5))
 
 
