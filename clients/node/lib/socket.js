@@ -328,6 +328,7 @@ class Socket {
       this.#cause = undefined;
       for (let pause = FIRST_PAUSE; ; pause = Math.min(2 * pause, LAST_PAUSE)) {
         const connection = await this.#connected(deadline, signal);
+        this.#testOpen(); // a close may have come since the connection was made
         try {
           const left = deadline - performance.now();
           return await connection.ask(request, left, signal, this.#late());

@@ -146,6 +146,26 @@ test("a call that is given up while a ticket is waited for sends nothing", {
   assert.equal(count, 0);
 });
 
+test("a close at any moment of a connecting is told by its name", async (t) => {
+  const place = await listening("closed.sock", (it) => answers(it));
+  const { setImmediate } = globalThis;
+  for (let turns = 0; turns < 24; turns += 1) {
+    const socket = new tb.Socket(place);
+    t.mock.method(globalThis, "setImmediate", (call) =>
+      setImmediate(async () => {
+        call();
+        if (call.length === 0) return;
+        for (let turn = 0; turn < turns; turn += 1) await undefined;
+        socket.close(); // so many turns after what the connecting waits for
+      }),
+    );
+    const told = await tb.Session.register(socket, { attempts: 1 }).catch((why) => why);
+    t.mock.restoreAll();
+    socket.close();
+    assert.ok(told instanceof tb.Session || told instanceof tb.ClientError, told.stack);
+  }
+});
+
 test("of several addresses the one is named whose fault is told", async () => {
   const none = path.join(folder, "none.sock");
   const other = path.join(folder, "other-none.sock");
