@@ -75,6 +75,7 @@ class Connection {
 
   constructor(socket) {
     this.#socket = socket;
+    socket.unref(); // until a request is in flight
     socket.on("data", (data) => this.#take(data));
     socket.on("end", () => this.#ended("the server closed the connection"));
     socket.on("error", (fault) => {

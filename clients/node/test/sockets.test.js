@@ -259,6 +259,23 @@ test("a program that is busy beyond the timeout finds the reply that came meanwh
   }
 });
 
+test("a connection that was made for a call that was given up lets the program end", async () => {
+  const place = await listening("given-up.sock", () => {});
+  const code = `const net = require("node:net");
+    const tb = require(${JSON.stringify(path.join(__dirname, ".."))});
+    const limit = new AbortController();
+    const { connect } = net;
+    net.connect = (...words) => {
+      const it = connect(...words);
+      it.once("connect", () => setImmediate(() => limit.abort())); // before a word is waited for
+      return it;
+    };
+    tb.Session.register(new tb.Socket(${JSON.stringify(place)}), { signal: limit.signal })
+      .catch((why) => console.log(why.name, why.sent));`;
+  const ended = spawnSync(process.execPath, ["-e", code], { encoding: "utf8", timeout: 60_000 });
+  assert.deepEqual([ended.status, ended.stdout], [0, "Cancelled false\n"], ended.stderr);
+});
+
 test("wrong addresses and options", () => {
   const wrong = [
     [[7], "address"],
