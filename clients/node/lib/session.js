@@ -242,7 +242,9 @@ class Session {
   prepare(operation, items) {
     this.#testNotInDoubt();
     const kind = frames.operationOf(operation);
-    this.#begin(kind, frames.framed(kind, items));
+    const frame = frames.framed(kind, items);
+    this.#testNotInDoubt(); // again, since what gives the items may have used the session
+    this.#begin(kind, frame);
   }
 
   /**

@@ -227,6 +227,19 @@ test("a caller's limit ends a call that waits for its turn: nothing is sent", as
   await assert.rejects(session.lookupAccounts([1n], { within: -1 }), { field: "within" });
 });
 
+test("a request that is prepared amid the reading of items is kept", () => {
+  const session = resumed(direct(serving));
+  const item = {
+    id: 12n,
+    get amount() {
+      session.prepare("create_transfers", [SALE]);
+      return 5n;
+    },
+  };
+  assert.throws(() => session.prepare("create_transfers", [item]), tb.InDoubt);
+  assert.equal(session.inDoubt.items[0].id, SALE.id);
+});
+
 test("a prepared request without items is refused, but for a register", () => {
   const session = resumed(direct(serving));
   for (const [operation, name] of [["create_transfers", "transfers"], ["lookup_accounts", "ids"]]) {
