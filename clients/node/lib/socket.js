@@ -22,6 +22,7 @@ const TIMEOUT = 5000; // milliseconds
 const FIRST_PAUSE = 20; // milliseconds, before the server is called again; doubled each time
 const LAST_PAUSE = 500;
 const TICKET_MAX = 100; // milliseconds: not all servers send one
+const TICKET_PART = 4; // of the time that is left a ticket is waited for a fourth at most
 const PATH_MAX = { linux: 107, win32: 255 }[process.platform] ?? 103; // bytes of a socket's path
 const CLOSED = "this Socket was closed";
 // begins what a server says before it closes a connection: fewer bytes than a frame has
@@ -93,19 +94,19 @@ class Connection {
   /**
    * Lets the server's first word come: that it takes no more, or over TLS 1.3 whether it takes this
    * client, whose ticket it then sends. Node gives up a connection on which a write fails, and with
-   * it what came over it.
+   * it what came over it. So many milliseconds are left for the request.
    */
-  async welcome() {
-    const ticket = this.#ticket(); // it may come at once
+  async welcome(left) {
+    const ticket = this.#ticket(Math.min(TICKET_MAX, left / TICKET_PART)); // it may come at once
     await news();
     if (!this.isLeft) await ticket;
   }
 
-  async #ticket() {
+  async #ticket(ms) {
     const it = this.#socket;
     if (it.getProtocol?.() !== "TLSv1.3") return;
     await new Promise((resolve) => {
-      const timer = after(TICKET_MAX, resolve);
+      const timer = after(ms, resolve);
       for (const word of ["session", "close"]) {
         it.once(word, () => {
           clearTimeout(timer);
@@ -411,7 +412,7 @@ class Socket {
           this.#endCall = end;
         };
         const connection = await call(this.address, this.#secure, share, signal, hold);
-        await connection.welcome();
+        await connection.welcome(deadline - performance.now());
         if (this.#isClosed) connection.close();
         this.#testOpen();
         this.#connection = connection;

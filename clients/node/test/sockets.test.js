@@ -129,6 +129,28 @@ test("over TLS a ticket that came at once is not waited for", { skip: noOpenssl 
   assert.ok(performance.now() - began < 9000);
 });
 
+test("over TLS a ticket that does not come leaves time for the request", {
+  skip: noOpenssl,
+}, async (t) => {
+  const [place, secure] = await listeningOverTls((it) => answers(it));
+  const { setTimeout } = globalThis;
+  const now = performance.now.bind(performance);
+  const { once } = tls.TLSSocket.prototype;
+  t.mock.method(tls.TLSSocket.prototype, "once", function take(word, call) {
+    return word === "session" ? this : once.call(this, word, call);
+  });
+  t.mock.method(performance, "now", () => now() / 1000); // so that no limit is reached
+  const waits = [];
+  t.mock.method(globalThis, "setTimeout", (call, ms) => {
+    waits.push(ms);
+    return setTimeout(call, ms > 100 ? 1000 * ms : 0);
+  });
+  const socket = new tb.Socket(place, { timeout: 120, tls: secure });
+  await tb.Session.register(socket, { attempts: 1 });
+  socket.close();
+  assert.deepEqual(waits.map((ms) => ms <= 30), [false, true, false], String(waits));
+});
+
 test("a call that is given up while a ticket is waited for sends nothing", {
   skip: noOpenssl,
 }, async (t) => {
