@@ -49,8 +49,8 @@ COLUMNS = (
 CLAUSES_OVER_100 = 0.089
 # Each figure with a bound: what it has today, and what is wanted.
 BOUNDS = {
-    "lines": (118558, 74500),
-    "imports": (11988, 4700),
+    "lines": (118828, 74500),
+    "imports": (12030, 4700),
     ">160": (0, 0),
     "ghost >160": (1, 0),
     ">8 clauses": (5, 0),
