@@ -11,6 +11,7 @@ import java.util.concurrent.Future;
 import java.util.concurrent.FutureTask;
 import java.util.concurrent.TimeUnit;
 import java.util.concurrent.TimeoutException;
+import java.util.regex.Pattern;
 
 /**
  * Looks hosts' names up, and waits no longer than it may: Java's own look-up has no limit. One that
@@ -19,6 +20,11 @@ import java.util.concurrent.TimeoutException;
  */
 final class Lookup {
     static final Lookup SYSTEM = new Lookup(InetAddress::getAllByName);
+
+    private static final String BYTE = "(25[0-5]|2[0-4]\\d|1\\d\\d|[1-9]?\\d)";
+    // of IPv4, or what has a colon, in which Java sees a number of IPv6 or none at all
+    private static final Pattern NUMBER =
+            Pattern.compile("(" + BYTE + "\\.){3}" + BYTE + "|[\\da-fA-F:].*:.*");
 
     /** Finds the addresses of a name, however long that takes. */
     @FunctionalInterface
@@ -33,8 +39,11 @@ final class Lookup {
         this.resolver = resolver;
     }
 
-    /** The addresses of a host, found by the deadline. */
+    /** The addresses of a host, found by the deadline. A number of one is read at once. */
     InetAddress[] addresses(String host, Deadline until) throws IOException {
+        if (NUMBER.matcher(host).matches()) {
+            return resolver.resolve(host);
+        }
         try {
             return begunOf(host).get(Math.max(until.left(), 0), TimeUnit.NANOSECONDS);
         } catch (TimeoutException late) {

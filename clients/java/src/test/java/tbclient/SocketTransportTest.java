@@ -33,6 +33,7 @@ import java.util.Collections;
 import java.util.List;
 import java.util.Map;
 import java.util.concurrent.Callable;
+import java.util.concurrent.ConcurrentHashMap;
 import java.util.concurrent.CountDownLatch;
 import java.util.concurrent.ExecutionException;
 import java.util.concurrent.ExecutorService;
@@ -40,6 +41,7 @@ import java.util.concurrent.Executors;
 import java.util.concurrent.Future;
 import java.util.concurrent.atomic.AtomicInteger;
 import java.util.concurrent.atomic.AtomicLong;
+import java.util.stream.Stream;
 import org.junit.After;
 import org.junit.Before;
 import org.junit.Test;
@@ -372,6 +374,24 @@ public class SocketTransportTest {
         session.prepare(Operation.REGISTER, List.of());
         session.retry();
         session.close();
+    }
+
+    @Test(timeout = 30_000)
+    public void aNumberOfAHostIsReadWithoutAThread() throws IOException {
+        Map<String, Thread> threads = new ConcurrentHashMap<>();
+        Lookup lookup =
+                new Lookup(
+                        host -> {
+                            threads.put(host, Thread.currentThread());
+                            return new InetAddress[0];
+                        });
+        List<String> numbers = List.of("127.0.0.1", "255.249.199.9", "::1", "fe80::1%lo", "a:b");
+        List<String> names = List.of("256.0.0.1", "127.1", "1.2.3.4.5", "cafe", "ledger", "x:1");
+        for (String it : Stream.of(numbers, names).flatMap(List::stream).toList()) {
+            lookup.addresses(it, Deadline.in(null));
+            boolean isNumber = numbers.contains(it);
+            assertEquals(it, isNumber, threads.get(it) == Thread.currentThread());
+        }
     }
 
     @Test(timeout = 30_000)
