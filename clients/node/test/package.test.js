@@ -11,6 +11,8 @@ const { tmpdir } = require("node:os");
 const path = require("node:path");
 const { after, before, test } = require("node:test");
 
+const tb = require("../index.js");
+
 const TOP = path.dirname(__dirname);
 const PYTHON = path.join(TOP, "..", "python");
 
@@ -88,6 +90,14 @@ function between(place, hooks) {
   return new Promise((resolve) => server.listen(place, () => resolve(server)));
 }
 
+/** Leaves a transfer in doubt in the file of the README's program, as a kill before its sending. */
+async function leaveInDoubt(transfer) {
+  const file = path.join(folder, "session.json");
+  const session = await tb.Session.load({ exchange() {} }, file);
+  session.prepare("create_transfers", [transfer]);
+  await session.save(file);
+}
+
 /** The README's program, once. */
 function once(hooks) {
   return new Promise((resolve) => {
@@ -102,7 +112,9 @@ function once(hooks) {
 
 const needs = skip || (isThere("python3") ? false : "python3 is not there");
 
-test("the README's program, and a kill amid a sale", { skip: needs }, async () => {
+test("the README's program, a kill amid a sale, and one in doubt that is refused", {
+  skip: needs,
+}, async () => {
   const readme = readFileSync(path.join(TOP, "README.md"), "utf8");
   writeFileSync(path.join(folder, "money.mjs"), /```js\n([^]*?)```/.exec(readme)[1]);
   const process = await listener();
@@ -114,6 +126,11 @@ test("the README's program, and a kill amid a sale", { skip: needs }, async () =
     assert.deepEqual(await once(hooks), { said: "", status: null, signal: "SIGKILL" });
     hooks.kill = hooks.kills = undefined;
     assert.deepEqual(await once(hooks), { said: "300n\n", status: 0, signal: null });
+    await leaveInDoubt({ id: tb.id(), debit_account_id: 1n, credit_account_id: 9n, amount: 5n });
+    const { said, status } = await once(hooks);
+    assert.equal(status, 1);
+    assert.match(said, /EventsFailed: event 0: credit_account_not_found/);
+    assert.deepEqual(await once(hooks), { said: "400n\n", status: 0, signal: null });
   } finally {
     server.close();
     process.removeAllListeners("exit");
