@@ -51,8 +51,8 @@ HEADS = ("-- Cited by", "-- Public contracts reach it", "-- No contract cites it
 # and backup, 17 for names of what clauses repeat; tb_keep_log: 34 for the faults of a dump and the
 # end of the process, 14 for such names; tb_log: 16 for an input that ends within an item, 2 for
 # such names).
-LINES_MAX = 5761
-LATER = {"tb_keep_commands": 764, "tb_log": 282, "tb_keep_log": 294, "tb_keep_follow": 238}
+LINES_MAX = 5762
+LATER = {"tb_keep_commands": 768, "tb_log": 282, "tb_keep_log": 294, "tb_keep_follow": 238}
 TOOLS = (
     "tb_uses",
     "tb_bench",
