@@ -302,6 +302,10 @@ class Shown(Pages):
         self.load(audit)
         said = self.words("/search?id=7")
         self.assertIn("A client with 3 sessions: 7, 1 requests, evicted; 4, 1 requests", said)
+        # another program's session, above its entry: it was looked for without an end
+        self.change("UPDATE entries SET session = 1000 WHERE client = 7 AND session <> 0")
+        said = self.words("/search?id=7", 500)
+        self.assertIn("A value that no table has: session is 1000.", said)
 
     def test_lists_that_are_cut_say_so(self):
         more = "These are 50, and there are more."

@@ -204,6 +204,8 @@ class Tables:
             if row is None:
                 break
             before = row["session"] or row["commit_number"]
+            if before > row["commit_number"]:  # which would be read again and again
+                raise Failed(f"A value that no table has: session is {before}. {AGAIN}")
             found += self.all("SELECT * FROM session_list WHERE session = ?", before)
         return found
 
