@@ -679,7 +679,7 @@ import os, signal, sys, termios
 from tb_repl import lines
 def tell(said):
     modes = termios.tcgetattr(0)[3] & (termios.ECHO | termios.ICANON)
-    print(f"{said} by {modes}", flush=True)
+    print(f"{said} by {modes}, {said}.", flush=True)
 lines.os.kill = lambda *_: tell("stopped")
 it = lines.Lines()
 tell("begins")
@@ -721,7 +721,8 @@ finally:
             is_shown(b"> id=")
             it.send_signal(number)
             # readline waits for a key or for a signal, and does not see one that came before that
-            while not is_shown(b"stopped by" if then else b"ends by", 30):
+            # of the line that says so all has come: what is typed next is echoed behind it
+            while not is_shown(b"stopped." if then else b"ends.", 30):
                 it.send_signal(number)
             os.write(terminal, then)
             is_shown(b"the end")
