@@ -131,7 +131,7 @@ export interface RequestOf<Name extends OperationName, Item> {
   readonly items: readonly Item[];
 }
 
-/** What a reply says: results of a create, records of a look-up, undefined of a register. */
+/** What a reply says: results of a create, records of a lookup, undefined of a register. */
 export type Said =
   | AccountResult[]
   | TransferResult[]
@@ -279,7 +279,7 @@ export declare class Session {
 
 /**
  * Throws EventsFailed where an event was not accepted. What else a reply says, as the records of a
- * look-up, is passed over.
+ * lookup, is passed over.
  */
 export declare function requireOk(results: Said): void;
 

@@ -489,7 +489,7 @@ class Retries(unittest.TestCase):
         )
 
     def test_records_that_were_not_looked_up(self):
-        """A look-up answers the records that are there, in the order of the ids."""
+        """A lookup answers the records that are there, in the order of the ids."""
         for found in ([4], [1, 1], [2, 1], [1, 2, 3, 3], [1, 2, 3, 1]):
             session = self.session(
                 lambda frame: reply(frame, body=b"".join(account(it).to_bytes() for it in found))

@@ -80,7 +80,7 @@ void session.createTransfers([{ id: "1" }]);
 void session.createTransfers([{ id: 1n, ammount: 1n }]);
 // @ts-expect-error a transfer without an id
 void session.createTransfers([{ amount: 1n }]);
-// @ts-expect-error ids of a look-up are no records
+// @ts-expect-error ids of a lookup are no records
 session.prepare(Operation.lookup_accounts, [{ id: 1n }]);
 // @ts-expect-error no such operation
 session.prepare("create", []);

@@ -244,7 +244,7 @@ function answerOf(reply) {
 }
 
 /**
- * What the reply to this request says: the results of a create, the records of a look-up, nothing
+ * What the reply to this request says: the results of a create, the records of a lookup, nothing
  * of a register. Throws BadReply where no reply to it says so.
  */
 function saidBy(frame, reply) {

@@ -249,7 +249,7 @@ class Session {
 
   /**
    * Sends the request in doubt, the same bytes each time, until its reply has come. Answers what
-   * it says: results of a create, records of a look-up, undefined of a register.
+   * it says: results of a create, records of a lookup, undefined of a register.
    */
   async retry(options) {
     const limit = limited(options);
@@ -390,7 +390,7 @@ class Session {
 
 /**
  * Throws EventsFailed where an event was not accepted. What else a reply says, as the records of a
- * look-up, is passed over.
+ * lookup, is passed over.
  */
 function requireOk(results) {
   if (results === undefined) return;

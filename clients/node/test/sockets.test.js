@@ -36,7 +36,7 @@ async function listening(name, serve) {
   return place;
 }
 
-/** Answers each request, which is a header alone or a look-up of one id. */
+/** Answers each request, which is a header alone or a lookup of one id. */
 function answers(it, pieces = 1) {
   it.on("error", () => {});
   it.on("data", (frame) => {

@@ -339,7 +339,7 @@ class Reply:
     @property
     def items(self) -> Said:
         """What the body says, of a reply with status 0: the results of a create, the records of
-        a look-up, None of a register."""
+        a lookup, None of a register."""
         try:
             operation = Operation(self.operation)
         except ValueError:

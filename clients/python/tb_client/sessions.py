@@ -393,7 +393,7 @@ class Session(Closing):
 
     def retry(self) -> Any:
         """Sends the request in doubt, the same bytes each time, until its reply has come. Answers
-        what it says: results of a create, records of a look-up, None of a register."""
+        what it says: results of a create, records of a lookup, None of a register."""
         with self._lock:
             self._test_not_abandoned()
             if self.pending is None:
@@ -516,7 +516,7 @@ def _test_pending(
 
 def require_ok(results: Optional[Iterable[object]]) -> None:
     """Raises `EventsFailed` where an event was not accepted. What else a reply says, as the
-    records of a look-up, is passed over."""
+    records of a lookup, is passed over."""
     failed = (
         []
         if results is None

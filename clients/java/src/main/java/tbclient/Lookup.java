@@ -14,7 +14,7 @@ import java.util.concurrent.TimeoutException;
 import java.util.regex.Pattern;
 
 /**
- * Looks hosts' names up, and waits no longer than it may: Java's own look-up has no limit. One that
+ * Looks hosts' names up, and waits no longer than it may: Java's own lookup has no limit. One that
  * takes longer goes on in a daemon thread. Who asks for its name meanwhile waits for it too, so that
  * there is one thread for a name at most.
  */
@@ -72,7 +72,7 @@ final class Lookup {
                                 end(host);
                             }
                         });
-        Thread thread = new Thread(task, "tbclient look-up of " + host);
+        Thread thread = new Thread(task, "tbclient lookup of " + host);
         thread.setDaemon(true);
         thread.start();
         return task;
