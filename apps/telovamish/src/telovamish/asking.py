@@ -1,0 +1,153 @@
+"""The forms `repl` and `run`, and their options."""
+from __future__ import annotations
+
+import contextlib
+import secrets
+import sys
+from typing import TYPE_CHECKING, Any, Callable, Iterator, TypeVar
+
+import click
+
+from .words import CLIENTS_MAX, U64, U128
+
+if TYPE_CHECKING:
+    from .ledgers import Ledger
+
+F = TypeVar("F", bound=Callable[..., Any])
+CLIENTS, PROFILES = click.IntRange(1, CLIENTS_MAX), click.IntRange(1, 2)
+IDS, RANGES = click.IntRange(1, U128), click.IntRange(0, U64)
+# each option with what it takes, which is nothing or a text or a number
+OPTIONS: tuple[tuple[str, str, Any, str], ...] = (
+    ("--file", "LEDGER", str, "A ledger in a file: starts tbd."),
+    (
+        "--connect",
+        "ADDRESS",
+        str,
+        "A listener's ledger: a port, HOST:PORT or a Unix socket's path.",
+    ),
+    ("--ca", "FILE", str, "Over TLS: who signs the server's certificate."),
+    ("--certificate", "FILE", str, "Over TLS: this client's certificate."),
+    ("--key", "FILE", str, "Over TLS: its key."),
+    ("--program", "FILE", str, "The server to run (tbs; tbd of a file)."),
+    ("--clients-max", "N", CLIENTS, f"Clients with a session, 1 to {CLIENTS_MAX} ({CLIENTS_MAX})."),
+    ("--profile", "N", PROFILES, "The profile of rules, 1 or 2 (1)."),
+    ("--client", "ID", IDS, "The client's id (1 in memory, else drawn)."),
+    ("--client-range", "N", RANGES, "The upper 64 bits of a drawn client's id."),
+    ("--json", "", None, "Replies as JSON, a line each."),
+    ("--quiet", "", None, "Shows refusals and events that failed, alone."),
+    ("--command", "TEXT", str, "Serves these statements, and ends."),
+)
+
+
+def with_options(form: F) -> F:
+    for flag, metavar, kind, text in reversed(OPTIONS):
+        takes: Any = {"type": kind, "metavar": metavar} if metavar else {"is_flag": True}
+        form = click.option(flag, help=text, **takes)(form)
+    return form
+
+
+def test_options(given: dict[str, Any]) -> None:
+    """What the options say together."""
+    for name, value in given.items():
+        if value == "":
+            raise click.UsageError(f"--{name.replace('_', '-')} is empty")
+        if name in ("ca", "certificate", "key") and value and not given["connect"]:
+            raise click.UsageError(f"--{name} comes with --connect")
+    if given["key"] and not given["certificate"]:
+        raise click.UsageError("--key comes with --certificate")
+    if given["file"] and given["connect"]:
+        raise click.UsageError("--file and --connect are two ledgers: give one of them")
+
+
+def client_of(given: dict[str, Any]) -> int:
+    """The client's id: the one that is given, 1 in memory, or a random one of the range: a ledger
+    that stays may know a client 1, whose session nobody knows here."""
+    if given["client"]:
+        return int(given["client"])
+    if given["client_range"] is not None:
+        return int(given["client_range"]) << 64 | (secrets.randbits(64) or 1)
+    return secrets.randbits(127) + 1 if given["connect"] or given["file"] else 1
+
+
+@contextlib.contextmanager
+def ledger_of(given: dict[str, Any]) -> "Iterator[Ledger]":
+    """The ledger that the options name."""
+    from . import ledgers
+
+    program, numbers = given["program"], (given["clients_max"], given["profile"])
+    if given["connect"]:
+        context = ledgers.context_of(given["ca"], given["certificate"], given["key"])
+        ledger = ledgers.over(given["connect"], context)
+    elif given["file"]:
+        with progress(given["file"]) as told:
+            ledger = ledgers.of_file(given["file"], program, numbers, told)
+    else:
+        ledger = ledgers.in_memory(program, numbers)
+    try:
+        yield ledger
+    finally:
+        ledger.close()
+
+
+@contextlib.contextmanager
+def progress(file: str) -> Iterator[Callable[[str], None]]:
+    """Shows on a terminal how far a ledger's file is read."""
+    if not sys.stderr.isatty():
+        yield lambda text: None
+        return
+    from rich.console import Console
+    from rich.text import Text
+
+    console = Console(stderr=True, highlight=False)
+    with console.status(Text(f"reading {file}"), spinner="line") as status:
+        yield lambda text: status.update(Text(text))
+
+
+def run_given(given: dict[str, Any], files: tuple[str, ...]) -> None:
+    """Serves the statements of files, of standard input or of --command."""
+    test_options(given)
+    with ledger_of(given) as ledger:
+        from .running import Printer, run_files, run_text, tell
+        from .sending import Desk
+
+        desk = Desk(ledger, client_of(given), tell)
+        printer = Printer(given["json"], given["quiet"])
+        if given["command"]:
+            text = given["command"].encode("utf-8", "surrogateescape")
+            run_text(desk, printer, iter([text + b"\n"]))
+        else:
+            run_files(desk, printer, files)
+
+
+@click.command()
+@click.argument("files", nargs=-1, metavar="[FILE]...")
+@with_options
+def run(files: tuple[str, ...], **given: Any) -> None:
+    """Statements of files or of standard input in, each reply as soon as it is there.
+
+    The ledger is in memory and ends with the command, or in a file, or behind a connection."""
+    if given["command"] and files:
+        raise click.UsageError("--command and FILE are two texts: give one of them")
+    run_given(given, files)
+
+
+@click.command()
+@with_options
+def repl(**given: Any) -> None:
+    """A terminal: statements with history and completion, replies as tables.
+
+    If input and output are not both a terminal it is `run`."""
+    if given["command"] or not (sys.stdin.isatty() and sys.stdout.isatty()):
+        run_given(given, ())
+        return
+    test_options(given)
+    with ledger_of(given) as ledger:
+        from .repl import COMMAND, Repl
+        from .running import Printer, tell
+        from .sending import Desk
+        from .terminal import Terminal
+
+        desk = Desk(ledger, client_of(given), tell)
+        printer = Printer(given["json"], given["quiet"], has_pager=True)
+        print("A statement ends with `;`; `help` shows some, `exit` ends.")
+        Repl(desk, printer, Terminal(desk.live, COMMAND.match)).run()

@@ -1,0 +1,179 @@
+"""A dump with what its replay gives, as JSON: who asked, what became of each event, expiries, and
+the balances of an account."""
+from __future__ import annotations
+
+import datetime
+import re
+from typing import Any, Iterator, NamedTuple, Optional
+
+import click
+
+from .checking import Check
+from .dates import EPOCH, moment_of
+from .faults import Fault
+from .forms import read, written
+from .live import Replay, facts
+from .model import RESOLVES, Event, Evicted, Expired, Fact, Ledger
+from .objects import item_shown, line, record_shown
+from .programs import program
+from .records import RECORD, Account, Transfer
+from .streams import Entry, Item, read_dump
+from .words import RESULTS, SECOND, TIME_MAX, U128
+
+DIGITS = re.compile("0*([0-9]{1,39})")
+OUTCOMES = {operation: {0: "created", **names} for operation, names in RESULTS.items()}
+Shown = dict[str, Any]
+
+
+class Wanted(NamedTuple):
+    """Which lines are wanted, and how their times are shown."""
+
+    account: Optional[int] = None
+    after: int = 0
+    first: int = 0
+    last: int = TIME_MAX
+    is_utc: bool = False
+
+
+def utc(time: int) -> str:
+    """A time as a date; zeros at the end of the second are left out."""
+    seconds, rest = divmod(time, SECOND)
+    date = (EPOCH + datetime.timedelta(seconds=seconds)).isoformat()
+    return f"{date}.{rest:09}".rstrip("0") + "Z" if rest else f"{date}Z"
+
+
+class Audit:
+    """Makes the lines of one item after another."""
+
+    def __init__(self, wanted: Wanted) -> None:
+        self.wanted = wanted
+        self._account = b""  # the account that is wanted, as it was before
+        self._ids: set[int] = set()  # of its transfers
+
+    def lines(self, item: Item, ledger: Ledger, found: list[Fact]) -> list[Shown]:
+        account, after, first, last, _ = self.wanted
+        if not isinstance(item, Entry):
+            return [item_shown(item)] if account is None else []
+        is_wanted = after < item.commit and first <= item.time <= last
+        if account is None:
+            return self._lines(item, found) if is_wanted else []
+        of_account = self._of_account(account, found)
+        is_changed = self._is_changed(ledger.accounts.get(account))
+        if not is_wanted:
+            return []
+        shown = self._lines(item, of_account)
+        if is_changed:
+            now = record_shown(ledger.accounts[account])
+            shown.append({**self._begun(item), "account": now})
+        return shown
+
+    def _lines(self, entry: Entry, found: list[Fact]) -> list[Shown]:
+        """Expiries, the entry itself unless one account is wanted, and what became of events."""
+        shown: list[Shown] = []
+        for it in found:
+            if isinstance(it, Expired):
+                shown.append({**self._timed(it.time), "expired": record_shown(it.transfer)})
+        begun, outcomes = self._begun(entry), OUTCOMES.get(entry.request.operation, {})
+        if self.wanted.account is None:
+            shown.append({**begun, **asked(entry)})
+        for it in found:
+            if isinstance(it, Event):
+                outcome, event = outcomes.get(it.result, str(it.result)), record_shown(it.record)
+                shown.append({**begun, "place": it.place, "result": outcome, "event": event})
+        return shown
+
+    def _begun(self, entry: Entry) -> Shown:
+        return {"commit": str(entry.commit), **self._timed(entry.time)}
+
+    def _timed(self, time: int) -> Shown:
+        return {"time": str(time), "utc": utc(time)} if self.wanted.is_utc else {"time": str(time)}
+
+    def _of_account(self, id: int, found: list[Fact]) -> list[Fact]:
+        """The facts that name an account, and the posts and voids whose pending transfer does."""
+        created = [it.record for it in found if isinstance(it, Event) and not it.result]
+        self._ids.update(it.id for it in created if isinstance(it, Transfer) and of(id, it))
+        return [it for it in found if self._names(id, it)]
+
+    def _names(self, id: int, fact: Fact) -> bool:
+        if isinstance(fact, Evicted):
+            return False
+        it = fact.transfer if isinstance(fact, Expired) else fact.record
+        if isinstance(it, Account):
+            return it.id == id
+        return of(id, it) or bool(it.flags & RESOLVES) and it.pending_id in self._ids
+
+    def _is_changed(self, it: Optional[Account]) -> bool:
+        before, self._account = self._account, it.to_bytes() if it else b""
+        return before != self._account
+
+
+def of(account: int, it: Transfer) -> bool:
+    return account in (it.debit_account_id, it.credit_account_id)
+
+
+def asked(entry: Entry) -> Shown:
+    """Who asked, and for what: of a batch the number of its events."""
+    request = entry.request
+    if request.operation not in RESULTS:
+        shown = item_shown(entry)
+    else:
+        shown = item_shown(entry._replace(request=request._replace(body=b"")))
+        del shown["events"]
+        shown["count"] = len(request.body) // RECORD
+    del shown["commit"], shown["time"]
+    return shown
+
+
+def number(word: str, greatest: int, says: str) -> int:
+    found = DIGITS.fullmatch(word)
+    if not found or int(found[1]) > greatest:
+        raise click.BadParameter(f"{word}: {says}")
+    return int(found[1])
+
+
+def account_of(word: str) -> int:
+    return number(word, U128, "an account's id is 0 to 2^128 - 1, in decimal digits")
+
+
+def commit_of(word: str) -> int:
+    return number(word, TIME_MAX, "a commit number is 0 to 2^63 - 1, in decimal digits")
+
+
+def time_of(word: str) -> int:
+    says = "a time is as 2026-11-26T10:00:00Z, or nanoseconds since 1970"
+    moment = moment_of(word)
+    return number(word, TIME_MAX, says) if moment is None else moment
+
+
+def audited(wanted: Wanted, replay: Replay, check: Optional[Check]) -> Iterator[bytes]:
+    """The lines of each item of standard input."""
+    audit, ledger = Audit(wanted), Ledger(1)
+    for item, reply, ledger, found in facts(read("dump", "Head", read_dump), replay):
+        yield "".join(map(line, audit.lines(item, ledger, found))).encode()
+        if check:
+            check.note(item, reply, ledger, found)
+    if wanted.account is not None and wanted.account not in ledger.accounts:
+        raise Fault(f"audit --account {wanted.account}: the dump has no account of this id")
+
+
+@click.command()
+@click.option("--account", type=account_of, metavar="ID", help="The lines of this account alone.")
+@click.option("--after", type=commit_of, metavar="COMMIT", help="Those of entries after this one.")
+@click.option("--from", "first", type=time_of, metavar="TIME", help="Those from this time on.")
+@click.option("--to", "last", type=time_of, metavar="TIME", help="Those up to this time.")
+@click.option("--utc", "is_utc", is_flag=True, help="Each time as a date too.")
+@click.option("--follow", is_flag=True, help="Says that the input may stay open.")
+@click.option("--check", "is_check", is_flag=True, help="Compares all with tbs at the end.")
+@click.option("--tbs", metavar="FILE", help="The program tbs.")
+def command(tbs: Optional[str], is_check: bool, follow: bool, **wanted: Any) -> None:
+    """A dump in, what became of each event out: an object a line.
+
+    Expiries come before the entry that found them, by time and id. A record is shown as the ledger
+    keeps it, with its timestamp and its amount, and what was refused as it was sent."""
+    path = program("tbs", tbs, "--tbs")
+    with Replay(path) as replay:
+        check = Check(path, replay) if is_check else None
+        given = {name: value for name, value in wanted.items() if value is not None}
+        written(audited(Wanted(**given), replay, check))
+        if check:
+            click.echo(f"telovamish: as in tbs: {check.compare()}", err=True)

@@ -1,0 +1,95 @@
+"""The command `telovamish`: its forms and its exit statuses."""
+from __future__ import annotations
+
+import difflib
+import importlib
+import os
+import sys
+from typing import Optional, cast
+
+import click
+
+from . import __version__
+from .faults import Fault
+
+# the forms, of which only the one that is asked for is loaded: a module and a command in it
+FORMS = {it: f"forms:{it}" for it in ("script", "requests", "replies", "dump", "pairs")}
+FORMS = {"repl": "asking:repl", "run": "asking:run", **FORMS}
+FORMS |= {"audit": "audit:command", "explain": "explain:command"}
+OWN_OPTIONS = {"--help", "-h", "--version"}
+INTERRUPTED = 130
+EPILOG = """Exit statuses: 0 all is done; 1 reading, writing, a program or memory failed, or a
+statement got no reply; 2 the input or the arguments are wrong."""
+
+
+class Forms(click.Group):
+    """The forms. Without the name of one it is `repl`."""
+
+    def parse_args(self, context: click.Context, args: list[str]) -> list[str]:
+        if not args or args[0].startswith("-") and args[0] not in OWN_OPTIONS:
+            args = ["repl", *args]
+        return super().parse_args(context, args)
+
+    def list_commands(self, context: click.Context) -> list[str]:
+        return [*FORMS]
+
+    def get_command(self, context: click.Context, name: str) -> Optional[click.Command]:
+        if name not in FORMS:
+            return None
+        module, attribute = FORMS[name].split(":")
+        found = getattr(importlib.import_module(f"telovamish.{module}"), attribute)
+        return cast(click.Command, found)
+
+    def resolve_command(
+        self, context: click.Context, args: list[str]
+    ) -> tuple[Optional[str], Optional[click.Command], list[str]]:
+        if args[0] not in FORMS:
+            near = difflib.get_close_matches(args[0], FORMS, 1)
+            meant = f"; did you mean {near[0]}?" if near else ";"
+            raise click.UsageError(f"{args[0]}: unknown{meant} telovamish --help shows the forms")
+        return super().resolve_command(context, args)
+
+
+@click.group(cls=Forms, epilog=EPILOG, context_settings={"help_option_names": ["--help", "-h"]})
+@click.version_option(__version__, message="telovamish %(version)s")
+def telovamish() -> None:
+    """A proved ledger in words that people read and type. Without a form it is `repl`."""
+
+
+def told(text: str) -> None:
+    shown = text if text.startswith("telovamish: ") else f"telovamish: {text}"
+    print(shown.rstrip("\n"), file=sys.stderr)
+
+
+def ran() -> int:
+    """Runs the command, and gives its exit status."""
+    try:
+        telovamish(prog_name="telovamish", standalone_mode=False)
+        return 0
+    except click.ClickException as why:
+        told(why.format_message())
+        return 2
+    except Fault as why:
+        told(str(why))
+        return why.status
+    except MemoryError:
+        told("NoMemory")
+        return 1
+    except (KeyboardInterrupt, click.Abort):
+        print(file=sys.stderr)
+        return INTERRUPTED
+
+
+def main() -> None:
+    if sys.stderr is None:  # else faults would go to standard output, amid the replies
+        sys.stderr = open(os.devnull, "w", encoding="utf-8")
+    if sys.stdin is None or sys.stdout is None:
+        told("Device: standard input or output is closed")
+        sys.exit(1)
+    status = ran()
+    try:
+        sys.stdout.flush()
+    except OSError:
+        # else it is tried again at the end to write what is left
+        os.dup2(os.open(os.devnull, os.O_WRONLY), sys.stdout.fileno())
+    sys.exit(status)

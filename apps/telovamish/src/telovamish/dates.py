@@ -1,0 +1,57 @@
+"""Moments that are written as dates in UTC, and how much of a wrong one is right."""
+from __future__ import annotations
+
+import datetime
+import re
+from typing import Optional
+
+from .words import SECOND, TIME_MAX
+
+DATE = re.compile(
+    r"(\d{4})-(\d\d)-(\d\d)(?:T(\d\d):(\d\d)(?::(\d\d)(?:\.(\d{1,9}))?)?Z)?", re.ASCII
+)
+EARLIEST = "0000-01-01T00:00:00."
+FRACTION = len(EARLIEST)
+ENDS = (10, 16, 19)  # where a day, a minute and a second end
+EPOCH = datetime.datetime(1970, 1, 1)
+
+
+def moment_of(date: str) -> Optional[int]:
+    """Nanoseconds since 1970 of a date that the ledger can have."""
+    found = DATE.fullmatch(date)
+    if not found:
+        return None
+    try:
+        year, month, day, hour, minute, second = (int(it or 0) for it in found.groups()[:6])
+        since = datetime.datetime(year, month, day, hour, minute, second) - EPOCH
+    except ValueError:
+        return None
+    fraction = int((found[7] or "").ljust(9, "0"))
+    moment = (since.days * 86400 + since.seconds) * SECOND + fraction
+    return moment if 0 <= moment <= TIME_MAX else None
+
+
+def date_of(nanoseconds: int) -> str:
+    """A time of the ledger as a date in UTC, exactly; one after the year 9999 stays a number."""
+    seconds, rest = divmod(nanoseconds, SECOND)
+    try:
+        whole = EPOCH + datetime.timedelta(seconds=seconds)
+    except OverflowError:
+        return str(nanoseconds)
+    return f"{whole.isoformat()}.{rest:09}Z"
+
+
+def may_go_on(begun: str) -> bool:
+    """Some date begins so: one of the earliest that do, with each digit that may come next."""
+    starts = [begun, *(begun + digit for digit in "0123456789")]
+    for start in starts:
+        for end in (*ENDS, max(FRACTION + 1, len(start))):
+            rest = EARLIEST[len(start) : end].ljust(max(0, end - len(start)), "0")
+            if moment_of(start + rest) is not None or moment_of(f"{start}{rest}Z") is not None:
+                return True
+    return False
+
+
+def right_part(date: str) -> int:
+    """How many bytes of a date are right, of which the year is read before."""
+    return next((it for it in range(4, len(date)) if not may_go_on(date[: it + 1])), len(date))

@@ -1,0 +1,80 @@
+"""The forms that turn text to frames and frames to text, each item as soon as it is read."""
+from __future__ import annotations
+
+import sys
+from typing import BinaryIO, Callable, Iterable, Iterator, TypeVar
+
+import click
+
+from .faults import Fault, devices
+from .filling import Told
+from .kinds import FIRST_BYTES, WORDS, kind_of
+from .texts import pairs as pairs_of, pieces
+
+T = TypeVar("T")
+
+
+def written(lines: Iterable[bytes]) -> None:
+    """Writes each of these to standard output as soon as it is there."""
+    for line in lines:
+        with devices("standard output"):
+            sys.stdout.buffer.write(line)
+            sys.stdout.buffer.flush()
+
+
+def read(kind: str, blame: str, reader: Callable[[BinaryIO], Iterator[T]]) -> Iterator[T]:
+    """The items of standard input. One of another kind is told as what it is."""
+    source = sys.stdin.buffer
+    with devices("standard input"):
+        found = kind_of(source.peek(FIRST_BYTES)[:FIRST_BYTES])  # type: ignore[attr-defined]
+    if found not in ("", kind):
+        raise Fault(f"{blame}: {WORDS[found]}")
+    items = reader(source)
+    while True:
+        with devices("standard input"):
+            item = next(items, None)
+        if item is None:
+            return
+        yield item
+
+
+@click.command()
+def script() -> None:
+    """Statements in, a script for `tbs run` and `tbs dump` out."""
+    written(it.to_bytes() for it in pairs_of(pieces(0), Told()))
+
+
+@click.command()
+def requests() -> None:
+    """A script in, its statements out."""
+    from .printing import statement_text
+    from .streams import read_script
+
+    written(statement_text(it).encode() for it in read("script", "no frames", read_script))
+
+
+@click.command()
+def replies() -> None:
+    """The replies of `tbs run` or `tbs replay` in, an object for each out."""
+    from .objects import line, reply_shown
+    from .streams import read_replies
+
+    written(line(reply_shown(it)).encode() for it in read("replies", "no frames", read_replies))
+
+
+@click.command()
+def dump() -> None:
+    """A dump in, an object for its head, for each entry and for the mark out."""
+    from .objects import item_shown, line
+    from .streams import read_dump
+
+    written(line(item_shown(it)).encode() for it in read("dump", "Head", read_dump))
+
+
+@click.command()
+def pairs() -> None:
+    """A dump in, a script that makes its history out. A mark is left out: a script has none."""
+    from .streams import Entry, read_dump
+
+    entries = (it for it in read("dump", "Head", read_dump) if isinstance(it, Entry))
+    written(it.request.to_bytes() for it in entries)

@@ -1,0 +1,196 @@
+"""What is wrong with a text, in four lines: the place, the word there, its line, and what may stand
+there."""
+from __future__ import annotations
+
+import re
+from typing import Optional
+
+from .filling import Told
+from .reader import GIVEN, PARTED, Awaited, Scan, awaited, scanned
+from .words import ALL, FLAGS, HEADER, ITEMS_MAX, KINDS, MAXIMA
+from .words import OPERATIONS, ORDER, POSITIVE, U16, U32, U64, U128
+
+SHOWN_MAX, SHOWN_BEFORE = 100, 60
+ENDING = re.compile(r"[^\x00-\x20,;=|#\x7f]*\Z")
+LEADING = re.compile(r"[^\x00-\x20,;=|#\x7f]*")
+IS_NUMBER = re.compile(r"0x[0-9a-fA-F]+|[0-9]+")
+MARKS = {"=": "'='", "|": "'|'", ",": "','", ";": "';'"}
+LARGEST = {U16: "65535", U32: "4294967295", U64: "18446744073709551615", U128: "2^128 - 1"}
+BYTES = {" ": "a space", "\t": "a tab", "\n": "the end of the line", "\r": "the end of the line"}
+# operations that a ledger of this kind has elsewhere
+AUDIT = "tbd dump FILE | telovamish audit --account ID shows them (docs/use/READING.md)"
+BOOKS = "the books have them as tables of SQL (docs/use/READING.md)"
+ELSEWHERE = {"get_account_transfers": AUDIT, "get_account_balances": AUDIT}
+ELSEWHERE |= {"query_accounts": BOOKS, "query_transfers": BOOKS, "get_change_events": BOOKS}
+
+
+def edits(a: str, b: str) -> int:
+    """The number of bytes to leave out, put in or change."""
+    row = list(range(len(b) + 1))
+    for i, x in enumerate(a, 1):
+        before, row = row, [i]
+        for j, y in enumerate(b, 1):
+            row.append(min(before[j] + 1, row[-1] + 1, before[j - 1] + (x != y)))
+    return row[-1]
+
+
+def nearest(written: str, names: list[str]) -> str:
+    """The name that may be meant by a misspelled one, or nothing."""
+    least = 2 if len(written) <= 3 else 3 if len(written) <= 64 else 0
+    found = ""
+    for name in names:
+        if least == 0:
+            break
+        far = edits(written, name)
+        if name.startswith(written):
+            far = min(far, 2)
+        if far < least:
+            least, found = far, name
+    return found
+
+
+def expected(it: Awaited) -> str:
+    """The list of what may stand at a place."""
+    names = [*it.words]
+    if it.number:
+        largest = HEADER.get(it.number) or max(
+            map(lambda of: of.get(it.number, 0), MAXIMA.values())
+        )
+        first = "from 1 to" if it.number in POSITIVE else "up to"
+        names.append(f"a number {first} {LARGEST[largest]}")
+        if it.number == "at":
+            names.append("a date")
+    names += [MARKS[mark] for mark in it.marks]
+    return ", ".join(names[:-1]) + (" or " if len(names) > 1 else "") + names[-1] if names else ""
+
+
+def wrong_byte(rest: str, scan: Optional[Scan]) -> str:
+    if not rest:
+        return "the text ends within a statement"
+    byte = rest[0]
+    if byte == "," and scan and scan.part == GIVEN and len(scan.events) == ITEMS_MAX - 1:
+        kind = "ids" if scan.operation.startswith("lookup_") else "events"
+        return f"a statement has at most {ITEMS_MAX} {kind}"
+    shown = f"'{byte}'" if "!" <= byte <= "~" else f"the byte {ord(byte)}"
+    return f"found {BYTES.get(byte, shown)}"
+
+
+def wrong_word(word: str, scan: Scan) -> str:
+    """What is wrong with a word at the place up to which the reader came."""
+    may = awaited(scan)
+    if word in ELSEWHERE:
+        return f"{word} is no operation here: {ELSEWHERE[word]}"
+    if word in ORDER:
+        return misplaced(word, scan, may)
+    if word[0].isascii() and word[0].isalpha() and may.words:
+        near = nearest(word, [*may.words, *ALL])
+        return f"unknown {KINDS[near] if near else 'word'} '{word}'" + (
+            near and f"; did you mean {near}?"
+        )
+    if not may.number:
+        return f"found '{word}'"
+    if may.number == "at" and "-" in word:
+        return f"'{word}' is no date from 1970-01-01 to 2262-04-11"
+    if not IS_NUMBER.fullmatch(word):
+        return f"'{word}' is no whole number"
+    if not word.strip("0x"):
+        return f"{may.number} is not 0"
+    return f"'{word}' is too large for {may.number}"
+
+
+def misplaced(word: str, scan: Scan, may: Awaited) -> str:
+    """What is wrong with a word that is right elsewhere."""
+    ends = ";" in may.marks
+    if word in scan.given and not may.number:
+        within = "event; ',' comes between events" if scan.operation else "statement"
+        return f"{word} was given before in this {within}"
+    if scan.part == PARTED and scan.field == "flags" and word in FLAGS.get(scan.operation, ()):
+        return f"flags are joined by '|': flags=..|{word}"
+    if may.number == "flags" and KINDS[word] == "flag":
+        others = next(it for it, flags in FLAGS.items() if word in flags)
+        return f"{word} is a flag of {others.removeprefix('create_')} alone"
+    if word in OPERATIONS and not may.number and not ends:
+        return early(word, may)
+    if (word in OPERATIONS or word in HEADER) and ends:
+        return f"';' is missing before '{word}'"
+    return f"'{word}' cannot stand here"
+
+
+def early(word: str, may: Awaited) -> str:
+    """What is missing before an operation."""
+    if "client" in may.words and (word != "register" or "request" in may.words):
+        return f"a client comes first: write client=N before {word}"
+    if word == "register":
+        return "a register has no session and no request"
+    if "request" in may.words:
+        return f"a request's number comes first: write request=N before {word}"
+    return f"'{word}' cannot stand here"
+
+
+def shown_line(before: str, rest: str) -> str:
+    """A line, cut around a place, and a mark under the place."""
+    is_long = len(before) + len(rest) > SHOWN_MAX
+    start = len(before) - SHOWN_BEFORE if is_long and len(before) > SHOWN_BEFORE else 0
+    shown = before[start:]
+    if start:
+        shown = re.sub("^[\x80-\xbf]+", "", shown)
+    behind = whole_signs(rest[: max(0, SHOWN_MAX - len(shown))], rest)
+    dots = "..." if start else ""
+    indent = "".join("\t" if it == "\t" else " " for it in dots + plain(shown))
+    return f"\n  {dots}{shown}{behind}{'...' if len(behind) < len(rest) else ''}\n  {indent}^"
+
+
+def whole_signs(cut: str, rest: str) -> str:
+    """The beginning of a line without a sign of UTF-8 that is cut."""
+    if len(cut) < len(rest):
+        try:
+            cut.encode("latin-1").decode()
+        except UnicodeDecodeError as error:
+            if error.reason == "unexpected end of data":
+                return cut[: error.start]
+    return cut
+
+
+def plain(text: str) -> str:
+    """Bytes as UTF-8."""
+    return text.encode("latin-1", "replace").decode("utf-8", "replace")
+
+
+def as_shown(text: str) -> str:
+    """What a terminal is shown: no control character except tabs and line ends."""
+    return "".join(
+        "?" if ord(it) < 32 and it not in "\t\n" or 127 <= ord(it) < 160 else it
+        for it in plain(text)
+    )
+
+
+def said(text: str, place: int, scan: Scan) -> tuple[str, str]:
+    """What is wrong at a place where a reader stopped, and the lines behind that."""
+    before, rest = text[:place], text[place:]
+    head, tail = ENDING.search(before)[0], LEADING.match(rest)[0]  # type: ignore[index]
+    at_word, word = None, ""
+    if not head or not tail:
+        at_word, word = scanned(before, scan.fill), tail
+    if at_word is None:
+        at_word, word = scanned(before[: len(before) - len(head)], scan.fill), head + tail
+    if at_word is None:
+        return wrong_byte(rest, None), ""
+    what = wrong_word(word, at_word) if word else wrong_byte(rest, at_word)
+    line = shown_line(before[before.rfind("\n") + 1 :], re.split("[\r\n]", rest, 1)[0])
+    return what, f"{line}\n  expected {expected(awaited(at_word))}"
+
+
+def told_fault(
+    text: str, place: int, scan: Scan, first: tuple[int, int], told: Told, name: str = ""
+) -> str:
+    """The lines of a fault in a statement whose first byte is at a line and a column of a file."""
+    what, lines = said(text, place, scan)
+    row = text.count("\n", 0, place)
+    column = place - text.rfind("\n", 0, place) if row else place + first[1]
+    word = re.search(r"[a-zA-Z0-9_]*\Z", text[:place])[0]  # type: ignore[index]
+    word += re.match(r"[a-zA-Z0-9_]*", text[place:])[0]  # type: ignore[index]
+    client = None if scan.operation else told.has_no_session(scan.given, word)
+    if client is not None:
+        what = f"client {client} has no session here: write session=N before {word}"
+    file = f"{name}: " if name else ""
+    return as_shown(f"telovamish: {file}line {first[0] + row}, column {column}: {what}{lines}\n")

@@ -1,0 +1,123 @@
+"""Replies as tables: results, accounts and transfers, with times as dates."""
+from __future__ import annotations
+
+from typing import Any, Iterator, Sequence
+
+from .dates import date_of
+from .objects import reply_shown
+from .reader import Pair
+from .sending import Served
+from .words import STATUSES
+
+ALWAYS = frozenset(
+    "id debits_posted credits_posted debit_account_id credit_account_id amount ledger code".split()
+)
+EMPTY: tuple[Any, ...] = ("0", 0, [])
+# what to do after a refusal
+ADVICE = {
+    "no_session": "the client has no session: register",
+    "session_too_low": "the client has a later session, or was evicted: register",
+    "newer_session": "the client has no such session yet",
+    "older": "this number was answered long ago, and its reply is not kept",
+    "collision": "this number was used for another request",
+    "newer_request": "send the requests before this one first",
+}
+Row = dict[str, Any]
+
+
+def shown(field: str, value: Any) -> str:
+    """A field of a record as a cell."""
+    if field == "flags":
+        return "|".join(map(str, value))
+    return date_of(int(value)) if field == "timestamp" else str(value)
+
+
+def columns_of(records: Sequence[Row]) -> list[str]:
+    """The fields that say something of one of the records, in the order of the layout."""
+    full = [{it for it, value in record.items() if value not in EMPTY} for record in records]
+    return [it for it in records[0] if it in ALWAYS.union(*full)]
+
+
+def aligned(head: Sequence[str], rows: Sequence[Sequence[str]]) -> list[str]:
+    """A table with a line under its head; numbers stand to the right."""
+    widths = [max(map(len, column)) for column in zip(head, *rows)]
+    right = [all(it.isdigit() for it in column) for column in zip(*rows)]
+
+    def line(cells: Sequence[str]) -> str:
+        fitted = (
+            it.rjust(width) if to_right else it.ljust(width)
+            for it, width, to_right in zip(cells, widths, right)
+        )
+        return "  ".join(fitted).rstrip()
+
+    return [line(head), "  ".join("-" * it for it in widths), *map(line, rows)]
+
+
+def records_shown(records: Sequence[Row], width: int) -> Iterator[str]:
+    """A table if it fits, else a block of lines for each record."""
+    columns = columns_of(records)
+    rows = [[shown(it, record[it]) for it in columns] for record in records]
+    table = aligned(columns, rows)
+    if max(map(len, table)) <= width:
+        yield from table
+        return
+    longest = max(map(len, columns))
+    for number, row in enumerate(rows):
+        if number:
+            yield ""
+        yield from (f"{name.ljust(longest)}  {cell}" for name, cell in zip(columns, row))
+
+
+def id_of(pair: Pair, place: int) -> str:
+    """The id of an event."""
+    return str(int.from_bytes(pair.body[128 * place : 128 * place + 16], "little"))
+
+
+def failed_shown(pair: Pair, results: Sequence[Row]) -> Iterator[str]:
+    """The events of a batch that were not accepted, each with its id."""
+    if results:
+        rows = [[str(it["index"]), id_of(pair, it["index"]), it["result"]] for it in results]
+        yield from aligned(("index", "id", "result"), rows)
+
+
+def created_shown(pair: Pair, failed: int) -> str:
+    name = pair.operation.removeprefix("create_").removesuffix("s")
+    return (
+        f"{pair.length - failed} of {pair.length} {name}{'' if pair.length == 1 else 's'} created"
+    )
+
+
+def found_shown(pair: Pair, found: Sequence[Row], width: int) -> Iterator[str]:
+    """The records that a lookup found, and how many ids it did not find."""
+    if found:
+        yield from records_shown(found, width)
+    missing = pair.length - len(found)
+    if missing:
+        yield f"{missing} of {pair.length} not found"
+
+
+def refusal_shown(status: int) -> str:
+    name = STATUSES[status]
+    return f"refused: {name}{': ' + ADVICE[name] if name in ADVICE else ''}"
+
+
+def answer_shown(served: Served, width: int, is_quiet: bool = False) -> Iterator[str]:
+    """The lines that tell the reply to a request; a quiet one tells failures alone."""
+    pair, reply, is_repeat = served
+    if reply.status:
+        yield refusal_shown(reply.status)
+        return
+    results = reply_shown(reply)["results"]
+    is_create = pair.operation.startswith("create_")
+    if is_create:
+        yield from failed_shown(pair, results)
+    elif not is_quiet and pair.operation != "register":
+        yield from found_shown(pair, results, width)
+    if is_quiet:
+        return
+    if pair.operation == "register":
+        yield f"client {reply.client} has session {reply.session}"
+    if is_repeat:
+        yield f"first reply again (commit {reply.commit}): nothing was executed"
+    elif is_create:
+        yield created_shown(pair, len(results))

@@ -1,0 +1,88 @@
+"""What the proved command before this one printed (recorded/, made by record.py), and this one run
+within the test."""
+from __future__ import annotations
+
+import contextlib
+import io
+import json
+import lzma
+import os
+import pathlib
+import sys
+import tempfile
+from typing import IO, Any, Iterator, NamedTuple, Sequence
+from unittest import mock
+
+from telovamish import commands
+
+FOLDER = pathlib.Path(__file__).parent / "recorded"
+Row = dict[str, Any]
+
+
+def rows(name: str) -> list[Row]:
+    """What was recorded under a name."""
+    with lzma.open(FOLDER / f"{name}.jsonl.xz", "rt", encoding="utf-8", newline="\n") as lines:
+        return [json.loads(it) for it in lines]
+
+
+class Answer(NamedTuple):
+    """What a command did."""
+
+    status: int
+    out: str
+    told: str
+
+
+def called(*words: str, given: bytes = b"") -> Answer:
+    """The command's exit status, what it wrote, and what it told, without a process of its own."""
+    out, told = io.TextIOWrapper(io.BytesIO(), write_through=True), io.StringIO()
+    with tempfile.TemporaryFile() as file, standard_input(file) as stdin:
+        file.write(given)
+        file.seek(0)
+        argv = ["telovamish", *words]
+        with mock.patch.multiple(sys, stdin=stdin, stdout=out, stderr=told, argv=argv):
+            status = commands.ran()
+    out.seek(0)
+    return Answer(status, out.buffer.read().decode("latin-1"), told.getvalue())
+
+
+@contextlib.contextmanager
+def standard_input(file: IO[bytes]) -> Iterator[IO[str]]:
+    """Has a file in place of standard input, by its number too."""
+    kept = os.dup(0)
+    os.dup2(file.fileno(), 0)
+    try:
+        with open(0, closefd=False) as stdin:
+            yield stdin
+    finally:
+        os.dup2(kept, 0)
+        os.close(kept)
+
+
+def as_now(told: str, differences: Sequence[tuple[str, str, str]] = ()) -> str:
+    """What the old command told, as this one is to tell it."""
+    told = told.replace("tbt", "telovamish")
+    for old, new, _ in differences:
+        told = told.replace(old, new)
+    return told
+
+
+Found = Iterator[tuple[Row, Answer, Answer]]
+
+
+def compare(found: Found) -> None:
+    """Asserts that each wanted answer is the one that was got."""
+    differ = []
+    for row, wanted, got in found:
+        if wanted != got:
+            differ.append(f"{row.get('form', '')}\n  wanted {at_difference(wanted, got)}")
+    assert not differ, f"{len(differ)} differ:\n" + "\n".join(differ[:5])
+
+
+def at_difference(wanted: Answer, got: Answer) -> str:
+    """Where two answers part."""
+    name = next(it for it in Answer._fields if getattr(wanted, it) != getattr(got, it))
+    a, b = str(getattr(wanted, name)), str(getattr(got, name))
+    place = next((at for at, (x, y) in enumerate(zip(a, b)) if x != y), min(len(a), len(b)))
+    begin = max(0, place - 100)
+    return f"{name} {a[begin : place + 200]!r}\n  got    {name} {b[begin : place + 200]!r}"

@@ -1,0 +1,147 @@
+#!/usr/bin/python3
+"""Plants one bug at a time in a copy of the command, and says which tests find it.
+
+    planted.py [FILE..]    only the bugs of these files
+
+Prints a line for each bug, and how many were found. It ends with exit status 1 unless all were.
+"""
+from __future__ import annotations
+
+import os
+import pathlib
+import shutil
+import sys
+import tempfile
+import time
+
+import click  # noqa: F401 (so that it is there in each run)
+import hypothesis  # noqa: F401
+import pytest
+
+sys.dont_write_bytecode = True
+
+HERE = pathlib.Path(__file__).resolve().parent
+APP = HERE.parent
+STORED, READER = "test_recorded_texts.py::test_texts[stored]", "test_reader.py"
+WRONG = "test_recorded_texts.py::test_texts[wrong]"
+WORDS, AUDITS = "test_recorded_dumps.py::test_forms_in_words", "test_recorded_dumps.py -k results"
+TOLD, SENDS, MODEL = "test_recorded_dumps.py -k stops", "test_sending.py", "test_model.py"
+# file, what is there, the bug instead, and the tests that are to find it
+BUGS = [
+    ("reader", "self.client.to_bytes(16", "(self.client >> 1).to_bytes(16", STORED),
+    ("reader", "return self.at.to_bytes(8", "return (self.at | 1).to_bytes(8", STORED),
+    ("reader", "given[field] = given.get(field, 0) | number", "given[field] = number", STORED),
+    ("reader", "self.given.get(self.field, 0) | number", "number", STORED),
+    ("reader", "and (number or field not in POSITIVE)", "", STORED),
+    ("reader", "len(self.events) < ITEMS_MAX - 1:", "len(self.events) < ITEMS_MAX:", READER),
+    ("reader", "int(digits[2:], 16)", "int(digits[2:], 16) // 2", STORED),
+    ("reader", "number = AMOUNT_MAX", "number = AMOUNT_MAX - 1", STORED),
+    ("reader", "            if part == GIVEN:\n                self._push()\n", "", STORED),
+    ("reader", "            return place\n        number =", "            return place + 1\n        number =", WRONG),
+    ("reader", "default=0)", "default=0) + 1", STORED),
+    ("reader", "found += FLAGS[operation]", "found += [*FLAGS[operation]][1:]", STORED),
+    ("texts", 'count("\\n", self.start, place)', 'count("\\n", self.start, place) + 1', STORED),
+    ("filling", "pair.request + 1", "pair.request", STORED),
+    ("filling", "self.last = pair.client\n", "self.last = self.last or pair.client\n", STORED),
+    ("messages", "2 if len(written) <= 3", "1 if len(written) <= 3", STORED),
+    ("printing", 'if number or name == "id":', "if number:", WORDS),
+    ("printing", "if number & bit]", "if number & bit][:1]", WORDS),
+    ("printing", '", ".join(event_text', '" ".join(event_text', WORDS),
+    ("objects", "items() if number & bit]", "items() if number & bit & ~1]", WORDS),
+    ("objects", "+ ([str(rest)] if rest else [])", "", WORDS),
+    ("objects", "else str(number)", "else str(number // 2)", WORDS),
+    ("objects", 'STATUSES[it.status],\n        "commit": str(it.commit)', 'STATUSES[it.status],\n        "commit": str(it.commit + 1)', WORDS),
+    ("words", 'TABLE["transfer_fields"]', '{**TABLE["transfer_fields"], "debit_account_id": (32, 16)}', STORED),
+    ("words", 'TABLE["transfer_flags"]', '{**TABLE["transfer_flags"], "pending": 512}', STORED),
+    ("streams", "RESULT.iter_unpack(self.body)}", "[*RESULT.iter_unpack(self.body)][1:]}", WORDS),
+    ("streams", "        may_be_marked = False\n", "", WORDS),
+    ("repeats", "reply.commit <= self.seen", "reply.commit < self.seen", SENDS),
+    ("repeats", "self.seen = max(self.seen, reply.commit)", "self.seen = reply.commit and 0", SENDS),
+    ("sending", "history.is_repeat(pair, reply)", "False", SENDS),
+    ("sending", "raise Late()", "pass", SENDS),
+    ("explain", "end_of(data, at, PAIR)", "end_of(data, at, ENTRY)", TOLD),
+    ("explain", 'told("pair", number, at, SAYS', 'told("pair", number - 1, at, SAYS', TOLD),
+    ("explain", "at, may_be_marked = at + ENTRY, False", "at += ENTRY", TOLD),
+    ("audit", "after < item.commit", "after <= item.commit", AUDITS),
+    ("audit", "first <= item.time <= last", "first <= item.time < last", AUDITS),
+    ("audit", "it.debit_account_id, it.credit_account_id", "it.debit_account_id,", AUDITS),
+    ("audit", "            if isinstance(it, Expired):\n                shown", "            if isinstance(it, Expired) and not shown:\n                shown", AUDITS),
+    ("audit", 'rstrip("0") + "Z"', 'rstrip("0")[:-1] + "Z"', AUDITS),
+    ("audit", "return before != self._account", "return True", AUDITS),
+    ("audit", '"count"] = len(request.body) // RECORD', '"count"] = len(request.body) // RECORD + 1', AUDITS),
+    ("live", "for item in items:\n", "for item in [*items][:-1]:\n", AUDITS),
+    ("model", "RECORD + 1  # the", "RECORD  # the", AUDITS),
+    ("model", "self._due[0][0] <= now", "self._due[0][0] < now", MODEL),
+    ("model", "it.timeout * SECOND, it.id))\n", "it.timeout * SECOND, -it.id))\n", AUDITS),
+    ("model", "sessions[it].last_commit)", "sessions[it].number)", MODEL),
+    ("model", "            sessions[client].last_commit = entry.commit\n", "", MODEL),
+    ("model", " or it.amount == AMOUNT_MAX", "", AUDITS),
+    ("model", "it.flags & VOID or it.amount", "it.amount", AUDITS),
+    ("model", "user_data_128 user_data_64", "user_data_128", AUDITS),
+    ("model", "- debit.debits_posted - debit.debits_pending", "- debit.debits_posted", AUDITS),
+    ("model", "- credit.credits_posted - credit.credits_pending", "- credit.credits_posted", AUDITS),
+    ("model", "return max(0, amount)", "return abs(amount)", AUDITS),
+    ("model", "        if it.flags & CLOSES_DEBIT:\n", "        if it.flags & CLOSES_CREDIT:\n", AUDITS),
+    ("model", "if it.flags & CLOSES_DEBIT and not is_posted", "if False", AUDITS),
+    ("model", "is_posted=False", "is_posted=True", AUDITS),
+    ("model", "debit.debits_pending -= it.amount", "debit.debits_pending -= 0", AUDITS),
+    ("model", "elif not flags & VOID:", "else:", AUDITS),
+    ("model", "credit.credits_pending += it.amount", "debit.credits_pending += it.amount", AUDITS),
+    ("model", "self.accounts[account.id] = account", "self.accounts.setdefault(0, account)", AUDITS),
+]  # fmt: skip
+
+
+def copied(folder: str) -> pathlib.Path:
+    """The command and its tests in a folder as deep as theirs, so that they find the client."""
+    app = pathlib.Path(folder) / "apps" / APP.name
+    ignored = shutil.ignore_patterns("__pycache__", ".*", "recorded")
+    shutil.copytree(APP, app, ignore=ignored)
+    (app / "tests" / "recorded").symlink_to(HERE / "recorded")
+    for name in ("clients", "examples", "crates", "docs"):
+        (pathlib.Path(folder) / name).symlink_to(APP.parents[1] / name)
+    return app
+
+
+def found_by(file: str, old: str, new: str, tests: str) -> str:
+    """The first test that fails with a bug; nothing if none does."""
+    with tempfile.TemporaryDirectory() as folder:
+        app = copied(folder)
+        source = app / "src" / "telovamish" / f"{file}.py"
+        text = source.read_text()
+        assert old in text and new != old, f"{file}: not there: {old!r}"
+        source.write_text(text.replace(old, new, 1))
+        said = pathlib.Path(folder) / "said"
+        status = tested(app, tests.split(" "), said)
+        failed = [it for it in said.read_text().splitlines() if it.startswith(("FAILED", "ERROR"))]
+    return failed[0].split(" - ")[0] if status == 1 and failed else ""
+
+
+def tested(app: pathlib.Path, words: list[str], said: pathlib.Path) -> int:
+    """Runs tests in a process that has begun already: most of a short run is its beginning."""
+    child = os.fork()
+    if not child:
+        with open(said, "w") as out:
+            os.dup2(out.fileno(), 1)
+            os.dup2(out.fileno(), 2)
+            os.chdir(app / "tests")
+            status = pytest.main(["-q", "-x", "-p", "no:cacheprovider", *words])
+            sys.stdout.flush()
+            os._exit(int(status))
+    return os.waitstatus_to_exitcode(os.waitpid(child, 0)[1])
+
+
+def main() -> int:
+    chosen = [it for it in BUGS if not sys.argv[1:] or it[0] in sys.argv[1:]]
+    found = 0
+    for bug in chosen:
+        began, by = time.monotonic(), found_by(*bug)
+        found += bool(by)
+        new = " ".join(bug[2].split()) or "(left out)"
+        took = f"{time.monotonic() - began:.0f} s"
+        print(f"{bug[0]:9} {new[:50]:50} {by or 'NOT FOUND'}, {took}", flush=True)
+    print(f"{found} of {len(chosen)} planted bugs are found")
+    return 0 if found == len(chosen) else 1
+
+
+if __name__ == "__main__":
+    sys.exit(main())

@@ -1,0 +1,82 @@
+"""The command at a terminal of its own."""
+from __future__ import annotations
+
+import contextlib
+import os
+import re
+import time
+from typing import Optional
+
+import pexpect
+from conftest import COMMAND
+
+CURSOR = re.compile(r"\x08?\x1b\[(\d*)C")
+ESCAPES = re.compile(r"\x1b\[[?0-9;]*[A-Za-z]|\r")
+PROMPT = "\n> "
+
+
+def cleaned(text: str) -> str:
+    """What is shown, without what moves the cursor."""
+    text = CURSOR.sub(lambda it: " " * max(1, int(it[1] or 1) - 1), text)
+    return ESCAPES.sub("", text)
+
+
+class Terminal:
+    """Types, and reads what is shown."""
+
+    def __init__(self, *words: str, state: str, env: Optional[dict[str, str]] = None) -> None:
+        known = {"XDG_STATE_HOME": state, "TERM": "xterm", "NO_COLOR": "1", "PAGER": "cat"}
+        self.began = time.monotonic()
+        self.child = pexpect.spawn(
+            str(COMMAND),
+            [*words],
+            env={**os.environ, **known, **(env or {})},
+            dimensions=(50, 160),
+            encoding="utf-8",
+            timeout=30,
+        )
+        self.child.delaybeforesend = None
+        self.raw = ""
+        self.seen = 0
+
+    @property
+    def shown(self) -> str:
+        return cleaned(self.raw)
+
+    def wait(self, text: str, seconds: float = 30) -> str:
+        """What is shown up to a text, since the last one that was waited for."""
+        end = time.monotonic() + seconds
+        while (at := self.shown.find(text, self.seen)) < 0:
+            if time.monotonic() > end:
+                raise AssertionError(f"{text!r} does not come: {self.shown[self.seen:]!r}")
+            try:
+                self.raw += self.child.read_nonblocking(65536, 0.2)
+            except pexpect.TIMEOUT:
+                continue
+            except pexpect.EOF:
+                end = 0
+        found = self.shown[self.seen : at]
+        self.seen = at + len(text)
+        return found
+
+    def type(self, text: str) -> None:
+        self.child.send(text)
+
+    def enter(self, line: str, until: str) -> str:
+        """Types a line and Enter; what is shown up to a text behind it."""
+        self.type(line)
+        self.wait(line[-10:])
+        self.type("\r")
+        return self.wait(until)
+
+    def ended(self) -> int:
+        """The exit status."""
+        self.child.expect(pexpect.EOF)
+        self.child.close()
+        status = self.child.exitstatus
+        return status if status is not None else -self.child.signalstatus
+
+    def close(self) -> None:
+        """Ends it, also if the machine is too busy to end it soon."""
+        with contextlib.suppress(pexpect.ExceptionPexpect):
+            self.child.close(force=True)

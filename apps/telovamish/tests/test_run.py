@@ -1,0 +1,280 @@
+"""The forms over bytes and the form `run`, as a shell calls them."""
+from __future__ import annotations
+
+import json
+import os
+import subprocess
+
+import pytest
+from conftest import APP, COMMAND, ran
+
+EXAMPLES = APP.parent.parent / "examples"
+HEAD = b"at=10 client=7 register;\n"
+NEEDS = "telovamish: line 1, column 1: "
+
+
+def script(text: bytes) -> bytes:
+    status, out, told = ran("script", given=text)
+    assert (status, told) == (0, "")
+    return out
+
+
+def test_a_script_is_that_of_the_example():
+    """examples/first.txt has its bytes, by hand."""
+    wanted = (EXAMPLES / "first.script").read_bytes()
+    assert script((EXAMPLES / "first.text").read_bytes()) == wanted
+
+
+def test_replies_are_those_of_the_example():
+    status, out, told = ran("replies", given=(EXAMPLES / "first.replies").read_bytes())
+    lines = [json.loads(line) for line in out.splitlines()]
+    assert (status, told, len(lines)) == (0, "", 3)
+    assert lines[0] == {
+        "client": "7", "session": "1", "request": 0, "operation": "register", "status": "reply",
+        "commit": "1", "results": [],
+    }  # fmt: skip
+    found = lines[2]["results"][0]
+    assert (found["id"], found["ledger"], found["code"], found["timestamp"]) == ("2", 700, 10, "12")
+    assert all(isinstance(found[it], int) for it in ("user_data_32", "reserved", "ledger", "code"))
+
+
+def test_requests_are_its_statements():
+    given = (EXAMPLES / "first.script").read_bytes()
+    status, out, _ = ran("requests", given=given)
+    assert (status, out.splitlines()[0]) == (0, b"at=10 client=7 register;")
+    assert script(out) == given
+
+
+def test_a_dump_and_its_pairs(tbs):
+    given = (EXAMPLES / "first.script").read_bytes()
+    made = subprocess.run([tbs, "dump", "2"], input=given, capture_output=True).stdout
+    status, out, _ = ran("dump", given=made)
+    lines = [json.loads(line) for line in out.splitlines()]
+    assert (status, lines[0]) == (0, {"profile": 1, "clients_max": 2})
+    assert [it["time"] for it in lines[1:]] == ["10", "12", "13"]
+    assert [it["id"] for it in lines[3]["events"]] == ["2", "9", "1"]
+    status, out, _ = ran("pairs", given=made)
+    again = subprocess.run([tbs, "dump", "2"], input=out, capture_output=True).stdout
+    assert (status, again) == (0, made)
+
+
+WHAT = {
+    "ledger": (b"TBJRNL01\xff\6\0\0\0\0\0\0TBK1\1\2", "a ledger's file of tbd: tbd check FILE"),
+    "remnant": (b"TBJRN", "the remnant of a ledger's file of tbd"),
+    "JSON": (b'{"id":1}\n', "JSON, which nothing here reads"),
+    "text": (b"register;\n", "text: telovamish script makes a script"),
+}
+
+
+@pytest.mark.parametrize(
+    "form, blame",
+    [("requests", "no frames"), ("replies", "no frames"), ("dump", "Head"), ("pairs", "Head")],
+)
+@pytest.mark.parametrize("kind", [*WHAT])
+def test_an_input_of_another_kind_is_told_as_what_it_is(form, blame, kind):
+    given, words = WHAT[kind]
+    status, out, told = ran(form, given=given)
+    assert (status, out) == (2, b"")
+    assert told.startswith(f"telovamish: {blame}: {words}")
+
+
+@pytest.mark.parametrize(
+    "form, given, fault",
+    [
+        ("requests", bytes(8) + bytes([7]) + bytes(46), "Short"),
+        ("requests", bytes(8) + bytes(48), "ClientZero"),
+        ("requests", bytes(8) + bytes([7]) + bytes(47), "UnknownOperation"),
+        ("dump", b"", "Head"),
+        ("dump", b"TBSDUMP1" + bytes([3, 0, 0, 0, 1, 0, 0, 0]), "Head"),
+        (
+            "dump",
+            b"TBSDUMP1" + bytes([1, 0, 0, 0, 1, 0, 0, 0]) + bytes(8) + bytes([3]) + bytes(7),
+            "Mark",
+        ),
+        ("dump", b"TBSDUMP1" + bytes([1, 0, 0, 0, 1, 0, 0, 0]) + bytes(5), "Short"),
+    ],
+)
+def test_faults_of_frames_and_dumps_have_their_names(form, given, fault):
+    status, _, told = ran(form, given=given)
+    assert (status, told) == (2, f"telovamish: {fault}\n")
+
+
+def test_what_was_right_before_is_written():
+    status, out, told = ran("script", given=HEAD + b"wrong")
+    assert (status, len(out)) == (2, 56)
+    assert told.startswith("telovamish: line 2, column 1: unknown word 'wrong'")
+
+
+def test_output_that_is_lost():
+    for words, given in ((["script"], HEAD), (["run"], b"register;")):
+        with open("/dev/full", "wb") as full:
+            it = subprocess.run([COMMAND, *words], input=given, stdout=full, stderr=subprocess.PIPE)
+        assert it.returncode == 1
+        assert it.stderr == b"telovamish: Device: standard output: No space left on device\n"
+
+
+def test_files_that_are_closed():
+    for closed in ("<&-", ">&-"):
+        it = subprocess.run(f"{COMMAND} script {closed}", shell=True, stderr=subprocess.PIPE)
+        assert it.stderr == b"telovamish: Device: standard input or output is closed\n"
+        assert it.returncode == 1
+
+
+# run
+
+
+def served(text: str, *words: str, tbs: str, status: int = 0):
+    found, out, told = ran("run", *words, given=text.encode(), env={"TBS": tbs})
+    assert found == status, told
+    return out.decode(), told
+
+
+def test_run_fills_in_and_shows_tables(tbs):
+    text = "create_accounts id=1 ledger=7 code=1, id=2 ledger=7 code=1;\n"
+    text += (
+        "create_transfers id=11 debit_account_id=1 credit_account_id=9 amount=1 ledger=7 code=1;\n"
+    )
+    text += "at=1 lookup_accounts id=2, id=5;"
+    out, _ = served("at=5 " + text, tbs=tbs)
+    assert out.splitlines()[:2] == ["client 1 has session 1", "2 of 2 accounts created"]
+    assert out.splitlines()[2:6] == [
+        "index  id  result",
+        "-----  --  ------------------------",
+        "    0  11  credit_account_not_found",
+        "0 of 1 transfer created",
+    ]
+    assert out.splitlines()[8].split()[-1] == "1970-01-01T00:00:00.000000007Z"
+    assert out.splitlines()[9] == "1 of 2 not found"
+
+
+def test_run_quietly_shows_what_failed(tbs):
+    text = "create_accounts id=1 ledger=7 code=1, id=0 ledger=7 code=1; lookup_accounts id=1;"
+    out, _ = served(
+        text + " client=3 session=9 request=1 lookup_accounts id=1;", "--quiet", tbs=tbs
+    )
+    assert out.splitlines()[2:] == [
+        "    1   0  id_must_not_be_zero",
+        "refused: no_session: the client has no session: register",
+    ]
+
+
+def test_a_repeat_in_json(tbs):
+    text = (EXAMPLES / "retry.text").read_text()
+    out, _ = served(text, "--json", "--clients-max", "2", tbs=tbs)
+    marks = [json.loads(line).get("repeat", False) for line in out.splitlines()]
+    assert marks == [False, False, False, True, False]
+
+
+def test_each_reply_is_there_before_more_is_read(tbs):
+    with subprocess.Popen(
+        [COMMAND, "run", "--json"], stdin=subprocess.PIPE, stdout=subprocess.PIPE,
+        env={**os.environ, "TBS": tbs},
+    ) as it:  # fmt: skip
+        for _ in range(3):
+            it.stdin.write(b"client=1 register;\n")
+            it.stdin.flush()
+            assert json.loads(it.stdout.readline())["session"] == "1"
+
+
+def test_run_of_files_names_the_file(tbs, tmp_path):
+    first, second = tmp_path / "first", tmp_path / "second"
+    first.write_text("create_accounts id=1 ledger=7 code=1;")
+    second.write_text("\nlookup_accounts id=1;\nlookup_acounts id=1;")
+    status, out, told = ran("run", str(first), str(second), env={"TBS": tbs})
+    assert (status, out.count(b"\n")) == (2, 5)
+    assert told.startswith(f"telovamish: {second}: line 3, column 10: unknown operation")
+
+
+def test_a_late_moment_is_refused_with_its_place(tbs):
+    _, told = served(
+        f"lookup_accounts id=1;\n # x\n  at={2**63} lookup_accounts id=1;", tbs=tbs, status=2
+    )
+    assert told == "telovamish: TimeExhausted: line 3, column 3\n"
+
+
+def test_no_session_was_written(tbs):
+    out, told = served("register; client=1 request=1 lookup_accounts id=1;", tbs=tbs)
+    assert out.splitlines()[1].startswith("refused: session_too_low")
+    assert told.startswith("telovamish: no session was written, and 0 was sent")
+
+
+def test_a_command_and_the_bare_command(tbs):
+    for words in (["run"], []):
+        status, out, _ = ran(*words, "--command", "register", env={"TBS": tbs})
+        assert (status, out) == (2, b"")
+        status, out, _ = ran(*words, "--command", "register;", env={"TBS": tbs})
+        assert (status, out) == (0, b"client 1 has session 1\n")
+    assert ran(given=b"register;", env={"TBS": tbs})[1] == b"client 1 has session 1\n"
+
+
+def test_version_and_wrong_words(tmp_path):
+    assert ran("--version") == (0, b"telovamish 0.1.0\n", "")
+    assert (
+        ran("runn")[2]
+        == "telovamish: runn: unknown; did you mean run? telovamish --help shows the forms\n"
+    )
+    assert (
+        ran("run", "65")[2]
+        == "telovamish: 65: No such file or directory; --clients-max 65 sets the number of clients\n"
+    )
+    for words, fault in (
+        (["--clients-max", "65"], "Invalid value for '--clients-max': 65 is not in the range 1<=x<=64."),
+        (["--profile", "0"], "Invalid value for '--profile': 0 is not in the range 1<=x<=2."),
+        (["--client", "x"], "Invalid value for '--client': 'x' is not a valid integer range."),
+        (["--file", ""], "--file is empty"),
+        (
+            ["--file", "a", "--connect", "b"],
+            "--file and --connect are two ledgers: give one of them",
+        ),
+        (["--ca", "a"], "--ca comes with --connect"),
+        (["--connect", "1", "--key", "a"], "--key comes with --certificate"),
+    ):
+        assert ran(*words) == (2, b"", f"telovamish: {fault}\n"), words
+    nothing = {"TBS": str(tmp_path / "none")}
+    status, _, told = ran("run", env=nothing)
+    assert (status, told.split(":")[1]) == (1, f" {tmp_path}/none is no program")
+
+
+# what people met
+
+
+@pytest.mark.parametrize(
+    "text, said",
+    [
+        ('{"id":1}', "line 1, column 1: found '{\"id\":1}'"),
+        ("register;\n\nclient=0 register;", "line 3, column 9: client is not 0"),
+        ("get_account_transfers id=1;", "line 1, column 1: get_account_transfers is no operation here: tbd dump FILE | telovamish audit --account ID shows them"),
+        ("query_transfers id=1;", "line 1, column 1: query_transfers is no operation here: the books have them"),
+        ("create_transfers id=1 flags=linked,pending amount=1;", "line 1, column 43: flags are joined by '|': flags=..|pending"),
+        ("create_accounts id=1 id=2;", "line 1, column 22: id was given before in this event; ',' comes between events"),
+        ("client=1 client=2 register;", "line 1, column 11: client was given before in this statement"),
+        ("create_transfers id=1 flags=history;", "line 1, column 29: history is a flag of accounts alone"),
+        ("create_accounts id=1 flags=pending;", "line 1, column 28: pending is a flag of transfers alone"),
+        ("at=2026-02-30 register;", "line 1, column 12: '2026-02-30' is no date from 1970-01-01 to 2262-04-11"),
+        ("lookup_accounts id=1", "line 1, column 21: the text ends within a statement"),
+    ],
+)  # fmt: skip
+def test_a_fault_in_words(tbs, text, said):
+    _, told = served(text, tbs=tbs, status=2)
+    assert told.startswith(f"telovamish: {said}"), told
+    assert "\n  expected " in told
+
+
+def test_8191_events(tbs):
+    events = ", ".join(f"id={it}" for it in range(1, 8192))
+    _, told = served(f"lookup_accounts {events};", tbs=tbs, status=2)
+    assert "a statement has at most 8190 ids" in told
+    _, told = served(f"create_accounts {events};", tbs=tbs, status=2)
+    assert "a statement has at most 8190 events" in told
+
+
+def test_json_lists_the_operations(tbs):
+    _, told = served('{"id":1}', tbs=tbs, status=2)
+    for name in (
+        "register",
+        "create_accounts",
+        "create_transfers",
+        "lookup_accounts",
+        "lookup_transfers",
+    ):
+        assert name in told.splitlines()[-1]

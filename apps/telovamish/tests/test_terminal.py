@@ -1,0 +1,200 @@
+"""What people type at a terminal, and what they see."""
+from __future__ import annotations
+
+import os
+import signal
+import stat
+import subprocess
+import time
+
+import pytest
+from terminals import Terminal
+
+ACCOUNTS = "create_accounts id=1 ledger=700 code=10, id=2 ledger=700 code=10;"
+
+
+@pytest.fixture
+def state(tmp_path):
+    return str(tmp_path / "state")
+
+
+@pytest.fixture
+def terminal(state, tbs):
+    it = Terminal(state=state, env={"TBS": tbs})
+    it.wait("> ")
+    yield it
+    it.close()
+
+
+def test_a_first_transfer(terminal):
+    assert "2 of 2 accounts created" in terminal.enter(ACCOUNTS, "created\n") + "created\n"
+    terminal.enter("create_transfers id=11 debit_account_id=1", ". ")
+    terminal.enter("credit_account_id=2 amount=100 ledger=700 code=10;", "1 of 1 transfer created")
+    terminal.enter("lookup_accounts id=2;", " 2              0             100     700    10")
+
+
+def test_a_repeat_is_told(terminal):
+    terminal.enter("at=5 " + ACCOUNTS, "2 of 2 accounts created")
+    terminal.enter("request=1 " + ACCOUNTS, "first reply again (commit 2): nothing was executed")
+    terminal.enter("json", "\n> ")
+    terminal.enter("request=1 " + ACCOUNTS, '"commit":"2","results":[],"repeat":true}')
+    terminal.enter("lookup_accounts id=3;", '"commit":"3","results":[]}')
+
+
+def test_a_wrong_word_is_told_at_the_end_of_its_line(terminal):
+    terminal.enter("create_accounts id=1", ". ")
+    terminal.enter(
+        "ledgre=700", "telovamish: line 2, column 5: unknown field 'ledgre'; did you mean ledger?"
+    )
+    terminal.wait("\n> ")
+    terminal.enter(ACCOUNTS, "2 of 2 accounts created")
+
+
+def test_help_at_the_continuation_prompt(terminal):
+    terminal.enter("create_accounts id=1", ". ")
+    terminal.enter("help ledger", "ledger: field of create_accounts: 32 bits\n")
+    terminal.wait("> create_accounts id=1")
+    terminal.enter("ledger=1 code=1;", "1 of 1 account created")
+    terminal.enter("create_accounts id=2", ". ")
+    terminal.enter("help", "help WORD tells")
+
+
+@pytest.mark.parametrize("word", ["exit", "quit", "exit;"])
+def test_exit_at_the_continuation_prompt(terminal, word):
+    terminal.enter("create_accounts id=1", ". ")
+    terminal.enter(word, "the last statement has no `;`, and is not sent")
+    assert terminal.ended() == 0
+
+
+def test_ctrl_c_at_the_continuation_prompt(terminal):
+    terminal.enter("create_accounts id=1", ". ")
+    terminal.type("\x03")
+    terminal.wait("\n> ")
+    terminal.enter(ACCOUNTS, "2 of 2 accounts created")
+
+
+@pytest.mark.parametrize("leave", ["exit\r", "quit\r", "\x04"])
+def test_leaving_a_ledger_in_memory_asks_once(terminal, leave):
+    terminal.enter(ACCOUNTS, "2 of 2 accounts created")
+    terminal.wait("> ")
+    terminal.type(leave)
+    terminal.wait("its 2 entries end with it: exit again to leave")
+    terminal.wait("\n> ")
+    terminal.type(leave)
+    assert terminal.ended() == 0
+
+
+def test_leaving_an_empty_ledger_does_not_ask(terminal):
+    terminal.type("exit\r")
+    assert terminal.ended() == 0
+
+
+def test_help_of_a_word(terminal):
+    terminal.enter("help pending", "pending: flag of create_transfers: the amount is held until")
+    terminal.enter(
+        "help exists", "exists: result 21 of create_accounts: this very account is there"
+    )
+    terminal.enter("help newer_request", "newer_request: status: the request skips a number")
+    terminal.enter("help pendin", "pendin: not known; did you mean pending?")
+
+
+def test_completion_by_the_tab_key(terminal):
+    terminal.type("create_acc\t id=1 led\t7 code=1 fl\thist\t;\r")
+    terminal.wait("1 of 1 account created")
+    terminal.enter("lookup_accounts id=1;", "history")
+
+
+def test_sessions(terminal):
+    terminal.enter("sessions", "no client is registered yet")
+    terminal.enter("client=9 lookup_accounts id=1;", "1 of 1 not found")
+    terminal.enter("sessions", "client 9: session 1, last request 1")
+
+
+def test_a_history_of_whole_statements(terminal, state, tbs):
+    terminal.enter("create_accounts id=1", ". ")
+    terminal.enter("ledger=1 code=1;", "1 of 1 account created")
+    terminal.wait("> ")
+    terminal.type("exit\r")
+    terminal.wait("exit again")
+    terminal.type("exit\r")
+    terminal.ended()
+    path = os.path.join(state, "telovamish", "history")
+    assert stat.S_IMODE(os.stat(path).st_mode) == 0o600
+    again = Terminal(state=state, env={"TBS": tbs})
+    again.wait("> ")
+    again.type("\x1b[A\x1b[A\x1b[A\r")  # behind two `exit`
+    again.wait("1 of 1 account created")
+    again.close()
+
+
+def test_statements_that_are_pasted(terminal):
+    terminal.type(f"\x1b[200~{ACCOUNTS}\n\tlookup_accounts\tid=1;\nlookup_accounts id=9;\x1b[201~")
+    terminal.wait("id=9;")
+    terminal.type("\r")
+    terminal.wait("2 of 2 accounts created")
+    terminal.wait("1 of 1 not found")
+
+
+@pytest.mark.parametrize("marks", [("", ""), ("\x1b[200~", "\x1b[201~")])
+def test_1000_events_that_are_pasted(terminal, marks):
+    """Without the terminal's marks too, in at most 5 seconds."""
+    events = ",\n".join(f"id={it} ledger=1 code=1" for it in range(1, 1001))
+    began = time.monotonic()
+    terminal.type(f"{marks[0]}create_accounts {events};{marks[1]}\r")
+    terminal.wait("1000 of 1000 accounts created")
+    assert time.monotonic() - began < 5
+
+
+def test_what_follows_a_wrong_statement_is_not_sent(terminal):
+    terminal.type(f"{ACCOUNTS} lookup_acounts id=1; lookup_accounts id=1;\r")
+    terminal.wait("2 of 2 accounts created")
+    terminal.wait("unknown operation 'lookup_acounts'; did you mean lookup_accounts?")
+    terminal.wait("telovamish: what follows it is not sent")
+    terminal.wait("\n> ")
+    terminal.enter("sessions", "client 1: session 1, last request 1")
+
+
+def test_a_moment_that_cannot_be_entered(terminal):
+    terminal.enter(
+        f"at={2**63} lookup_accounts id=1;", "telovamish: TimeExhausted: no entry has a later time"
+    )
+    terminal.wait("\n> ")
+    terminal.enter("lookup_accounts id=1;", "1 of 1 not found")
+
+
+@pytest.mark.parametrize("number", [signal.SIGHUP, signal.SIGTERM, signal.SIGQUIT])
+def test_a_signal_ends_it(terminal, number):
+    terminal.type("create_accounts id=1")
+    terminal.wait("id=1")
+    os.kill(terminal.child.pid, number)
+    assert terminal.ended() == 128 + number
+
+
+def test_it_stops_and_goes_on(terminal):
+    terminal.type("lookup_accounts id=1\x1a")
+    deadline = time.monotonic() + 10
+    while (
+        " T " not in open(f"/proc/{terminal.child.pid}/stat").read() and time.monotonic() < deadline
+    ):
+        time.sleep(0.05)
+    os.kill(terminal.child.pid, signal.SIGCONT)
+    terminal.type(";\r")
+    terminal.wait("1 of 1 not found")
+
+
+def test_a_server_that_ends_is_told(terminal):
+    terminal.enter("lookup_accounts id=1;", "1 of 1 not found")
+    (server,) = subprocess.run(
+        ["pgrep", "-P", str(terminal.child.pid)], capture_output=True, text=True
+    ).stdout.split()
+    os.kill(int(server), signal.SIGKILL)
+    terminal.enter(
+        "lookup_accounts id=1;", "the server ended, and its ledger with it: killed by SIGKILL"
+    )
+
+
+def test_a_prompt_is_there_soon(terminal):
+    """Within half a second of this process's own time, however busy the machine is."""
+    fields = open(f"/proc/{terminal.child.pid}/stat").read().rpartition(")")[2].split()
+    used = (int(fields[11]) + int(fields[12])) / os.sysconf("SC_CLK_TCK")
+    assert used < 0.5
