@@ -1,0 +1,14 @@
+pub mod Lists
+pub mod Frames
+pub mod Streams
+pub mod Own
+pub mod Fields
+pub mod Rooted
+pub mod Filled
+pub mod Alone
+pub mod Entered
+pub mod Networked
+pub mod Scripted
+pub mod Over
+pub mod Settled
+pub mod Worked

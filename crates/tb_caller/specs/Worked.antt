@@ -1,0 +1,50 @@
+-- A schedule in which a register and a lookup return: the premises of the laws can be met.
+-- Cited by public contracts of: laws.
+use Rattle.std.specs.Prelude.{ℕ, true, ◌≡◌, List, [], ◌∷◌, length, None}
+use Rattle.tb_records.specs.declared.bodies.Body.TheVariants.{Register, LookupAccounts}
+use Rattle.tb_records.specs.declared.limits.Profile.TheVariants.{One}
+use Rattle.tb_records.specs.Messages.{Message, Answer, asked}
+use Rattle.tb_machine.specs.declared.entries.Entry.{Entry}
+use Rattle.tb_machine.specs.Histories.{answer_to}
+use Rattle.tb_machine.specs.MarkedLaws.{next_in}
+use Rattle.tb_caller.specs.Endpoints.Act.{Call, Send, Hear, Store, Restart}
+use Rattle.tb_caller.specs.Networks.{Event, Runs, run, begun}
+use Rattle.tb_caller.specs.Networks.Event.{Client, Enter, Answer_by}
+
+abbrev pub register : Message
+register = asked 7 0 0 Register
+
+abbrev pub lookup : Message
+lookup = asked 7 1 1 (LookupAccounts (5 ∷ []))
+
+abbrev pub first : Entry
+first = record { commit = 1; time = 1; request = register }
+
+abbrev pub second : Entry
+second = record { commit = 2; time = 2; request = lookup }
+
+abbrev pub answer_in : List Entry → Message → Answer
+answer_in h r = answer_to (next_in One 4 None h) r
+
+-- the lookup's process ends while the lookup waits, and another one goes on; a stale NotYet comes between, and the frame comes twice
+abbrev pub events : List Event
+events =
+    Client 7 (Call Register)
+    ∷ Client 7 (Send register)
+    ∷ Enter first
+    ∷ Answer_by (first ∷ []) register
+    ∷ Client 7 (Hear (answer_in (first ∷ []) register))
+    ∷ Client 7 (Call (LookupAccounts (5 ∷ [])))
+    ∷ Client 7 Store
+    ∷ Client 7 (Send lookup)
+    ∷ Answer_by (first ∷ []) lookup
+    ∷ Enter second
+    ∷ Client 7 Restart
+    ∷ Client 7 (Send lookup)
+    ∷ Answer_by (first ∷ second ∷ []) lookup
+    ∷ Client 7 (Hear (answer_in (first ∷ []) lookup))
+    ∷ Client 7 (Hear (answer_in (first ∷ second ∷ []) lookup))
+    ∷ []
+
+abbrev pub BothReturn : Type 0
+BothReturn = Runs One 4 None (λ (id : ℕ). true) (begun []) events × (length ((run One 4 None (λ (id : ℕ). true) (begun []) events).clients 7).returned ≡ 2)

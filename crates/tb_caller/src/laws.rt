@@ -1,0 +1,61 @@
+//! The laws of a client, of a history, and of both with a network between them. A call does nothing; its promise is the law.
+ghost use Rattle.tb_caller.specs.CallLaws.{FieldsAreRight, InHistory, InLog, InScript, OneClient, OverForGood};
+ghost use Rattle.tb_caller.specs.Networks.{CallsOnce, NeverRefused};
+ghost use Rattle.tb_caller.specs.Streams.{ReadsWhatWasSent};
+ghost use Rattle.tb_caller.specs.Worked.{BothReturn};
+
+/// Whatever it hears, and wherever its process ends: all that a client sends is its one register, and calls of one session,
+/// no two with one number, numbers in the order of sending. Each has a frame. The session is that of a register's reply. A reply is taken
+/// for a request that was sent, and has its client and its number.
+pub fn one_client()
+    ensures { OneClient }
+{}
+
+/// `from_fields` takes the fields of each state that a client comes to.
+pub fn fields_are_right()
+    ensures { FieldsAreRight }
+{}
+
+/// Of a server that sent the frames of some replies, one after another, or a prefix of these bytes, no other reply is read.
+pub fn reads_what_was_sent()
+    ensures { ReadsWhatWasSent }
+{}
+
+/// In a legal history into which nothing of a client was invented: what returned a reply that was given after a prefix of
+/// the history is there once, and its entry gave this reply; any other call is there at most once; calls are in their order.
+pub fn in_history()
+    ensures { InHistory }
+{}
+
+/// The same for a server that reads a script of what was sent after a legal history, by the replies to it.
+pub fn in_script()
+    ensures { InScript }
+{}
+
+/// The same for several machines that read one log, each up to a place of its own, by the replies of any of them.
+pub fn in_log()
+    ensures { InLog }
+{}
+
+/// Once a client's session was said to be over, after a prefix of the history that has its register, no call under it is
+/// entered any more: what is in the history by then is all that ever will be.
+pub fn over_for_good()
+    ensures { OverForGood }
+{}
+
+/// Both ends together, with frames between them: any number of clients with ids of their own, whatever the network loses, repeats or
+/// delays, and whoever else uses the server.
+pub fn calls_once()
+    ensures { CallsOnce }
+{}
+
+/// While its session is in the server's table, the call that a client waits for is entered next, or has its reply: one more sending
+/// finds out which, and is refused only if there is no time left.
+pub fn never_refused()
+    ensures { NeverRefused }
+{}
+
+/// A schedule in which a register and a lookup return.
+pub fn both_return()
+    ensures { BothReturn }
+{}

@@ -1,0 +1,18 @@
+//! One client's session as data: what it may send, and what it takes for a reply.
+//!
+//! - `faults`: `CallFault`, why a call makes no request; `FieldFault`, why stored fields are those of no client.
+//! - `callers`: `Caller`, the state of a session, which calls and replies move on, as values or as frames.
+//! - `laws`: the laws of a client, a network and a server: functions that do nothing.
+//! - `tests`: one client by frames, and stored fields.
+//!
+//! specs/Clients is the model of `Caller`: what each call and each reply makes of it.
+#![tactic(auto)]
+
+mod callers;
+mod faults;
+pub mod laws;
+#[cfg(test)]
+mod tests;
+
+pub use callers::{Caller, Heard, Phase};
+pub use faults::{CallFault, FieldFault};

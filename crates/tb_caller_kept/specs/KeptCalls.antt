@@ -1,0 +1,50 @@
+-- A client of a ledger in a file, across crashes.
+-- Cited by public contracts of: laws.
+use Rattle.std.specs.Prelude.{ℕ, ◌≡◌, ◌⊎◌, List, [], ◌∷◌, None}
+use Rattle.tb_records.specs.Messages.{Message, Answer}
+use Rattle.tb_records.specs.Ordered.{Each}
+use Rattle.tb_journal.specs.Device.{Disk}
+use Rattle.tb_journal.specs.Contents.{recorded}
+use Rattle.tb_machine.specs.Scripts.{Pair}
+use Rattle.tb_keep.specs.Keeping.{History, state_of, records_of, IsKeepable, IsLedger}
+use Rattle.tb_keep.specs.Rounds.{Standing, AreServed}
+use Rattle.tb_keep.specs.Moments.{Backs}
+use Rattle.tb_caller.specs.Endpoints.{IsAmong}
+use Rattle.tb_caller.specs.Streams.{IsReadIn}
+use Rattle.tb_caller.specs.Calls.{AreOfOne, IsTaken, NoneInvented, CallsHold}
+
+-- a run of a keeper: where it began, all pairs that it read, and, when it ended or crashed, its file and the bytes that it had sent
+pub record Run (D : Type 0) : Type 0 where
+  pub first : Standing D
+  pub all : List Pair
+  pub file : List ℕ
+  pub bytes : List ℕ
+
+-- the reply was read from what one of the runs sent
+abbrev pub WasSentIn : {D : Type 0} → List (Run D) → Answer → Type 0
+WasSentIn [] a = ⊥
+WasSentIn (r ∷ runs) a = IsReadIn r.bytes a ⊎ WasSentIn runs a
+
+module _ (tells : Type 0) {D : Type 0} (disk : D → Disk) where
+  -- it began with the file of a history, and whatever it acknowledged is in the file that it left
+  pub record IsRunFrom (h : History) (r : Run D) : Type 0 where
+    pub began : recorded (disk r.first.device).seen ≡ records_of h
+    pub state : r.first.state ≡ state_of h
+    pub served : AreServed r.first.state r.all
+    pub backs : Backs tells disk r.first r.all r.file r.bytes
+
+  -- runs one after another: each begins with what the file of the one before it represents
+  abbrev pub AreRuns : History → List (Run D) → History → Type 0
+  AreRuns h [] k = h ≡ k
+  AreRuns h (r ∷ runs) k = (m : History) × IsRunFrom h r × IsLedger m r.file × AreRuns m runs k
+
+  abbrev pub AcrossCrashes : Type 0
+  AcrossCrashes = (h k : History) (runs : List (Run D)) (id : ℕ) (sent : List Message) (returned : List (Message × Answer))
+      → IsKeepable h
+      → AreRuns h runs k
+      → AreOfOne id sent
+      → NoneInvented id sent h.entries
+      → Each (λ (r : Run D). Each (λ (p : Pair). p.1.client ≡ id → IsAmong p.1 sent) r.all) runs
+      → Each (IsTaken sent) returned
+      → Each (λ (p : Message × Answer). WasSentIn runs p.1) returned
+      → CallsHold k.profile k.clients_max None id k.entries sent returned

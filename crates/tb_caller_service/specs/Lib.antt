@@ -1,0 +1,2 @@
+pub mod SeatCalls
+pub mod PortCalls

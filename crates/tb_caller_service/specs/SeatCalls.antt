@@ -1,0 +1,25 @@
+-- A client of seats.
+-- Cited by public contracts of: laws.
+use Rattle.std.specs.Prelude.{ℕ, List, None}
+use mathlib.Core.List.{IsPrefix}
+use Rattle.tb_records.specs.Messages.{Message, Answer}
+use Rattle.tb_records.specs.Ordered.{Each}
+use Rattle.tb_machine.specs.declared.entries.Entry.{Entry}
+use Rattle.tb_published.specs.Openings.{Opening, LegalIn, AnswersIn}
+use Rattle.tb_caller.specs.Calls.{AreOfOne, IsTaken, NoneInvented, CallsHold}
+
+-- what a seat answered that had seen a prefix of the history, as its contract says it
+pub record IsFromSeat (o : Opening) (h : List Entry) (a : Answer) : Type 0 where
+  pub seen : List Entry
+  pub request : Message
+  pub prefix : IsPrefix seen h
+  pub answers : AnswersIn o seen request a
+
+abbrev pub InSeats : Type 0
+InSeats = (o : Opening) (h : List Entry) (id : ℕ) (sent : List Message) (returned : List (Message × Answer))
+    → LegalIn o h
+    → AreOfOne id sent
+    → NoneInvented id sent h
+    → Each (IsTaken sent) returned
+    → Each (λ (p : Message × Answer). IsFromSeat o h p.1) returned
+    → CallsHold o.profile o.clients_max None id h sent returned
