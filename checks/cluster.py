@@ -12,10 +12,11 @@ until they have the reply. PROGRAM names the server, tb_script where nothing is 
 The parts: `faults` (24 clients, faults of all kinds), `evictions` (80 clients where 64 may have a
 session), `trim` (amid faults; a replica that comes too late, and a copy of a peer), `copies` (one
 that is torn, and a damaged one), `full` (etcd's quota), `starts` (a clock an hour ahead, other
-rules, no log), `wrong` (four wrong replicas, which the part `faults` has to find), `postgresql`,
-`access` (TLS and passwords), and where it is named `rates` (next to the listener over tbd). Where
-etcd, PostgreSQL, one of their Python packages or the server is not there, parts are skipped by
-name. --replica runs another replica in the place of the right one: a KIND of
+rules, no log), `outage` (of all replicas, and a clock an hour ahead at the first start), `rot` and
+`rows` (bits that disks have changed), `wrong` (four wrong replicas, which the part `faults` has to
+find), `postgresql`, `access` (TLS and passwords), and where it is named `rates` (next to the
+listener over tbd). Where etcd, PostgreSQL, one of their Python packages or the server is not there,
+parts are skipped by name. --replica runs another replica in the place of the right one: a KIND of
 checks/clusters/wrong_replica.py. --follow gives the replicas another server, which takes entries
 with their positions. --kept names a server that keeps its ledger in a file, as tbd, for the part
 `kept`: kills, restarts, a late replica, a trimmed log, and files that are refused. --show prints
@@ -26,6 +27,7 @@ Prints a line for each case; ends in 'N passed, M failed'.
 import argparse
 import contextlib
 import os
+import re
 import shutil
 import signal
 import statistics
@@ -51,6 +53,7 @@ sys.path[:0] = [f"{TOP}/checks/clusters", f"{TOP}/checks"]
 import agreement  # noqa: E402
 import kept  # noqa: E402
 import rates  # noqa: E402
+import rot  # noqa: E402
 import show  # noqa: E402
 import tried  # noqa: E402
 from access import Closed  # noqa: E402
@@ -291,6 +294,66 @@ def part_starts(given):
         case("starts: status without a log", status == 20, said.strip())
 
 
+def part_outage(given):
+    """All replicas were down. The first one that starts has a clock an hour ahead."""
+    with cluster_of(given) as cluster:
+        traffic = Traffic(cluster.tcp, 4, pause=0.05)
+        traffic.open_accounts()
+        third, right = cluster.replicas[2], cluster.replicas[2].words
+        wrong = cluster.replica_words(2, ["-B", HOW, "clock_ahead"])
+        alone = cluster.replica_words(2, ["-B", HOW, "clock_ahead"], ["--alone"])
+        ended = [it.end() for it in cluster.replicas]
+        case("outage: each replica ends with status 0", not any(ended), str(ended))
+        before, third.words = len(cluster.script()), wrong
+        third.start()
+        until(lambda: "waits: no other" in third.said(third.since), 90, "it says that it waits")
+        time.sleep(5)
+        said, entries = third.said(third.since), len(cluster.script()) - before
+        waits = third.runs() and not third.listens() and not entries
+        case("outage: it waits", waits, said.strip())
+        for it in cluster.replicas[:2]:
+            it.start()
+        for at in (0, 1):
+            cluster.until_listens(at)
+        case("outage: it ends once others answer", third.process.wait(60) == 27, last(third))
+        traffic.start()
+        way_back(cluster, traffic, alone, right)
+        agree("outage", cluster, traffic)
+
+
+def way_back(cluster, traffic, alone, right):
+    """The log is an hour ahead: a replica served alone by such a clock. CLUSTER.md has the way."""
+    until(lambda: traffic.made > 20, 60, "transfers")
+    for it in cluster.replicas[:2]:
+        it.end()
+    third = cluster.replicas[2]
+    third.words = alone
+    third.start()
+    cluster.until_listens(2)
+    before = traffic.made
+    until(lambda: traffic.made > before + 20, 60, "transfers of an hour ahead")
+    time.sleep(11)  # a replica reports every 10 seconds
+    third.end()
+    third.words = right
+    cluster.replicas[0].start()
+    ahead = cluster.replicas[0].process
+    until(lambda: "ahead of this computer's clock" in cluster.replicas[0].said(), 60, "it refuses")
+    case("outage: a right clock is refused", not cluster.replicas[0].listens(), str(ahead.poll()))
+    status, said = cluster.part("status", "--log", cluster.log())
+    found = re.search("the log is ([0-9]+) s ahead of this computer's clock", said)
+    case("outage: status tells how far the log is ahead", status == 0 and found, said.strip())
+    for it in cluster.replicas:
+        it.kill()
+        at = it.words.index("--copy")
+        it.words = [*it.words[:at], "--ahead", str(int(found[1]) + 60), *it.words[at:]]
+        it.start()
+    for at in range(cluster.count):
+        cluster.until_listens(at)
+    before = traffic.made
+    until(lambda: traffic.made > before + 20, 60, "transfers go on")
+    case("outage: --ahead is the way back", all(it.runs() for it in cluster.replicas))
+
+
 def part_wrong(given):
     """Each wrong replica is found by the part `faults`."""
     for kind in WRONG:
@@ -347,6 +410,134 @@ def rows_without_a_standby(cluster, traffic):
     case("postgresql: nothing of them is answered", answered == 0, f"{answered} are answered")
     standby.send(signal.SIGCONT)
     standby.signal_server(signal.SIGCONT)
+
+
+def begin_again(cluster, at, is_empty=True):
+    """Starts a replica, without what it had where that is to be empty."""
+    it = cluster.replicas[at]
+    it.kill()
+    if is_empty:
+        shutil.rmtree(cluster.copy(at), ignore_errors=True)
+        shutil.rmtree(f"{cluster.folder}/ledger{at}", ignore_errors=True)
+    it.start()
+
+
+def goes_on_by_others(name, cluster, at, count):
+    """A replica that reads of rotten nodes serves, and names each of them once."""
+    cluster.until_listens(at)
+    said = cluster.replicas[at].said(cluster.replicas[at].since)
+    named = re.findall("([^ ]+) is rotten", said)
+    case(
+        f"{name}: the replica serves, and names {count} rotten",
+        len(named) == len(set(named)) == count and cluster.replicas[at].runs(),
+        " ".join(named) or last(cluster.replicas[at]),
+    )
+
+
+def change_nodes(cluster, files, ats, first):
+    """Changes entries on nodes while these are down: one bit in each part, each node another. Says
+    what could not be changed."""
+    script = cluster.script()
+    for at in ats:
+        cluster.nodes[at].kill()
+        missed = rot.change_entries(files(cluster, at), script, first, at)
+        case(f"rot: each part is changed on node {at}", not missed, " ".join(missed))
+        cluster.nodes[at].start()
+        until(lambda: cluster.is_up(at), 60, "the node is up")
+
+
+def part_rot(given):
+    """Bits that disks have changed: on one node, on two of three, on all, and in a copy."""
+    with cluster_of(given) as cluster:
+        cluster.shown = 2
+        traffic = Traffic(cluster.tcp, 6, pause=0.03, spread=True)
+        traffic.open_accounts()
+        traffic.start()
+        until(lambda: traffic.made > 600, 60, "transfers")
+        time.sleep(2)
+        began = time.monotonic()
+        change_nodes(cluster, rot.files_of_etcd, [0], 20)
+        begin_again(cluster, 0)
+        goes_on_by_others("rot: one node", cluster, 0, 1)
+        change_nodes(cluster, rot.files_of_etcd, [0, 1], 60)
+        for at, count in ((0, 2), (1, 1)):  # the second one reads on at the node that is right
+            begin_again(cluster, at)
+            goes_on_by_others(f"rot: two nodes of three, replica {at}", cluster, at, count)
+        rotten_keys(cluster)
+        rotten_copy(cluster)
+        rotten_everywhere(cluster, traffic)
+        waited = max(traffic.waits_between(began, time.monotonic()))
+        print(f"  a client waited {waited:.1f} s at most, {traffic.made} transfers")
+        agree("rot", cluster, traffic, trimmed=True)
+
+
+def rotten_keys(cluster):
+    """A node has an entry by a key that is none of an entry's."""
+    entry = cluster.script()[40]
+    cluster.nodes[0].kill()
+    found = rot.change_key(rot.files_of_etcd(cluster, 0), entry, 1)
+    cluster.nodes[0].start()
+    until(lambda: cluster.is_up(0), 60, "the node is up")
+    begin_again(cluster, 0)
+    cluster.until_listens(0)
+    case("rot: an entry by another key", found and cluster.replicas[0].runs())
+
+
+def rotten_copy(cluster):
+    """A replica whose own copy has another bit ends, and goes on with a peer's."""
+    it = cluster.replicas[1]
+    it.end()
+    kept.flip(f"{cluster.copy(1)}/log", 5000)
+    it.start()
+    case("rot: a copy", it.process.wait(60) == 24, last(it))
+    others = all(some.runs() for some in cluster.replicas if some is not it)
+    case("rot: the others go on beside a damaged copy", others)
+    take_a_peers(cluster, 1)
+
+
+def take_a_peers(cluster, at):
+    shutil.rmtree(cluster.copy(at))
+    status, said = cluster.part("copy-from", cluster.copy((at + 1) % 3), "--copy", cluster.copy(at))
+    case("rot: a copy of a peer", status == 0, said.strip())
+    cluster.replicas[at].start()
+    cluster.until_listens(at)
+
+
+def rotten_everywhere(cluster, traffic):
+    """An entry that no node has as it was written. Who begins without it ends, and no other."""
+    entry = cluster.script()[100]
+    for at, node in enumerate(cluster.nodes):
+        node.kill()
+        found = rot.change(rot.files_of_etcd(cluster, at), entry, 150 + at, 3)
+        case(f"rot: all nodes, changed on node {at}", found)
+        node.start()
+        until(lambda: cluster.is_up(at), 60, "the node is up")
+    begin_again(cluster, 2)
+    it, before = cluster.replicas[2], traffic.made
+    case("rot: all nodes, who reads it ends", it.process.wait(90) == 28, last(it))
+    until(lambda: traffic.made > before + 100, 60, "transfers go on")
+    others = all(some.runs() for some in cluster.replicas[:2])
+    case("rot: all nodes, the others go on", others)
+    take_a_peers(cluster, 2)
+
+
+def part_rows(given):
+    """Bits that the disk of PostgreSQL's primary has changed. The standby has the rows."""
+    with cluster_of(given, kind=Postgres) as cluster:
+        traffic = Traffic(cluster.tcp, 4, pause=0.03, spread=True)
+        traffic.open_accounts()
+        traffic.start()
+        until(lambda: traffic.made > 400, 60, "transfers")
+        script, primary = cluster.script(), cluster.nodes[0]
+        cluster.asked("CHECKPOINT")
+        primary.kill()
+        files = rot.files_of_postgresql(cluster, 0)
+        missed = rot.change_entries(files, script, 20, 0)
+        case("rows: each part is changed", not missed, " ".join(missed))
+        primary.start()
+        begin_again(cluster, 0)
+        goes_on_by_others("rows: the standby has them", cluster, 0, 1)
+        agree("rows", cluster, traffic, trimmed=True)
 
 
 def part_access(given):
@@ -541,6 +732,9 @@ PARTS = {
     "copies": part_copies,
     "full": part_full,
     "starts": part_starts,
+    "outage": part_outage,
+    "rot": part_rot,
+    "rows": part_rows,
     "wrong": part_wrong,
     "postgresql": part_postgresql,
     "access": part_access,
@@ -609,7 +803,7 @@ def main():
     skipped = []
     usual = ["kept"] if given.kept else [it for it in PARTS if it not in APART]
     for name in given.only or usual:
-        lacks = missing("postgresql" if name == "postgresql" else "etcd")
+        lacks = missing("postgresql" if name in ("postgresql", "rows") else "etcd")
         if lacks:
             print(f"skipped: {name} (not there: {', '.join(lacks)})")
             skipped.append(name)

@@ -219,7 +219,7 @@ class Cluster(Machines):
         is_linked=True,
         keeps_replies=True,
     ):
-        self.quota = quota
+        self.quota, self.shown = quota, 0  # `shown` is the node whose log is shown
         take = iter(free_ports(3 * count + count * count)).__next__
         self.serves, self.peers = [[take() for _ in range(count)] for _ in range(2)]
         self.peer_links = [take() for _ in range(count)]
@@ -275,6 +275,18 @@ class Cluster(Machines):
                         return at
         return None
 
+    def is_up(self, at):
+        """Whether a node answers, and has a leader."""
+        import etcd3.etcdrpc as rpc
+        import grpc
+
+        with self.channel(self.serves[at]) as channel:
+            with contextlib.suppress(grpc.RpcError):
+                asked = rpc.StatusRequest()
+                more = self.metadata(channel)
+                return bool(rpc.MaintenanceStub(channel).Status(asked, 1, metadata=more).leader)
+        return False
+
     def channel(self, port):
         import grpc
 
@@ -285,10 +297,10 @@ class Cluster(Machines):
         return []
 
     def script(self):
-        """The agreed script: the pairs of each entry, read without the replicas' code for that."""
+        """The entries of the log, read without the replicas' code for that."""
         import etcd3.etcdrpc as rpc
 
-        with self.channel(self.serves[0]) as channel:
+        with self.channel(self.serves[self.shown]) as channel:
             request = rpc.RangeRequest(key=b"bank/log/", range_end=b"bank/log0")
             more = self.metadata(channel)
             found = rpc.KVStub(channel).Range(request, timeout=60, metadata=more).kvs
@@ -323,7 +335,9 @@ class Postgres(Machines):
         subprocess.run(self.words(*words), cwd="/", check=True, capture_output=True, timeout=120)
 
     def log(self, _=None):
-        return f"postgresql://127.0.0.1:{self.ports[0]}/postgres/bank"
+        """The standby's address is for reading what the primary has no more."""
+        places = ",".join(f"127.0.0.1:{it}" for it in self.ports)
+        return f"postgresql://{places}/postgres/bank"
 
     def replica_words(self, at, words, more=()):
         return super().replica_words(at, words, ["--log-user", "postgres", *more])
@@ -358,7 +372,8 @@ class Postgres(Machines):
 
         place = f"host=127.0.0.1 port={self.ports[0]} user=postgres dbname=postgres"
         with psycopg.connect(place, autocommit=True) as it:
-            return it.execute(query).fetchall()
+            cursor = it.execute(query)
+            return cursor.fetchall() if cursor.description else []
 
     def script(self):
         return [bytes(it[0]) for it in self.asked("SELECT entry FROM bank_log ORDER BY position")]

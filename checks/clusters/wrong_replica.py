@@ -17,7 +17,7 @@ import time
 sys.path.insert(0, os.getcwd())
 
 from tb_client import Operation  # noqa: E402
-from tb_host import machines, replica  # noqa: E402
+from tb_host import machines, moments, replica  # noqa: E402
 from tb_host.entries import Entry  # noqa: E402
 from tb_host.log import Written  # noqa: E402
 
@@ -38,12 +38,12 @@ def executes_early():
 def replies_early():
     def early(self, frame, answered):
         if frame[28] != Operation.create_transfers:
-            ask(self, frame, answered)
-            return
-        ask(self, frame, lambda *_: None)
+            return ask(self, frame, answered)
+        abandon = ask(self, frame, lambda *_: None)
         session = struct.unpack_from("<Q", frame, 16)[0]
         place = struct.pack("<BHIQI", 0, 0, 0, session + 1 + self.copy.position, 0)
         asyncio.get_running_loop().call_soon(answered, frame[:29] + place, "")
+        return abandon
 
     async def late(self, number, data):
         await asyncio.sleep(LATE)
@@ -86,6 +86,7 @@ def takes_twice_at_restart():
 def clock_ahead():
     now = time.time_ns
     time.time_ns = lambda: now() + 3600 * 10**9
+    moments.Moments.__init__.__defaults__ = (0, time.time_ns, moments.running_ns)
     replica.CLOCK = 2.0  # seconds in which nobody sets it right
 
 

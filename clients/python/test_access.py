@@ -157,11 +157,12 @@ class OverTLS(unittest.TestCase):
                     self.fault(place, name, client)
                 listener.terminate()
                 self.assertEqual(listener.wait(20), 0)
-                said = [json.loads(it) for it in lines]
+                *said, stop = [json.loads(it) for it in lines]
         self.assertEqual(
             [it["text"].partition(": ")[2] for it in said],
             ["TLS: certificate has expired", "NotAllowed", "ClientNotAllowed"],
         )
+        self.assertIn("has stopped: Stopping; ", stop["text"])
         for it, shown in zip(said, ("", r" \(client\)", r" \(billing\)")):
             self.assertRegex(it["peer"], rf"^127\.0\.0\.1:[0-9]+{shown}$")
 

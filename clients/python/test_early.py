@@ -78,8 +78,6 @@ class Loading(unittest.TestCase):
         for code, words in (
             (commands["tb-replica"], status),
             (AS_MODULE.format("tb_host.machines"), status),
-            (commands["tb-repl"], []),
-            (AS_MODULE.format("tb_repl"), []),
         ):
             with self.subTest(code):
                 found = self.ends(code, words, FIRST, signal.SIGINT)

@@ -3,8 +3,11 @@
 import argparse
 import asyncio
 import contextlib
+import copy
 import errno
+import functools
 import glob
+import hashlib
 import importlib.util
 import io
 import json
@@ -26,17 +29,18 @@ from unittest import mock
 
 from tb_client.frames import asker, reply_fault, request_frame
 from tb_client.names import Operation
-from tb_host import backlog, checksums, connections, faults, listen, log, machines, replica
+from tb_host import backlog, checksums, connections, faults, listen, log, machines, nodes, replica
 from tb_host import status as parts_of_status
 from tb_host.backlog import Backlog, Checkpoint
 from tb_host.connections import Connection
-from tb_host.entries import MOMENT_MAX, NOTHING, Claim, Entry, askers, chained, test_pairs
+from tb_host.entries import MOMENT_MAX, NOTHING, Claim, Entry, askers, chained, tested_askers
 from tb_host.faults import Fault
 from tb_host.follower import Follower
+from tb_host.heads import head_of
 from tb_host.lines import Ended, Told
 from tb_host.local_copy import Copy, copied, kept
 from tb_host.log import Access, LogFull, LogGone, NoLog, Report, Written
-from tb_host.replica import Replica, head_of
+from tb_host.replica import Replica
 from tb_host.taken import Taken
 
 HERE = os.path.dirname(os.path.abspath(__file__))
@@ -169,10 +173,20 @@ class MemoryLog:
         self.kept = {}
         self.start = self.more = 0  # up to where it was trimmed, and places before its items
         self.at, self.is_read_back = 0, False  # what was read; whether an own entry is read back
+        # its nodes, from the one that is read on; what they have in another way, by its place; and
+        # those that do not answer
+        self.places, self.changed, self.away = ["n0", "n1", "n2"], {}, set()
+        self.passed = []  # what was taken as another node has it
+        self.time = None  # what its own clock tells, if it has one
 
     async def head(self, wanted):
         self._test()
-        self.heads = self.heads or [wanted]
+        self.heads = self.heads or ([wanted] if wanted else [])
+        return self.heads[0] if self.heads else b""
+
+    async def change_head(self, before, after):
+        if self.heads == [before]:
+            self.heads = [after]
         return self.heads[0]
 
     def _test(self):
@@ -205,8 +219,35 @@ class MemoryLog:
                 self.grown.clear()
                 await self.grown.wait()
             at = self.at + 1
-            yield self.items[at - 1]
+            it = self._as_at(self.places[0], at)
+            if isinstance(it, Report) or it.data is not None:  # else this node has lost it
+                self.is_passed = False
+                yield it
+                if self.is_passed:
+                    continue
             self.at = max(self.at, at)
+
+    def _as_at(self, node, place):
+        """What a node has at a place."""
+        it = self.items[place - 1]
+        if isinstance(it, Report):
+            return it
+        return Written(place, self.changed.get((node, place), it.data), node)
+
+    def nodes(self):
+        return [*self.places[1:], self.places[0]]
+
+    async def seen(self, node, place):
+        for at in range(place + 1, len(self.items) + 1):
+            if node in self.away:
+                return
+            it = self._as_at(node, at)
+            if isinstance(it, Written) and it.data is not None:
+                yield it
+
+    def pass_to(self, it):
+        self.passed.append(it)
+        self.at, self.is_passed = it.place, True
 
     def look_elsewhere(self):
         pass
@@ -220,6 +261,9 @@ class MemoryLog:
     async def reports(self):
         return self.kept
 
+    async def clock(self):
+        return self.time and self.time()
+
     async def last(self):
         return len(self.items) + self.more
 
@@ -229,16 +273,38 @@ class MemoryLog:
 
 class Entries(unittest.TestCase):
     def test_bytes(self):
+        """Of both formats. The second one has the SHA-256 of its magic and of all after that."""
         it = entry(A, 7, pair(5, register(9)), position=3, digest=b"d" * 32, answered=2)
-        self.assertEqual(Entry.from_bytes(it.to_bytes()), it)
-        for data in (b"", it.to_bytes()[:100], b"X" + it.to_bytes()[1:]):
+        rest = A + struct.pack("<QQ", 7, 3) + b"d" * 32 + struct.pack("<Q", 2) + NOTHING + it.pairs
+        self.assertEqual(it.to_bytes(1), b"TBENTRY1" + rest)
+        digest = hashlib.sha256(b"TBENTRY2" + rest).digest()
+        self.assertEqual(it.to_bytes(2), b"TBENTRY2" + digest + rest)
+        self.assertEqual(it.to_bytes(), it.to_bytes(2))
+        for data in (it.to_bytes(1), it.to_bytes(2)):
+            self.assertEqual(Entry.from_bytes(data), it)
+            self.assertEqual(Entry.parted(data), it)
+            for wrong in (b"", data[:100], b"X" + data[1:], data[:8]):
+                with self.assertRaisesRegex(ValueError, "it has no head of an entry"):
+                    Entry.from_bytes(wrong)
+
+    def test_each_bit_of_an_entry(self):
+        """One that was changed is none, whichever it is."""
+        data = entry(
+            A, 7, pair(5, register(9)), position=3, digest=b"d" * 32, answered=2
+        ).to_bytes()
+        for at in range(8 * len(data)):
+            changed = bytearray(data)
+            changed[at // 8] ^= 1 << at % 8
             with self.assertRaises(ValueError):
-                Entry.from_bytes(data)
+                Entry.from_bytes(bytes(changed))
+        for cut in range(len(data)):
+            with self.assertRaises(ValueError):
+                Entry.from_bytes(data[:cut])
 
     def test_pairs_that_would_end_a_server(self):
         right = pair(5, register(9))
         both = right + pair(MOMENT_MAX, register(8))
-        self.assertEqual(test_pairs(1, both), askers(both))
+        self.assertEqual(tested_askers(both), askers(both))
         for wrong, said in (
             (pair(MOMENT_MAX + 1, register(9)), f"its moment is {MOMENT_MAX + 1}"),
             (pair(5, bytes(48)), "ClientZero"),
@@ -246,11 +312,8 @@ class Entries(unittest.TestCase):
             (right + right[:3], "not whole"),
             (pair(5, register(9)[:32] + b"\1" + register(9)[33:]), "not whole"),
         ):
-            with self.assertRaises(Fault) as found:
-                test_pairs(4, right + wrong)
-            self.assertEqual(found.exception.name, "BadEntry")
-            self.assertIn(said, str(found.exception))
-            self.assertIn("the entry at 4", str(found.exception))
+            with self.assertRaisesRegex(ValueError, said):
+                tested_askers(right + wrong)
 
 
 class Copies(unittest.TestCase):
@@ -525,6 +588,14 @@ class Replies(unittest.IsolatedAsyncioTestCase):
         self.assertTrue(any(found) and not all(found))
 
 
+def put(said, revision, key, value):
+    """Adds a change to what a watch says, as etcd does. Answers its key."""
+    pair = said.events.add().kv
+    pair.key, pair.value, pair.create_revision, pair.mod_revision = key, value, revision, revision
+    said.header.revision = revision
+    return pair
+
+
 @unittest.skipUnless(importlib.util.find_spec("etcd3"), "python3-etcd3 is not there")
 class Etcd(unittest.IsolatedAsyncioTestCase):
     def test_a_request_that_is_made_once(self):
@@ -739,18 +810,39 @@ class Etcd(unittest.IsolatedAsyncioTestCase):
         right, entry = etcd.rpc.WatchResponse(), b"bank/log/%032d/%020d" % (1, 1)
         page = etcd.rpc.RangeResponse()
         for at, key in enumerate((b"bank/log/x", b"bank/log/7", entry, entry + b"1")):
-            pair = right.events.add().kv
-            pair.mod_revision, pair.key, pair.value = 3 + at, key, b"it"
+            put(right, 3 + at, key, b"it")
             page.kvs.add(key=key, create_revision=3 + at)
         page.header.revision = 9
         log = await self.watched([right])
         reading = log.read(0)
         with contextlib.redirect_stderr(io.StringIO()) as said:
-            self.assertEqual(await asyncio.wait_for(reading.__anext__(), 9), Written(5, b"it"))
+            found = await asyncio.wait_for(reading.__anext__(), 9)
+            self.assertEqual(found, Written(5, b"it", log.addresses[0].place))
             await reading.aclose()
             with mock.patch.object(log, "_call", mock.AsyncMock(return_value=page)):
                 self.assertEqual(await log._keys_behind(0), (9, [(5, entry)]))
         self.assertIn("the key b'bank/log/x' is no entry's, and is passed over", said.getvalue())
+
+    async def test_what_a_disk_has_made_of_a_key(self):
+        """An entry by another key is read. One with two revisions, and what is beyond the log's own
+        one, is none: it is read elsewhere."""
+        from tb_host import etcd
+
+        log, data = etcd.EtcdLog([("a", 1)], "bank", Access()), entry(A, 1).to_bytes()
+        log.cursor, place = 4, log.addresses[0].place
+        for key, value, create, mod, found in (
+            (b"bank/log/%032d/%020d" % (1, 1), data, 5, 5, Written(5, data, place)),
+            (b"bank/log/%032d/x0" % 1, data, 5, 5, Written(5, data, place)),
+            (b"bank/mog/%032d/%020d" % (1, 1), data, 5, 5, Written(5, data, place)),
+            (b"bank/log/%032d/%020d" % (1, 1), data, 5, 7, Written(5, b"", place)),
+            (b"bank/at/r0", b"{}", 5, 7, Report("r0", b"{}")),
+            (b"bank/at/r0", b"{}", 5, 10, Written(5, b"", place)),
+            (b"bank/ab/r0", b"{}", 5, 7, None),
+        ):
+            pair = put(etcd.rpc.WatchResponse(), 0, key, value)
+            pair.create_revision, pair.mod_revision = create, mod
+            self.assertEqual(log._item(pair, place, 9), found, key)
+        await log.close()
 
     async def test_a_long_log_is_listed(self):
         """In pages, each of which has time: etcd took more than two seconds for a list of all keys,
@@ -862,7 +954,7 @@ class Etcd(unittest.IsolatedAsyncioTestCase):
         async with self.beside_a_lost_one(settings, sooner) as it:
             reading = it.read(0)
             found = await asyncio.wait_for(reading.__anext__(), 10)
-            self.assertEqual(found, Written(3, b"an entry"))
+            self.assertEqual(found[:2], (3, b"an entry"))
             await reading.aclose()
 
     async def test_it_is_read_elsewhere_amid_a_connection(self):
@@ -879,7 +971,7 @@ class Etcd(unittest.IsolatedAsyncioTestCase):
             await asyncio.wait([first], timeout=10)
             is_late = not first.done()
             first.cancel()  # one that waits goes on elsewhere then
-            self.assertEqual(await first, Written(3, b"an entry"))
+            self.assertEqual((await first)[:2], (3, b"an entry"))
             self.assertFalse(is_late)
             await reading.aclose()
 
@@ -896,8 +988,7 @@ class Etcd(unittest.IsolatedAsyncioTestCase):
 
         async def watch(*_):
             said = etcd.rpc.WatchResponse()
-            pair = said.events.add().kv
-            pair.mod_revision, pair.key, pair.value = 3, b"bank/log/0/%020d" % 1, b"an entry"
+            put(said, 3, b"bank/log/0/%020d" % 1, b"an entry")
             yield said
             await asyncio.sleep(60)
 
@@ -946,8 +1037,7 @@ class Etcd(unittest.IsolatedAsyncioTestCase):
 
         right, found = etcd.rpc.WatchResponse(), etcd.rpc.RangeResponse()
         for at, key in enumerate((b"bank/at/\xff", b"bank/at/r0")):
-            pair = right.events.add().kv
-            pair.mod_revision, pair.key, pair.value = 3 + at, key, b"{}"
+            put(right, 3 + at, key, b"{}")
             found.kvs.add(key=key, value=b"{}")
         log = await self.watched([right])
         reading = log.read(0)
@@ -991,8 +1081,7 @@ class Etcd(unittest.IsolatedAsyncioTestCase):
 
         refused, right = (etcd.rpc.WatchResponse(created=True) for _ in range(2))
         refused.canceled, refused.cancel_reason = True, "permission denied"
-        pair = right.events.add().kv
-        pair.mod_revision, pair.key, pair.value = 3, b"bank/log/0/%020d" % 1, b"an entry"
+        put(right, 3, b"bank/log/0/%020d" % 1, b"an entry")
         log = await self.watched([refused], [refused], [right], [])
         reading = log.read(0)
         with contextlib.redirect_stderr(io.StringIO()) as told:
@@ -1211,7 +1300,7 @@ class PostgreSQL(unittest.IsolatedAsyncioTestCase):
             found = await self.first_read(full, [(1, b"an entry", "0/1")])
         self.assertEqual(found, Written(1, b"an entry"))
         self.assertIn("the log is not read: No space left on device", told.getvalue())
-        given = machines._status_words(["--log", "postgresql://127.0.0.1:1/postgres/bank"])
+        given = machines._log_words("status", ["--log", "postgresql://127.0.0.1:1/postgres/bank"])
         for fault, status in ((LogFull("it is full"), 26), (NoLog("it is away"), 20)):
             with self.assertRaises(Fault) as found:
                 await machines._with_log(given, mock.AsyncMock(side_effect=fault))
@@ -1374,7 +1463,7 @@ class OverALog(unittest.IsolatedAsyncioTestCase):
 
     def made(self, name="r0", **more):
         given = dict(command=COMMAND, slow=5.0, patience=0.5, ahead=60.0, distrust=[], shown="x")
-        given["positions"] = False
+        given.update(positions=False, alone=True)
         self.copy = self.kind(self.folder)
         self.addCleanup(self.copy.close)
         self.copy.scan()
@@ -1562,12 +1651,6 @@ class Replicas(OverALog):
             self.copy.close()
             self.copy.file = os.open(os.devnull, os.O_RDONLY)
 
-    async def test_another_log(self):
-        self.log.put(entry(A, 1, pair(1, register(5))).to_bytes())
-        self.log.put(entry(B, 1, position=1, digest=b"x" * 32).to_bytes())
-        await self.began()
-        self.assertEqual(await self.ended(), "Diverged")
-
     async def test_more_of_the_log_than_there_is(self):
         self.log.put(entry(A, 1, position=1, digest=b"x" * 32).to_bytes())
         await self.began()
@@ -1694,6 +1777,15 @@ class Replicas(OverALog):
         with mock.patch.object(self.log, "report", lambda *_: asyncio.sleep(60)):
             it.close()
             await asyncio.wait_for(self.running, 3)
+
+    async def test_a_request_that_nobody_waits_for(self):
+        """It is not appended: its connection has ended, and its place is free."""
+        it = await self.began()
+        await self.asked(it, 6)
+        it.ask_soon(register(7), self.fail)()
+        reply = await self.asked(it, 8)
+        self.assertEqual(struct.unpack_from("<Q", reply, 36)[0], 2)
+        await self.closed(it)
 
     async def test_who_was_told_is_kept_no_longer(self):
         """Memory does not grow with those who ask again while there is no log."""
@@ -1879,6 +1971,76 @@ class Replicas(OverALog):
         await self.asked(it, 6)
         await self.closed(it)
 
+    async def waits(self, it):
+        """A replica that nobody confirms takes no request, and says so once."""
+        asked = asyncio.ensure_future(self.asked(it, 6))
+        await asyncio.sleep(0.5)
+        self.assertFalse(it.is_met or asked.done() or self.running.done())
+        self.assertFalse(it.served.is_set())
+        self.assertEqual(self.told.getvalue().count("waits: no other replica answers"), 1)
+        self.assertFalse([some for some in self.log.items if isinstance(some, Written)])
+        return asked
+
+    @mock.patch.multiple(replica, CLOCK_AGAIN=0.01, ANSWERS=0.1)
+    async def test_who_begins_while_no_other_answers(self):
+        """It appends nothing before another one answers: its moments would be those of a clock that
+        is ahead, and all others would end by them."""
+        it = await self.began(alone=False)
+        asked = await self.waits(it)
+        self.log.kept["r1"] = b"{}"
+        while not it.is_met:
+            await self.answers(-5)
+            await asyncio.sleep(0.05)
+        self.assertEqual((await asked)[0], 6)
+        await self.closed(it)
+
+    @mock.patch.multiple(replica, CLOCK_AGAIN=0.01, ANSWERS=0.1)
+    async def test_two_that_begin_at_once(self):
+        """Each tells the other its clock, though neither serves yet."""
+        first, folder = await self.began(alone=False), self.folder
+        runs = [self.running]
+        await self.waits(first)
+        self.folder, log = f"{folder}2", self.log
+        self.log = copy.copy(log)
+        second = await self.began(name="r1", alone=False)
+        for it in (first, second):
+            await asyncio.wait_for(it.begun(), 20)
+            self.assertEqual((await self.asked(it, 7))[0], 7)
+        self.assertLess(abs(first.ahead["r1"]), 10**9)
+        for it in (first, second):
+            it.close()
+        await asyncio.wait_for(asyncio.gather(*runs, self.running), 20)
+
+    async def test_the_engine_confirms_the_clock(self):
+        """If it tells a clock of its own."""
+        self.log.time = lambda: time.time_ns() - 50 * 10**9
+        it = await self.began(alone=False)
+        await self.asked(it, 6)
+        await self.closed(it)
+
+    @mock.patch.multiple(replica, CLOCK=0.0, CLOCK_AGAIN=0.01)
+    async def test_a_clock_ahead_of_the_engine(self):
+        self.log.time = lambda: time.time_ns() - 100 * 10**9
+        await self.began(alone=False)
+        self.assertEqual(await self.ended(), "Ahead")
+        self.assertEqual(self.log.made, set())
+
+    async def test_how_far_the_log_is_ahead(self):
+        """It is told by the numbers, by the report and by `status`."""
+        late = entry(A, 1, pair(time.time_ns() + 3600 * 10**9, register(5)))
+        it = await self.began(ahead=4000.0)
+        self.assertEqual(it.numbers()["log_ahead_seconds"], 0.0)
+        self.log.put(late.to_bytes())
+        await self.asked(it, 6)
+        self.assertAlmostEqual(it.numbers()["log_ahead_seconds"], 3600, delta=30)
+        await it.report()
+        self.log.full = mock.AsyncMock(return_value="")
+        given = argparse.Namespace(log="etcd://a/b", forget=[])
+        with contextlib.redirect_stdout(io.StringIO()) as said:
+            await parts_of_status.status(given, self.log)
+        self.assertRegex(said.getvalue(), "\nthe log is 3[56][0-9]{2} s ahead of this computer's")
+        await self.closed(it)
+
     async def test_reports_that_are_none(self):
         """A replica passes them over. `status` and `trim` tell whose it is."""
         it = await self.began()
@@ -1892,6 +2054,10 @@ class Replicas(OverALog):
                     await part(given, self.log)
         await it.report()
         mine = json.loads(self.log.kept["r0"])
+        for wrong in ({"fault": 5}, {"reads": "x"}, {"moment": -1}, {"rotten": 5}, {"rotten": [5]}):
+            self.log.kept["r1"] = json.dumps({**mine, **wrong}).encode()
+            with self.assertRaisesRegex(Ended, "the report of r1 is none"):
+                await parts_of_status.status(given, self.log)
         for wrong in ({"fault": 5}, {"clock": 10**400}, {"position": -1}, {"replies": None}):
             self.log.kept["r1"] = json.dumps({**mine, **wrong}).encode()
             with self.assertRaisesRegex(Ended, "the report of r1 is none"):
@@ -1940,6 +2106,276 @@ class Replicas(OverALog):
         it = await self.began()
         await self.asked(it, 6)
         await self.closed(it)
+
+
+def changed(data, at):
+    """The same bytes with another bit."""
+    return data[:at] + bytes([data[at] ^ 4]) + data[at + 1 :]
+
+
+class Rot(OverALog):
+    """Nodes of the engine that have an entry otherwise than it was written."""
+
+    # bytes of an entry of format 2: one in each of its parts
+    PARTS = {"magic": 2, "sum": 20, "writer": 44, "number": 56, "log": 64, "log's hash": 90}
+    PARTS.update({"replies": 104, "hash of replies": 130, "moment": 145, "client": 155})
+    PARTS.update({"session": 170, "operation": 180, "length": 184, "zeros": 190})
+
+    async def asyncSetUp(self):
+        await super().asyncSetUp()
+        self.took = []  # the pairs that the server was given
+
+    def fill(self, count=3):
+        """Entries of a writer. Answers their bytes."""
+        data = [entry(A, it, pair(it, register(it))).to_bytes() for it in range(1, count + 1)]
+        for it in data:
+            self.log.put(it)
+        return data
+
+    def rot(self, place, *changes):
+        """Nodes from the first one on have these bytes at a place."""
+        self.log.changed.update({(f"n{at}", place): it for at, it in enumerate(changes)})
+
+    async def goes_on(self, rotten=("n0",), count=3):
+        """The replica serves by the log as it was written, and names the nodes that are rotten."""
+        it = await self.began()
+        reply = await self.asked(it, 9)
+        self.assertEqual(struct.unpack_from("<Q", reply, 36)[0], count + 1)
+        pairs = [Entry.from_bytes(some.data).pairs for some in self.log.items[:count]]
+        copy = [Entry.parted(some.entry).pairs for some in self.copy.records(8, self.copy.end)]
+        self.assertEqual(copy[:count], pairs)
+        for node in rotten:
+            self.assertEqual(self.told.getvalue().count(f"{node} is rotten"), 1)
+        self.assertEqual(self.told.getvalue().count("is rotten"), len(rotten))
+        self.assertEqual(list(it.nodes.rotten), list(rotten))
+        await it.report()
+        self.assertEqual(json.loads(self.log.kept["r0"])["rotten"], list(rotten))
+        await self.closed(it)
+
+    async def test_each_part_on_one_node(self):
+        for name, at in self.PARTS.items():
+            with self.subTest(name):
+                self.folder, self.log = f"{self.folder}-", MemoryLog()
+                self.told.truncate(0)
+                right = self.fill()[1]
+                self.rot(2, changed(right, at))
+                await self.goes_on()
+
+    async def test_two_nodes_of_three(self):
+        right = self.fill()
+        self.rot(2, changed(right[1], 150), changed(right[1], 60))
+        await self.goes_on(["n0", "n1"])
+        self.assertEqual(self.log.passed, [Written(2, right[1], "n2")])
+
+    async def test_two_nodes_in_other_entries(self):
+        right = self.fill()
+        self.rot(2, changed(right[1], 150))
+        self.rot(3, right[2], changed(right[2], 60))
+        await self.goes_on()
+
+    async def test_several_entries_of_a_node(self):
+        """It is named once."""
+        for at, right in enumerate(self.fill(9), 1):
+            self.rot(at, changed(right, 150))
+        await self.goes_on(count=9)
+
+    async def test_an_entry_that_a_node_has_lost(self):
+        """A writer's numbers have no gap: what the node lacks is read elsewhere."""
+        self.fill()
+        self.rot(2, None)
+        await self.goes_on()
+
+    async def test_all_nodes(self):
+        """Nothing of the entry is taken, and nothing after it. It is not said to be another's."""
+        right = self.fill()[1]
+        self.rot(2, *(changed(right, at) for at in (60, 90, 150)))
+        it = await self.began()
+        self.assertEqual(await self.ended(), "Rotten")
+        self.assertEqual(self.copy.position, 1)
+        said = json.loads(self.log.kept["r0"])["fault"]
+        self.assertEqual(
+            said,
+            "Rotten: the entry at 2: it does not have its SHA-256; it fits at none of n0, n1, n2: "
+            "take a peer's copy",
+        )
+        self.assertEqual(faults.STATUS["Rotten"], 28)
+        self.assertTrue(it.follower.is_over)
+
+    async def test_what_all_nodes_have_was_written_so(self):
+        """It is BadEntry: no disk has changed it."""
+        for data in (b"no entry", changed(self.fill(1)[0], 60), entry(A, 3).to_bytes()):
+            self.folder, self.log = f"{self.folder}-", MemoryLog()
+            self.fill(1)
+            self.log.put(data)
+            await self.began()
+            self.assertEqual(await self.ended(), "BadEntry", data)
+
+    async def test_an_engine_of_one_node(self):
+        for wrong, name in ((changed(self.fill(1)[0], 60), "Rotten"), (b"no entry", "BadEntry")):
+            self.folder, self.log = f"{self.folder}-", MemoryLog()
+            self.log.places = ["n0"]
+            self.log.put(wrong)
+            await self.began()
+            self.assertEqual(await self.ended(), name)
+
+    async def test_a_node_that_does_not_answer(self):
+        """It is asked again, and serves nothing meanwhile."""
+        right = self.fill()[1]
+        self.rot(2, changed(right, 150), changed(right, 151))
+        self.log.away = {"n2"}
+        it = await self.began()
+        asked = asyncio.ensure_future(self.asked(it, 9))
+        await asyncio.sleep(0.5)
+        self.assertEqual(self.copy.position, 1)
+        self.assertFalse(asked.done() and not asked.exception())
+        self.log.away.clear()
+        for _ in range(200):
+            if self.copy.position > 2:
+                break
+            await asyncio.sleep(0.02)
+        self.assertEqual(self.log.passed, [Written(2, right, "n2")])
+        await asyncio.gather(asked, return_exceptions=True)
+        await self.closed(it)
+
+    async def test_nodes_that_never_answer(self):
+        right = self.fill()[1]
+        self.rot(2, changed(right, 150))
+        self.log.away = {"n1", "n2"}
+        with mock.patch.object(nodes, "LATEST", 0.3):
+            await self.began()
+            self.assertEqual(await self.ended(), "Rotten")
+
+    async def test_a_copy(self):
+        """Each part of a record: the replica ends alone, by the name of its disk's fault."""
+        it = await self.began()
+        for client in (6, 7):
+            await self.asked(it, client)
+        await self.closed(it)
+        path = os.path.join(self.folder, "log")
+        with open(path, "rb") as file:
+            right = file.read()
+        for at in range(8, len(right), 3):
+            with open(path, "wb") as file:
+                file.write(changed(right, at))
+            with self.assertRaises(Fault) as found:
+                self.made()
+            self.assertEqual(found.exception.name, "Damaged")
+            self.copy.close()
+            self.copy.file = os.open(os.devnull, os.O_RDONLY)
+
+    # a writer that had another log
+
+    async def other_log(self, **more):
+        """A replica that reads that another one had another log."""
+        self.fill(2)
+        it = await self.began(**more)
+        await self.asked(it, 6)
+        self.log.put(entry(B, 1, pair(7, register(70)), position=2, digest=b"x" * 32).to_bytes())
+        return it
+
+    async def test_a_writer_that_had_another_log(self):
+        """The nodes have this replica's: it goes on, and doubts the writer from then on."""
+        it = await self.other_log()
+        self.log.put(entry(B, 2, pair(8, register(71)), position=3, digest=b"y" * 32).to_bytes())
+        reply = await self.asked(it, 9)
+        self.assertEqual(struct.unpack_from("<Q", reply, 36)[0], 6)
+        self.assertEqual(self.told.getvalue().count("has another log up to position 2"), 1)
+        while "doubts" not in json.loads(self.log.kept["r0"]):
+            await asyncio.sleep(0.01)
+        self.assertEqual(json.loads(self.log.kept["r0"])["doubts"], [B.hex()])
+        await self.closed(it)
+
+    def lost(self, position):
+        """A node has lost an entry of a writer's only one, before another one's; and an entry then
+        tells the hash of the log at a position."""
+        first, lost, other = (entry(it, 1, pair(1, register(it[0]))) for it in (A, B, b"c" * 16))
+        digest = NOTHING
+        for it in (first, lost, other)[:position]:
+            digest = chained(digest, it.pairs)
+        last = entry(A, 2, pair(3, register(3)), position=position, digest=digest)
+        for it in (first, lost, last):
+            self.log.put(it.to_bytes())
+        self.rot(2, None)
+        return other
+
+    async def test_an_entry_that_a_claim_shows_to_be_lost(self):
+        """It is read elsewhere: nothing came after it yet."""
+        self.lost(2)
+        await self.goes_on()
+
+    async def test_a_replica_that_has_another_log(self):
+        """It took an entry after one that its node had lost. It ends alone, whatever it is that
+        shows that."""
+        for position in (2, 3):
+            self.folder, self.log = f"{self.folder}-", MemoryLog()
+            other = self.lost(position)
+            self.log.items.insert(2, Written(3, other.to_bytes()))
+            await self.began()
+            self.assertEqual(await self.ended(), "Rotten")
+            self.assertEqual(self.copy.position, 2, "nothing of what came after that is taken")
+
+    async def test_one_that_is_doubted(self):
+        """It compares its log with the nodes', and goes on if that is theirs."""
+        self.fill()
+        it = await self.began()
+        await self.asked(it, 6)
+        said = {"doubts": [it.writer.hex()], "writer": "other"}
+        with mock.patch.object(self.log, "seen", wraps=self.log.seen) as seen:
+            for _ in range(2):
+                await self.log.report("r1", json.dumps(said).encode())
+                await self.asked(it, 7)
+            self.assertEqual([some.args[0] for some in seen.mock_calls], ["n1", "n2", "n0"])
+        for node in self.log.places:
+            self.log.changed[node, 3] = entry(A, 3, pair(3, register(4))).to_bytes()
+        await self.log.report("r1", json.dumps({**said, "writer": "next"}).encode())
+        self.assertEqual(await self.ended(), "Rotten")
+
+    # formats
+
+    async def test_the_format_that_the_head_has(self):
+        """Entries of both are read. A log of format 1 gets such ones until its head says more."""
+        head = {**head_of(COMMAND), "format": 1, "id": "x"}
+        self.log.heads = [json.dumps(head).encode()]
+        self.log.put(entry(A, 1, pair(1, register(1))).to_bytes(1))
+        with mock.patch.object(replica, "REPORT", 0.05):
+            it = await self.began()
+            await self.asked(it, 6)
+            given = argparse.Namespace(log="etcd://a/b")
+            with contextlib.redirect_stdout(io.StringIO()) as said:
+                self.assertEqual(await parts_of_status.upgrade(given, self.log), 0)
+                self.assertEqual(await parts_of_status.upgrade(given, self.log), 0)
+            while it.form == 1:
+                await asyncio.sleep(0.01)
+            await self.asked(it, 7)
+        written = [some.data[:8] for some in self.log.items if isinstance(some, Written)]
+        self.assertEqual(written, [b"TBENTRY1", b"TBENTRY1", b"TBENTRY2"])
+        lines = (
+            "entries are written in format 2 from now on\nentries are written in format 2 already\n"
+        )
+        self.assertEqual(said.getvalue(), lines)
+        self.assertEqual(json.loads(self.log.heads[0]), {**head, "format": 2})
+        await self.closed(it)
+        it = await self.began()
+        self.assertEqual(it.form, 2)
+        await self.asked(it, 8)
+        await self.closed(it)
+
+    async def test_replicas_that_do_not_read_the_new_format(self):
+        self.log.heads = [json.dumps({**head_of(COMMAND), "format": 1, "id": "x"}).encode()]
+        it = await self.began()
+        await self.asked(it, 6)
+        await it.report()
+        old = json.loads(self.log.kept["r0"])
+        del old["reads"]
+        self.log.kept["r1"] = json.dumps(old).encode()
+        with self.assertRaisesRegex(Ended, "^r1 read no format 2: upgrade or forget them first$"):
+            await parts_of_status.upgrade(argparse.Namespace(log="x"), self.log)
+        self.assertEqual(json.loads(self.log.heads[0])["format"], 1)
+        await self.closed(it)
+
+    async def test_a_format_that_is_not_read(self):
+        self.log.heads = [json.dumps({**head_of(COMMAND), "format": 3, "id": "x"}).encode()]
+        self.assertEqual(await self.begins(self.made()), "OtherRules")
 
 
 class Kept(OverALog):
@@ -2100,7 +2536,7 @@ class Kept(OverALog):
     async def test_a_file_that_another_process_has_for_a_moment(self):
         """It is waited for at each start of the server, however long the replica has run."""
         flag = f"{self.folder}.flag"
-        code = f"rm {flag} 2>/dev/null && echo tbd: Locked >&2 && exit 4; exec \"$@\""
+        code = f'rm {flag} 2>/dev/null && echo tbd: Locked >&2 && exit 4; exec "$@"'
         it = await self.began(command=["sh", "-c", code, "sh", *self.command])
         await self.asked(it, 1)
         it.follower.since -= 3600
@@ -2194,7 +2630,7 @@ class Words(unittest.TestCase):
     def test_files_of_tls_that_would_be_passed_over(self):
         """Without --log-ca etcd is spoken to without TLS."""
         both = ("--log-certificate", "c", "--log-key", "k")
-        for words in (machines._status_words, machines._trim_words):
+        for words in (functools.partial(machines._log_words, "status"), machines._trim_words):
             for files in (both, both[:2], both[2:], ("--log-ca", "a", *both[2:])):
                 told = io.StringIO()
                 with self.assertRaises(SystemExit), contextlib.redirect_stderr(told):
@@ -2204,7 +2640,9 @@ class Words(unittest.TestCase):
                 words(["--log", "etcd://a/b", *files])
             words(["--log", "postgresql://a/b/c", *both])
         for text, number in (("0", 0), ("1", 1), ("65535", 65535)):
-            found = machines._status_words(["--log", "postgresql://a/b/c", "--standbys", text])
+            found = machines._log_words(
+                "status", ["--log", "postgresql://a/b/c", "--standbys", text]
+            )
             self.assertEqual(found.standbys, number)
 
     def test_the_words_of_units(self):
@@ -2228,7 +2666,7 @@ class Words(unittest.TestCase):
                 self.assertGreater(seconds, 2 * found.slow + 10)
 
     def test_a_part_that_is_interrupted(self):
-        """It ends without a traceback, as tb-repl does."""
+        """It ends without a traceback."""
         words = ["tb-replica", "status", "--log", "etcd://127.0.0.1:1/bank"]
         with mock.patch.object(sys, "argv", words), mock.patch.object(machines, "speak_as"):
             with mock.patch.object(machines, "_with_log", mock.Mock(side_effect=KeyboardInterrupt)):
@@ -2270,7 +2708,7 @@ class Words(unittest.TestCase):
                 log.parts(wrong)
 
     def test_what_replicas_have_in_common(self):
-        head = {"format": 1, "rules": 1, "clients_max": 64, "profile": 1}
+        head = {"format": 2, "rules": 1, "clients_max": 64, "profile": 1}
         self.assertEqual(head_of(["tb_script", "run", "64"]), head)
         self.assertEqual(head_of(["tb_follow", "64"], True), head)
         self.assertEqual(head_of(["tb_follow", "64", "1"], True), head)

@@ -57,6 +57,8 @@ def is_gone(process):
 
 
 NEWS = "tb_listen: tbd: made ", "tb_listen: tbd: reading ", "tb_listen: tbd: cut "
+NEWS += ("tb_listen: has stopped: ",)
+CLOSED = f"tb_listen: user {os.geteuid()}: a connection is closed: "
 
 
 class Running:
@@ -335,7 +337,7 @@ class OverSockets(unittest.TestCase):
             listener.end()
             self.assertEqual(
                 listener.said[1:],
-                [f"tb_listen: a connection is closed: {name}\n" for name in [*cases, *others]],
+                [f"{CLOSED}{name}\n" for name in [*cases, *others]],
             )
 
     def test_what_is_told_reaches_who_sends_more(self):
@@ -376,11 +378,8 @@ class OverSockets(unittest.TestCase):
                         )
                 self.assertEqual(listener.end(), 0)
                 self.assertEqual(
-                    [it for it in listener.said[1:] if "Busy" not in it],
-                    [
-                        f"tb_listen: a connection is closed: {name}\n"
-                        for name in ("TooMany", "BadLength")
-                    ],
+                    [it.rpartition(": ")[2] for it in listener.said[1:] if "Busy" not in it],
+                    ["TooMany\n", "BadLength\n"],
                 )
 
     def test_the_limit_on_connections(self):
@@ -398,22 +397,24 @@ class OverSockets(unittest.TestCase):
             with Session.register(Socket(listener.path)) as session:
                 self.assertEqual(session.session, 4, "and one that was closed leaves its place")
 
-    def test_who_is_gone_counts_until_it_is_answered(self):
-        """So no more requests wait for the server than connections are allowed."""
+    def test_places_of_requests_that_nobody_waits_for(self):
+        """They are free when their connections end, while the server does nothing. What it was
+        given it executes: more than there are places."""
         cut_off = struct.pack("ii", 1, 0)
         with Running("--connections", "2", "--tcp", "127.0.0.1:0") as listener:
             server = listener.server()
             os.kill(server, signal.SIGSTOP)
-            for number in (1, 2):
+            for number in range(1, 7):
                 with listener.call() as it:
                     it.setsockopt(socket.SOL_SOCKET, socket.SO_LINGER, cut_off)
                     it.sendall(register(number))
                     time.sleep(0.2)
             time.sleep(0.2)
-            self.assertEqual(told(listener.call()), b"tb_listen: Busy\n")
-            os.kill(server, signal.SIGCONT)
-            with Session.register(Socket(listener.address), attempts=20) as session:
-                self.assertEqual(session.session, 3, "both were executed")
+            with listener.call() as it:
+                it.sendall(register(7))
+                os.kill(server, signal.SIGCONT)
+                reply = it.recv(48, socket.MSG_WAITALL)
+            self.assertGreater(struct.unpack_from("<Q", reply, 16)[0], 2)
 
     def test_who_is_told_busy_comes_later(self):
         """A session pauses where it is told Busy, so that one of five attempts finds a place
@@ -499,7 +500,7 @@ class OverSockets(unittest.TestCase):
             with Session.register(Socket(listener.path)) as session:
                 self.assertEqual(session.session, 1)
             listener.end()
-            self.assertEqual(listener.said[1:], ["tb_listen: a connection is closed: Slow\n"] * 3)
+            self.assertEqual(listener.said[1:], [f"{CLOSED}Slow\n"] * 3)
 
     def test_who_does_not_read_is_cut_off(self):
         ids = b"".join(struct.pack("<QQ", it, 0) for it in range(1, 8191))
@@ -523,7 +524,7 @@ class OverSockets(unittest.TestCase):
                     self.fail("it was never cut off")
             self.assertEqual(len(session.lookup_accounts([1])), 1)
             listener.end()
-            self.assertEqual(listener.said[1:], ["tb_listen: a connection is closed: Slow\n"])
+            self.assertEqual(listener.said[1:], [f"{CLOSED}Slow\n"])
 
     def test_an_end_answers_what_was_taken(self):
         with Running() as listener, listener.call() as it:
@@ -742,7 +743,7 @@ class Ends(unittest.TestCase):
             listener.terminate()
             self.assertEqual(listener.wait(20), 0)
             with listener.stderr as said:
-                self.assertEqual(said.read().splitlines()[-1], f"tb_listen: listens on {path}")
+                self.assertEqual(said.read().splitlines()[-2], f"tb_listen: listens on {path}")
 
     def slow(self, folder, when, seconds=3):
         """A server that takes some seconds more where a condition of the shell holds."""
@@ -803,7 +804,9 @@ class Ends(unittest.TestCase):
                     self.assertEqual(it.lookup_accounts([1]), [])
                 self.assertEqual(listener.end(), 0)
                 self.assertEqual(len(listener.said), 2, listener.said)
-                self.assertEqual(listener.news, [f"tb_listen: tbd: made {listener.file}\n"])
+                made, stop = listener.news
+                self.assertEqual(made, f"tb_listen: tbd: made {listener.file}\n")
+                self.assertIn("has stopped: Stopping; ", stop)
 
     def test_what_it_said_before_a_signal_is_shown(self):
         ended = (

@@ -31,7 +31,7 @@ from .values import MOMENT_MAX, U64, path_of, seconds, truth, whole
 CHUNK = 1 << 20
 SCRIPT_MAX = 256 << 20
 # what `tbd run --progress` says besides faults, the last of it when it serves
-NEWS = re.compile(r"^tbd: (?:made |reading |cut |(ready)$)")
+NEWS = re.compile(r"^tbd: (?:made |reading |cut |(ready)(?:: commit [0-9]+, time [0-9]+)?$)")
 log = logging.getLogger("tb_client")
 LONGEST = 3600.0  # seconds of one wait for the pipes: the system takes no number of them
 
@@ -146,6 +146,20 @@ class Program(Closing):
             raise self._ended("interrupted amid its pipes, and killed")
         if self.process is None:
             self._start()
+
+    def wait(self, patience: float) -> bool:
+        """Whether the program serves within so many seconds. What it says meanwhile is in `told`.
+        Raises ProgramEnded with its fault if it ends before."""
+        with self._lock:
+            self._be_ready()
+            with contextlib.suppress(CannotStart):
+                self._await_ready(time.monotonic() + seconds("patience", patience, 0))
+            return self.is_ready
+
+    @property
+    def told(self) -> list[str]:
+        """The lines that it wrote to standard error."""
+        return self._lines()
 
     def _await_ready(self, deadline: float) -> None:
         """Waits until the program has told that it serves, where it tells that."""

@@ -67,6 +67,7 @@ class Socket(Closing):
         self._tls = _context_of(tls, self._addresses)
         self._socket: Optional[socket.socket] = None
         self.trouble = ""  # why no reply came since the last one, or since the beginning
+        self.connections = 0  # that were made
         self._is_known = False  # trouble is more than the end of the time, in this exchange
         self._is_new = False  # nothing came over the connection yet
         self._lock = threading.RLock()  # a signal's handler may close it amid an exchange
@@ -172,6 +173,7 @@ class Socket(Closing):
                 share = (deadline - time.monotonic()) / left
                 self._socket = _call(self.address, share, self._tls)
                 self._is_new = True
+                self.connections += 1
                 log.info("connected to %s", _shown(self.address))
                 return []
             except OSError as error:
@@ -295,6 +297,10 @@ def _is_left(it: socket.socket) -> bool:
     return True
 
 
+# what a client is told to come later for: there are too many connections, or its peer has too many
+LATER = ("Busy", "TooManyConnections", "TooManySessions", "TooManyRequests")
+
+
 class Starting(ReplyLost):
     """The server reads its ledger, and did not take the request."""
 
@@ -322,7 +328,7 @@ def _closed(said: bytes, hint: str = "") -> ReplyLost:
     why = bytes(said[len(TOLD) :]).decode("ascii", "replace").strip()
     if not said.startswith(TOLD) or not why.isprintable():  # no name: it may steer a terminal
         why = ""
-    kind = {"Busy": Busy, "Starting": Starting}.get(why, ReplyLost)
+    kind = Busy if why in LATER else Starting if why == "Starting" else ReplyLost
     hint = "" if why else hint
     return kind(f"the server closed the connection{hint}{why and ': ' + why}", why)
 

@@ -3,6 +3,7 @@ from __future__ import annotations
 
 import argparse
 import asyncio
+import ipaddress
 import os
 import pwd
 import socket
@@ -45,10 +46,12 @@ def add_access(parser: argparse.ArgumentParser) -> None:
 
 
 class Peer(NamedTuple):
-    """Who is at the other end: in words, and as the file of client ids has it."""
+    """Who is at the other end: in words, as the file of client ids has it, and as whose share
+    counts. Who has no certificate shares with its address."""
 
     shown: str
     key: Tuple[str, object]
+    share: Tuple[str, object]
 
 
 class Access:
@@ -66,14 +69,16 @@ class Access:
             uid = CREDENTIALS.unpack(raw)[1]
             if uid not in self.users:
                 raise Told("NotAllowed", f"user {uid}")
-            found = Peer(f"user {uid}", ("user", uid))
+            found = Peer(f"user {uid}", ("user", uid), ("user", uid))
         else:
             place = transport.get_extra_info("peername")
             if place is None:
                 raise Told("")  # it was gone before it was taken
             host, port = place[:2]
             name = _common_name(transport.get_extra_info("peercert"))
-            found = Peer(f"{host}:{port}{name and f' ({name})'}", ("certificate", name))
+            key = ("certificate", name)
+            share = key if name else ("address", network_of(host))
+            found = Peer(f"{host}:{port}{name and f' ({name})'}", key, share)
         if self.ranges is not None and found.key not in self.ranges:
             raise Told("NotAllowed", found.shown)
         return found
@@ -86,6 +91,16 @@ class Access:
             raise Told("NotAllowed", peer.shown)
         if client >> RANGE != self.ranges[peer.key]:
             raise Told("ClientNotAllowed", peer.shown)
+
+
+def network_of(host: str) -> str:
+    """Whose address it is: one host has all that begin with 64 bits of IPv6."""
+    found = ipaddress.ip_address(host.partition("%")[0])
+    if isinstance(found, ipaddress.IPv4Address):
+        return host
+    if found.ipv4_mapped is not None:
+        return str(found.ipv4_mapped)
+    return str(ipaddress.IPv6Address(int(found) >> 64 << 64))
 
 
 def _common_name(certificate: Any) -> str:

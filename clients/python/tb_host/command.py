@@ -4,17 +4,18 @@ from __future__ import annotations
 import asyncio
 import collections
 import contextlib
+import functools
 import os
 import re
 import time
-from typing import Deque, List, Optional, Sequence, Set, Tuple
+from typing import Any, Deque, Dict, List, Optional, Sequence, Set, Tuple
 
 from tb_client.frames import asker, reply_fault
 from tb_client.layout import HEADER
 
 from .arguments import is_number
 from .commits import Commits, is_asleep
-from .connections import Answered
+from .connections import Abandon, Answered, nothing
 from .entries import MOMENT
 from .lines import Ended, Told, say
 from .moments import SECOND, Moments
@@ -24,7 +25,7 @@ from .process import ServerProcess, came, end_of, finished, first, kill, last_li
 EMPTY = 10  # bytes below which a journal's file has no entry
 PROGRESS = "--progress"  # the word that has `tbd run` tell when it serves
 # what it tells besides faults
-NEWS = re.compile(r"[\w./-]+: (?:made |reading |cut |(ready)$)")
+NEWS = re.compile(r"[\w./-]+: (?:made |reading |cut |(ready)(?:: commit [0-9]+, time [0-9]+)?$)")
 PATIENCE = 1.0  # seconds for which a request waits for a server that is started again
 
 
@@ -59,6 +60,10 @@ async def last_time(words: Sequence[str], at: int) -> int:
     if found is None:
         raise Ended(f"{words[0]} check {words[at]} tells no last time", 1)
     return int(found[1])
+
+
+def _cancel(task: asyncio.Task[None]) -> None:
+    task.cancel()
 
 
 class Command(ServerProcess):
@@ -150,6 +155,9 @@ class Command(ServerProcess):
     def lag(self) -> float:
         return self.moments.lag()
 
+    def numbers(self) -> Dict[str, Any]:
+        return {}
+
     def is_serving(self) -> bool:
         return self.ready.is_set() and not self.is_over
 
@@ -198,16 +206,17 @@ class Command(ServerProcess):
             said = "a connection failed"
             self.loop.call_exception_handler({"message": said, "exception": error})
 
-    def ask_soon(self, frame: bytes, answered: Answered) -> None:
+    def ask_soon(self, frame: bytes, answered: Answered) -> Abandon:
         """Asks for the reply to a request. `answered` gets it, or why there is none: the command
-        ended before it came, or does not serve again soon."""
+        ended before it came, or does not serve again soon. What the command was given goes on."""
         process = self.process
         if process is None or not self.ready.is_set() or not process.stdin.has_room.is_set():
             later = asyncio.ensure_future(self._ask_later(frame, answered))
             self.later.add(later)
             later.add_done_callback(self.later.discard)
-        else:
-            self._ask(process, frame, answered)
+            return functools.partial(_cancel, later)
+        self._ask(process, frame, answered)
+        return nothing
 
     def _ask(self, process: Process, frame: bytes, answered: Answered) -> None:
         is_idle = not self.waiting

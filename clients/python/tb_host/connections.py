@@ -18,6 +18,7 @@ from .counts import Counts
 from .evictions import Evictions
 from .lines import TOLD, Told, say_of
 from .process import came
+from .shares import Shares
 
 READ_AHEAD = 1 << 16  # bytes that are read of a connection beyond the request that is answered
 PIECE = 1 << 12  # bytes, of which those that come in smaller pieces are put together
@@ -32,13 +33,19 @@ REST, BODY, ASKED, WRITING, LEAVING, CLOSING = range(6)
 UNSAID = ("", "Short", "Starting", "Stopping", "ProgramEnded")
 
 Answered = Callable[[bytes, str], None]
+Abandon = Callable[[], None]
+
+
+def nothing() -> None:
+    """What is under way goes on."""
 
 
 class Asked(Protocol):
     """What answers requests."""
 
-    def ask_soon(self, frame: bytes, answered: Answered) -> None:
-        """Asks for the reply to a request. `answered` gets it, or why there is none."""
+    def ask_soon(self, frame: bytes, answered: Answered) -> Abandon:
+        """Asks for the reply to a request. `answered` gets it, or why there is none. What is
+        returned has the request no longer wait for its turn: then it gets neither."""
 
 
 class Connection(asyncio.Protocol):
@@ -54,6 +61,8 @@ class Connection(asyncio.Protocol):
         self.is_lost = self.is_paused = False
         self.transport: Any = None
         self.peer: Optional[Peer] = None
+        self.has_share = False  # it counts among those of its peer
+        self.abandon: Abandon = nothing  # what is asked for
 
     # what the loop tells
 
@@ -64,8 +73,9 @@ class Connection(asyncio.Protocol):
         is_served = self.listener.enter(self)
         try:
             if not is_served:
-                raise Told("Busy")
+                raise Told("Busy", self.listener.peer_of(transport))
             self.peer = self.listener.access.peer(transport)
+            self.listener.take_share(self, self.peer)
             self._rest(time.monotonic())
         except Told as told:
             self.close(str(told), told.peer)
@@ -100,8 +110,8 @@ class Connection(asyncio.Protocol):
 
     def connection_lost(self, _: Optional[Exception]) -> None:
         self.is_lost = True
-        if self.phase != ASKED:  # else it counts until its request is answered
-            self._gone()
+        self.abandon()  # its place is another one's
+        self._gone()
 
     # requests
 
@@ -149,8 +159,11 @@ class Connection(asyncio.Protocol):
             raise Told(fault, self.peer.shown)
         if not listener.counts.has_begun:
             raise Told("Starting", self.peer.shown)
+        client = u128_at(data, 0)
         if listener.access.ranges is not None:
-            listener.access.test(self.peer, u128_at(data, 0))
+            listener.access.test(self.peer, client)
+        if data[28] == Operation.register:
+            listener.shares.register(self.peer.share, client)
         self.phase, self.need = BODY, HEADER + int.from_bytes(data[32:36], "little")
         if self.have < self.need:
             self.due = time.monotonic() + listener.given.slow
@@ -160,20 +173,43 @@ class Connection(asyncio.Protocol):
         self.have -= self.need
         self.parts = [data[self.need :]] if self.have else []
         frame = data[: self.need] if self.have else data
-        self.listener.command.ask_soon(frame, self.answered)
+        assert self.peer is not None
+        try:
+            wait = self.listener.shares.wait(self.peer.share, len(frame))
+        except Told as told:
+            self.close(str(told), self.peer.shown)
+            return
+        if wait:
+            later = asyncio.get_running_loop().call_later(wait, self._ask_now, frame)
+            self.abandon = later.cancel
+        else:
+            self._ask_now(frame)
+
+    def _ask_now(self, frame: bytes) -> None:
+        self.abandon = nothing  # a reply may come at once
+        abandon = self.listener.command.ask_soon(frame, self.answered)
+        if self.phase == ASKED:
+            self.abandon = abandon
 
     def answered(self, reply: bytes, fault: str) -> None:
         """Passes the reply on, or tells why there is none."""
+        self.abandon = nothing
         if reply:
             now = time.monotonic()
-            self.listener.count_later(reply, now - self.began)
-            if not self.is_lost and not self.transport.is_closing():
-                self._pass_on(reply, now)
-                return
+            self.listener.count_later(reply, now - self.began, self.peer)
+            self._use_session(reply)
         if self.is_lost:
-            self._gone()
+            return
+        if reply and not self.transport.is_closing():
+            self._pass_on(reply, now)
         else:
             self.close(fault)
+
+    def _use_session(self, reply: bytes) -> None:
+        """A reply that is no refusal has used its client's session."""
+        shares = self.listener.shares
+        if shares.sessions is not None and self.peer is not None and not reply[29]:
+            shares.use(self.peer.share, u128_at(reply, 0))
 
     def _pass_on(self, reply: bytes, now: float) -> None:
         self.transport.write(reply)
@@ -249,13 +285,15 @@ class Listener:
     ) -> None:
         self.command, self.given, self.access = command, given, access
         self.counts, self.evictions = counts, evictions
+        self.shares = Shares(given)
         self.open: Set[Connection] = set()
         self.served: Set[Connection] = set()  # those that are not told why they are closed
         self.leaving: Set[Connection] = set()  # those that were told why, and may still send
         self.none_is_open = asyncio.Event()
         self.none_is_open.set()
         self.why = ""  # why no more requests are taken
-        self.uncounted: List[Tuple[bytes, float]] = []  # replies with the seconds that they took
+        # replies, the seconds that they took, and whose they are
+        self.uncounted: List[Tuple[bytes, float, Optional[Peer]]] = []
 
     def enter(self, it: Connection) -> bool:
         """Takes a connection. Says whether it is served: there may be too many."""
@@ -268,9 +306,33 @@ class Listener:
         self.served.add(it)
         return True
 
+    def take_share(self, it: Connection, peer: Peer) -> None:
+        """Counts a connection among those of its peer. Raises `Told` if these are too many."""
+        try:
+            self.shares.enter(peer.share)
+        except Told as told:
+            raise Told(str(told), peer.shown) from None
+        it.has_share = True
+
+    def peer_of(self, transport: Any) -> str:
+        """Who is at the other end, in words, as far as that is known."""
+        try:
+            return self.access.peer(transport).shown
+        except Told as told:
+            return told.peer
+        except OSError:
+            return ""
+
+    def _free(self, it: Connection) -> None:
+        """A connection leaves its place to another one."""
+        self.served.discard(it)
+        if it.has_share and it.peer is not None:
+            it.has_share = False
+            self.shares.leave(it.peer.share)
+
     def closes(self, it: Connection, why: str, peer: str) -> None:
         """A connection of this peer is closed for this reason."""
-        self.served.discard(it)
+        self._free(it)
         if why not in UNSAID:
             self.counts.closed[why] += 1
             say_of(peer, f"a connection is closed: {why}")
@@ -279,23 +341,24 @@ class Listener:
         """A connection is gone."""
         if it in self.open:
             self.counts.connections -= 1
-        for some in (self.open, self.served, self.leaving):
+        self._free(it)
+        for some in (self.open, self.leaving):
             some.discard(it)
         if not self.open:
             self.none_is_open.set()
 
-    def count_later(self, reply: bytes, seconds: float) -> None:
+    def count_later(self, reply: bytes, seconds: float, peer: Optional[Peer]) -> None:
         """Counts a reply once those that came with it have left."""
         if not self.uncounted:
             asyncio.get_running_loop().call_soon(self._count)
-        self.uncounted.append((reply, seconds))
+        self.uncounted.append((reply, seconds, peer))
 
     def _count(self) -> None:
         counted, self.uncounted = self.uncounted, []
-        for reply, seconds in counted:
-            self.count(reply, seconds)
+        for reply, seconds, peer in counted:
+            self.count(reply, seconds, peer.shown if peer else "")
 
-    def count(self, reply: bytes, seconds: float) -> None:
+    def count(self, reply: bytes, seconds: float, peer: str) -> None:
         """Counts a reply, and follows the sessions."""
         _, _, operation, status, _, commit = REPLY.unpack_from(reply, 16)
         self.counts.answered(operation, status, seconds)
@@ -305,9 +368,10 @@ class Listener:
             if evicted is not None:
                 self.counts.evictions += 1
                 say_of(
-                    f"client {client}",
+                    peer,
                     f"client {evicted} was evicted by client {client}: more clients come than "
                     f"there are places ({self.evictions.clients_max})",
+                    kind="evicted",
                 )
 
     async def watch(self) -> None:

@@ -10,6 +10,8 @@ from typing import Any, Callable, Counter, Dict, List, Optional, Tuple
 
 from tb_client.names import Operation, Status
 
+from .lines import left_out
+
 SYNCS = 2  # of a commit
 # upper bounds of the histogram of latencies, in seconds
 BUCKETS = (0.0005, 0.001, 0.0025, 0.005, 0.01, 0.025, 0.05, 0.1, 0.25, 0.5, 1.0, 2.5, 5.0)
@@ -23,8 +25,10 @@ class Counts:
         file: Optional[str],
         is_serving: Callable[[], bool],
         committed: Callable[[], Optional[int]],
+        more: Callable[[], Dict[str, Any]] = dict,
     ) -> None:
         self.file, self.is_serving, self.committed = file, is_serving, committed
+        self.more = more  # numbers that not every host has
         self.began = time.monotonic()
         self.has_begun = False  # it has served
         self.requests: Counter[Tuple[int, int]] = collections.Counter()
@@ -41,6 +45,12 @@ class Counts:
         self.requests[operation, status] += 1
         self.latencies[bisect.bisect_left(BUCKETS, seconds)] += 1
         self.seconds += seconds
+
+    def told(self) -> str:
+        """What was done, in words."""
+        requests, lines = sum(self.requests.values()), left_out()
+        said = f"{requests} requests were answered on {self.taken} connections"
+        return f"{said}, and {lines} lines were left out" if lines else said
 
     def file_bytes(self) -> Optional[int]:
         try:
@@ -66,6 +76,7 @@ class Counts:
             "syncs": None if commits is None else SYNCS * commits,
             "file_bytes": self.file_bytes(),
             "clock_lag_seconds": round(lag, 3),
+            **self.more(),
         }
 
     def text(self, lag: float) -> bytes:

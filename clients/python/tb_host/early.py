@@ -8,7 +8,14 @@ import signal
 import sys
 
 INTERRUPTED = 130
-PARTS = ("status", "trim", "copy-from", "script", "hashes")  # of tb-replica, which serve nothing
+PARTS = (
+    "status",
+    "trim",
+    "upgrade",
+    "copy-from",
+    "script",
+    "hashes",
+)  # of tb-replica, which serve nothing
 
 
 def end_at(status: int, *numbers: int) -> None:

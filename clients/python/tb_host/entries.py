@@ -4,6 +4,9 @@ An entry is a head and pairs, as a script has them. The head has the writer's id
 the number of its entry; the position up to which the writer had read the log, with the hash of the
 log there; and the position up to which its server had answered, with the hash of the replies there.
 So each reader finds within one entry that it and the writer do not have the same.
+
+An entry of format 2 has the SHA-256 of all that is after it: so a reader finds that a disk, or
+whatever it was read from, has changed it. One of format 1 has none.
 """
 from __future__ import annotations
 
@@ -13,10 +16,10 @@ from typing import Iterable, Iterator, List, NamedTuple, Tuple
 
 from tb_client.frames import asker, request_fault
 
-from .faults import Fault
-
-HEAD = struct.Struct("<8s16sQQ32sQ32s")
-MAGIC = b"TBENTRY1"
+MAGIC, MAGIC_1 = b"TBENTRY2", b"TBENTRY1"
+WRITTEN = 2  # the format of entries in a new log
+SUM = 32  # bytes of the SHA-256 after the magic, in format 2
+REST = struct.Struct("<16sQQ32sQ32s")  # the head after these
 PAIRS_MAX = 1 << 20  # bytes of pairs in an entry: the longest request fits
 MOMENT = struct.Struct("<Q")
 PAIR = struct.Struct("<Q32xI12x")  # its moment, and how many bytes lie behind its header
@@ -57,18 +60,41 @@ class Entry(NamedTuple):
     replies: Claim
     pairs: bytes
 
-    def to_bytes(self) -> bytes:
-        log, replies = self.log, self.replies
-        claims = (log.position, log.digest, replies.position, replies.digest)
-        return HEAD.pack(MAGIC, self.writer, self.number, *claims) + self.pairs
+    def to_bytes(self, form: int = WRITTEN) -> bytes:
+        """The entry's bytes in format 1 or 2."""
+        rest = REST.pack(self.writer, self.number, *self.log, *self.replies)
+        if form == 1:
+            return b"".join((MAGIC_1, rest, self.pairs))
+        return b"".join((MAGIC, _sum(rest, self.pairs), rest, self.pairs))
 
     @classmethod
     def from_bytes(cls, data: bytes) -> Entry:
-        """The entry of these bytes. Raises `ValueError` where they are none."""
-        if len(data) < HEAD.size or data[: len(MAGIC)] != MAGIC:
+        """The entry of these bytes. Raises `ValueError` if they are none, or not what its writer
+        made."""
+        it = cls.parted(data)
+        if data.startswith(MAGIC):
+            at = len(MAGIC) + SUM
+            if _sum(data[at : at + REST.size], it.pairs) != data[len(MAGIC) : at]:
+                raise ValueError("it does not have its SHA-256")
+        return it
+
+    @classmethod
+    def parted(cls, data: bytes) -> Entry:
+        """The same of bytes whose checksum was tested elsewhere, as a record's of a copy."""
+        at = len(MAGIC) + (SUM if data.startswith(MAGIC) else 0)
+        if data[: len(MAGIC)] not in (MAGIC, MAGIC_1) or len(data) < at + REST.size:
             raise ValueError("it has no head of an entry")
-        _, writer, number, *claims = HEAD.unpack_from(data)
-        return cls(writer, number, Claim(*claims[:2]), Claim(*claims[2:]), data[HEAD.size :])
+        writer, number, *claims = REST.unpack_from(data, at)
+        pairs = data[at + REST.size :]
+        return cls(writer, number, Claim(*claims[:2]), Claim(*claims[2:]), pairs)
+
+
+def _sum(rest: bytes, pairs: bytes) -> bytes:
+    """The SHA-256 that an entry has of itself."""
+    found = hashlib.sha256(MAGIC)
+    found.update(rest)
+    found.update(pairs)
+    return found.digest()
 
 
 def cut(pairs: bytes) -> Iterator[Tuple[int, bytes]]:
@@ -91,21 +117,17 @@ def askers(pairs: bytes) -> List[bytes]:
     return [asker(header) for _, header in cut(pairs)]
 
 
-def test_pairs(position: int, pairs: bytes) -> List[bytes]:
-    """Tests the pairs of the entry at a position, and answers what the reply of each repeats of its
-    request. Raises `BadEntry` at a pair at which a server would end: no entry that a replica wrote
-    has one."""
+def tested_askers(pairs: bytes) -> List[bytes]:
+    """The same of the pairs of an entry. Raises `ValueError` at a pair at which a server would end:
+    no entry that a replica wrote has one."""
     found = []
     if len(pairs) > PAIRS_MAX:
-        raise Fault("BadEntry", f"the entry at {position} has {len(pairs)} bytes of pairs")
-    try:
-        for moment, header in cut(pairs):
-            fault = request_fault(header)
-            if moment > MOMENT_MAX:
-                fault = f"its moment is {moment}"
-            if fault:
-                raise ValueError(f"a pair of it is refused: {fault}")
-            found.append(asker(header))
-    except ValueError as error:
-        raise Fault("BadEntry", f"the entry at {position}: {error}") from None
+        raise ValueError(f"it has {len(pairs)} bytes of pairs")
+    for moment, header in cut(pairs):
+        fault = request_fault(header)
+        if moment > MOMENT_MAX:
+            fault = f"its moment is {moment}"
+        if fault:
+            raise ValueError(f"a pair of it is refused: {fault}")
+        found.append(asker(header))
     return found

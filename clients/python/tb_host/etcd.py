@@ -8,15 +8,17 @@ from __future__ import annotations
 
 import asyncio
 import contextlib
+import copy
 import json
 import re
 import ssl
-from typing import Any, AsyncIterator, Dict, List, Optional, Sequence, Tuple, Union
+from typing import Any, AsyncGenerator, AsyncIterator, Dict, List, Optional, Sequence, Tuple, Union
 
 import etcd3.etcdrpc as rpc
 import grpc
 import grpc.aio
 
+from .entries import MAGIC
 from .faults import NO_SUCH_JSON, wrong_trimmed
 from .lines import Ended, say_of
 from .log import Access, LogFull, LogGone, NoLog, Report, Written
@@ -158,6 +160,7 @@ class EtcdLog:
         # the revision up to which all was read, and the place of the last entry up to there
         self.cursor = self.place = 0
         self.is_moving = self.is_unread = False
+        self.is_passed = False  # reads go on after another entry than the one that was read last
         self.moved = ""  # why it is moving, where that is to be said
 
     # calls
@@ -190,12 +193,27 @@ class EtcdLog:
 
     # the log
 
-    async def head(self, wanted: bytes) -> bytes:
+    async def head(self, wanted: Optional[bytes]) -> bytes:
         found = await self._get(self.prefix + b"head")
         if found is not None:  # so that a replica starts where etcd is full
             return found
+        if wanted is None:
+            return b""
         made = await self._call("keys", "Txn", Put().of(self.prefix + b"head", wanted))
         return wanted if made.succeeded else bytes(made.responses[0].response_range.kvs[0].value)
+
+    async def change_head(self, before: bytes, after: bytes) -> bytes:
+        key, request = self.prefix + b"head", rpc.TxnRequest()
+        same = request.compare.add(result=rpc.Compare.EQUAL, target=rpc.Compare.VALUE, key=key)
+        same.value = before
+        put = request.success.add().request_put
+        put.key, put.value = key, after
+        request.failure.add().request_range.key = key
+        made = await self._call("keys", "Txn", request)
+        return after if made.succeeded else bytes(made.responses[0].response_range.kvs[0].value)
+
+    async def clock(self) -> Optional[int]:
+        return None
 
     async def last(self) -> int:
         found = await self._call("keys", "Range", rpc.RangeRequest(key=self.prefix + b"head"))
@@ -272,8 +290,11 @@ class EtcdLog:
                 yield it
         except LogGone:
             async for entry in self._listed(self.place):
-                self.place = entry.place
+                self.is_passed = False
                 yield entry
+                if self.is_passed:
+                    return
+                self.place = entry.place
 
     async def _watched(self) -> AsyncIterator[Union[Written, Report]]:
         it = self.addresses[self.reading]
@@ -297,9 +318,12 @@ class EtcdLog:
                 self.is_unread = False
                 for event in said.events:
                     if event.kv.mod_revision > self.cursor:
-                        found = self._item(event.kv)
+                        found = self._item(event.kv, it.place, said.header.revision)
+                        self.is_passed = False
                         if found is not None:
                             yield found
+                        if self.is_passed:
+                            return
                         self._count(event.kv.mod_revision, found)
             raise NoLog("the watch ended")
         finally:
@@ -352,13 +376,16 @@ class EtcdLog:
         found = await self._call("keys", "Range", rpc.RangeRequest(key=key))
         if not found.kvs:
             raise LogGone("the log was trimmed while it was read")
-        return Written(int(found.kvs[0].create_revision), bytes(found.kvs[0].value))
+        return _written(found.kvs[0], self.addresses[self.writing].place)
 
-    def _item(self, pair: Any) -> Union[Written, Report, None]:
+    def _item(self, pair: Any, node: str, revision: int) -> Union[Written, Report, None]:
+        """What a key says that changed up to a revision. What has an entry's value is one, whatever
+        a disk has made of its key."""
         rest = pair.key[len(self.prefix) :]
-        if rest.startswith(b"log/"):
-            is_entry = self._entry_in(pair.key) is not None
-            return Written(pair.mod_revision, pair.value) if is_entry else None
+        if pair.value.startswith(MAGIC) or rest.startswith(b"log/") and self._entry_in(pair.key):
+            return _written(pair, node)
+        if pair.mod_revision > revision:
+            return Written(self.cursor + 1, b"", node)
         name = _name_of(rest[3:]) if rest.startswith(b"at/") else None
         return None if name is None else Report(name, pair.value)
 
@@ -367,12 +394,45 @@ class EtcdLog:
         no replica wrote."""
         found = ENTRY.fullmatch(key, len(self.prefix))
         if found is None:
-            say_of("", f"the key {key!r} is no entry's, and is passed over")
+            say_of("", f"the key {key!r} is no entry's, and is passed over", kind="key")
             return None
         return key[: found.end(1)], int(found[2])
 
     def look_elsewhere(self) -> None:
         self._move("what was written there does not come")
+
+    def nodes(self) -> List[str]:
+        count = len(self.addresses)
+        return [self.addresses[(self.reading + it) % count].place for it in range(1, count + 1)]
+
+    async def seen(self, node: str, place: int) -> AsyncGenerator[Written, None]:
+        reading: Any = self._only(node).read(place)
+        try:
+            while True:
+                it = await asyncio.wait_for(reading.__anext__(), TRY)
+                if isinstance(it, Written):
+                    yield it
+        except (asyncio.TimeoutError, LogGone):
+            pass
+        finally:
+            await reading.aclose()
+
+    def _only(self, node: str) -> EtcdLog:
+        """The log over one address. What it does not reach is not said."""
+        it = copy.copy(self)
+        it.addresses = [at for at in self.addresses if at.place == node]
+        it.writing = it.reading = 0
+        it.watch, it.looking, it.entry = None, None, Put()
+        it.is_moving, it.is_unread = False, True
+        return it
+
+    def pass_to(self, it: Written) -> None:
+        self.cursor = self.place = it.place
+        places = [at.place for at in self.addresses]
+        self.reading = places.index(it.node) - 1  # the one before the next
+        self.is_passed, self.is_moving, self.moved = True, True, ""
+        if self.watch is not None:
+            self.watch.cancel()
 
     def _move(self, why: str) -> None:
         if self.watch is not None:
@@ -548,6 +608,13 @@ class EtcdLog:
 async def _close(channel: Any) -> None:
     with contextlib.suppress(Exception):
         await channel.close()
+
+
+def _written(pair: Any, node: str) -> Written:
+    """The entry that a key has. It is put once. So what has two revisions is not what was put, and
+    is no entry."""
+    is_one = pair.create_revision == pair.mod_revision
+    return Written(int(pair.create_revision), bytes(pair.value) if is_one else b"", node)
 
 
 def _name_of(key: bytes) -> Optional[str]:

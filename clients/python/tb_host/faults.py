@@ -14,6 +14,7 @@ STATUS: Dict[str, int] = {
     "BadEntry": 25,
     "LogFull": 26,
     "Ahead": 27,
+    "Rotten": 28,
 }
 
 

@@ -34,25 +34,30 @@ def say(text: str, level: str = "info", peer: str = "") -> None:
     up no client."""
     with contextlib.suppress(OSError, ValueError):
         if sys.stderr is not None and _takes_a_line():
-            line = f"{program}: {text}"[: LINES // 4]
+            line = f"{program}: {f'{peer}: ' if peer else ''}{text}"[: LINES // 4]
             if as_json:
                 line = _as_object(text, level, peer)
             print(line, file=sys.stderr, flush=True)
 
 
-def say_of(peer: str, text: str, level: str = "warning") -> None:
-    """Says a line about a peer, ten times in a minute at most. The first one after that tells how
-    many were left out."""
-    now = time.monotonic()
-    began, count = said.get((level, text), (now, 0))
+def say_of(peer: str, text: str, level: str = "warning", kind: str = "") -> None:
+    """Says a line about a peer, ten times in a minute at most, and as often others of its kind. The
+    first one after that tells how many were left out."""
+    now, key = time.monotonic(), (level, kind or text)
+    began, count = said.get(key, (now, 0))
     left_out = 0
     if now - began >= MINUTE:
         began, count, left_out = now, 0, max(0, count - REPEATS)
     if len(said) > LINES:
         said.clear()
-    said[level, text] = began, count + 1
+    said[key] = began, count + 1
     if count < REPEATS:
         say(f"{text} ({left_out} more were left out)" if left_out else text, level, peer)
+
+
+def left_out() -> int:
+    """How many lines were left out since the last one of their kind that was said."""
+    return sum(max(0, count - REPEATS) for _, count in said.values())
 
 
 def _as_object(text: str, level: str, peer: str) -> str:

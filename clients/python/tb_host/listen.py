@@ -44,6 +44,7 @@ from .lines import Ended, say, speak_json
 from .loops import fill_standard_files, run
 from .reports import add_reports
 from .serving import listen_on, stop_signals
+from .shares import add_shares
 from .sockets import bound, make_room
 from .tls import add_tls, test_tls
 
@@ -74,6 +75,7 @@ def words(given: Sequence[str]) -> argparse.Namespace:
     add_places(parser)
     add_tls(parser)
     add_access(parser)
+    add_shares(parser)
     add_reports(parser)
     add_times(parser)
     add_lines(parser)

@@ -157,7 +157,7 @@ class Copy(Taken):
         if record.position != self.position + 1:
             raise Fault("Damaged", f"position {record.position} behind {self.position}")
         try:
-            entry = Entry.from_bytes(record.entry)
+            entry = Entry.parted(record.entry)
         except ValueError as error:
             raise Fault("Damaged", f"the entry at {record.position}: {error}") from None
         self.count(record.place, entry)
@@ -221,7 +221,7 @@ class Copy(Taken):
         is_read = False
         with faults_of(self.path):
             for record in self.records(start, self.end):
-                pairs = Entry.from_bytes(record.entry).pairs
+                pairs = Entry.parted(record.entry).pairs
                 yield Item(record.position, pairs, askers(pairs), record.end)
                 is_read = True
         if not is_read and start < self.end:

@@ -4,7 +4,17 @@ from __future__ import annotations
 import dataclasses
 import os
 import re
-from typing import AsyncIterator, Dict, List, NamedTuple, Optional, Protocol, Tuple, Union
+from typing import (
+    AsyncGenerator,
+    AsyncIterator,
+    Dict,
+    List,
+    NamedTuple,
+    Optional,
+    Protocol,
+    Tuple,
+    Union,
+)
 
 from .lines import Ended
 
@@ -33,10 +43,12 @@ class Access:
 
 
 class Written(NamedTuple):
-    """An entry as the log has it, and its place there: a number of the engine's, which grows."""
+    """An entry as the log has it, its place there, which is a number of the engine's and grows, and
+    the address of the engine that it was read from."""
 
     place: int
     data: bytes
+    node: str = ""
 
 
 class Report(NamedTuple):
@@ -62,8 +74,15 @@ class Log(Protocol):
     """An agreed log. Each call tries every address of the engine; where none answers in time it
     raises `NoLog`."""
 
-    async def head(self, wanted: bytes) -> bytes:
-        """The log's head. It is this one where none was there before."""
+    async def head(self, wanted: Optional[bytes]) -> bytes:
+        """The log's head. It is this one if there was none before. Without one that is wanted it
+        is empty then."""
+
+    async def change_head(self, before: bytes, after: bytes) -> bytes:
+        """Puts another head in the place of one. Answers the head that the log has then."""
+
+    async def clock(self) -> Optional[int]:
+        """The engine's own clock, in nanoseconds since 1970. None if it tells none."""
 
     async def last(self) -> int:
         """A place that no entry lies behind yet."""
@@ -81,6 +100,16 @@ class Log(Protocol):
 
     def look_elsewhere(self) -> None:
         """Reads go on at another address."""
+
+    def nodes(self) -> List[str]:
+        """The engine's addresses. The one that is read from comes last."""
+
+    def seen(self, node: str, place: int) -> AsyncGenerator[Written, None]:
+        """The entries after a place, as one address of the engine has them by itself, until no
+        more come for a while."""
+
+    def pass_to(self, it: Written) -> None:
+        """Reads go on after an entry that was seen, at the address that had it."""
 
     async def report(self, name: str, data: bytes) -> None:
         """Keeps what a replica says of itself."""

@@ -3,6 +3,7 @@
     tb-replica [OPTIONS] --log LOG --copy FOLDER -- COMMAND [WORD ..]
     tb-replica status --log LOG
     tb-replica trim --log LOG [--forget NAME ..]
+    tb-replica upgrade --log LOG
     tb-replica copy-from FOLDER --copy FOLDER
     tb-replica script --copy FOLDER
     tb-replica hashes --copy FOLDER [--at POSITION] -- COMMAND [WORD ..]
@@ -15,8 +16,8 @@ It runs by uvloop where that is installed, unless TB_LOOP=asyncio is in its envi
 
 Status 0: ended by SIGTERM or SIGINT, with all that was taken answered. Status 1: it cannot listen,
 or the command failed. Status 2: wrong arguments. A fault has its name and a status of its own:
-20 NoLog, 21 Trimmed, 22 Diverged, 23 OtherRules, 24 Damaged, 25 BadEntry, 26 LogFull, 27 Ahead. A
-fault that the command named is passed on, with its own line and status.
+20 NoLog, 21 Trimmed, 22 Diverged, 23 OtherRules, 24 Damaged, 25 BadEntry, 26 LogFull, 27 Ahead,
+28 Rotten. A fault that the command named is passed on, with its own line and status.
 """
 from __future__ import annotations
 
@@ -49,15 +50,17 @@ from .arguments import (
 )
 from .backlog import Backlog, copied_checkpoint
 from .faults import Fault
+from .heads import head_of, kept_at
 from .lines import Ended, say, speak_as, speak_json
 from .local_copy import Copy, copied, kept
 from .log import Access, Log, LogFull, NoLog, opened, parts
 from .loops import fill_standard_files, run as run_loop
-from .replica import Replica, head_of, kept_at
+from .replica import Replica
 from .reports import add_reports
 from .serving import listen_on, read_again, stop_signals, until
+from .shares import add_shares
 from .sockets import bound, make_room
-from .status import hashes, script, status, tell, trim
+from .status import hashes, script, status, tell, trim, upgrade
 from .taken import Taken
 from .tls import add_tls, test_tls
 
@@ -179,6 +182,7 @@ def _run_words(given: Sequence[str]) -> argparse.Namespace:
     add_places(parser)
     add_tls(parser)
     add_access(parser)
+    add_shares(parser)
     add_reports(parser)
     add_times(parser)
     add_lines(parser)
@@ -186,6 +190,11 @@ def _run_words(given: Sequence[str]) -> argparse.Namespace:
     parser.add_argument("--patience", metavar="SECONDS", type=seconds, default=10.0, help=patience)
     far = "how far this clock may be ahead of the others', and the log ahead of this clock (60)"
     parser.add_argument("--ahead", metavar="SECONDS", type=ahead, default=60.0, help=far)
+    parser.add_argument(
+        "--alone",
+        action="store_true",
+        help="serve though neither another replica nor the engine confirms this clock",
+    )
     parser.add_argument(
         "--distrust",
         metavar="WRITER",
@@ -211,8 +220,8 @@ def _run_words(given: Sequence[str]) -> argparse.Namespace:
     return found
 
 
-def _status_words(given: Sequence[str]) -> argparse.Namespace:
-    parser = _parser("%(prog)s status --log LOG [OPTIONS]")
+def _log_words(part: str, given: Sequence[str]) -> argparse.Namespace:
+    parser = _parser(f"%(prog)s {part} --log LOG [OPTIONS]")
     add_log(parser)
     found = parser.parse_args(given)
     _test_log(parser, found)
@@ -273,8 +282,9 @@ def run(part: str, rest: List[str]) -> int:
         return script(_script_words(rest))
     if part == "hashes":
         return asyncio.run(hashes(_hashes_words(rest)))
-    if part == "status":
-        return int(asyncio.run(_with_log(_status_words(rest), status)))
+    if part in ("status", "upgrade"):
+        work = status if part == "status" else upgrade
+        return int(asyncio.run(_with_log(_log_words(part, rest), work)))
     if part == "trim":
         return int(asyncio.run(_with_log(_trim_words(rest), trim)))
     given = _run_words(rest)

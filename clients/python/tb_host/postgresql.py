@@ -13,6 +13,7 @@ import re
 import struct
 from typing import (
     Any,
+    AsyncGenerator,
     AsyncIterator,
     Awaitable,
     Callable,
@@ -64,6 +65,8 @@ READ = """
 SELECT position, entry, pg_current_wal_flush_lsn()::text FROM {log} WHERE position > %s
 ORDER BY position LIMIT {page}
 """
+SEEN = "SELECT position, entry FROM {log} WHERE position > %s ORDER BY position LIMIT {page}"
+CLOCK = "SELECT (extract(epoch FROM clock_timestamp()) * 1000000000)::bigint"
 FLUSHED = "SELECT count(*) FROM pg_stat_replication WHERE flush_lsn >= %s::pg_lsn"
 KEEP = """
 INSERT INTO {keys} VALUES (%s, %s) ON CONFLICT (key) DO UPDATE SET value = excluded.value
@@ -73,6 +76,8 @@ LEFT = "position BETWEEN %s AND %s AND position < (SELECT max(position) FROM {lo
 SAY = """
 INSERT INTO {at} VALUES (%s, %s) ON CONFLICT (name) DO UPDATE SET value = excluded.value
 """
+# what a row is met with that a disk has changed
+ROTTEN = (errors.DataCorrupted, errors.IndexCorrupted, errors.InternalError_)
 
 
 class Unknown(Exception):
@@ -104,7 +109,7 @@ class PostgresLog:
 
     # connections
 
-    def _words(self, host: str, port: int) -> Dict[str, Any]:
+    def _words(self, host: str, port: int, kind: str = "read-write") -> Dict[str, Any]:
         access = self.access
         words = {
             "host": host,
@@ -112,7 +117,7 @@ class PostgresLog:
             "dbname": self.database,
             "user": access.user,
             "password": access.password(),
-            "target_session_attrs": "read-write",
+            "target_session_attrs": kind,
             "connect_timeout": 2,
             "options": f"-c synchronous_commit=on -c lock_timeout={LOCKED}",
             "sslrootcert": access.authority,
@@ -206,8 +211,10 @@ class PostgresLog:
 
     # the log
 
-    async def head(self, wanted: bytes) -> bytes:
+    async def head(self, wanted: Optional[bytes]) -> bytes:
         async def work(it: Any) -> bytes:
+            if wanted is None:
+                return await self._key(it, "head") or b""
             await self._make_tables(it)
             put = "INSERT INTO {keys} VALUES ('head', %s) ON CONFLICT DO NOTHING"
             await self._rows(it, put, wanted)
@@ -226,6 +233,20 @@ class PostgresLog:
     async def _key(self, it: Any, key: str) -> Optional[bytes]:
         rows = await self._rows(it, "SELECT value FROM {keys} WHERE key = %s", key)
         return bytes(rows[0][0]) if rows else None
+
+    async def change_head(self, before: bytes, after: bytes) -> bytes:
+        change = "UPDATE {keys} SET value = %s WHERE key = 'head' AND value = %s"
+
+        async def work(it: Any) -> bytes:
+            await self._rows(it, change, after, before)
+            return await self._key(it, "head") or b""
+
+        return await self._call(work)
+
+    async def clock(self) -> Optional[int]:
+        """That of the server whose clock is least: one may be on this computer."""
+        found = [await self._asked(it, CLOCK) for it in self.nodes()]
+        return min((int(rows[0][0]) for rows in found if rows), default=None)
 
     async def last(self) -> int:
         query = "SELECT coalesce(max(position), 0) FROM {log}"
@@ -284,16 +305,20 @@ class PostgresLog:
                 for row in await asyncio.wait_for(self._page(self.place), ALL):
                     if row[0] <= self.place:  # it was appended meanwhile
                         continue
-                    if row[0] != self.place + 1:
-                        raise LogGone(f"position {row[0]} comes behind {self.place}")
-                    self.place = int(row[0])
-                    yield Written(self.place, bytes(row[1]))
+                    it = await self._next(*row[:2])
+                    yield it
+                    self.place = max(self.place, it.place)
                 if loop.time() > looked + REPORTS:
                     looked = loop.time()
                     for name, data in await asyncio.wait_for(self._said(), TRY):
                         if said.get(name) != data:
                             said[name] = data
                             yield Report(name, data)
+            except ROTTEN as error:
+                self._say_unread(_first_line(error))
+                it = Written(self.place + 1, b"", self._read_from())
+                yield it
+                self.place = max(self.place, it.place)
             except (psycopg.Error, OSError, asyncio.TimeoutError, Unknown) as error:
                 self._say_unread(_why_unread(error))
                 await self._leave()
@@ -301,6 +326,20 @@ class PostgresLog:
             with contextlib.suppress(asyncio.TimeoutError):
                 await asyncio.wait_for(self.wanted.wait(), LATEST)
             self.wanted.clear()
+
+    async def _next(self, position: int, data: bytes) -> Written:
+        """The row after what was read. Positions have no gap: so one that is not the next is what a
+        disk has made of it, unless the log was trimmed up to there."""
+        if position == self.place + 1:
+            return Written(position, bytes(data), self._read_from())
+        if (await self.trimmed())[1] > self.place:
+            raise LogGone(f"position {position} comes after {self.place}")
+        return Written(self.place + 1, b"", self._read_from())
+
+    def _read_from(self) -> str:
+        """The address that is read from."""
+        info = getattr(self.reading, "info", None)
+        return f"{info.host}:{info.port}" if info else ""
 
     async def _leave(self) -> None:
         """Reads over another connection, to where was connected last."""
@@ -345,6 +384,33 @@ class PostgresLog:
     def look_elsewhere(self) -> None:
         self.is_moving = True
         self.wanted.set()
+
+    def nodes(self) -> List[str]:
+        found, mine = [f"{host}:{port}" for host, port in self.addresses], self._read_from()
+        return sorted(found, key=lambda it: it == mine)
+
+    async def seen(self, node: str, place: int) -> AsyncGenerator[Written, None]:
+        """A standby has flushed what it shows."""
+        while rows := await self._asked(node, SEEN, place):
+            for at, data in rows:
+                yield Written(int(at), bytes(data), node)
+                place = int(at)
+
+    async def _asked(self, node: str, text: str, *given: Any) -> List[Any]:
+        """What one server answers, which may be a standby. Nothing if it does not in time."""
+        host, _, port = node.rpartition(":")
+        with contextlib.suppress(psycopg.Error, OSError, asyncio.TimeoutError):
+            words = self._words(host, int(port), "any")
+            it = await asyncio.wait_for(psycopg.AsyncConnection.connect(**words), TRY)
+            try:
+                cursor = await asyncio.wait_for(it.execute(self._query(text), given), ALL)
+                return list(await cursor.fetchall())
+            finally:
+                await self._lose(it)
+        return []
+
+    def pass_to(self, it: Written) -> None:
+        self.place = max(self.place, it.place)
 
     # reports
 

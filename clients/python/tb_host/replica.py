@@ -15,15 +15,16 @@ from typing import Any, Awaitable, Callable, Deque, Dict, List, Optional, Set, T
 from tb_client.frames import asker
 
 from .backlog import Backlog
-from .command import journal_at
-from .connections import Answered
-from .entries import MOMENT, PAIRS_MAX, Claim, Entry, test_pairs
+from .connections import Abandon, Answered, nothing
+from .entries import MOMENT, PAIRS_MAX, WRITTEN, Claim, Entry, tested_askers
 from .faults import NO_SUCH_JSON, Fault
 from .follower import Follower, KeptFollower, PositionFollower
-from .lines import Ended, Told, say
+from .heads import FORMATS, format_of, head_of, read_head, without_format, written_head
+from .lines import Ended, Told, say, say_of
 from .local_copy import kept
 from .log import Log, LogFull, LogGone, NoLog, Report, Written
 from .moments import SECOND, Moments, running_ns
+from .nodes import Doubt, Mark, Misfit, Nodes, OtherLog
 from .process import came, cancelled, first
 from .taken import KEPT, Item, Taken
 
@@ -34,33 +35,14 @@ REPORT_BYTES = 1 << 22  # bytes of its copy after which it reports before that
 SYNC = 1.0  # seconds after which the copy is synced
 PAUSE = 0.1  # seconds before an append is tried again
 COME, GATHER = 0.002, 0.006  # seconds in which one of those who are answered comes again, and all
+UNCONFIRMED = (
+    "no other replica answers, and nothing shows that this computer's clock is right; it serves "
+    "once one does, or with --alone"
+)
 ANSWERS = 2.0  # seconds for which the reports of others are waited for at the start
 CLOCK, CLOCK_AGAIN = 120.0, 1.0  # seconds for which a wrong clock is looked at again, and between
-FORMAT = 1
-RULES = 1  # grows where a server answers a script otherwise than before
-
-
-def kept_at(words: List[str]) -> Optional[int]:
-    """Which word of a server's command is the file that it keeps its ledger in: FILE of `follow
-    FILE CLIENTS_MAX [PROFILE]` at its end. None where there is no such word."""
-    return journal_at(words, "follow")
-
-
-def head_of(words: List[str], has_positions: bool = False) -> Dict[str, int]:
-    """What replicas of one log have in common, of a server's command, which ends in `run
-    CLIENTS_MAX [PROFILE]` or `follow FILE CLIENTS_MAX [PROFILE]`; where it takes entries with their
-    positions, in the two numbers alone. Raises `ValueError`."""
-    lead, at = ([] if has_positions else ["run"]), kept_at(words)
-    for count in (2, 1):
-        numbers = words[-count:]
-        start = len(words) - count - len(lead)
-        is_form = start > 0 and words[start : len(words) - count] == lead
-        is_form = is_form if at is None else at == len(words) - count - 1
-        if is_form and all(it.isascii() and it.isdigit() for it in numbers):
-            clients_max, profile = map(int, [*numbers, "1"][:2])
-            head = {"format": FORMAT, "rules": RULES, "clients_max": clients_max}
-            return {**head, "profile": profile}
-    raise ValueError(f"COMMAND does not end in {' '.join([*lead, 'CLIENTS_MAX [PROFILE]'])}")
+MARKED = 64  # entries from one mark of the log to the next
+RESTORED = "if the engine was restored from a backup, see BadEntry in docs/use/CLUSTER.md"
 
 
 def _beyond() -> int:
@@ -76,6 +58,10 @@ class Pair:
     def __init__(self, frame: bytes, answered: Answered) -> None:
         self.frame, self.since, self.answered = frame, time.monotonic(), answered
         self.is_done = False
+
+    def abandon(self) -> None:
+        """Nobody waits for it any more."""
+        self.is_done = True
 
     def tell(self, reply: bytes, why: str = "") -> None:
         """Brings the reply to who asked, or why there is none. A fault there is no fault here."""
@@ -94,8 +80,8 @@ class Sent:
 
     __slots__ = ("entry", "data", "pairs", "askers")
 
-    def __init__(self, entry: Entry, pairs: List[Pair]) -> None:
-        self.entry, self.data, self.pairs = entry, entry.to_bytes(), pairs
+    def __init__(self, entry: Entry, pairs: List[Pair], form: int = WRITTEN) -> None:
+        self.entry, self.data, self.pairs = entry, entry.to_bytes(form), pairs
         self.askers: Optional[List[bytes]] = None
 
     def wanted(self) -> List[bytes]:
@@ -103,6 +89,22 @@ class Sent:
         if self.askers is None:
             self.askers = [asker(it.frame) for it in self.pairs]
         return self.askers
+
+
+def _entry_of(data: bytes) -> Entry:
+    """The entry of these bytes. Raises `Misfit`."""
+    try:
+        return Entry.from_bytes(data)
+    except ValueError as error:
+        raise Misfit(str(error), data) from None
+
+
+def _askers_of(pairs: bytes, data: bytes) -> List[bytes]:
+    """What the reply to each pair of an entry repeats of its request. Raises `Misfit`."""
+    try:
+        return tested_askers(pairs)
+    except ValueError as error:
+        raise Misfit(str(error), data) from None
 
 
 class Replica:
@@ -122,6 +124,14 @@ class Replica:
         self.sent: Dict[int, Sent] = {}  # own entries that were not read yet, by their number
         self.own: Dict[int, List[Pair]] = {}  # those that were read, by their position
         self.claims: Dict[int, Set[Tuple[bytes, bytes]]] = {}  # of replies that are not there yet
+        self.form = WRITTEN  # the format of entries that are written, which the log's head has
+        self.nodes = Nodes(log)
+        # up to where another writer had read the same log, and marks after that
+        self.agreed = Mark(copy.position, copy.place, copy.digest)
+        self.marks: Deque[Mark] = collections.deque(maxlen=KEPT)
+        self.doubts: Set[str] = set()  # writers that had read another log than the nodes have
+        self.is_doubted = asyncio.Event()  # another replica says so of this one
+        self.doubted_by: Set[str] = set()  # its writers that said so
         self.is_full = False
         self.fault: Optional[BaseException] = None  # why no entry is taken any more
         self.hello = 0  # what this clock had when the others were asked for theirs
@@ -147,15 +157,17 @@ class Replica:
 
     # requests
 
-    def ask_soon(self, frame: bytes, answered: Answered) -> None:
+    def ask_soon(self, frame: bytes, answered: Answered) -> Abandon:
         """Asks for the reply to a request. `answered` gets it, or why there is none: there is no
-        log for it, or the replica ended before it came."""
+        log for it, or the replica ended before it came. One that is abandoned is not appended."""
         if self.follower.is_over:
             answered(b"", "ProgramEnded")
-        else:
-            self.queue.append(Pair(frame, answered))
-            if len(self.queue) >= self.expected:
-                self._go_on()
+            return nothing
+        pair = Pair(frame, answered)
+        self.queue.append(pair)
+        if len(self.queue) >= self.expected:
+            self._go_on()
+        return pair.abandon
 
     async def ask(self, frame: bytes) -> bytes:
         """The reply to a request. Raises `Told` where there is none."""
@@ -193,6 +205,13 @@ class Replica:
 
     def lag(self) -> float:
         return self.moments.lag()
+
+    def numbers(self) -> Dict[str, Any]:
+        ahead = max(0.0, (self.copy.last_moment - time.time_ns()) / SECOND)
+        return {
+            "log_ahead_seconds": round(ahead, 3),
+            "rotten_entries": dict(self.nodes.rotten),
+        }
 
     def tell(self, position: int, index: int, replies: List[bytes]) -> None:
         """Brings the replies to the pairs of this position, from this index on, to who asked, if
@@ -241,7 +260,7 @@ class Replica:
         self.number += 1
         log = Claim(self.copy.position, self.copy.digest)
         replies = Claim(*self.follower.state())
-        sent = Sent(Entry(self.writer, self.number, log, replies, pairs), taken)
+        sent = Sent(Entry(self.writer, self.number, log, replies, pairs), taken, self.form)
         self.sent[self.number] = sent
         return sent.data
 
@@ -330,12 +349,64 @@ class Replica:
         try:
             async for it in self.log.read(self.copy.place):
                 if isinstance(it, Written):
-                    self.take(it)
+                    await self._take_read(it)
                     await self.copy.has_room.wait()
                 else:
                     self._hear(it)
         except LogGone as gone:
             raise Fault("Trimmed", f"{gone}; take a peer's, by copy-from") from None
+
+    async def _take_read(self, written: Written) -> None:
+        """Takes an entry that was read. Nothing is taken while one that does not fit is read again
+        at other nodes."""
+        try:
+            await self._take_settled(written)
+        except Misfit as why:
+            await self._take_elsewhere(written.node, why)
+
+    async def _take_settled(self, written: Written) -> None:
+        """Takes an entry, once it is settled whether its writer or this replica has another log."""
+        try:
+            self.take(written)
+        except OtherLog as other:
+            await self._settle(other)
+            self.take(written)
+
+    async def _take_elsewhere(self, node: str, why: Misfit) -> None:
+        """Takes an entry as another node has it. Raises why it is none if no node has it so."""
+        position, others = self.copy.position + 1, {}
+        async for it in self.nodes.next_after(self.copy.place):
+            try:
+                await self._take_settled(it)
+            except Misfit as wrong:
+                others[it.node] = wrong.data
+            else:
+                self.log.pass_to(it)
+                said = f"the entry at {position}: {why}"
+                self.nodes.say_rotten(dict.fromkeys([node, *others]), said, it.node)
+                return
+        fault = self.nodes.fault_of(position, why, others)
+        await self._test_log(self.copy.position)  # an entry that was not read may be missing here
+        raise fault
+
+    async def _settle(self, other: OtherLog) -> None:
+        """Compares the log with that of the nodes. Raises `Rotten` if they have another one, or
+        else doubts the writer."""
+        await self._test_log(other.position)
+        self.doubts.add(other.writer.hex())
+        say(f"writer {other.writer.hex()} {other} up to position {other.position}", "error")
+        self.reporting.set()
+
+    async def _test_log(self, position: int) -> None:
+        base = self.agreed if self.agreed.position <= position else Mark()
+        await self.nodes.test_log(base, position, self.copy.hashes.get(position))
+
+    async def _test_where_doubted(self) -> None:
+        """Compares the log with that of the nodes when another replica doubts this one."""
+        while True:
+            await self.is_doubted.wait()
+            self.is_doubted.clear()
+            await self._test_log(self.copy.position)
 
     def take(self, written: Written) -> None:
         """Takes an entry of the log. Behind a fault none is taken: it would get the position of the
@@ -344,6 +415,8 @@ class Replica:
             raise self.fault
         try:
             self._take(written)
+        except Doubt:
+            raise
         except Exception as fault:
             self.fault = fault
             raise
@@ -352,26 +425,20 @@ class Replica:
         """Takes an entry: it is tested, passed to the server, and copied."""
         position = self.copy.position + 1
         sent = next((it for it in self.sent.values() if it.data == written.data), None)
-        entry = sent.entry if sent else self._entry_of(position, written.data)
+        entry = sent.entry if sent else _entry_of(written.data)
         before = self.copy.numbers.get(entry.writer, 0)
         if entry.number <= before:
             said = f"entry {entry.number} of a writer is in the log twice, and is taken once"
-            say(said, "warning")
+            say_of("", said, kind="twice")
             return
         if entry.number != before + 1:
-            said = f"the entry at {position} is number {entry.number} behind {before}"
-            raise Fault("BadEntry", said)
-        wanted = sent.wanted() if sent else test_pairs(position, entry.pairs)
-        self._compare(position, entry)
+            said = f"it has number {entry.number} after {before}"
+            raise Misfit(f"{said} ({RESTORED})", written.data)
+        wanted = sent.wanted() if sent else _askers_of(entry.pairs, written.data)
+        self._compare(position, entry, written.data)
         if entry.writer == self.writer:
             self._take_own(position, self.sent.pop(entry.number))
         self._enter(position, written, entry, wanted)
-
-    def _entry_of(self, position: int, data: bytes) -> Entry:
-        try:
-            return Entry.from_bytes(data)
-        except ValueError as error:
-            raise Fault("BadEntry", f"the entry at {position}: {error}") from None
 
     def _take_own(self, position: int, sent: Sent) -> None:
         """Takes the pairs of an own entry. Raises `Diverged` where the server had an entry at its
@@ -386,21 +453,31 @@ class Replica:
         end = self.copy.end_of(written.data)
         is_given = self.follower.give(Item(position, entry.pairs, wanted, end))
         self.copy.append(written.place, entry, written.data, wanted, is_given)
+        if position % MARKED == 0:
+            self.marks.append(Mark(position, written.place, self.copy.digest))
 
     # hashes
 
-    def _compare(self, position: int, entry: Entry) -> None:
+    def _compare(self, position: int, entry: Entry, data: bytes) -> None:
         """Compares what the writer of an entry had with what is here."""
-        if entry.writer.hex() in self.given.distrust:
+        writer = entry.writer.hex()
+        if writer in self.given.distrust or writer in self.doubts:
             return
         log, replies = entry.log, entry.replies
-        mine = self.copy.hashes.get(log.position)
         if log.position >= position or replies.position >= position:
-            self._diverged(position, entry.writer, "has more of the log than there is")
-        is_known = log.position > position - KEPT and log.position >= self.copy.first
-        if is_known and mine != log.digest:
-            self._diverged(log.position, entry.writer, "has another log")
+            said = f"writer {writer} has more of the log than there is; keep all files"
+            raise Misfit(said, data, "Diverged")
+        if log.position > position - KEPT and log.position >= self.copy.first:
+            if self.copy.hashes.get(log.position) != log.digest:
+                raise OtherLog(log.position, entry.writer, "has another log")
+            if entry.writer != self.writer:
+                self._agree(log.position)
         self._compare_replies(replies, entry.writer)
+
+    def _agree(self, position: int) -> None:
+        """Another writer had read the same log up to a position."""
+        while self.marks and self.marks[0].position <= position:
+            self.agreed = self.marks.popleft()
 
     def _compare_replies(self, replies: Claim, writer: bytes) -> None:
         mine = self.follower.hashes.get(replies.position)
@@ -444,6 +521,12 @@ class Replica:
             if said.get("hello"):
                 self.heard[report.name] = int(said["hello"])
                 self.reporting.set()
+            if (
+                self.writer.hex() in said.get("doubts", ())
+                and said["writer"] not in self.doubted_by
+            ):
+                self.doubted_by.add(said["writer"])
+                self.is_doubted.set()
             if self.writer.hex() in said.get("fault", ""):
                 raise Fault("Diverged", f"{report.name} says: {said['fault']}")
 
@@ -473,8 +556,13 @@ class Replica:
             "clock": time.time_ns(),
             "writer": self.writer.hex(),
             "address": self.given.shown,
+            "moment": self.copy.last_moment,
+            "reads": FORMATS[-1],
+            "writes": self.form,
             "heard": self.heard,
             **({"hello": self.hello} if not self.is_met else {}),
+            **({"doubts": sorted(self.doubts)} if self.doubts else {}),
+            **({"rotten": sorted(self.nodes.rotten)} if self.nodes.rotten else {}),
             **({"fault": fault} if fault else {}),
         }
         return json.dumps(said, sort_keys=True).encode()
@@ -488,6 +576,7 @@ class Replica:
     async def _report(self) -> None:
         while True:
             is_asked = await came(self.reporting, REPORT)
+            await self._follow_head()
             if is_asked or self.reported != self.copy.synced:
                 self.reporting.clear()
                 await self.report()
@@ -513,6 +602,7 @@ class Replica:
             if position > self.copy.position:
                 said = f"the log begins behind position {position}, and the copy has "
                 raise Fault("Trimmed", f"{said}{self.copy.position}: take a peer's, by copy-from")
+            self.agreed = Mark() if not position else self.agreed
         except LogFull as full:
             raise Fault("LogFull", str(full)) from None
         except NoLog as none:
@@ -546,18 +636,25 @@ class Replica:
     async def _settle_head(self) -> None:
         """Makes the log's head, or raises `OtherRules` where another one is there. The copy keeps
         it, since the head has an id: so a copy goes on with its own log alone."""
-        wanted: Dict[str, Any] = dict(head_of(self.given.command, self.given.positions))
-        named = {**wanted, "id": os.urandom(16).hex()}
-        found = await self.log.head(json.dumps(named, sort_keys=True).encode())
-        said = f"the log has {found.decode(errors='replace')}, and"
-        try:
-            is_same = {**json.loads(found), "id": ""} == {**wanted, "id": ""}
-        except NO_SUCH_JSON:
-            is_same = False
-        if not is_same:
+        wanted = head_of(self.given.command, self.given.positions)
+        found = await self.log.head(written_head({**wanted, "id": os.urandom(16).hex()}))
+        said, head = f"the log has {found.decode(errors='replace')}, and", read_head(found)
+        form = format_of(found)
+        if form is None or without_format({**head, "id": 0}) != without_format({**wanted, "id": 0}):
             raise Fault("OtherRules", f"{said} this replica {json.dumps(wanted, sort_keys=True)}")
-        if kept(self.copy.folder, "head", found) != found:
+        mine = read_head(kept(self.copy.folder, "head", found))
+        if without_format(mine) != without_format(head):
             raise Fault("OtherRules", f"{said} {self.copy.folder} is a copy of another log")
+        self.form = form
+
+    async def _follow_head(self) -> None:
+        """Writes entries in the format that the log's head has by now."""
+        if self.form < WRITTEN:
+            with contextlib.suppress(NoLog, LogFull):
+                form = format_of(await self.log.head(None))
+                if form is not None and form != self.form:
+                    self.form = form
+                    say(f"entries are written in format {form} from now on")
 
     async def _test_last_moment(self) -> None:
         """Raises `Ahead` where the log's last moment lies far ahead of the clock."""
@@ -569,27 +666,58 @@ class Replica:
         self.moments = Moments(last)
 
     async def _meet(self) -> None:
-        """Asks the listed replicas for their clocks, before a request is taken."""
-        try:
-            others = set(await self.log.reports()) - {self.name}
-        except NoLog as none:
-            raise Fault("NoLog", str(none)) from None
-        await self._until_right(lambda: self._ask_for_clocks(others))
+        """Asks the listed replicas for their clocks, before a request is taken. Waits until one of
+        them, or the engine, confirms this one: nobody could undo a moment that is ahead."""
+        is_said = False
+        while True:
+            await self._until_right(self._ask_for_clocks)
+            if self.right is not None or self.given.alone:
+                break
+            if not is_said:
+                say(f"waits: {UNCONFIRMED}", "warning")
+            is_said = True
+            await came(self.reporting, CLOCK_AGAIN)
         self.moments = Moments(self.copy.last_moment)  # the clock may have been set meanwhile
         self.is_met = True
         self.reporting.set()
 
-    async def _ask_for_clocks(self, others: Set[str]) -> None:
-        """Compares the clock with those of replicas that answer in time. Where none does, what was
-        found before stays true, but for how far this clock was set since."""
+    async def _ask_for_clocks(self) -> None:
+        """Compares the clock with those of replicas that answer in time, or else with the engine's.
+        Where none does, what was found before stays true, but for how far this clock was set
+        since."""
+        try:
+            others = set(await self.log.reports()) - {self.name}
+        except NoLog as none:
+            raise Fault("NoLog", str(none)) from None
         self.hello, beyond, self.ahead = time.time_ns(), _beyond(), {}
-        await self.report()
-        end = time.monotonic() + ANSWERS
-        while others - set(self.ahead) and time.monotonic() < end:
-            await asyncio.sleep(0.02)
+        await self._answer_until(others)
         if self.ahead:
             self.right = beyond - min(self.ahead.values())
+        elif self.right is None:
+            await self._ask_the_engine()
         self._test_clock()
+
+    async def _answer_until(self, others: Set[str]) -> None:
+        """Waits for the clocks of others, and tells them this one: they may begin too."""
+        end = time.monotonic() + ANSWERS
+        self.reporting.set()
+        while self.reporting.is_set() or others - set(self.ahead):
+            if self.reporting.is_set():
+                self.reporting.clear()
+                await self.report()
+            elif time.monotonic() > end:
+                return
+            else:
+                await asyncio.sleep(0.02)
+
+    async def _ask_the_engine(self) -> None:
+        """Compares the clock with the engine's, if it tells one."""
+        with contextlib.suppress(NoLog, LogFull):
+            clock = await self.log.clock()
+            if clock is not None:
+                self.right = _beyond() - (time.time_ns() - clock)
+
+    # its run
 
     async def run(self) -> None:
         """Runs until it is closed, or raises why it ends."""
@@ -616,7 +744,7 @@ class Replica:
         if not await self._comes_before(asyncio.ensure_future(self._meet()), tasks):
             return
         parts = (self._write, self._watch_the_wait, self._compare_later, self._report, self._sync)
-        tasks += [asyncio.ensure_future(it()) for it in parts]
+        tasks += [asyncio.ensure_future(it()) for it in (*parts, self._test_where_doubted)]
         self._serve(tasks)
 
     def _serve(self, tasks: List[asyncio.Future[Any]]) -> List[asyncio.Future[Any]]:

@@ -11,7 +11,7 @@ import socketserver
 import sys
 import threading
 import time
-from typing import Any, AsyncIterator, Callable, Iterator, Optional
+from typing import Any, AsyncIterator, Callable, Dict, Iterator, Optional
 from wsgiref import simple_server
 
 from .arguments import address, path
@@ -190,3 +190,21 @@ class _Collector:
         yield core.GaugeMetricFamily(
             "tb_clock_lag_seconds", "Seconds that moments lie behind the clock", self.lag()
         )
+        yield from self._more(it.more())
+
+    def _more(self, numbers: Dict[str, Any]) -> Iterator[Any]:
+        """What a replica has beyond a listener's numbers."""
+        core = self.core
+        if "log_ahead_seconds" in numbers:
+            yield core.GaugeMetricFamily(
+                "tb_log_ahead_seconds",
+                "Seconds that the log's last moment is ahead of the clock",
+                numbers["log_ahead_seconds"],
+            )
+        rotten = core.CounterMetricFamily(
+            "tb_rotten_entries", "Entries that a node has lost or changed", labels=["node"]
+        )
+        for node, count in numbers.get("rotten_entries", {}).items():
+            rotten.add_metric([node], count)
+        if "rotten_entries" in numbers:
+            yield rotten

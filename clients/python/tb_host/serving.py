@@ -6,7 +6,7 @@ import asyncio
 import contextlib
 import functools
 import signal
-from typing import Any, Callable, List, Optional, Protocol
+from typing import Any, Callable, Dict, List, Optional, Protocol
 
 from .access import access_of
 from .connections import Asked, Listener
@@ -43,6 +43,9 @@ class Server(Asked, Protocol):
     def lag(self) -> float:
         """How many seconds its moments lie behind the clock."""
 
+    def numbers(self) -> Dict[str, Any]:
+        """Numbers that not every host has, for `--status` and `--metrics`."""
+
     def close(self) -> None:
         """Ends it, with all that was taken answered."""
 
@@ -55,9 +58,7 @@ def stop_signals() -> asyncio.Future[Any]:
     until connections are taken a listener uses no file that would be read again."""
     loop, stopped = asyncio.get_running_loop(), asyncio.Event()
     said = "{}: {!r}".format
-    loop.set_exception_handler(
-        lambda _, it: say(said(it["message"], it.get("exception")), "error")
-    )
+    loop.set_exception_handler(lambda _, it: say(said(it["message"], it.get("exception")), "error"))
     for number in (signal.SIGTERM, signal.SIGINT):
         loop.add_signal_handler(number, stopped.set)
     loop.add_signal_handler(signal.SIGHUP, lambda: None)
@@ -86,7 +87,7 @@ async def listen_on(
     """Takes connections at these places and answers their requests, until a signal comes or the
     command ends. `file` is the ledger's, where it has one, and `clients_max` how many sessions it
     has at most, where all requests come through this host."""
-    counts = Counts(file, command.is_serving, command.committed)
+    counts = Counts(file, command.is_serving, command.committed, command.numbers)
     listener = Listener(command, given, access_of(given), counts, Evictions(clients_max))
     loop = asyncio.get_running_loop()
     renew = functools.partial(_renew, places, command, listener)
@@ -131,7 +132,8 @@ async def _serve_until(
     for place in places:
         place.socket.close()
     command.stopping.set()
-    await listener.stop(_name_of(running) if running.done() else "Stopping")
+    why = _name_of(running) if running.done() else "Stopping"
+    await listener.stop(why)
     command.close()
     await asyncio.wait([running], timeout=given.slow)
     is_killed = not running.done()
@@ -140,6 +142,8 @@ async def _serve_until(
         await asyncio.wait([running])
     await listener.leave()
     watching.cancel()
+    if listener.counts.has_begun:
+        say(f"has stopped: {why}; {listener.counts.told()}")
     faults = [it.exception() for it in taking if not it.cancelled()]
     fault = running.exception() or next((it for it in faults if it), None)
     if is_killed:

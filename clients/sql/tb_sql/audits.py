@@ -1,4 +1,4 @@
-"""Reads the lines of `tbt audit`, and enters them."""
+"""Reads the lines of `telovamish audit`, and enters them."""
 
 from __future__ import annotations
 

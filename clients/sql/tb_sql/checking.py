@@ -363,7 +363,7 @@ class Server:
         return int(row[0])
 
     def _load(self, commit: int) -> None:
-        ledger = Ledger(self.given.ledger, self.given.tbd, self.given.tbt)
+        ledger = Ledger(self.given.ledger, self.given.tbd, self.given.telovamish)
         store = store_of(self.given.file)
         try:
             ledger.read(Loading(store, until=commit), lambda: None)

@@ -19,9 +19,9 @@ from .errors import Failed, Stop
 from .numbers import time_text
 from .sources import Ledger
 
-LOAD = """Reads an audit (`tbt audit`) from standard input, or a kept ledger's file, into tables.
-What the tables have already is passed over, so the same command goes on where the last one
-stopped. FILE is a file of SQLite, made where there is none, or a URL of PostgreSQL."""
+LOAD = """Reads an audit (`telovamish audit`) from standard input, or a kept ledger's file, into
+tables. What the tables have already is skipped, so the same command goes on where the last one
+stopped. FILE is a file of SQLite, made if there is none, or a URL of PostgreSQL."""
 SERVE = """Shows the tables as pages, on the loopback interface alone, without writing."""
 CHECK = """Computes the balances again from the postings, and compares. With --server also asks a
 server for its accounts, which takes a session and an entry for each 8190 accounts."""
@@ -65,7 +65,7 @@ def load(given: argparse.Namespace) -> int:
     if given.follow and given.ledger is None:
         raise_usage("--follow goes with --ledger; an audit on standard input is followed anyway")
     is_file = given.ledger is not None
-    ledger = Ledger(given.ledger, given.tbd, given.tbt) if is_file else None
+    ledger = Ledger(given.ledger, given.tbd, given.telovamish) if is_file else None
     if is_file and os.path.exists(given.file) and os.path.samefile(given.file, given.ledger):
         raise_usage(f"{given.file} is the ledger's own file: name another one for the tables")
     gc.set_threshold(GARBAGE)
@@ -146,7 +146,9 @@ def seconds(text: str) -> float:
 def add_ledger(parser: argparse.ArgumentParser, what: str) -> None:
     parser.add_argument("--ledger", metavar="FILE", help=what)
     parser.add_argument("--tbd", metavar="PROGRAM", help="the program tbd (or the variable TBD)")
-    parser.add_argument("--tbt", metavar="PROGRAM", help="the program tbt (or the variable TBT)")
+    parser.add_argument(
+        "--telovamish", metavar="PROGRAM", help="the command telovamish (or TELOVAMISH)"
+    )
 
 
 def words() -> argparse.ArgumentParser:

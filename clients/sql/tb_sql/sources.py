@@ -1,4 +1,4 @@
-"""A kept ledger's file as an audit, by the programs `tbd dump` and `tbt audit`."""
+"""A kept ledger's file as an audit, by the programs `tbd dump` and `telovamish audit`."""
 
 from __future__ import annotations
 
@@ -18,20 +18,21 @@ from .errors import Cut, Failed, Refused
 Process = subprocess.Popen  # of bytes
 
 CLONE = pathlib.Path(__file__).resolve().parents[3]
+IN_CLONE = {"tbd": "crates/tbd/out/tbd", "telovamish": "apps/telovamish/telovamish"}
 LOST = "standard output"  # what a dump says at last that nobody reads
 END_WITH_PARENT = 1  # of Linux: the number of PR_SET_PDEATHSIG
 
 
 def program(name: str, given: Optional[str] = None) -> str:
-    """The path of a program: as given, by its variable (TBD, TBT), built in this clone, or among
-    the commands."""
-    built = CLONE / "crates" / name / "out" / name
+    """The path of a program: as given, by its variable (TBD, TELOVAMISH), on PATH, or in this
+    clone."""
+    built = CLONE / IN_CLONE[name]
     chosen = given or os.environ.get(name.upper())
-    found = chosen or (str(built) if os.access(built, os.X_OK) else shutil.which(name))
+    found = chosen or shutil.which(name) or (str(built) if os.access(built, os.X_OK) else None)
     if not found or not shutil.which(found):
         raise Failed(
-            f"no program {chosen or name}: build it (docs/use/{name.upper()}.md), or name it by "
-            f"--{name}"
+            f"no program {chosen or name}: build or install it (docs/use/READING.md), or name it "
+            f"by --{name}"
         )
     return found
 
@@ -48,11 +49,14 @@ def end_with_parent() -> None:
 class Ledger:
     """A kept ledger's file, and the programs that read it, also while it is served."""
 
-    def __init__(self, path: str, tbd: Optional[str] = None, tbt: Optional[str] = None) -> None:
+    def __init__(
+        self, path: str, tbd: Optional[str] = None, telovamish: Optional[str] = None
+    ) -> None:
         if not os.path.isfile(path):
             raise Failed(f"there is no file {path}")
         self.path = path
-        self._tbd, self._tbt = program("tbd", tbd), program("tbt", tbt)
+        self._tbd = program("tbd", tbd)
+        self._telovamish = program("telovamish", telovamish)
 
     def read(self, loading: Loading, tell: Callable[[], None], follow: bool = False) -> None:
         """Enters what the file holds, and what comes later where it is followed. Of the entries
@@ -136,7 +140,7 @@ class Ledger:
         assert dump.stdout
         since = ["--after", str(after)] if after > 0 else []
         try:
-            audit = _started([self._tbt, "audit", *since, *more], dump.stdout)
+            audit = _started([self._telovamish, "audit", *since, *more], dump.stdout)
         except OSError:
             dump.kill()
             raise

@@ -1,5 +1,6 @@
-"""Audits made by hand for tests: the lines that `tbt audit` prints for some history. Balances are
-not tested here: whoever makes a line says what is in it."""
+"""Audits made by hand for tests: the lines that `telovamish audit` prints for some history.
+
+Balances are not tested here: whoever makes a line says what is in it."""
 
 import json
 

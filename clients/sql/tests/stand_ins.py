@@ -1,9 +1,9 @@
 #!/usr/bin/env python3
-"""Stand-ins for `tbd` and `tbt`, for tests of how they are used: a ledger's file is an audit here.
+"""Stand-ins for `tbd` and `telovamish`, for tests of their use: a ledger's file is an audit here.
 
     stand_ins.py tbd check FILE
     stand_ins.py tbd dump FILE [--follow]
-    stand_ins.py tbt audit [--after COMMIT] [--follow]
+    stand_ins.py telovamish audit [--after COMMIT] [--follow]
 
 Each writes its words to the file that WORDS names, a line for each start. FAULT=PROGRAM:STATUS:LINE
 makes a program end so behind its output.

@@ -29,14 +29,14 @@ def history():
 
 
 class Sources(Tables):
-    """Loads from a file by stand-ins for `tbd` and `tbt`."""
+    """Loads from a file by stand-ins for `tbd` and `telovamish`."""
 
     def setUp(self):
         super().setUp()
         self.file = self.room / "ledger.tbk"
         self.given = ["load", self.path, "--ledger", str(self.file)]
         self.environment = {**os.environ, "WORDS": str(self.room / "words")}
-        for name in ("tbd", "tbt"):
+        for name in ("tbd", "telovamish"):
             program = self.room / name
             stand_in = f"{sys.executable} -SE {HERE}/stand_ins.py {name}"
             program.write_text(f'#!/bin/sh\nexec {stand_in} "$@"\n')
@@ -97,10 +97,10 @@ class Sources(Tables):
         """Behind the entries that are kept only the last one of them is read again."""
         self.write(history())
         self.assertEqual(self.loaded(), (0, ""))
-        self.assertEqual(self.words(), ["tbd dump FILE", "tbt audit"])
+        self.assertEqual(self.words(), ["tbd dump FILE", "telovamish audit"])
         before = self.contents()
         self.assertEqual(self.loaded(), (0, ""))
-        self.assertEqual(self.words(), ["tbd dump FILE", "tbt audit --after 6"])
+        self.assertEqual(self.words(), ["tbd dump FILE", "telovamish audit --after 6"])
         self.assertEqual(self.contents(), before)
 
     def test_tables_in_the_ledger_s_own_file(self):
@@ -206,7 +206,7 @@ class Sources(Tables):
         for number in range(1, 6):
             audit.transfers(transfer(number, 3, 4, 10))
         self.write(audit)
-        self.put_behind("tbt", "(sleep 1; cat)")
+        self.put_behind("telovamish", "(sleep 1; cat)")
         status, said = self.loaded("--follow")
         self.assertEqual(status, 2, said)
         self.assertIn("entry 7 is another one", said)
@@ -228,7 +228,7 @@ class Sources(Tables):
         self.assertEqual(self.loaded(), (0, ""))
         self.write(history())
         os.utime(self.path, (5, 5))
-        self.put_behind("tbt", "(sed -u 3q; sleep 3; cat)")
+        self.put_behind("telovamish", "(sed -u 3q; sleep 3; cat)")
         process, until, told = self.follow(), time.monotonic() + SECONDS, 10
         while True:
             os.utime(self.file, (told, told))
@@ -252,7 +252,7 @@ class Sources(Tables):
             time.sleep(0.02)
         time.sleep(1)
         self.end(process, signal.SIGTERM, 0)
-        wanted = ["tbd check FILE", "tbd dump FILE --follow", "tbt audit --after 6 --follow"]
+        wanted = ["tbd check FILE", "tbd dump FILE --follow", "telovamish audit --after 6 --follow"]
         self.assertEqual(self.words(), wanted)
 
     def test_histories_that_are_shorter(self):
@@ -272,7 +272,7 @@ class Sources(Tables):
         for fault, wanted in (
             ("tbd:6:tbd: Damaged: FILE at byte 9", "tbd: Damaged: FILE at byte 9"),
             ("tbd:1:tbd: Device: FILE", "tbd: Device: FILE"),
-            ("tbt:1:tbt: NoMemory", "tbt: NoMemory"),
+            ("telovamish:1:telovamish: NoMemory", "telovamish: NoMemory"),
         ):
             self.assertEqual(self.loaded(fault=fault), (1, f"tb-sql: {wanted}\n"))
             os.unlink(self.path)
@@ -282,8 +282,8 @@ class Sources(Tables):
         data = history().bytes
         for end in (data.index(b"\n", 1500) + 40, data.rindex(b"\n", 0, -1) + 1):
             self.file.write_bytes(data[:end])
-            wanted = "tb-sql: tbt: NoMemory\n"
-            self.assertEqual(self.loaded(fault="tbt:1:tbt: NoMemory"), (1, wanted))
+            wanted = "tb-sql: telovamish: NoMemory\n"
+            self.assertEqual(self.loaded(fault="telovamish:1:telovamish: NoMemory"), (1, wanted))
             status, said = self.loaded()
             self.assertEqual(status, 2, said)
             self.assertIn("the input ends within", said)
