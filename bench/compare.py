@@ -20,7 +20,6 @@ import dataclasses
 import os
 
 import measure
-import rows
 import tried
 from measure import Cost
 
@@ -153,21 +152,6 @@ def print_growth(costs):
         print(f"a bulk transfer, 1,000,000 accounts over 10,000: {found:.2f} ({bound}: {said})")
 
 
-def rows_of(costs, turns, scale=1):
-    """Rows for runs.csv."""
-    for name, found in costs.items():
-        load = LOADS[name].part(scale)
-        for server, cost in found.items():
-            once = server == "sqlite"
-            size = load.events // 10 if once else load.events
-            many = min(turns, SELDOM.get(server, turns))
-            note = "one run" if once else f"best of {many} runs"
-            yield rows.row("bench", load.subject, server, size, cost.cpu, "ns an event", note)
-        yield rows.row(
-            "bench", load.subject, "tbs", load.events, found["tbs"].resident, "bytes an event"
-        )
-
-
 def taking_part(name, is_only, programs, earlier):
     """The servers of a load: the peers; an earlier tbs, and one of today that was built as it was,
     where there is a bound over it, or no other load; and tbs in huge pages in one load."""
@@ -244,7 +228,6 @@ def main():
     parser.add_argument("--turns", metavar="N", type=tried.count, default=5, help="runs (5)")
     parser.add_argument("--work", metavar="FOLDER", help="keeps scripts and programs there")
     earlier_from(parser)
-    parser.add_argument("--rows", action="store_true", help="write rows of docs/work/runs.csv")
     parser.add_argument("--replies", metavar="SEED", type=int, nargs="*", help="replies alone (1)")
     given = parser.parse_args()
     for name in given.loads:
@@ -253,9 +236,7 @@ def main():
     with measure.work_folder(given.work) as folder:
         if given.replies is not None:
             return compare_replies(given.replies or [1], folder)
-        costs, agree = run_loads(given.loads or BY_DEFAULT, given.turns, folder, earlier_in(given))
-        if given.rows:
-            rows.write(rows_of(costs, given.turns))
+        _, agree = run_loads(given.loads or BY_DEFAULT, given.turns, folder, earlier_in(given))
     return 0 if agree else 1
 
 

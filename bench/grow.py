@@ -2,7 +2,7 @@
 """What a bulk transfer costs as a ledger grows: CPU time and memory of tbs and three other servers,
 over as many accounts as transfers, from 10,000 to --most of each (10,000,000).
 
-    grow.py [--most N] [--rows] [--work FOLDER]
+    grow.py [--most N] [--work FOLDER]
 
 It needs what compare.py needs. A step makes N accounts, then N transfers between them in batches of
 8190 with rising ids, and measures both parts in one run of each server; up to 100,000 the best of
@@ -14,7 +14,6 @@ Prints nanoseconds of CPU time and bytes of resident memory, of an account and o
 import os
 
 import measure
-import rows
 import tried
 from measure import Cost
 
@@ -58,7 +57,7 @@ def grow(most, sqlite_most, folder):
         f"{'':19} {'nanoseconds':>17} {'bytes':>17}\n{'of each':>10} {'server':8} "
         f"{'account':>8} {'transfer':>8} {'account':>8} {'transfer':>8}  replies"
     )
-    found, all_agree = {}, True
+    all_agree = True
     for size in [it for it in STEPS if it <= most]:
         if size * BYTES_EACH > free_memory():
             print(f"stopped before {size:,} of each: too little free memory")
@@ -72,18 +71,8 @@ def grow(most, sqlite_most, folder):
             costs = step(words, script, cut, size, replies[name], times)
             agree = measure.same(replies["tbs"], replies[name])
             print_step(size, name, costs, agree)
-            found[size, name], all_agree = costs, all_agree and agree
-    return found, all_agree
-
-
-def rows_of(found):
-    """Rows for runs.csv."""
-    for (size, name), (account, transfer) in found.items():
-        note = f"best of {TIMES} runs" if size <= REPEATED_TO else "one run"
-        for what, cost in (("account", account), ("transfer", transfer)):
-            for value, unit in ((cost.cpu, f"ns an {what}"), (cost.resident, f"bytes an {what}")):
-                unit = unit.replace("an t", "a t")
-                yield rows.row("growth", "rising ids", name, size, value, unit, note)
+            all_agree = all_agree and agree
+    return all_agree
 
 
 def main():
@@ -91,14 +80,11 @@ def main():
     parser.add_argument("--most", metavar="N", type=tried.count, default=STEPS[-1])
     parser.add_argument("--sqlite-most", metavar="N", type=tried.count, default=1_000_000)
     parser.add_argument("--work", metavar="FOLDER", help="keeps scripts and programs there")
-    parser.add_argument("--rows", action="store_true", help="write rows of docs/work/runs.csv")
     given = parser.parse_args()
     if given.most < STEPS[0]:
         parser.error(f"the first step is of {STEPS[0]:,}")
     with measure.work_folder(given.work) as folder:
-        found, agree = grow(given.most, given.sqlite_most, folder)
-        if given.rows:
-            rows.write(rows_of(found))
+        agree = grow(given.most, given.sqlite_most, folder)
     return 0 if agree else 1
 
 

@@ -1,7 +1,7 @@
 #!/usr/bin/env python3
 """Counts what an event takes, by callgrind: tbs and the servers in plain Rust.
 
-    instructions.py [--size N] [--jobs N] [--rows] [--work FOLDER] [LOAD ..]
+    instructions.py [--size N] [--jobs N] [--work FOLDER] [LOAD ..]
 
 Instructions, misses of an L2 cache of 1 MiB, and mispredicted branches, from the first transfer (or
 lookup) on: the counts of a script of --size events (20,000), less those of its beginning, a run
@@ -15,7 +15,6 @@ import re
 import subprocess
 
 import measure
-import rows
 import tried
 
 LOADS = ["rising", "chains", "single", "lookups", "expiring", "pending", "resolving", "random"]
@@ -79,7 +78,6 @@ def jobs_of(load, size, folder):
 def count(loads, size, jobs, folder):
     """Prints the table; the counts of an event, by load, server and unit."""
     programs = measure.servers(folder, *PEERS)
-    found = {}
     with concurrent.futures.ThreadPoolExecutor(jobs) as pool:
         for load in loads:
             script, start, events = jobs_of(load, size, folder)
@@ -87,19 +85,10 @@ def count(loads, size, jobs, folder):
             counts = [*pool.map(lambda run: counted(*run), runs)]
             for name, whole, part in zip(programs, counts[::2], counts[1::2]):
                 each = {unit: round((whole[unit] - part[unit]) / events) for unit in COUNTS}
-                found[load, name] = each
                 instructions, *others = each.values()
                 over = name == "tbs" and instructions > BOUNDS.get(load, instructions)
                 mark = ">" if over else ""
                 print(f"{load:10} {name:6} {mark + str(instructions):>8}", *others, flush=True)
-    return found
-
-
-def rows_of(found, size):
-    """Rows for runs.csv."""
-    for (load, server), counts in found.items():
-        for unit, each in counts.items():
-            yield rows.row("instructions", f"run, {load}", server, size, each, unit)
 
 
 def main():
@@ -107,16 +96,13 @@ def main():
     parser.add_argument("--size", metavar="N", type=tried.count, default=20_000)
     parser.add_argument("--jobs", metavar="N", type=tried.count, default=2, help="at once (2)")
     parser.add_argument("--work", metavar="FOLDER", help="keeps scripts and programs there")
-    parser.add_argument("--rows", action="store_true", help="write rows of docs/work/runs.csv")
     parser.add_argument("loads", metavar="LOAD", nargs="*", help=", ".join(LOADS))
     given = parser.parse_args()
     for name in given.loads:
         if name not in LOADS:
             parser.error(f"there is no load {name}: {', '.join(LOADS)}")
     with measure.work_folder(given.work) as folder:
-        found = count(given.loads or BY_DEFAULT, given.size, given.jobs, folder)
-    if given.rows:
-        rows.write(rows_of(found, given.size))
+        count(given.loads or BY_DEFAULT, given.size, given.jobs, folder)
     return 0
 
 

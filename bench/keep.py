@@ -2,7 +2,7 @@
 """Runs a server without a file and one that keeps its ledger in a file on the same scripts by
 turns, and prints what they cost.
 
-    keep.py [--turns N] [--size N] [--rows] [--work FOLDER]
+    keep.py [--turns N] [--size N] [--work FOLDER]
 
 The best of --turns runs (5) over --size events a load (100,000). It needs crates/tbs/out/tbs
 (PROGRAM names another) and crates/tbd/out/tbd (TBD names another), as `rt run` leaves them. Scripts
@@ -20,7 +20,6 @@ import sys
 import tempfile
 
 import measure
-import rows
 import tried
 from measure import TBS, whole
 
@@ -67,7 +66,7 @@ def marked(found, most):
 
 
 def compare(load, size, turns, folder, scripts):
-    """Prints a load's line; the ratios of serving and of a start, and whether replies agree."""
+    """Prints a load's line. Whether replies agree."""
     script = measure.make_script(scripts, load, size, ACCOUNTS)
     file = os.path.join(folder, "ledger.tbk")
     replies = {name: os.path.join(folder, f"replies.{name}") for name in ("tbs", "tbd")}
@@ -90,35 +89,19 @@ def compare(load, size, turns, folder, scripts):
         flush=True,
     )
     os.remove(file)
-    return (b / a, c / a), agree
+    return agree
 
 
 def compare_all(size, turns, scripts):
-    """Prints the table; the ratios of each load, and whether all replies were the same."""
+    """Prints the table. Whether all replies were the same."""
     tried.built(TBS, TBD)
     print(
         f"{'load':10} {'events':>8} {'run s':>8} {'tbd s':>8} {'start s':>8} {'tbd':>6} "
         f"{'start':>6} {'syncs':>6}  replies"
     )
     with tempfile.TemporaryDirectory() as folder:
-        found = {load: compare(load, size, turns, folder, scripts) for load in LOADS}
-    ratios, agree = zip(*found.values())
-    return dict(zip(found, ratios)), all(agree)
-
-
-def rows_of(found, size, turns):
-    """Rows for runs.csv."""
-    for load, ratios in found.items():
-        for what, ratio in zip(("tbd run", "tbd start"), ratios):
-            yield rows.row(
-                "bench",
-                f"{what}, {load}",
-                "tbs run",
-                size,
-                f"{ratio:.2f}",
-                "ratio of CPU time",
-                f"best of {turns} runs",
-            )
+        found = [compare(load, size, turns, folder, scripts) for load in LOADS]
+    return all(found)
 
 
 def main():
@@ -126,12 +109,9 @@ def main():
     parser.add_argument("--turns", metavar="N", type=tried.count, default=5, help="runs (5)")
     parser.add_argument("--size", metavar="N", type=tried.count, default=SIZE)
     parser.add_argument("--work", metavar="FOLDER", help="keeps scripts there")
-    parser.add_argument("--rows", action="store_true", help="write rows of docs/work/runs.csv")
     given = parser.parse_args()
     with measure.work_folder(given.work) as scripts:
-        found, agree = compare_all(given.size, given.turns, scripts)
-    if given.rows:
-        rows.write(rows_of(found, given.size, given.turns))
+        agree = compare_all(given.size, given.turns, scripts)
     return 0 if agree else 1
 
 

@@ -2,7 +2,6 @@ pub mod SplitEntries
 pub mod Crosses
 pub mod Firsts
 pub mod InPlace
-pub mod Least
 pub mod Ranges
 pub mod Shape
 pub mod Steps

@@ -1,10 +1,9 @@
 -- What others see of a map.
 -- Cited by public contracts of: map.
-use Rattle.std.specs.Prelude.{ℕ, ◌≤◌, List, [], ◌∷◌, length, Option, None, Some, cond, refl}
+use Rattle.std.specs.Prelude.{ℕ, ◌≤◌, List, length, Option, refl}
 use Rattle.std.specs.Coded.{Coded, code_by, coded×, coded_ℕ}
 use Rattle.std.specs.Map.{lookup}
 use Rattle.std.specs.BTreeMap.{is_at}
-use Rattle.std.specs.Ordering.{is_le}
 use Rattle.std.specs.declared.cmp.Ordering.{Ordering}
 use Rattle.avl_tree.specs.Search.{Search, entries_of, least, coded_search}
 
@@ -20,11 +19,6 @@ entries m = entries_of m.tree
 -- the value of the key that compares equal
 abbrev pub get : {K V : Type 0} → (K → K → Ordering) → Map K V → K → Option V
 get cmp m k = lookup (is_at (cmp k)) (entries m)
-
--- the first pair, where its key is at most the bound
-abbrev pub first_to : {K V : Type 0} → (K → K → Ordering) → K → List (K × V) → Option (K × V)
-first_to cmp bound [] = None
-first_to cmp bound (e ∷ es) = cond (is_le (cmp e.0 bound)) (Some e) None
 
 -- n is at most a height that a balanced tree of so many keys can have
 abbrev pub IsShallow : {K V : Type 0} → Map K V → ℕ → Type 0

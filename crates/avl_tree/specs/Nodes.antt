@@ -131,11 +131,6 @@ abbrev pub HasNoLeft : {K V A : Type 0} → Tree K V A → Type 0
 HasNoLeft Empty = Unit {0}
 HasNoLeft (Fork' h p k l r v) = l ≡ Empty
 
--- the root has a left side
-abbrev pub HasLeft : {K V A : Type 0} → Tree K V A → Type 0
-HasLeft Empty = ⊥
-HasLeft (Fork' h p k l r v) = l ≢ Empty
-
 -- the entries of the two sides of the root
 abbrev pub beside_root : {K V A : Type 0} → Tree K V A → List (K × V)
 beside_root Empty = []

@@ -1,10 +1,9 @@
 // Changes of the tree.
 ghost use Rattle.std.specs.Prelude.{◌≡◌, ◌≢◌, ◌+◌, ◌<◌, ◌≤◌, ◌++◌, true, false, None, Some, IfSome, MatchOption};
-ghost use Rattle.std.specs.Option.{option_map, is_some};
+ghost use Rattle.std.specs.Option.{option_map};
 ghost use Rattle.std.specs.Map.{lookup, remove_entry};
 ghost use Rattle.std.specs.BTreeMap.{is_at, insert_entry};
-ghost use Rattle.avl_tree.specs.Nodes.{entries, entry, entry_in, with_first, stored_height, IsAvl, IsNearlyAvl, SettlesTo, IsBare, HasLeft, HasNoLeft, beside_root, root_entry, IsSearchTree, IsShrunk, IsTold, IsGrownAsTold, IsShrunkAsTold, Exchanges};
-ghost use Rattle.avl_tree.specs.Map.{first_to};
+ghost use Rattle.avl_tree.specs.Nodes.{entries, entry, entry_in, with_first, stored_height, IsAvl, IsNearlyAvl, SettlesTo, IsBare, HasNoLeft, beside_root, root_entry, IsSearchTree, IsShrunk, IsTold, IsGrownAsTold, IsShrunkAsTold, Exchanges};
 ghost use Rattle.avl_tree.specs.declared.tree.Tree.TheVariants.{Empty};
 
 use crate::tree::{Node, Tree, balance, height, put, settle, split, take};
@@ -138,67 +137,6 @@ pub fn take_first<K, V, A: Allocator>(
             Some(first)
         }
     }
-}
-
-/// Whether the root has a left side.
-fn has_left<K, V, A: Allocator>(tree: &Tree<K, V, A>) -> bool
-    ensures left { result ≡ true → HasLeft tree.now }
-    ensures no_left { result ≡ false → HasNoLeft tree.now }
-{
-    let Tree::Fork(_, node) = tree else {
-        return false;
-    };
-    match &node.left {
-        Tree::Empty => false,
-        Tree::Fork(_, _) => true,
-    }
-}
-
-/// Whether the root, which has no left side, is at most the bound.
-fn is_top_to<K: Ord, V, A: Allocator>(tree: &Tree<K, V, A>, bound: &K) -> bool
-    requires balanced { IsAvl tree.now }
-    requires no_left { HasNoLeft tree.now }
-    ensures to_bound { result ≡ is_some (first_to K.cmp bound.now (entries tree.now)) }
-    ensures there { result ≡ true → tree.now ≢ Empty }
-{
-    match tree {
-        Tree::Empty => false,
-        Tree::Fork(_, node) => !is_below(bound, node),
-    }
-}
-
-/// Takes the node of the least key off, where that key is at most the bound, and says whether the tree is lower than
-/// before. Above a side that is not, nothing changes.
-pub fn take_first_to<K: Ord, V, A: Allocator>(
-    tree: &mut Tree<K, V, A>,
-    lower: &mut bool,
-    bound: &K,
-) -> Option<Box<Node<K, V, A>, A>>
-    requires balanced { IsAvl tree.old }
-    requires height_fits { stored_height tree.old < 200 }
-    requires not_lower { lower.old ≡ false }
-    ensures balanced { IsAvl tree.new }
-    ensures first { entry_in result ≡ first_to K.cmp bound.now (entries tree.old) }
-    ensures entries { entries tree.old ≡ with_first (entry_in result) (entries tree.new) }
-    ensures taken { MatchOption result ((tree.new ≡ tree.old) × (lower.new ≡ false))
-        (λ b. IsBare b.value) }
-    ensures height { IsShrunkAsTold lower.new (stored_height tree.old) (stored_height tree.new) }
-{
-    if !has_left(tree) {
-        if !is_top_to(tree, bound) {
-            return None;
-        }
-        *lower = true;
-        return take_top(tree);
-    }
-    let taken = match tree {
-        Tree::Empty => return None,
-        Tree::Fork(_, node) => take_first_to(&mut node.left, lower, bound),
-    };
-    if *lower {
-        *lower = regrow(tree);
-    }
-    taken
 }
 
 /// Takes the root off. The node of the next key comes into its place.

@@ -10,7 +10,7 @@ ghost use Rattle.std.specs.Map.{keys_of, set_value, remove_entry};
 ghost use Rattle.std.specs.BTreeMap.{insert_entry, is_at};
 ghost use Rattle.std.specs.declared.option.Option.TheVariants.{None, Some};
 ghost use Rattle.avl_tree.specs.Changes.{Changed, ChangedTwo, TakesFound};
-ghost use Rattle.avl_tree.specs.Map.{entries, get, first_to, IsShallow};
+ghost use Rattle.avl_tree.specs.Map.{entries, get, IsShallow};
 ghost use Rattle.avl_tree.specs.Nodes.{entry, with_first, search_of, IsBare, IsWhole};
 ghost use Rattle.avl_tree.specs.Search.{path_length};
 ghost use Rattle.avl_tree.specs.Visits.{between, VisitsTo};
@@ -299,20 +299,6 @@ impl<K: Ord + Copy + Default, V: Default + Drop, A: Allocator + Clone> AvlMap<K,
     {
         let mut lower = false;
         let node = edits::take_first(&mut self.root, &mut lower)?;
-        Some(retire(node, &mut self.len, &mut self.spare))
-    }
-
-    /// Takes the pair of the least key out, where that key is at most the bound, and answers it. Its node becomes spare.
-    /// Where the least key is above the bound, or there is none, nothing changes.
-    pub fn pop_first_to(&mut self, bound: &K) -> Option<(K, V)>
-        ensures pair { result ≡ first_to K.cmp bound.now (entries self.old) }
-        ensures rest { entries self.old ≡ with_first result (entries self.new) }
-        ensures unchanged { IfNone result (self.new ≡ self.old) }
-        ensures ordered { IsStrictlySortedBy K.cmp (keys_of (entries self.old)) }
-        ensures spare { self.new.spare ≡ self.old.spare + (if is_some result then 1 else 0) }
-    {
-        let mut lower = false;
-        let node = edits::take_first_to(&mut self.root, &mut lower, bound)?;
         Some(retire(node, &mut self.len, &mut self.spare))
     }
 

@@ -7,7 +7,7 @@
 //! - `bodies`: what requests carry.
 //! - `waiting`: whether another thread has begun, or a number is as great.
 //! - `turns`: a reader that waits for answers, and a writer that holds them back.
-//! - `outcomes`: values that are freed where a call fails.
+//! - `outcomes`: whether a call took what it was passed.
 #![tactic(auto)]
 
 mod bodies;
@@ -17,10 +17,10 @@ mod turns;
 mod waiting;
 
 pub use bodies::{creation, lookup, transfers};
-pub use outcomes::{is_taken, whole};
+pub use outcomes::is_taken;
 pub use records::{
-    CODE, LEDGER, account, account_with, at, found, held, linked, post, transfer, transfer_with,
-    void, with_timeout,
+    account, account_with, at, found, held, linked, post, transfer, transfer_with, void,
+    with_timeout,
 };
 pub use turns::{Holding, Turn, Waiting};
 pub use waiting::{has_begun, reaches};

@@ -10,14 +10,3 @@ pub fn is_taken<T: Drop>(handed: Result<(), T>) -> bool {
         }
     }
 }
-
-/// What was made, where all of it was; else it is freed.
-pub fn whole<T: Drop, E>(all: T, made: Result<(), E>) -> Result<T, E> {
-    match made {
-        Ok(()) => Ok(all),
-        Err(fault) => {
-            drop(all);
-            Err(fault)
-        }
-    }
-}

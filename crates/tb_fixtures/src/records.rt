@@ -2,10 +2,10 @@
 use tb_records::{Account, AccountFlag, Transfer, TransferFlag};
 
 /// The ledger of each account and transfer.
-pub const LEDGER: u32 = 700;
+const LEDGER: u32 = 700;
 
 /// Their code.
-pub const CODE: u16 = 10;
+const CODE: u16 = 10;
 
 /// An account.
 pub fn account(id: u128) -> Account {

@@ -161,7 +161,10 @@ pub(crate) fn entered_behind<D: Device, A: Allocator + Clone>(
     };
     match enter_all(global, &mut machine, scan, device) {
         Ok(()) => Ok((machine, scan.extent())),
-        Err(fault) => Err(fault),
+        Err(fault) => {
+            drop(machine);
+            Err(fault)
+        }
     }
 }
 

@@ -219,9 +219,9 @@ failed_text New path = codes "Device: " ++ printable path
 abbrev pub kind_text : Kind → List ℕ → List ℕ
 kind_text kind.Unread path = codes "NotAJournal"
 kind_text kind.Empty path = codes "NotAJournal: " ++ (printable path ++ codes " is empty; tbd run makes a ledger in it")
-kind_text kind.Dump path = codes "NotAJournal: " ++ (printable path ++ codes " is a dump; tbs replay and tbt read it")
+kind_text kind.Dump path = codes "NotAJournal: " ++ (printable path ++ codes " is a dump; tbs replay and telovamish dump read it")
 kind_text kind.Script path = codes "NotAJournal: " ++ (printable path ++ codes " is a script; tbs and tbd run read it as standard input")
-kind_text kind.Text path = codes "NotAJournal: " ++ (printable path ++ codes " is a text; tbt script makes request frames of statements")
+kind_text kind.Text path = codes "NotAJournal: " ++ (printable path ++ codes " is a text; telovamish script makes request frames of statements")
 kind_text kind.Other path = codes "NotAJournal: " ++ (printable path ++ codes " does not begin as a ledger's file")
 
 -- rules in words
@@ -319,7 +319,7 @@ TellsReady reports before after = TellsWhere reports ready_line before after
 
 -- of requests that would come from a terminal: where words are read
 abbrev pub frames_line : List ℕ
-frames_line = codes "tbd: standard input is a terminal, and run reads request frames there; tb-repl and tbt script take words\n"
+frames_line = codes "tbd: standard input is a terminal, and run reads request frames there; telovamish repl and telovamish script take words\n"
 
 abbrev pub TellsFrames : Bool → Output → Output → Type 0
 TellsFrames talks before after = TellsWhere talks frames_line before after

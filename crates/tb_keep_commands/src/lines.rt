@@ -178,7 +178,7 @@ fn put_kind<E: Sink>(faults: &mut E, kind: Kind, path: &str) -> Result<(), Frame
             faults,
             "NotAJournal: ",
             path,
-            " is a dump; tbs replay and tbt read it",
+            " is a dump; tbs replay and telovamish dump read it",
         ),
         Kind::Script => put_named(
             faults,
@@ -190,7 +190,7 @@ fn put_kind<E: Sink>(faults: &mut E, kind: Kind, path: &str) -> Result<(), Frame
             faults,
             "NotAJournal: ",
             path,
-            " is a text; tbt script makes request frames of statements",
+            " is a text; telovamish script makes request frames of statements",
         ),
         Kind::Other => put_named(
             faults,
@@ -590,7 +590,7 @@ pub(crate) fn tell_ready<E: Sink>(reports: bool, faults: &mut E)
 
 /// What is reported of requests that would come from a terminal.
 const FRAMES: &str =
-    "tbd: standard input is a terminal, and run reads request frames there; tb-repl and tbt script take words";
+    "tbd: standard input is a terminal, and run reads request frames there; telovamish repl and telovamish script take words";
 
 /// Says where words are read, where requests would come from a terminal.
 pub(crate) fn tell_frames<E: Sink>(talks: bool, faults: &mut E)

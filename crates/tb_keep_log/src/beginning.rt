@@ -102,6 +102,7 @@ fn open_short<D: Device, A: Allocator + Clone>(
     match torn_behind(&mut device, extent) {
         Ok(torn) => {
             if torn > TORN_BYTES_MAX {
+                drop(follower);
                 let fault = LogStartFault::TornTooLong {
                     at: extent.end as u64,
                     bytes: torn,
@@ -110,10 +111,13 @@ fn open_short<D: Device, A: Allocator + Clone>(
             }
             open_read(global, device, rules, extent, follower, torn)
         }
-        Err(fault) => Err(NotStarted {
-            device,
-            fault: LogStartFault::Journal(OpenFault::Device(fault)),
-        }),
+        Err(fault) => {
+            drop(follower);
+            Err(NotStarted {
+                device,
+                fault: LogStartFault::Journal(OpenFault::Device(fault)),
+            })
+        }
     }
 }
 

@@ -37,9 +37,14 @@ fn dump_new<W: Sink>(
     };
     let mut bytes = Vec::new(global);
     if write_entry(&entry, &mut bytes).is_err() {
+        drop(bytes);
+        drop(entry);
         return Err(DumpLogFault::NoMemory);
     }
-    if put_all(writer, &bytes).is_err() {
+    let put = put_all(writer, &bytes);
+    drop(bytes);
+    if put.is_err() {
+        drop(entry);
         return Err(DumpLogFault::Writer);
     }
     match machine.enter(entry) {
@@ -189,8 +194,15 @@ fn dump_by<D: Device, W: Sink>(
         clients_max: rules.clients_max,
     };
     match send_head(writer, head) {
-        Ok(()) => dump_all(global, rules, &mut machine, scan, device, writer),
-        Err(_) => Err(DumpLogFault::Writer),
+        Ok(()) => {
+            let dumped = dump_all(global, rules, &mut machine, scan, device, writer);
+            drop(machine);
+            dumped
+        }
+        Err(_) => {
+            drop(machine);
+            Err(DumpLogFault::Writer)
+        }
     }
 }
 

@@ -94,7 +94,10 @@ fn read_by<D: Device, A: Allocator + Clone>(
     };
     match enter_all(global, rules, &mut follower, scan, device) {
         Ok(()) => Ok((follower, scan.extent())),
-        Err(fault) => Err(fault),
+        Err(fault) => {
+            drop(follower);
+            Err(fault)
+        }
     }
 }
 

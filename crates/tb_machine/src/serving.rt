@@ -219,9 +219,18 @@ pub fn serve_pair<A: Allocator + Clone, W: Sink>(
 {
     let mut request = request;
     match machine.serve_in_session(writer, moment, &mut request) {
-        Served::Executed(Told::Whole) => Ok(()),
-        Served::Executed(Told::Cut(fault)) => Err(RunFault::Frame(fault)),
-        Served::NoMemory => Err(RunFault::NoMemory),
+        Served::Executed(Told::Whole) => {
+            drop(request);
+            Ok(())
+        }
+        Served::Executed(Told::Cut(fault)) => {
+            drop(request);
+            Err(RunFault::Frame(fault))
+        }
+        Served::NoMemory => {
+            drop(request);
+            Err(RunFault::NoMemory)
+        }
         Served::Unserved(class) => answer_as(machine, writer, moment, request, class),
     }
 }

@@ -1,5 +1,5 @@
 //! Tests of tb_machine and of the libraries that it is built on, by their public calls alone, and each allocation of a map, a ledger
-//! and a machine refused in turn. tb_sessions keeps its own tests.
+//! and a machine refused in turn.
 //!
 //! Modules:
 //!
@@ -7,10 +7,14 @@
 //! - `records`: of tb_records.
 //! - `maps`: of avl_tree.
 //! - `ledger`: of tb_ledger.
+//! - `sessions`: of tb_sessions.
 //! - `machine`: of tb_machine.
+//! - `commands`: of tb_commands.
 //! - `refusing`: of avl_tree and tb_machine, over an allocator that refuses.
 #![tactic(auto)]
 
+#[cfg(test)]
+mod commands;
 #[cfg(test)]
 mod comparing;
 #[cfg(test)]
@@ -23,3 +27,5 @@ mod maps;
 mod records;
 #[cfg(test)]
 mod refusing;
+#[cfg(test)]
+mod sessions;

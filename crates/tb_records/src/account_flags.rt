@@ -2,7 +2,6 @@
 ghost use Rattle.std.specs.Prelude.{◌≡◌, Some};
 ghost use Rattle.tb_records.specs.AccountFlags.{account_flag_bit, account_flag_name};
 ghost use Rattle.tb_records.specs.Flags.{has_flag};
-ghost use Rattle.tb_records.specs.Named.{IsOnly, first_named};
 
 use std::fmt;
 
@@ -64,13 +63,6 @@ impl AccountFlag {
             AccountFlag::Closed => "closed",
         }
     }
-
-    /// The flag that has a name; None where none has it.
-    pub fn from_name(name: &[u8]) -> Option<AccountFlag>
-        ensures { IsOnly result (λ flag. account_flag_name flag ≡ name.now) }
-    {
-        first_flag_named(&AccountFlag::ALL, name)
-    }
 }
 
 impl fmt::Display for AccountFlag {
@@ -79,14 +71,4 @@ impl fmt::Display for AccountFlag {
     fn fmt<W: fmt::Write>(&self, f: &mut fmt::Formatter<W>) -> fmt::Result {
         f.write_str(self.name())
     }
-}
-
-/// The first of some flags that has a name.
-fn first_flag_named(flags: &[AccountFlag], name: &[u8]) -> Option<AccountFlag>
-    ensures { result ≡ first_named account_flag_name name.now flags.now }
-{
-    flags
-        .iter()
-        .copied()
-        .find(|flag| flag.name().as_bytes() == name)
 }

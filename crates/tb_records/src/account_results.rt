@@ -1,7 +1,7 @@
 //! The result codes of accounts, by TigerBeetle's names.
 ghost use Rattle.std.specs.Prelude.{◌≡◌, ◌==◌, find, Some};
 ghost use Rattle.tb_records.specs.AccountResults.{account_result_code, account_result_name};
-ghost use Rattle.tb_records.specs.Named.{IsOnly, first_named};
+ghost use Rattle.tb_records.specs.Named.{IsOnly};
 
 use std::fmt;
 
@@ -127,13 +127,6 @@ impl CreateAccountResult {
     {
         first_verdict_numbered(&CreateAccountResult::ALL, code)
     }
-
-    /// The verdict that has a name; None where none has it.
-    pub fn from_name(name: &[u8]) -> Option<CreateAccountResult>
-        ensures { IsOnly result (λ verdict. account_result_name verdict ≡ name.now) }
-    {
-        first_verdict_named(&CreateAccountResult::ALL, name)
-    }
 }
 
 impl fmt::Display for CreateAccountResult {
@@ -155,14 +148,4 @@ fn first_verdict_numbered(
         .iter()
         .copied()
         .find(|verdict| verdict.code() == code)
-}
-
-/// The first of some verdicts that has a name.
-fn first_verdict_named(verdicts: &[CreateAccountResult], name: &[u8]) -> Option<CreateAccountResult>
-    ensures { result ≡ first_named account_result_name name.now verdicts.now }
-{
-    verdicts
-        .iter()
-        .copied()
-        .find(|verdict| verdict.name().as_bytes() == name)
 }

@@ -2,7 +2,7 @@
 ghost use Rattle.std.specs.Prelude.{◌≡◌, false, MatchOption, Some};
 ghost use Rattle.tb_records.specs.Messages.{is_operation};
 ghost use Rattle.tb_records.specs.Operations.{operation_code, operation_name};
-ghost use Rattle.tb_records.specs.Named.{IsOnly, first_named};
+ghost use Rattle.tb_records.specs.Named.{IsOnly};
 
 use std::fmt;
 
@@ -66,13 +66,6 @@ impl Operation {
             Operation::LookupTransfers => "lookup_transfers",
         }
     }
-
-    /// The operation that has a name; None where none has it.
-    pub fn from_name(name: &[u8]) -> Option<Operation>
-        ensures { IsOnly result (λ operation. operation_name operation ≡ name.now) }
-    {
-        first_operation_named(&Operation::ALL, name)
-    }
 }
 
 impl fmt::Display for Operation {
@@ -81,14 +74,4 @@ impl fmt::Display for Operation {
     fn fmt<W: fmt::Write>(&self, f: &mut fmt::Formatter<W>) -> fmt::Result {
         f.write_str(self.name())
     }
-}
-
-/// The first of some operations that has a name.
-fn first_operation_named(operations: &[Operation], name: &[u8]) -> Option<Operation>
-    ensures { result ≡ first_named operation_name name.now operations.now }
-{
-    operations
-        .iter()
-        .copied()
-        .find(|operation| operation.name().as_bytes() == name)
 }

@@ -4,7 +4,6 @@ ghost use Rattle.tb_records.specs.private.HeaderFields.{PassesOr};
 ghost use Rattle.tb_records.specs.Messages.{status_code, operation, answered, answer_fault, has_reply_numbers, has_register_numbers, is_operation, kind_for, IsRight};
 ghost use Rattle.tb_records.specs.ReplyTests.{answer_of, number_tests};
 ghost use Rattle.tb_records.specs.Statuses.{status_name};
-ghost use Rattle.tb_records.specs.Named.{IsOnly, first_named};
 
 use crate::bodies::ReplyBody;
 use crate::faults::FrameFault;
@@ -96,13 +95,6 @@ impl Status {
             Status::NotYet => "NotYet",
         }
     }
-
-    /// The status that has a name; None where none has it.
-    pub fn from_name(name: &[u8]) -> Option<Status>
-        ensures { IsOnly result (λ status. status_name status ≡ name.now) }
-    {
-        first_status_named(&Status::ALL, name)
-    }
 }
 
 impl fmt::Display for Status {
@@ -111,16 +103,6 @@ impl fmt::Display for Status {
     fn fmt<W: fmt::Write>(&self, f: &mut fmt::Formatter<W>) -> fmt::Result {
         f.write_str(self.name())
     }
-}
-
-/// The first of some statuses that has a name.
-fn first_status_named(statuses: &[Status], name: &[u8]) -> Option<Status>
-    ensures { result ≡ first_named status_name name.now statuses.now }
-{
-    statuses
-        .iter()
-        .copied()
-        .find(|status| status.name().as_bytes() == name)
 }
 
 /// What a reply says besides its body.
@@ -215,6 +197,30 @@ impl Numbers {
     }
 }
 
+/// What is wrong with the numbers of a reply, or with its body beside them.
+fn fault_of(numbers: &Numbers, body: &ReplyBody) -> Option<FrameFault>
+    ensures { result ≡ answer_fault
+        (answered numbers.now.client numbers.now.session numbers.now.request numbers.now.operation numbers.now.status
+        numbers.now.commit body.now) }
+{
+    if numbers.client == 0 {
+        return Some(FrameFault::ClientZero);
+    }
+    if !is_known(numbers.operation) {
+        return Some(FrameFault::UnknownOperation);
+    }
+    if let Err(fault) = numbers.check() {
+        return Some(fault);
+    }
+    if body.kind() != kind_of_reply(numbers.operation, numbers.status.code()) {
+        return Some(FrameFault::BadLength);
+    }
+    if body.len() > ITEMS_MAX {
+        return Some(FrameFault::TooMany);
+    }
+    None
+}
+
 impl Reply {
     /// The first fault that the reply's frame would have, BadLength also where the body is not of the kind that the
     /// operation and the status ask for; else the reply.
@@ -238,18 +244,9 @@ impl Reply {
             status,
             commit,
         };
-        if client == 0 {
-            return Err(FrameFault::ClientZero);
-        }
-        if !is_known(operation) {
-            return Err(FrameFault::UnknownOperation);
-        }
-        numbers.check()?;
-        if body.kind() != kind_of_reply(operation, status.code()) {
-            return Err(FrameFault::BadLength);
-        }
-        if body.len() > ITEMS_MAX {
-            return Err(FrameFault::TooMany);
+        if let Some(fault) = fault_of(&numbers, &body) {
+            drop(body);
+            return Err(fault);
         }
         Ok(Reply { numbers, body })
     }

@@ -43,6 +43,22 @@ pub(crate) fn check_numbers(register: bool, session: u64, request: u32) -> Resul
     Ok(())
 }
 
+/// What is wrong with the numbers of a request, or with the length of its body.
+fn fault_of(client: u128, session: u64, request: u32, body: &Body) -> Option<FrameFault>
+    ensures { result ≡ number_fault (asked client session request body.now) }
+{
+    if client == 0 {
+        return Some(FrameFault::ClientZero);
+    }
+    if let Err(fault) = check_numbers(matches!(body, Body::Register), session, request) {
+        return Some(fault);
+    }
+    if body.len() > ITEMS_MAX {
+        return Some(FrameFault::TooMany);
+    }
+    None
+}
+
 impl Request {
     /// The first of ClientZero, RegisterNumbers (a register with session or request not 0), RequestZero (any other
     /// with request 0) and TooMany (more than 8190 items) that holds; else the request.
@@ -53,12 +69,9 @@ impl Request {
         ensures { let r = asked client session request body in
             MatchOption (number_fault r) (result ≡ Ok r) (λ f. result ≡ Err f) }
     {
-        if client == 0 {
-            return Err(FrameFault::ClientZero);
-        }
-        check_numbers(matches!(&body, Body::Register), session, request)?;
-        if body.len() > ITEMS_MAX {
-            return Err(FrameFault::TooMany);
+        if let Some(fault) = fault_of(client, session, request, &body) {
+            drop(body);
+            return Err(fault);
         }
         Ok(Request {
             client,

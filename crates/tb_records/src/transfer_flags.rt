@@ -2,7 +2,6 @@
 ghost use Rattle.std.specs.Prelude.{◌≡◌, Some};
 ghost use Rattle.tb_records.specs.TransferFlags.{transfer_flag_bit, transfer_flag_name};
 ghost use Rattle.tb_records.specs.Flags.{has_flag};
-ghost use Rattle.tb_records.specs.Named.{IsOnly, first_named};
 
 use std::fmt;
 
@@ -76,13 +75,6 @@ impl TransferFlag {
             TransferFlag::Imported => "imported",
         }
     }
-
-    /// The flag that has a name; None where none has it.
-    pub fn from_name(name: &[u8]) -> Option<TransferFlag>
-        ensures { IsOnly result (λ flag. transfer_flag_name flag ≡ name.now) }
-    {
-        first_flag_named(&TransferFlag::ALL, name)
-    }
 }
 
 impl fmt::Display for TransferFlag {
@@ -91,14 +83,4 @@ impl fmt::Display for TransferFlag {
     fn fmt<W: fmt::Write>(&self, f: &mut fmt::Formatter<W>) -> fmt::Result {
         f.write_str(self.name())
     }
-}
-
-/// The first of some flags that has a name.
-fn first_flag_named(flags: &[TransferFlag], name: &[u8]) -> Option<TransferFlag>
-    ensures { result ≡ first_named transfer_flag_name name.now flags.now }
-{
-    flags
-        .iter()
-        .copied()
-        .find(|flag| flag.name().as_bytes() == name)
 }

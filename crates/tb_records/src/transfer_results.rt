@@ -1,7 +1,7 @@
 //! The result codes of transfers, by TigerBeetle's names.
 ghost use Rattle.std.specs.Prelude.{◌≡◌, ◌==◌, find, Some};
 ghost use Rattle.tb_records.specs.TransferResults.{transfer_result_code, transfer_result_name};
-ghost use Rattle.tb_records.specs.Named.{IsOnly, first_named};
+ghost use Rattle.tb_records.specs.Named.{IsOnly};
 
 use std::fmt;
 
@@ -295,13 +295,6 @@ impl CreateTransferResult {
     {
         first_verdict_numbered(&CreateTransferResult::ALL, code)
     }
-
-    /// The verdict that has a name; None where none has it.
-    pub fn from_name(name: &[u8]) -> Option<CreateTransferResult>
-        ensures { IsOnly result (λ verdict. transfer_result_name verdict ≡ name.now) }
-    {
-        first_verdict_named(&CreateTransferResult::ALL, name)
-    }
 }
 
 impl fmt::Display for CreateTransferResult {
@@ -323,17 +316,4 @@ fn first_verdict_numbered(
         .iter()
         .copied()
         .find(|verdict| verdict.code() == code)
-}
-
-/// The first of some verdicts that has a name.
-fn first_verdict_named(
-    verdicts: &[CreateTransferResult],
-    name: &[u8],
-) -> Option<CreateTransferResult>
-    ensures { result ≡ first_named transfer_result_name name.now verdicts.now }
-{
-    verdicts
-        .iter()
-        .copied()
-        .find(|verdict| verdict.name().as_bytes() == name)
 }

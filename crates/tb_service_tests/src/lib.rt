@@ -3,6 +3,7 @@
 //! Modules:
 //!
 //! - `comparing`: what is compared, in one place.
+//! - `making`: what the rows are made of.
 //! - `published`: of tb_published.
 //! - `service`: of tb_service.
 //! - `storm`: of tb_storm.
@@ -11,6 +12,8 @@
 
 #[cfg(test)]
 mod comparing;
+#[cfg(test)]
+mod making;
 #[cfg(test)]
 mod published;
 #[cfg(test)]

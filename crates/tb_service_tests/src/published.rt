@@ -2,7 +2,6 @@
 //!
 //! Modules, each over those before it:
 //!
-//! - `making`: what the rows are made of.
 //! - `frames`: reply frames in hexadecimal.
 //! - `rows`: the first requests, their bytes, and what the seat looks up.
 //! - `showing`: what is entered and not yet shown.
@@ -14,7 +13,6 @@
 //! - `threads`: seats next to the publisher, in threads.
 mod frames;
 mod learning;
-mod making;
 mod progress;
 mod refusals;
 mod rows;

@@ -2,7 +2,6 @@
 //!
 //! Modules, each over those before it:
 //!
-//! - `making`: what the rows are made of.
 //! - `handovers`: one port.
 //! - `places`: the places of each port's requests.
 //! - `gates`: a gate passed before a request has its moment.
@@ -11,7 +10,6 @@
 //! - `threads`: ports, a server and seats in threads.
 mod gates;
 mod handovers;
-mod making;
 mod places;
 mod progress;
 mod seats;

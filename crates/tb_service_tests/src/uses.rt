@@ -2,9 +2,7 @@
 //!
 //! Modules, each over those before it:
 //!
-//! - `making`: what the rows are made of.
 //! - `keeping`: a key that is put twice, and a register that is entered twice.
 //! - `serving`: a register that is served, and two seats that are asked for it.
 mod keeping;
-mod making;
 mod serving;

@@ -8,7 +8,6 @@
 //! - `eviction`: who is evicted next: the client whose place in the second map comes first, brought up to its row's commit
 //!   number where it lags behind.
 //! - `table`: `Sessions`, rows by client in one `AvlMap`, and a second from a commit number to its client.
-//! - `tests`: worked examples, by the crate's public calls.
 //!
 //! A client is in the second map at its row's commit number, or at one that its row had before. Only in a full table
 //! is the first client moved up to its row's number, and only while it is at an earlier one.
@@ -22,6 +21,3 @@ mod table;
 pub use classes::Class;
 pub use rows::Row;
 pub use table::Sessions;
-
-#[cfg(test)]
-mod tests;

@@ -171,11 +171,23 @@ impl<J: Naming> Client<J> {
         stage: &Stage,
         clients: u32,
     ) -> Result<(), StormFault> {
-        let session = self.register(rt, stage)?;
-        let body = Body::CreateAccounts(Items::new(self.accounts(clients)?));
-        let request = self.request(session, 1, body)?;
-        self.settle(rt, stage, request)?;
-        Ok(())
+        let session = match self.register(rt, stage) {
+            Ok(session) => session,
+            Err(fault) => return Err(fault),
+        };
+        let accounts = match self.accounts(clients) {
+            Ok(accounts) => accounts,
+            Err(fault) => return Err(fault),
+        };
+        let body = Body::CreateAccounts(Items::new(accounts));
+        let request = match self.request(session, 1, body) {
+            Ok(request) => request,
+            Err(fault) => return Err(fault),
+        };
+        match self.settle(rt, stage, request) {
+            Ok(_) => Ok(()),
+            Err(fault) => Err(fault),
+        }
     }
 
     /// Creates the accounts of so many clients.
@@ -213,22 +225,34 @@ impl<J: Naming> Client<J> {
         requires { 1 ≤ k }
         ensures { OnOk result (offers self.old.port + repeats_at k ≤ offers self.new.port) }
     {
-        let request = self.transfer_request(session, k)?;
-        self.settle(rt, stage, request)?;
-        self.repeat(rt, session, k)?;
-        if k % 3 == 0 {
-            self.repeat(rt, session, k - 2)?;
+        let request = match self.transfer_request(session, k) {
+            Ok(request) => request,
+            Err(fault) => return Err(fault),
+        };
+        if let Err(fault) = self.settle(rt, stage, request) {
+            return Err(fault);
         }
-        Ok(())
+        if let Err(fault) = self.repeat(rt, session, k) {
+            return Err(fault);
+        }
+        if k % 3 != 0 {
+            return Ok(());
+        }
+        self.repeat(rt, session, k - 2)
     }
 
     /// Creates so many transfers, and offers requests again that were answered.
     fn create<R: Wait>(&mut self, rt: &R, stage: &Stage, transfers: u32) -> Result<(), StormFault>
         ensures { OnOk result (offers self.old.port + transfers ≤ offers self.new.port) }
     {
-        let session = self.register(rt, stage)?;
+        let session = match self.register(rt, stage) {
+            Ok(session) => session,
+            Err(fault) => return Err(fault),
+        };
         for done in 0..transfers {
-            self.create_one(rt, stage, session, done + 1)?;
+            if let Err(fault) = self.create_one(rt, stage, session, done + 1) {
+                return Err(fault);
+            }
         }
         Ok(())
     }

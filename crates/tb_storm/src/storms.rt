@@ -153,9 +153,13 @@ fn totals_of<J: Naming>(
     ensures totals { IfOk result
         (Totaled J.opening scale.clients scale.transfers publisher.now.history) }
 {
-    seat.learn(&publisher.tell());
+    let told = publisher.tell();
+    seat.learn(&told);
+    drop(told);
     let ids = scale.ids(alloc)?;
-    let (seen, transfers) = count_transfers(seat, ids.as_slice())?;
+    let found = count_transfers(seat, ids.as_slice());
+    drop(ids);
+    let (seen, transfers) = found?;
     let credited = credited(seat)?;
     let commits = publisher.history().len();
     if !publisher.beside(seat) || seen != commits as u64 {

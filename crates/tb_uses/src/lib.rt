@@ -9,7 +9,6 @@
 //! - `publishing`: of tb_published: a publisher that takes and tells, a client thread that learns and asks.
 //! - `seating`: of tb_published: two seats next to one history.
 //! - `serving`: of tb_service: one port, one request, and the places of its requests.
-//! - `texts`: of tb_text.
 #![tactic(auto)]
 
 pub mod ledgers;
@@ -19,4 +18,3 @@ pub mod retries;
 pub mod seating;
 pub mod serving;
 pub mod sessions;
-pub mod texts;

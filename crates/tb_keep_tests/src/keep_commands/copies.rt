@@ -103,7 +103,7 @@ fn what_is_whole_is_copied(rt: HostRuntime) {
 }
 
 const A_TEXT: Line =
-    "tbd: NotAJournal: ledger is a text; tbt script makes request frames of statements\n";
+    "tbd: NotAJournal: ledger is a text; telovamish script makes request frames of statements\n";
 
 const NO_HEAD: Line =
     "tbd: NotAJournal: the first record is no ledger's head; tbd follow serves a log\n";

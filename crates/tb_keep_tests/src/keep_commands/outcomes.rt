@@ -102,11 +102,11 @@ fn what_is_asked_for_is_done(rt: HostRuntime) {
 }
 
 const TEXT: &str =
-    "tbd: NotAJournal: ledger is a text; tbt script makes request frames of statements\n";
+    "tbd: NotAJournal: ledger is a text; telovamish script makes request frames of statements\n";
 
 const EMPTY: &str = "tbd: NotAJournal: ledger is empty; tbd run makes a ledger in it\n";
 
-const A_DUMP: &str = "tbd: NotAJournal: ledger is a dump; tbs replay and tbt read it\n";
+const A_DUMP: &str = "tbd: NotAJournal: ledger is a dump; tbs replay and telovamish dump read it\n";
 
 const A_SCRIPT: &str =
     "tbd: NotAJournal: ledger is a script; tbs and tbd run read it as standard input\n";
@@ -298,7 +298,7 @@ fn a_long_file_is_read_and_refused(rt: HostRuntime) {
 }
 
 const TERMINAL: &str =
-    "tbd: standard input is a terminal, and run reads request frames there; tb-repl and tbt script take words\n";
+    "tbd: standard input is a terminal, and run reads request frames there; telovamish repl and telovamish script take words\n";
 
 /// Requests from a terminal, and a form that reads none.
 const TYPED: &[Row] = &[

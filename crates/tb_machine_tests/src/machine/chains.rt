@@ -21,11 +21,6 @@ const BROKEN: [Step; 13] = [
     Step::Send(Operation::LookupTransfers),
 ];
 
-#[test]
-fn chains_whole_or_not(rt: HostRuntime) {
-    serve(&rt, rt.alloc(), &PROFILES, &[&BEGIN, &BROKEN]);
-}
-
 /// Chains that are open at the end of their batch, one of them broken before.
 const LEFT_OPEN: [Step; 15] = [
     Step::Transfer(Row::Linked(53, 1, 2, 1), Outcome::LinkedEventChainOpen),
@@ -46,27 +41,8 @@ const LEFT_OPEN: [Step; 15] = [
 ];
 
 #[test]
-fn chains_left_open(rt: HostRuntime) {
-    serve(&rt, rt.alloc(), &PROFILES, &[&BEGIN, &LEFT_OPEN]);
-}
-
-/// What a chain did stays once it is whole, however the next one breaks.
-const WHOLE_AND_BROKEN: [Step; 10] = [
-    Step::Transfer(Row::Linked(1, 1, 2, 1), Outcome::Ok),
-    Step::Transfer(Row::Plain(2, 1, 2, 1), Outcome::Ok),
-    Step::Transfer(Row::Linked(3, 1, 2, 1), Outcome::LinkedEventFailed),
-    Step::Transfer(Row::Plain(4, 99, 2, 1), Outcome::DebitAccountNotFound),
-    Step::Send(Operation::CreateTransfers),
-    Step::First([0, 2, 0, 0]),
-    Step::Id(3),
-    Step::Id(2),
-    Step::FoundTransfer(14, Row::Plain(2, 1, 2, 1)),
-    Step::Send(Operation::LookupTransfers),
-];
-
-#[test]
-fn whole_chain_before_a_broken_one(rt: HostRuntime) {
-    serve(&rt, rt.alloc(), &PROFILES, &[&BEGIN, &WHOLE_AND_BROKEN]);
+fn chains_whole_or_not(rt: HostRuntime) {
+    serve(&rt, rt.alloc(), &PROFILES, &[&BEGIN, &BROKEN, &LEFT_OPEN]);
 }
 
 /// A chain that is broken leaves the pending transfer open that it would have posted.
@@ -171,20 +147,4 @@ const OUTLIVING: [Step; 9] = [
 #[test]
 fn failed_ids_outlive_their_chain(rt: HostRuntime) {
     serve(&rt, rt.alloc(), &[Profile::Two], &[&BEGIN, &OUTLIVING]);
-}
-
-/// Failed ids are found again in whatever order they failed, and an id between them is free.
-const IN_ANY_ORDER: [Step; 7] = [
-    Step::Single(Row::Plain(5, 99, 2, 1), Outcome::DebitAccountNotFound),
-    Step::Single(Row::Plain(9, 99, 2, 1), Outcome::DebitAccountNotFound),
-    Step::Single(Row::Plain(7, 99, 2, 1), Outcome::DebitAccountNotFound),
-    Step::Single(Row::Plain(5, 1, 2, 1), Outcome::IdAlreadyFailed),
-    Step::Single(Row::Plain(7, 1, 2, 1), Outcome::IdAlreadyFailed),
-    Step::Single(Row::Plain(9, 1, 2, 1), Outcome::IdAlreadyFailed),
-    Step::Single(Row::Plain(6, 1, 2, 1), Outcome::Ok),
-];
-
-#[test]
-fn failed_ids_in_any_order(rt: HostRuntime) {
-    serve(&rt, rt.alloc(), &[Profile::Two], &[&BEGIN, &IN_ANY_ORDER]);
 }

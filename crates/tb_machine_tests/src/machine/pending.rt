@@ -2,10 +2,7 @@
 use crate::machine::rows::{AccountRow, TransferRow as Row};
 use crate::machine::serving::{PROFILES, serve};
 use crate::machine::steps::{BEGIN, Step};
-use tb_records::{
-    AccountFlag, CreateAccountResult as AccountOutcome, CreateTransferResult as Outcome, Operation,
-    Profile,
-};
+use tb_records::{AccountFlag, CreateTransferResult as Outcome, Operation, Profile};
 
 /// Posts of the whole, of 15 and of nothing.
 const POSTS: [Step; 14] = [
@@ -95,26 +92,6 @@ const CLOSED_BY_TWO: [&[Step]; 3] = [&BEGIN, &CLOSED_AND_OPENED, &FAILED_BY_TWO]
 fn closing_and_reopening(rt: HostRuntime) {
     serve(&rt, rt.alloc(), &[Profile::One], &CLOSED_BY_ONE);
     serve(&rt, rt.alloc(), &[Profile::Two], &CLOSED_BY_TWO);
-}
-
-/// An account that is asked again exists with the flags that it now has.
-const ASKED_AGAIN: [Step; 8] = [
-    Step::Single(Row::Closing(40, 0), Outcome::Ok),
-    Step::Account(
-        AccountRow::Plain(1),
-        AccountOutcome::ExistsWithDifferentFlags,
-    ),
-    Step::Account(CLOSED, AccountOutcome::Exists),
-    Step::Send(Operation::CreateAccounts),
-    Step::Single(Row::Void(45, 40, 0), Outcome::Ok),
-    Step::Account(AccountRow::Plain(1), AccountOutcome::Exists),
-    Step::Account(CLOSED, AccountOutcome::ExistsWithDifferentFlags),
-    Step::Send(Operation::CreateAccounts),
-];
-
-#[test]
-fn asked_again_while_closed(rt: HostRuntime) {
-    serve(&rt, rt.alloc(), &PROFILES, &[&BEGIN, &ASKED_AGAIN]);
 }
 
 /// A pending transfer holds its amount until the very moment it expires.

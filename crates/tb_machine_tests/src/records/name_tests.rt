@@ -153,11 +153,10 @@ fn flagged(flags: u16) -> Transfer {
     }
 }
 
-/// Says that the flag has this bit and name, is found by its name and in an account, and is none of the reserved ones, unless it is `imported`.
+/// Says that the flag has this bit and name, is found in an account, and is none of the reserved ones, unless it is `imported`.
 fn is_account_flag(flag: AccountFlag, bit: u16, name: &str) -> bool {
     flag.bit() == bit
         && flag.name() == name
-        && AccountFlag::from_name(name.as_bytes()) == Some(flag)
         && marked(bit).has(flag)
         && !marked(!bit).has(flag)
         && (AccountFlag::RESERVED & bit == 0 || flag == AccountFlag::Imported)
@@ -168,7 +167,6 @@ fn account_flags_by_name(rt: HostRuntime) {
     for (flag, (bit, name)) in AccountFlag::ALL.iter().zip(ACCOUNT_FLAGS.iter()) {
         holds(&rt, is_account_flag(*flag, *bit, name), "flags");
     }
-    holds(&rt, AccountFlag::from_name(b"pending").is_none(), "flags");
     holds(
         &rt,
         marked(32).is_closed() && !marked(31).is_closed(),
@@ -181,11 +179,10 @@ fn account_flags_by_name(rt: HostRuntime) {
     );
 }
 
-/// Says that the flag has this bit and name, is found by its name and in a transfer, and is none of the reserved ones, unless it is `imported`.
+/// Says that the flag has this bit and name, is found in a transfer, and is none of the reserved ones, unless it is `imported`.
 fn is_transfer_flag(flag: TransferFlag, bit: u16, name: &str) -> bool {
     flag.bit() == bit
         && flag.name() == name
-        && TransferFlag::from_name(name.as_bytes()) == Some(flag)
         && flagged(bit).has(flag)
         && !flagged(!bit).has(flag)
         && (TransferFlag::RESERVED & bit == 0 || flag == TransferFlag::Imported)
@@ -196,8 +193,6 @@ fn transfer_flags_by_name(rt: HostRuntime) {
     for (flag, (bit, name)) in TransferFlag::ALL.iter().zip(TRANSFER_FLAGS.iter()) {
         holds(&rt, is_transfer_flag(*flag, *bit, name), "flags");
     }
-    holds(&rt, TransferFlag::from_name(b"Linked").is_none(), "flags");
-    holds(&rt, TransferFlag::from_name(b"").is_none(), "flags");
 }
 
 /// What a transfer is: linked, pending, a post, a void, resolving, balancing and closing.
@@ -235,12 +230,11 @@ fn kinds_of_transfers(rt: HostRuntime) {
     }
 }
 
-/// Says that the verdict has this code and name, and is found by each.
+/// Says that the verdict has this code and name, and is found by the code.
 fn is_account_result(verdict: CreateAccountResult, code: u32, name: &str) -> bool {
     verdict.code() == code
         && verdict.name() == name
         && CreateAccountResult::from_code(code) == Some(verdict)
-        && CreateAccountResult::from_name(name.as_bytes()) == Some(verdict)
 }
 
 #[test]
@@ -249,19 +243,13 @@ fn account_results_by_code_and_name(rt: HostRuntime) {
         holds(&rt, is_account_result(*verdict, *code, name), "results");
     }
     holds(&rt, CreateAccountResult::from_code(22).is_none(), "results");
-    holds(
-        &rt,
-        CreateAccountResult::from_name(b"debit_account_not_found").is_none(),
-        "results",
-    );
 }
 
-/// Says that the verdict has this code and name, and is found by each.
+/// Says that the verdict has this code and name, and is found by the code.
 fn is_transfer_result(verdict: CreateTransferResult, code: u32, name: &str) -> bool {
     verdict.code() == code
         && verdict.name() == name
         && CreateTransferResult::from_code(code) == Some(verdict)
-        && CreateTransferResult::from_name(name.as_bytes()) == Some(verdict)
 }
 
 #[test]
@@ -282,19 +270,13 @@ fn transfer_results_by_code_and_name(rt: HostRuntime) {
         CreateTransferResult::from_code(56).is_none(),
         "results",
     );
-    holds(
-        &rt,
-        CreateTransferResult::from_name(b"reserved_field").is_none(),
-        "results",
-    );
 }
 
-/// Says that the operation has this code and name, and is found by each.
+/// Says that the operation has this code and name, and is found by the code.
 fn is_operation(operation: Operation, code: u8, name: &str) -> bool {
     operation.code() == code
         && operation.name() == name
         && Operation::from_code(code) == Some(operation)
-        && Operation::from_name(name.as_bytes()) == Some(operation)
 }
 
 #[test]
@@ -303,19 +285,11 @@ fn operations_by_code_and_name(rt: HostRuntime) {
         holds(&rt, is_operation(*operation, *code, name), "operations");
     }
     holds(&rt, Operation::from_code(3).is_none(), "operations");
-    holds(
-        &rt,
-        Operation::from_name(b"Register").is_none(),
-        "operations",
-    );
 }
 
-/// Says that the status has this code and name, and is found by each.
+/// Says that the status has this code and name, and is found by the code.
 fn is_status(status: Status, code: u8, name: &str) -> bool {
-    status.code() == code
-        && status.name() == name
-        && Status::from_code(code) == Some(status)
-        && Status::from_name(name.as_bytes()) == Some(status)
+    status.code() == code && status.name() == name && Status::from_code(code) == Some(status)
 }
 
 #[test]
@@ -324,7 +298,6 @@ fn statuses_by_code_and_name(rt: HostRuntime) {
         holds(&rt, is_status(*status, *code, name), "statuses");
     }
     holds(&rt, Status::from_code(8).is_none(), "statuses");
-    holds(&rt, Status::from_name(b"").is_none(), "statuses");
 }
 
 /// Two names are shown by this line.

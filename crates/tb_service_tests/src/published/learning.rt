@@ -1,8 +1,8 @@
 //! Two seats: what one has seen compared with the other, and what a seat learns.
 ghost use Rattle.std.specs.Prelude.{◌≡◌};
 
-use crate::comparing::holds;
-use crate::published::making::{lookup, opened, opening, take};
+use crate::comparing::{holds, holds_at};
+use crate::making::{Asked, opened, opening, request, take};
 use crate::published::rows::expect_first;
 use std::alloc::Global;
 use std::marker::Brand;
@@ -18,13 +18,13 @@ fn expect_apart<J: Naming>(
     one: &Seat<J>,
     two: &Seat<J>,
 ) {
-    holds(rt, one.seen() == 4, &"seen by one");
-    holds(rt, two.seen() == 0, &"seen by the other");
-    holds(rt, one.beside(two), &"one beside the other");
-    holds(rt, !two.beside(one), &"the other beside it");
-    holds(rt, two.beside(two), &"the other beside itself");
-    holds(rt, publisher.beside(one), &"the publisher beside one");
-    holds(rt, publisher.beside(two), &"the publisher beside the other");
+    holds(rt, one.seen() == 4, "seen by one");
+    holds(rt, two.seen() == 0, "seen by the other");
+    holds(rt, one.beside(two), "one beside the other");
+    holds(rt, !two.beside(one), "the other beside it");
+    holds(rt, two.beside(two), "the other beside itself");
+    holds(rt, publisher.beside(one), "the publisher beside one");
+    holds(rt, publisher.beside(two), "the publisher beside the other");
 }
 
 /// A seat that has not learnt of the fifth entry finds its request answered where it has seen it, and new where it has not.
@@ -35,7 +35,7 @@ fn expect_early<J: Naming>(rt: &impl Abort, seat: &mut Seat<J>, next: &Request) 
         5 => status == Status::Reply,
         _ => false,
     };
-    holds(rt, right, &status);
+    holds_at(rt, right, &status);
 }
 
 /// A seat learns of the fifth entry.
@@ -47,17 +47,17 @@ fn expect_learnt<J: Naming>(
 ) {
     let told = publisher.tell();
     seat.learn(&told);
-    holds(rt, told.commit() == 5, &"what is told");
+    holds(rt, told.commit() == 5, "what is told");
     drop(told);
-    holds(rt, seat.seen() == 5, &"what is seen");
-    holds(rt, seat.status(next) == Ok(Status::Reply), &"the status");
+    holds(rt, seat.seen() == 5, "what is seen");
+    holds(rt, seat.status(next) == Ok(Status::Reply), "the status");
 }
 
 /// One seat looks an account up that it finds after four entries or five.
 fn expect_looked_up<J: Naming>(rt: &impl Abort, seat: &mut Seat<J>) {
     let (commit, accounts) = seat.lookup_accounts(&[1]).expect(rt, "accounts");
     drop(accounts);
-    holds(rt, commit == 4 || commit == 5, &commit);
+    holds_at(rt, commit == 4 || commit == 5, &commit);
 }
 
 /// One seat sees the first rows; both look for client 7's next request, which is the fifth entry. One seat is asked for it
@@ -71,12 +71,12 @@ fn expect_both<J: Naming, R: Wait + Abort>(
 ) {
     expect_first(rt, alloc, publisher, one);
     expect_apart(rt, publisher, one, two);
-    let request = lookup(rt, alloc, (7, 1, 4), &[]);
-    let next = lookup(rt, alloc, (7, 1, 4), &[]);
+    let fifth = request(rt, alloc, (7, 1, 4), Asked::Lookup(&[]));
+    let next = request(rt, alloc, (7, 1, 4), Asked::Lookup(&[]));
     holds(
         rt,
-        take(rt, publisher, request) == Taken::Committed(5),
-        &"taken",
+        take(rt, publisher, fifth) == Taken::Committed(5),
+        "taken",
     );
     expect_early(rt, two, &next);
     expect_learnt(rt, publisher, two, &next);
@@ -87,13 +87,13 @@ fn expect_both<J: Naming, R: Wait + Abort>(
 fn learn_in_two<J: Naming, R: Wait + Abort>(rt: &R, alloc: Global, opening: Opening)
     requires { opening ≡ J.opening }
 {
-    let (mut held, mut seats) = opened::<J, R>(rt, alloc, opening, 2);
+    let (mut publisher, mut seats) = opened::<J, R>(rt, alloc, opening, 2);
     let mut both = seats.iter_mut();
     let one = both.next().expect(rt, "a seat");
     let two = both.next().expect(rt, "another seat");
-    expect_both(rt, alloc, &mut held.publisher, one, two);
+    expect_both(rt, alloc, &mut publisher, one, two);
     drop(seats);
-    drop(held);
+    drop(publisher.close(rt));
 }
 
 /// Client 7's first requests through `take` and one seat, and what the other seat learns then.

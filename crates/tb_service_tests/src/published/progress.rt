@@ -2,8 +2,8 @@
 //! Unpublished.
 ghost use Rattle.std.specs.Prelude.{◌≡◌};
 
-use crate::comparing::holds;
-use crate::published::making::{opened, opening, register_or_lookup, take};
+use crate::comparing::holds_at;
+use crate::making::{opened, opening, register_or_lookup, take};
 use std::alloc::Global;
 use std::marker::Brand;
 use std::process::Abort;
@@ -21,8 +21,8 @@ const TOGETHER: [u32; 4] = [1, 8, 9, 70];
 fn expect_last<J: Naming>(rt: &impl Abort, alloc: Global, seats: &mut Vec<Seat<J>>, number: u32) {
     let seat = seats.iter_mut().next().expect(rt, "a seat");
     let asked = register_or_lookup(rt, alloc, (7, u64::from(number.min(1)), number));
-    holds(rt, seat.status(&asked) == Ok(Status::Reply), &number);
-    holds(
+    holds_at(rt, seat.status(&asked) == Ok(Status::Reply), &number);
+    holds_at(
         rt,
         seat.seen() == u64::from(number).wrapping_add(1),
         &number,
@@ -34,16 +34,16 @@ fn expect_last<J: Naming>(rt: &impl Abort, alloc: Global, seats: &mut Vec<Seat<J
 fn take_one_by_one<J: Naming, R: Wait + Abort>(rt: &R, alloc: Global, opening: Opening)
     requires { opening ≡ J.opening }
 {
-    let (mut held, mut seats) = opened::<J, R>(rt, alloc, opening, 1);
+    let (mut publisher, mut seats) = opened::<J, R>(rt, alloc, opening, 1);
     for number in 0..SINGLE {
         let request = register_or_lookup(rt, alloc, (7, u64::from(number.min(1)), number));
-        let taken = take(rt, &mut held.publisher, request);
+        let taken = take(rt, &mut publisher, request);
         let commit = u64::from(number).wrapping_add(1);
-        holds(rt, taken == Taken::Committed(commit), &number);
+        holds_at(rt, taken == Taken::Committed(commit), &number);
         expect_last(rt, alloc, &mut seats, number);
     }
     drop(seats);
-    drop(held);
+    drop(publisher.close(rt));
 }
 
 #[test]
@@ -64,7 +64,7 @@ fn enter_from<J: Naming>(
         let request = register_or_lookup(rt, alloc, (7, u64::from(number.min(1)), number));
         let entered = publisher.enter(request, 10);
         let commit = u64::from(number).wrapping_add(1);
-        holds(rt, entered == Ok(Taken::Committed(commit)), &number);
+        holds_at(rt, entered == Ok(Taken::Committed(commit)), &number);
     }
 }
 
@@ -72,18 +72,18 @@ fn enter_from<J: Naming>(
 fn show_together<J: Naming, R: Wait + Abort>(rt: &R, alloc: Global, opening: Opening)
     requires { opening ≡ J.opening }
 {
-    let (mut held, mut seats) = opened::<J, R>(rt, alloc, opening, 1);
+    let (mut publisher, mut seats) = opened::<J, R>(rt, alloc, opening, 1);
     let mut next: u32 = 0;
     for count in TOGETHER {
-        enter_from(rt, alloc, &mut held.publisher, next, count);
+        enter_from(rt, alloc, &mut publisher, next, count);
         next = next.wrapping_add(count);
-        let shown = held.publisher.show(rt);
-        holds(rt, shown == Ok(u64::from(next)), &count);
+        let shown = publisher.show(rt);
+        holds_at(rt, shown == Ok(u64::from(next)), &count);
         expect_last(rt, alloc, &mut seats, next.wrapping_sub(1));
-        holds(rt, held.publisher.show(rt) == Ok(u64::from(next)), &count);
+        holds_at(rt, publisher.show(rt) == Ok(u64::from(next)), &count);
     }
     drop(seats);
-    drop(held);
+    drop(publisher.close(rt));
 }
 
 #[test]

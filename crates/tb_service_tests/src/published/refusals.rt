@@ -1,10 +1,8 @@
 //! What earlier requests have refused later: sessions that were evicted, and ids that failed.
 ghost use Rattle.std.specs.Prelude.{◌≡◌};
 
-use crate::comparing::holds;
-use crate::published::making::{
-    lookup, opened, opening, register, register_or_lookup, take, transfers, two_accounts,
-};
+use crate::comparing::{holds, holds_at};
+use crate::making::{Asked, opened, opening, register, register_or_lookup, request, take};
 use std::alloc::Global;
 use std::marker::Brand;
 use std::process::Abort;
@@ -16,12 +14,16 @@ use tb_records::{Profile, Reply, ReplyBody, Request, Status};
 fn expect_storm<J: Naming, R: Wait + Abort>(rt: &R, alloc: Global, publisher: &mut Publisher<J>) {
     for client in 1..=100 {
         let taken = take(rt, publisher, register(rt, u128::from(client)));
-        holds(rt, taken == Taken::Committed(client), &client);
+        holds_at(rt, taken == Taken::Committed(client), &client);
     }
     for client in 1..=99 {
         let numbers = (u128::from(client), client, 1);
-        let taken = take(rt, publisher, lookup(rt, alloc, numbers, &[]));
-        holds(rt, taken == Taken::Refused(Status::NoSession), &numbers);
+        let taken = take(
+            rt,
+            publisher,
+            request(rt, alloc, numbers, Asked::Lookup(&[])),
+        );
+        holds_at(rt, taken == Taken::Refused(Status::NoSession), &numbers);
     }
 }
 
@@ -41,19 +43,19 @@ fn expect_after_storm<J: Naming, R: Wait + Abort>(
 ) {
     for (numbers, expected) in AFTER_STORM {
         let taken = take(rt, publisher, register_or_lookup(rt, alloc, numbers));
-        holds(rt, taken == expected, &numbers);
+        holds_at(rt, taken == expected, &numbers);
     }
-    holds(rt, publisher.history().len() == 102, &"entries");
+    holds(rt, publisher.history().len() == 102, "entries");
 }
 
 fn take_storm<J: Naming, R: Wait + Abort>(rt: &R, alloc: Global, opening: Opening)
     requires { opening ≡ J.opening }
 {
-    let (mut held, seats) = opened::<J, R>(rt, alloc, opening, 1);
-    expect_storm(rt, alloc, &mut held.publisher);
-    expect_after_storm(rt, alloc, &mut held.publisher);
+    let (mut publisher, seats) = opened::<J, R>(rt, alloc, opening, 1);
+    expect_storm(rt, alloc, &mut publisher);
+    expect_after_storm(rt, alloc, &mut publisher);
     drop(seats);
-    drop(held);
+    drop(publisher.close(rt));
 }
 
 #[test]
@@ -85,7 +87,7 @@ fn expect_code<J: Naming, R: Wait + Abort>(
     take(rt, publisher, request.copy(alloc).expect(rt, "memory"));
     let reply = seat.answer(&request).expect(rt, "a reply");
     drop(request);
-    holds(rt, first_code(&reply) == code, &code);
+    holds_at(rt, first_code(&reply) == code, &code);
     drop(reply);
 }
 
@@ -99,9 +101,13 @@ fn expect_codes<J: Naming, R: Wait + Abort>(
 ) {
     let seat = seats.iter_mut().next().expect(rt, "a seat");
     take(rt, publisher, register(rt, 7));
-    take(rt, publisher, two_accounts(rt, alloc, (7, 1, 1)));
+    take(
+        rt,
+        publisher,
+        request(rt, alloc, (7, 1, 1), Asked::TwoAccounts),
+    );
     for (number, debit, code) in [(2, 99, codes[0]), (3, 1, codes[1])] {
-        let request = transfers(rt, alloc, (7, 1, number), (70, debit, 1));
+        let request = request(rt, alloc, (7, 1, number), Asked::Transfer(70, debit, 1));
         expect_code(rt, alloc, publisher, seat, request, code);
     }
 }
@@ -114,10 +120,10 @@ fn take_failed_id<J: Naming, R: Wait + Abort>(
 )
     requires { opening ≡ J.opening }
 {
-    let (mut held, mut seats) = opened::<J, R>(rt, alloc, opening, 1);
-    expect_codes(rt, alloc, &mut held.publisher, &mut seats, codes);
+    let (mut publisher, mut seats) = opened::<J, R>(rt, alloc, opening, 1);
+    expect_codes(rt, alloc, &mut publisher, &mut seats, codes);
     drop(seats);
-    drop(held);
+    drop(publisher.close(rt));
 }
 
 #[test]

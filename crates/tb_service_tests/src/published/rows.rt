@@ -1,27 +1,14 @@
 //! The first requests through `take` and a seat: what becomes of each, the bytes of the answer to it, and what the seat looks
 //! up then.
-use crate::comparing::holds;
+use crate::comparing::{holds, holds_at};
+use crate::making::{Asked, Numbers, request, take};
 use crate::published::frames::{Header, answered, frame};
-use crate::published::making::{Numbers, lookup, register, take, transfers, two_accounts};
 use std::alloc::Global;
 use std::process::Abort;
 use std::sync::Wait;
 use tb_fixtures::{account, at, found, transfer};
 use tb_published::{Naming, Publisher, Seat, Taken};
 use tb_records::{Request, Status};
-
-/// What a request asks for.
-#[derive(Clone, Copy)]
-enum Asked {
-    Register,
-    TwoAccounts,
-    /// Accounts 2, 9 and 1.
-    Lookup,
-    /// No account.
-    EmptyLookup,
-    /// Transfer 11, from account 1, of this amount.
-    Transfer(u128),
-}
 
 /// A request, what becomes of it when it is taken, the header of the answer then, and whether accounts 2 and 1 follow it.
 type Row = (Numbers, Asked, Taken, Header, bool);
@@ -75,7 +62,7 @@ const FIRST_ROWS: [Row; 4] = [
     ),
     (
         (7, 1, 2),
-        Asked::Lookup,
+        Asked::Lookup(&[2, 9, 1]),
         Taken::Committed(3),
         [
             CLIENT_7,
@@ -90,72 +77,61 @@ const FIRST_ROWS: [Row; 4] = [
 const LATER_ROWS: [Row; 8] = [
     (
         (7, 1, 3),
-        Asked::Transfer(100),
+        Asked::Transfer(11, 1, 100),
         Taken::Committed(4),
         MOVED,
         false,
     ),
     (
         (7, 1, 3),
-        Asked::Transfer(100),
+        Asked::Transfer(11, 1, 100),
         Taken::Repeat(4),
         MOVED,
         false,
     ),
     (
         (7, 1, 2),
-        Asked::Lookup,
+        Asked::Lookup(&[2, 9, 1]),
         Taken::Refused(Status::Older),
         [CLIENT_7, 0x01000000_00000000_02000000_83040000, 0],
         false,
     ),
     (
         (7, 1, 3),
-        Asked::Transfer(101),
+        Asked::Transfer(11, 1, 101),
         Taken::Refused(Status::Collision),
         [CLIENT_7, 0x01000000_00000000_03000000_82050000, 0],
         false,
     ),
     (
         (7, 1, 5),
-        Asked::EmptyLookup,
+        Asked::Lookup(&[]),
         Taken::Refused(Status::NewerRequest),
         [CLIENT_7, 0x01000000_00000000_05000000_83060000, 0],
         false,
     ),
     (
         (7, 2, 4),
-        Asked::EmptyLookup,
+        Asked::Lookup(&[]),
         Taken::Refused(Status::NewerSession),
         [CLIENT_7, 0x02000000_00000000_04000000_83030000, 0],
         false,
     ),
     (
         (7, 0, 4),
-        Asked::EmptyLookup,
+        Asked::Lookup(&[]),
         Taken::Refused(Status::SessionTooLow),
         [CLIENT_7, 0x00000000_00000000_04000000_83020000, 0],
         false,
     ),
     (
         (9, 1, 1),
-        Asked::EmptyLookup,
+        Asked::Lookup(&[]),
         Taken::Refused(Status::NoSession),
         [CLIENT_9, 0x01000000_00000000_01000000_83010000, 0],
         false,
     ),
 ];
-
-/// The request of a row.
-fn requested(rt: &impl Abort, alloc: Global, numbers: Numbers, asked: Asked) -> Request {
-    match asked {
-        Asked::Register => register(rt, numbers.0),
-        Asked::TwoAccounts => two_accounts(rt, alloc, numbers),
-        Asked::Lookup => lookup(rt, alloc, numbers, &[2, 9, 1]),
-        Asked::EmptyLookup => lookup(rt, alloc, numbers, &[]),
-        Asked::Transfer(amount) => transfers(rt, alloc, numbers, (11, 1, amount)),
-    }
-}
 
 /// The status that a seat answers once a request was taken.
 fn status_after(taken: Taken) -> Status {
@@ -174,10 +150,10 @@ fn expect_answer<J: Naming>(
     row: Row,
 ) {
     let status = seat.status(request).expect(rt, "a status");
-    holds(rt, status == status_after(row.2), &row.0);
+    holds_at(rt, status == status_after(row.2), &row.0);
     let answer = answered(rt, alloc, seat, request);
     let wanted = frame(rt, alloc, row.3, row.4);
-    holds(rt, answer.as_slice() == wanted.as_slice(), &row.0);
+    holds_at(rt, answer.as_slice() == wanted.as_slice(), &row.0);
     drop(wanted);
     drop(answer);
 }
@@ -190,9 +166,9 @@ fn expect_row<J: Naming, R: Wait + Abort>(
     seat: &mut Seat<J>,
     row: Row,
 ) {
-    let taken = take(rt, publisher, requested(rt, alloc, row.0, row.1));
-    holds(rt, taken == row.2, &row.0);
-    let request = requested(rt, alloc, row.0, row.1);
+    let taken = take(rt, publisher, request(rt, alloc, row.0, row.1));
+    holds_at(rt, taken == row.2, &row.0);
+    let request = request(rt, alloc, row.0, row.1);
     expect_answer(rt, alloc, seat, &request, row);
     drop(request);
 }
@@ -216,8 +192,8 @@ fn expect_accounts<J: Naming>(rt: &impl Abort, seat: &mut Seat<J>, entries: u64,
         found([0, posted, 0, 0], 11, account(1)),
     ];
     let (commit, accounts) = seat.lookup_accounts(&[2, 9, 1]).expect(rt, "accounts");
-    holds(rt, commit == entries, &commit);
-    holds(rt, accounts.as_slice() == wanted.as_slice(), &posted);
+    holds_at(rt, commit == entries, &commit);
+    holds_at(rt, accounts.as_slice() == wanted.as_slice(), &posted);
     drop(accounts);
 }
 
@@ -225,8 +201,8 @@ fn expect_accounts<J: Naming>(rt: &impl Abort, seat: &mut Seat<J>, entries: u64,
 fn expect_transfers<J: Naming>(rt: &impl Abort, seat: &mut Seat<J>) {
     let wanted = [at(14, transfer(11, 1, 2, 100))];
     let (commit, found) = seat.lookup_transfers(&[12, 11]).expect(rt, "transfers");
-    holds(rt, commit == 4, &commit);
-    holds(rt, found.as_slice() == wanted.as_slice(), &"transfers");
+    holds_at(rt, commit == 4, &commit);
+    holds(rt, found.as_slice() == wanted.as_slice(), "transfers");
     drop(found);
 }
 
@@ -242,6 +218,6 @@ pub(crate) fn expect_first<J: Naming, R: Wait + Abort>(
     expect_rows(rt, alloc, publisher, seat, &LATER_ROWS);
     expect_accounts(rt, seat, 4, 100);
     expect_transfers(rt, seat);
-    holds(rt, publisher.history().len() == 4, &"entries");
-    holds(rt, publisher.machine().commit() == 4, &"the last entry");
+    holds(rt, publisher.history().len() == 4, "entries");
+    holds(rt, publisher.machine().commit() == 4, "the last entry");
 }

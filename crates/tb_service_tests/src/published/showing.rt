@@ -1,8 +1,8 @@
 //! What is entered and not yet shown.
 ghost use Rattle.std.specs.Prelude.{◌≡◌};
 
-use crate::comparing::holds;
-use crate::published::making::{opened, opening, register};
+use crate::comparing::{holds, holds_at};
+use crate::making::{opened, opening, register};
 use std::alloc::Global;
 use std::marker::Brand;
 use std::process::Abort;
@@ -18,8 +18,8 @@ fn expect_seen<J: Naming>(
     status: Status,
     seen: u64,
 ) {
-    holds(rt, seat.status(asked) == Ok(status), &status);
-    holds(rt, seat.seen() == seen, &seen);
+    holds_at(rt, seat.status(asked) == Ok(status), &status);
+    holds_at(rt, seat.seen() == seen, &seen);
 }
 
 /// A register that is entered is not shown until the copies are told to.
@@ -30,12 +30,12 @@ fn expect_shown<J: Naming, R: Wait + Abort>(
 ) {
     let asked = register(rt, 7);
     let entered = publisher.enter(register(rt, 7), 10);
-    holds(rt, entered == Ok(Taken::Committed(1)), &"entered");
+    holds(rt, entered == Ok(Taken::Committed(1)), "entered");
     expect_seen(rt, seat, &asked, Status::NotYet, 0);
-    holds(rt, publisher.show(rt) == Ok(1), &"shown");
+    holds(rt, publisher.show(rt) == Ok(1), "shown");
     expect_seen(rt, seat, &asked, Status::Reply, 1);
     let again = publisher.enter(register(rt, 7), 10);
-    holds(rt, again == Ok(Taken::Repeat(1)), &"entered again");
+    holds(rt, again == Ok(Taken::Repeat(1)), "entered again");
     drop(asked);
 }
 
@@ -43,7 +43,8 @@ fn expect_shown<J: Naming, R: Wait + Abort>(
 fn enter_and_show<J: Naming, R: Wait + Abort>(rt: &R, alloc: Global, opening: Opening)
     requires { opening ≡ J.opening }
 {
-    let (held, mut seats) = opened::<J, R>(rt, alloc, opening, 1);
+    let (publisher, mut seats) = opened::<J, R>(rt, alloc, opening, 1);
+    let held = HeldPublisher::new(publisher, rt);
     let mut held = HeldPublisher::new(held.into_publisher(), rt);
     let seat = seats.iter_mut().next().expect(rt, "a seat");
     expect_shown(rt, &mut held.publisher, seat);

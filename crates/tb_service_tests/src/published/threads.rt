@@ -2,7 +2,7 @@
 ghost use Rattle.std.specs.Prelude.{◌≡◌};
 
 use crate::comparing::holds;
-use crate::published::making::{lookup, opened, opening};
+use crate::making::{Asked, opened, opening, register_or_lookup, request};
 use std::alloc::Global;
 use std::marker::Brand;
 use std::process::Abort;
@@ -11,7 +11,7 @@ use std::sync::atomic::{AtomicU64, Ordering};
 use std::thread::{self, Threads, join};
 use tb_fixtures::reaches;
 use tb_published::{Naming, Opening, Publisher, Seat, SeatFault, Taken, Told};
-use tb_records::{Body, Items, Profile, Request, Status};
+use tb_records::{Profile, Request, Status};
 
 /// Whoever waits looks so often at the most.
 const LOOKS: u32 = 20_000_000;
@@ -111,18 +111,9 @@ fn watch_four<J: Naming + Send + Sync, R: Threads + Sync>(
     a && b
 }
 
-/// Client 7's register, or its request with a number: a lookup of no account.
-fn nth_request(alloc: Global, number: u32) -> Option<Request> {
-    let (session, body) = match number {
-        0 => (0, Body::Register),
-        _ => (1, Body::LookupAccounts(Items::new(Vec::new(alloc)))),
-    };
-    Request::new(7, session, number, body).ok()
-}
-
 /// Takes client 7's register and 199 lookups, and says whether each was committed. Before the last it waits until each seat has
 /// seen some.
-fn take_many<J: Naming, R: Wait>(
+fn take_many<J: Naming, R: Wait + Abort>(
     rt: &R,
     alloc: Global,
     publisher: &mut Publisher<J>,
@@ -132,9 +123,7 @@ fn take_many<J: Naming, R: Wait>(
         if number == 199 && !between.is_told() {
             return false;
         }
-        let Some(request) = nth_request(alloc, number) else {
-            return false;
-        };
+        let request = register_or_lookup(rt, alloc, (7, u64::from(number.min(1)), number));
         if publisher.take(rt, request, 10) != Ok(Taken::Committed(u64::from(number) + 1)) {
             return false;
         }
@@ -143,7 +132,7 @@ fn take_many<J: Naming, R: Wait>(
 }
 
 /// Four threads ask four seats next to the publisher.
-fn watch_beside<J: Naming + Send + Sync, R: Threads + Wait + Sync>(
+fn watch_beside<J: Naming + Send + Sync, R: Threads + Wait + Abort + Sync>(
     rt: &R,
     alloc: Global,
     publisher: &mut Publisher<J>,
@@ -167,9 +156,9 @@ fn expect_learnt<J: Naming>(
     request: &Request,
 ) {
     seat.learn(told);
-    holds(rt, seat.seen() == 200, &"what is seen");
+    holds(rt, seat.seen() == 200, "what is seen");
     let status = seat.status(request);
-    holds(rt, status == Ok(Status::Reply), &"the status");
+    holds(rt, status == Ok(Status::Reply), "the status");
 }
 
 /// Four seats look for the last request while it is on its way, and learn of it when it was taken.
@@ -180,17 +169,17 @@ fn watch_writer<J: Naming + Send + Sync, R: Threads + Wait + Abort + Sync>(
 )
     requires { opening ≡ J.opening }
 {
-    let last = lookup(rt, alloc, (7, 1, 199), &[]);
-    let (mut held, mut seats) = opened::<J, R>(rt, alloc, opening, 4);
-    let risen = watch_beside(rt, alloc, &mut held.publisher, seats.as_mut_slice(), &last);
-    holds(rt, risen, &"all four");
-    let told = held.publisher.tell();
+    let last = request(rt, alloc, (7, 1, 199), Asked::Lookup(&[]));
+    let (mut publisher, mut seats) = opened::<J, R>(rt, alloc, opening, 4);
+    let risen = watch_beside(rt, alloc, &mut publisher, seats.as_mut_slice(), &last);
+    holds(rt, risen, "all four");
+    let told = publisher.tell();
     for seat in seats.iter_mut() {
         expect_learnt(rt, seat, &told, &last);
     }
     drop(told);
     drop(seats);
-    drop(held);
+    drop(publisher.close(rt));
     drop(last);
 }
 

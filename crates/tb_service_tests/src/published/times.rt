@@ -1,8 +1,8 @@
 //! Requests that come when no time is left.
 ghost use Rattle.std.specs.Prelude.{◌≡◌};
 
-use crate::comparing::holds;
-use crate::published::making::{Numbers, opened, opening, register_or_lookup};
+use crate::comparing::{holds, holds_at};
+use crate::making::{Numbers, opened, opening, register_or_lookup};
 use std::alloc::Global;
 use std::marker::Brand;
 use std::process::Abort;
@@ -42,11 +42,11 @@ fn expect_rows<J: Naming, R: Wait + Abort>(
     for (numbers, moment, expected) in rows {
         let request = register_or_lookup(rt, alloc, *numbers);
         let taken = publisher.take(rt, request, *moment);
-        holds(rt, taken == *expected, numbers);
+        holds_at(rt, taken == *expected, numbers);
     }
-    holds(rt, publisher.history().len() == entries, &"entries");
+    holds(rt, publisher.history().len() == entries, "entries");
     let told = publisher.tell();
-    holds(rt, told.commit() == entries as u64, &"what is told");
+    holds(rt, told.commit() == entries as u64, "what is told");
     drop(told);
 }
 
@@ -59,10 +59,10 @@ fn take_rows<J: Naming, R: Wait + Abort>(
 )
     requires { opening ≡ J.opening }
 {
-    let (mut held, seats) = opened::<J, R>(rt, alloc, opening, 1);
-    expect_rows(rt, alloc, &mut held.publisher, rows, entries);
+    let (mut publisher, seats) = opened::<J, R>(rt, alloc, opening, 1);
+    expect_rows(rt, alloc, &mut publisher, rows, entries);
     drop(seats);
-    drop(held);
+    drop(publisher.close(rt));
 }
 
 #[test]

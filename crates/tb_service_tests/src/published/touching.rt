@@ -1,8 +1,8 @@
 //! Accounts are many: those of the next requests are searched for before the requests are entered, and before the copies take them in.
 ghost use Rattle.std.specs.Prelude.{◌≡◌};
 
-use crate::comparing::holds;
-use crate::published::making::{opened, opening, register, take, transfers};
+use crate::comparing::{holds, holds_at};
+use crate::making::{Asked, nth, opened, opening, register, take};
 use std::alloc::Global;
 use std::marker::Brand;
 use std::process::Abort;
@@ -43,7 +43,7 @@ fn accounts(rt: &impl Abort, alloc: Global, batch: (u32, u128, u128)) -> Request
 
 /// Client 7 registers and creates its accounts.
 fn create<J: Naming, R: Wait + Abort>(rt: &R, alloc: Global, publisher: &mut Publisher<J>) {
-    holds(
+    holds_at(
         rt,
         take(rt, publisher, register(rt, 7)) == Taken::Committed(1),
         &1,
@@ -51,11 +51,7 @@ fn create<J: Naming, R: Wait + Abort>(rt: &R, alloc: Global, publisher: &mut Pub
     for batch in BATCHES {
         let _ = take(rt, publisher, accounts(rt, alloc, batch));
     }
-    holds(
-        rt,
-        publisher.machine().has_many_accounts(),
-        &"many accounts",
-    );
+    holds(rt, publisher.machine().has_many_accounts(), "many accounts");
 }
 
 /// Eight transfers of 1 to account 2, each a request.
@@ -63,12 +59,8 @@ fn eight(rt: &impl Abort, alloc: Global, numbers: [u32; 8]) -> Vec<Request> {
     let mut requests = Vec::new(alloc);
     for number in numbers {
         let id = u128::from(number);
-        let request = transfers(
-            rt,
-            alloc,
-            (7, 1, number),
-            (id, id.saturating_add(65_000), 1),
-        );
+        let asked = Asked::Transfer(id, id.saturating_add(65_000), 1);
+        let request = nth(rt, alloc, number, asked);
         requests.push(request).expect(rt, "memory");
     }
     requests
@@ -85,9 +77,9 @@ fn enter_eight<J: Naming, R: Wait + Abort>(
     publisher.touch(requests.as_slice());
     for request in requests {
         let entered = publisher.enter(request, 10);
-        holds(rt, matches!(entered, Ok(Taken::Committed(_))), &"entered");
+        holds(rt, matches!(entered, Ok(Taken::Committed(_))), "entered");
     }
-    holds(rt, publisher.show(rt).is_ok(), &"shown");
+    holds(rt, publisher.show(rt).is_ok(), "shown");
 }
 
 /// A seat finds that account 2 was credited so much, and account 65,010 debited 1.
@@ -95,8 +87,8 @@ fn expect_moved<J: Naming>(rt: &impl Abort, seat: &mut Seat<J>, amount: u128) {
     let (_, found) = seat.lookup_accounts(&[2, 65_010]).expect(rt, "accounts");
     let credits = found.iter().map(|it| it.credits_posted).max();
     let debits = found.iter().map(|it| it.debits_posted).max();
-    holds(rt, credits == Some(amount), &"credits of account 2");
-    holds(rt, debits == Some(1), &"debits of account 65,010");
+    holds(rt, credits == Some(amount), "credits of account 2");
+    holds(rt, debits == Some(1), "debits of account 65,010");
     drop(found);
 }
 
@@ -104,15 +96,15 @@ fn expect_moved<J: Naming>(rt: &impl Abort, seat: &mut Seat<J>, amount: u128) {
 fn move_twice<J: Naming, R: Wait + Abort>(rt: &R, alloc: Global, opening: Opening)
     requires { opening ≡ J.opening }
 {
-    let (mut held, mut seats) = opened::<J, R>(rt, alloc, opening, 1);
-    create(rt, alloc, &mut held.publisher);
+    let (mut publisher, mut seats) = opened::<J, R>(rt, alloc, opening, 1);
+    create(rt, alloc, &mut publisher);
     let seat = seats.iter_mut().next().expect(rt, "a seat");
-    enter_eight(rt, alloc, &mut held.publisher, FIRST);
+    enter_eight(rt, alloc, &mut publisher, FIRST);
     expect_moved(rt, seat, 8);
-    enter_eight(rt, alloc, &mut held.publisher, LATER);
+    enter_eight(rt, alloc, &mut publisher, LATER);
     expect_moved(rt, seat, 16);
     drop(seats);
-    drop(held);
+    drop(publisher.close(rt));
 }
 
 #[test]

@@ -1,13 +1,15 @@
 //! A gate that is passed before its request has a moment, and so before it is entered.
 ghost use Rattle.std.specs.Prelude.{◌≡◌};
 
-use crate::service::making::{holds, offer, opened, opening, ports, register};
+use crate::comparing::holds;
+use crate::making::{offer, opened, opening, ports, register};
 use std::alloc::Global;
 use std::marker::Brand;
 use std::process::Abort;
 use std::sync::Wait;
 use std::sync::atomic::{AtomicU64, Ordering};
 use tb_published::{Naming, Opening};
+use tb_records::Profile;
 use tb_service::{Gate, Moments, Port, service as serve};
 
 /// The place with which a gate was passed last, and how many moments were given before it was passed with theirs.
@@ -62,7 +64,7 @@ impl Moments for Watching<'_> {
 fn offer_three<R: Wait + Abort>(rt: &R, ports: &mut Vec<Port>) {
     let mut port = ports.pop().expect(rt, "a port");
     for client in [7, 8, 9] {
-        offer(rt, &mut port, register(client));
+        offer(rt, &mut port, register(rt, client));
     }
     drop(port.close(rt));
 }
@@ -71,7 +73,7 @@ fn offer_three<R: Wait + Abort>(rt: &R, ports: &mut Vec<Port>) {
 fn pass_three<J: Naming, R: Wait + Abort>(rt: &R, alloc: Global, opening: Opening)
     requires { opening ≡ J.opening }
 {
-    let (publisher, seats) = opened::<J, R>(rt, alloc, opening);
+    let (publisher, seats) = opened::<J, R>(rt, alloc, opening, 2);
     drop(seats);
     let order = Order::new();
     let moments = Watching {
@@ -99,5 +101,5 @@ fn pass_three<J: Naming, R: Wait + Abort>(rt: &R, alloc: Global, opening: Openin
 
 #[test]
 fn gate_before_its_moment(rt: HostRuntime) {
-    pass_three::<Brand, _>(&rt, rt.alloc(), opening(&rt));
+    pass_three::<Brand, _>(&rt, rt.alloc(), opening(&rt, Profile::One, 2));
 }

@@ -1,13 +1,14 @@
 //! One port: eight requests in an order, a call that never asks again, and a server that is gone.
 ghost use Rattle.std.specs.Prelude.{◌≡◌, ◌≤◌};
 
-use crate::service::making::{eight, holds, one_port, opened, opening, register, rising};
+use crate::comparing::holds;
+use crate::making::{eight, one_port, opened, opening, register, rising};
 use std::alloc::Global;
 use std::marker::Brand;
 use std::process::Abort;
 use std::sync::Wait;
 use tb_published::{Naming, Opening, Seat, SeatFault};
-use tb_records::{Request, Status};
+use tb_records::{Profile, Request, Status};
 use tb_service::Port;
 
 /// What account 2 was credited with, as the first seat finds it, and after how many entries.
@@ -34,7 +35,7 @@ fn hand_over_eight<R: Wait + Abort>(rt: &R, alloc: Global, mut port: Port) {
 fn fill_with_eight<J: Naming, R: Wait + Abort>(rt: &R, alloc: Global, opening: Opening)
     requires { opening ≡ J.opening }
 {
-    let (publisher, mut seats) = opened::<J, R>(rt, alloc, opening);
+    let (publisher, mut seats) = opened::<J, R>(rt, alloc, opening, 2);
     let (server, port) = one_port(rt, alloc, publisher, rising());
     hand_over_eight(rt, alloc, port);
     let finished = server.run(rt);
@@ -48,12 +49,12 @@ fn fill_with_eight<J: Naming, R: Wait + Abort>(rt: &R, alloc: Global, opening: O
 
 #[test]
 fn eight_in_one_order(rt: HostRuntime) {
-    fill_with_eight::<Brand, _>(&rt, rt.alloc(), opening(&rt));
+    fill_with_eight::<Brand, _>(&rt, rt.alloc(), opening(&rt, Profile::One, 2));
 }
 
 /// A call of the first seat that never asks again: the seat answers that it has no such request yet.
 fn call_at_once<J: Naming, R: Wait + Abort>(rt: &R, port: &mut Port, seats: &mut Vec<Seat<J>>) {
-    let asked = register(7).expect(rt, "a request");
+    let asked = register(rt, 7);
     let seat = seats.iter_mut().next().expect(rt, "a seat");
     let reply = port.call(rt, seat, &asked, 0).expect(rt, "a reply");
     holds(rt, reply.status() == Status::NotYet, "not yet");
@@ -65,7 +66,7 @@ fn call_at_once<J: Naming, R: Wait + Abort>(rt: &R, port: &mut Port, seats: &mut
 fn call_once<J: Naming, R: Wait + Abort>(rt: &R, alloc: Global, opening: Opening)
     requires { opening ≡ J.opening }
 {
-    let (publisher, mut seats) = opened::<J, R>(rt, alloc, opening);
+    let (publisher, mut seats) = opened::<J, R>(rt, alloc, opening, 2);
     let (server, mut port) = one_port(rt, alloc, publisher, rising());
     call_at_once(rt, &mut port, &mut seats);
     let closed = port.close(rt);
@@ -79,7 +80,7 @@ fn call_once<J: Naming, R: Wait + Abort>(rt: &R, alloc: Global, opening: Opening
 
 #[test]
 fn call_without_turns(rt: HostRuntime) {
-    call_once::<Brand, _>(&rt, rt.alloc(), opening(&rt));
+    call_once::<Brand, _>(&rt, rt.alloc(), opening(&rt, Profile::One, 2));
 }
 
 /// Where the publisher was closed a call ends as its seat does, without a copy, and hands nothing over.
@@ -110,8 +111,8 @@ fn offer_in_vain<R: Wait + Abort>(rt: &R, port: &mut Port, request: Request) {
 fn drop_server<J: Naming, R: Wait + Abort>(rt: &R, alloc: Global, opening: Opening)
     requires { opening ≡ J.opening }
 {
-    let asked = register(7).expect(rt, "a request");
-    let (publisher, mut seats) = opened::<J, R>(rt, alloc, opening);
+    let asked = register(rt, 7);
+    let (publisher, mut seats) = opened::<J, R>(rt, alloc, opening, 2);
     let (server, mut port) = one_port(rt, alloc, publisher, rising());
     drop(server);
     let seat = seats.iter_mut().next().expect(rt, "a seat");
@@ -125,5 +126,5 @@ fn drop_server<J: Naming, R: Wait + Abort>(rt: &R, alloc: Global, opening: Openi
 
 #[test]
 fn dropped_server_gives_back(rt: HostRuntime) {
-    drop_server::<Brand, _>(&rt, rt.alloc(), opening(&rt));
+    drop_server::<Brand, _>(&rt, rt.alloc(), opening(&rt, Profile::One, 2));
 }

@@ -1,14 +1,16 @@
 //! Ports that offer and are closed before the server runs, and the places of their requests.
 ghost use Rattle.std.specs.Prelude.{◌≡◌};
 
-use crate::service::making::{
-    Every, holds, lookup, offer, opened, opening, places, register, rising, two_ports,
+use crate::comparing::holds;
+use crate::making::{
+    Asked, Every, nth, offer, opened, opening, places, register, rising, two_ports,
 };
 use std::alloc::Global;
 use std::marker::Brand;
 use std::process::Abort;
 use std::sync::Wait;
 use tb_published::{Naming, Opening, TakeFault};
+use tb_records::Profile;
 use tb_service::{Ended, Finished, Port};
 
 /// The places of a port are these.
@@ -49,17 +51,17 @@ fn expect_left<J: Naming>(rt: &impl Abort, finished: &Finished<J>, left: Left) {
 fn offer_by_turns<R: Wait + Abort>(rt: &R, alloc: Global, first: &mut Port, second: &mut Port)
     ensures { (first.new.service ≡ first.old.service) × (second.new.service ≡ second.old.service) }
 {
-    offer(rt, first, register(7));
-    offer(rt, second, register(8));
-    offer(rt, first, register(7));
-    offer(rt, first, lookup(alloc, 1));
+    offer(rt, first, register(rt, 7));
+    offer(rt, second, register(rt, 8));
+    offer(rt, first, register(rt, 7));
+    offer(rt, first, nth(rt, alloc, 1, Asked::Lookup(&[])));
 }
 
 /// Both are closed before the server runs.
 fn fill_two<J: Naming, R: Wait + Abort>(rt: &R, alloc: Global, opening: Opening)
     requires { opening ≡ J.opening }
 {
-    let (publisher, seats) = opened::<J, R>(rt, alloc, opening);
+    let (publisher, seats) = opened::<J, R>(rt, alloc, opening, 2);
     let (server, mut first, mut second) = two_ports(rt, alloc, publisher, rising());
     offer_by_turns(rt, alloc, &mut first, &mut second);
     let first = first.close(rt);
@@ -80,7 +82,7 @@ fn fill_two<J: Naming, R: Wait + Abort>(rt: &R, alloc: Global, opening: Opening)
 
 #[test]
 fn places_of_each_port(rt: HostRuntime) {
-    fill_two::<Brand, _>(&rt, rt.alloc(), opening(&rt));
+    fill_two::<Brand, _>(&rt, rt.alloc(), opening(&rt, Profile::One, 2));
 }
 
 /// Two ports offer registers of three clients, and both are closed and dropped before the server runs.
@@ -93,11 +95,11 @@ fn fill_and_drop<J: Naming, R: Wait + Abort>(
 )
     requires { opening ≡ J.opening }
 {
-    let (publisher, seats) = opened::<J, R>(rt, alloc, opening);
+    let (publisher, seats) = opened::<J, R>(rt, alloc, opening, 2);
     let (server, mut first, mut second) = two_ports(rt, alloc, publisher, moments);
-    offer(rt, &mut first, register(7));
-    offer(rt, &mut second, register(8));
-    offer(rt, &mut first, register(9));
+    offer(rt, &mut first, register(rt, 7));
+    offer(rt, &mut second, register(rt, 8));
+    offer(rt, &mut first, register(rt, 9));
     drop(first.close(rt));
     drop(second.close(rt));
     let finished = server.run(rt);
@@ -108,7 +110,13 @@ fn fill_and_drop<J: Naming, R: Wait + Abort>(
 
 #[test]
 fn closed_ports_are_dropped(rt: HostRuntime) {
-    fill_and_drop::<Brand, _>(&rt, rt.alloc(), opening(&rt), rising(), (3, &[]));
+    fill_and_drop::<Brand, _>(
+        &rt,
+        rt.alloc(),
+        opening(&rt, Profile::One, 2),
+        rising(),
+        (3, &[]),
+    );
 }
 
 /// All moments are the last one: behind the first entry there is no time.
@@ -118,5 +126,11 @@ fn time_runs_out_in_the_server(rt: HostRuntime) {
         next: i64::MAX as u64,
         step: 0,
     };
-    fill_and_drop::<Brand, _>(&rt, rt.alloc(), opening(&rt), last, (1, &[2, 3]));
+    fill_and_drop::<Brand, _>(
+        &rt,
+        rt.alloc(),
+        opening(&rt, Profile::One, 2),
+        last,
+        (1, &[2, 3]),
+    );
 }

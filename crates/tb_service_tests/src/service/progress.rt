@@ -1,9 +1,8 @@
 //! Progress: what is offered is answered while the server still runs. No later order and no close has to bring it out.
 ghost use Rattle.std.specs.Prelude.{◌≡◌, ◌≤◌};
 
-use crate::service::making::{
-    Started, eight, holds, lookup, offer, one_port, opened, opening, register, rising,
-};
+use crate::comparing::holds;
+use crate::making::{Started, eight, offer, one_port, opened, opening, register_or_lookup, rising};
 use std::alloc::Global;
 use std::marker::Brand;
 use std::process::Abort;
@@ -11,7 +10,7 @@ use std::sync::Wait;
 use std::thread::{Parker, Threads, join};
 use std::time::Duration;
 use tb_published::{Naming, Opening, Seat};
-use tb_records::{Request, Status};
+use tb_records::{Profile, Request, Status};
 use tb_service::Port;
 
 /// So often a seat is asked for one answer.
@@ -63,14 +62,6 @@ fn hand_over_and_ask<J: Naming, R: Wait + Abort>(
     answered
 }
 
-/// Client 7's register, or a lookup of no account.
-fn nth_single(alloc: Global, number: u32) -> Option<Request> {
-    match number {
-        0 => register(7),
-        _ => lookup(alloc, number),
-    }
-}
-
 /// Requests go one by one, each after the one before was answered: so many were.
 fn offer_one_by_one<J: Naming, R: Wait + Abort>(
     rt: &R,
@@ -80,8 +71,9 @@ fn offer_one_by_one<J: Naming, R: Wait + Abort>(
 ) -> usize {
     let mut answered: usize = 0;
     for number in 0..SINGLE {
-        offer(rt, &mut port, nth_single(alloc, number));
-        let asked = nth_single(alloc, number).expect(rt, "a request");
+        let numbers = (7, u64::from(number.min(1)), number);
+        offer(rt, &mut port, register_or_lookup(rt, alloc, numbers));
+        let asked = register_or_lookup(rt, alloc, numbers);
         let seen = is_answered(rt, seat, &asked);
         drop(asked);
         if !seen {
@@ -143,7 +135,7 @@ fn serve_beside<J: Naming + Send + Sync, R: Threads + Wait + Abort + Sync>(
 )
     requires { opening ≡ J.opening }
 {
-    let (publisher, mut seats) = opened::<J, R>(rt, alloc, opening);
+    let (publisher, mut seats) = opened::<J, R>(rt, alloc, opening, 2);
     let (server, port) = one_port(rt, alloc, publisher, rising());
     let seat = seats.iter_mut().next().expect(rt, "a seat");
     expect_answers(rt, alloc, server, port, seat, offered);
@@ -153,11 +145,21 @@ fn serve_beside<J: Naming + Send + Sync, R: Threads + Wait + Abort + Sync>(
 /// One order of eight, and no close until all eight were answered.
 #[test]
 fn eight_are_answered_before_a_close(rt: HostRuntime) {
-    serve_beside::<Brand, _>(&rt, rt.alloc(), opening(&rt), Offered::EightInOneOrder);
+    serve_beside::<Brand, _>(
+        &rt,
+        rt.alloc(),
+        opening(&rt, Profile::One, 2),
+        Offered::EightInOneOrder,
+    );
 }
 
 /// 130 orders of one, each answered before the next is offered.
 #[test]
 fn each_is_answered_before_the_next(rt: HostRuntime) {
-    serve_beside::<Brand, _>(&rt, rt.alloc(), opening(&rt), Offered::OneByOne);
+    serve_beside::<Brand, _>(
+        &rt,
+        rt.alloc(),
+        opening(&rt, Profile::One, 2),
+        Offered::OneByOne,
+    );
 }

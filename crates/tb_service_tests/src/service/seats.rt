@@ -1,53 +1,32 @@
 //! Seats next to a server: what they answer, and what they learn.
 ghost use Rattle.std.specs.Prelude.{◌≡◌};
 
-use crate::service::making::{
-    holds, lookup, offer, one_port, opened, opening, register, rising, transfers, two_accounts,
-};
+use crate::comparing::holds;
+use crate::making::{Asked, nth, offer, one_port, opened, opening, rising};
 use std::alloc::Global;
 use std::marker::Brand;
 use std::process::Abort;
 use std::sync::Wait;
 use tb_published::{Naming, Opening, Publisher, Seat};
-use tb_records::{Request, Status};
+use tb_records::{Profile, Request, Status};
 
-/// What a request of client 7 asks for.
-#[derive(Clone, Copy)]
-enum Asked {
-    Register,
-    TwoAccounts,
-    /// No account.
-    Lookup(u32),
-    /// Transfer 11 by request 3, of this amount.
-    Transfer(u128),
-}
-
-/// A request, and what a seat answers to it once all of its rows were served: status and commit number.
-type Row = (Asked, Status, u64);
+/// Client 7's request of a number, and what a seat answers to it once all of its rows were served: status and commit number.
+type Row = (u32, Asked, Status, u64);
 
 /// Client 7's first requests, and then one of each refusal.
 const FIRST_ROWS: [Row; 8] = [
-    (Asked::Register, Status::Older, 0),
-    (Asked::TwoAccounts, Status::Older, 0),
-    (Asked::Lookup(2), Status::Older, 0),
-    (Asked::Transfer(100), Status::Reply, 4),
-    (Asked::Transfer(100), Status::Reply, 4),
-    (Asked::Lookup(2), Status::Older, 0),
-    (Asked::Transfer(101), Status::Collision, 0),
-    (Asked::Lookup(5), Status::NewerRequest, 0),
+    (0, Asked::Register, Status::Older, 0),
+    (1, Asked::TwoAccounts, Status::Older, 0),
+    (2, Asked::Lookup(&[]), Status::Older, 0),
+    (3, Asked::Transfer(11, 1, 100), Status::Reply, 4),
+    (3, Asked::Transfer(11, 1, 100), Status::Reply, 4),
+    (2, Asked::Lookup(&[]), Status::Older, 0),
+    (3, Asked::Transfer(11, 1, 101), Status::Collision, 0),
+    (5, Asked::Lookup(&[]), Status::NewerRequest, 0),
 ];
 
 /// The one that is served behind them.
-const NEXT: Row = (Asked::Lookup(4), Status::Reply, 5);
-
-fn requested(alloc: Global, asked: Asked) -> Option<Request> {
-    match asked {
-        Asked::Register => register(7),
-        Asked::TwoAccounts => two_accounts(alloc),
-        Asked::Lookup(number) => lookup(alloc, number),
-        Asked::Transfer(amount) => transfers(alloc, 3, 11, amount),
-    }
-}
+const NEXT: Row = (4, Asked::Lookup(&[]), Status::Reply, 5);
 
 /// Serves requests through one port, and gives the publisher back.
 fn serve_all<J: Naming, R: Wait + Abort>(
@@ -58,7 +37,7 @@ fn serve_all<J: Naming, R: Wait + Abort>(
 ) -> Publisher<J> {
     let (server, mut port) = one_port(rt, alloc, publisher, rising());
     for row in rows {
-        offer(rt, &mut port, requested(alloc, row.0));
+        offer(rt, &mut port, nth(rt, alloc, row.0, row.1));
     }
     drop(port.close(rt));
     server.run(rt).into_publisher()
@@ -66,10 +45,10 @@ fn serve_all<J: Naming, R: Wait + Abort>(
 
 /// What a seat answers to a request: status and commit number.
 fn expect_answer<J: Naming>(rt: &impl Abort, alloc: Global, seat: &mut Seat<J>, row: Row) {
-    let request = requested(alloc, row.0).expect(rt, "a request");
+    let request = nth(rt, alloc, row.0, row.1);
     let reply = seat.answer(&request).expect(rt, "a reply");
-    holds(rt, reply.status() == row.1, "the status");
-    holds(rt, reply.commit() == row.2, "the commit number");
+    holds(rt, reply.status() == row.2, "the status");
+    holds(rt, reply.commit() == row.3, "the commit number");
     drop(reply);
     drop(request);
 }
@@ -111,7 +90,7 @@ fn expect_learnt<J: Naming>(
 fn serve_twice<J: Naming, R: Wait + Abort>(rt: &R, alloc: Global, opening: Opening)
     requires { opening ≡ J.opening }
 {
-    let (publisher, mut seats) = opened::<J, R>(rt, alloc, opening);
+    let (publisher, mut seats) = opened::<J, R>(rt, alloc, opening, 2);
     let publisher = serve_all(rt, alloc, publisher, &FIRST_ROWS);
     expect_answers(rt, alloc, &mut seats);
     let publisher = serve_all(rt, alloc, publisher, &[NEXT]);
@@ -122,5 +101,5 @@ fn serve_twice<J: Naming, R: Wait + Abort>(rt: &R, alloc: Global, opening: Openi
 
 #[test]
 fn first_rows_through_a_port(rt: HostRuntime) {
-    serve_twice::<Brand, _>(&rt, rt.alloc(), opening(&rt));
+    serve_twice::<Brand, _>(&rt, rt.alloc(), opening(&rt, Profile::One, 2));
 }

@@ -1,8 +1,9 @@
 //! Ports, a server and seats, each in a thread of its own.
 ghost use Rattle.std.specs.Prelude.{◌≡◌, ◌≤◌};
 
-use crate::service::making::{
-    holds, offer, opened, opening, ports, register, rising, transfers, two_accounts, two_ports,
+use crate::comparing::holds;
+use crate::making::{
+    Asked, asked_in_order, nth, offer, opened, opening, ports, register, rising, two_ports,
 };
 use std::alloc::Global;
 use std::marker::Brand;
@@ -12,14 +13,15 @@ use std::sync::atomic::{AtomicU64, Ordering};
 use std::thread::{Threads, join};
 use tb_fixtures::reaches;
 use tb_published::{Naming, Opening, Publisher, Seat, SeatFault};
-use tb_records::{Reply, Request, Status};
+use tb_records::{Profile, Reply, Request, Status};
 use tb_service::{Closed, Finished, Gate, Port, service as serve};
 
 /// The client's nth transfer, of the amount n, is its request n + 1.
-fn nth_transfer(alloc: Global, n: u32) -> Option<Request>
+fn nth_transfer(rt: &impl Abort, alloc: Global, n: u32) -> Request
     requires { n ≤ 50 }
 {
-    transfers(alloc, n + 1, u128::from(n), u128::from(n))
+    let amount = u128::from(n);
+    nth(rt, alloc, n + 1, Asked::Transfer(amount, 1, amount))
 }
 
 /// The answer is a reply, or that the request is older than the last one.
@@ -62,7 +64,7 @@ fn call_in_order<J: Naming, R: Wait + Abort>(
 {
     let mut settled = true;
     for n in 1..=50 {
-        let request = nth_transfer(alloc, n).expect(rt, "a request");
+        let request = nth_transfer(rt, alloc, n);
         settled = settle(rt, &mut port, seat, &request) && settled;
         drop(request);
     }
@@ -74,7 +76,7 @@ fn offer_in_reverse<R: Wait + Abort>(rt: &R, alloc: Global, mut port: Port) -> C
     ensures { result.service ≡ port.service }
 {
     for round in 0..500 {
-        let request = nth_transfer(alloc, 50 - round % 50).expect(rt, "a request");
+        let request = nth_transfer(rt, alloc, 50 - round % 50);
         drop(port.offer(rt, request));
     }
     port.close(rt)
@@ -101,14 +103,6 @@ fn offer_both<J: Naming + Send + Sync, R: Threads + Wait + Abort + Sync>(
     )
 }
 
-/// Client 7 registers, or creates accounts 1 and 2.
-fn nth_of_two(alloc: Global, number: u32) -> Option<Request> {
-    match number {
-        0 => register(7),
-        _ => two_accounts(alloc),
-    }
-}
-
 /// Client 7 registers and creates accounts 1 and 2; then both ports offer at once.
 fn offer_all<J: Naming + Send + Sync, R: Threads + Wait + Abort + Sync>(
     rt: &R,
@@ -120,7 +114,7 @@ fn offer_all<J: Naming + Send + Sync, R: Threads + Wait + Abort + Sync>(
     ensures { (result.0.0.service ≡ first.service) × (result.1.service ≡ second.service) }
 {
     for number in 0..2 {
-        let request = nth_of_two(alloc, number).expect(rt, "a request");
+        let request = nth(rt, alloc, number, asked_in_order(number));
         settle(rt, &mut first, seat, &request);
         drop(request);
     }
@@ -203,7 +197,7 @@ fn repeat_in_reverse<J: Naming + Send + Sync, R: Threads + Wait + Abort + Sync>(
 )
     requires { opening ≡ J.opening }
 {
-    let (publisher, mut seats) = opened::<J, R>(rt, alloc, opening);
+    let (publisher, mut seats) = opened::<J, R>(rt, alloc, opening, 2);
     let mut both = seats.iter_mut();
     let one = both.next().expect(rt, "a seat");
     let two = both.next().expect(rt, "another seat");
@@ -213,7 +207,7 @@ fn repeat_in_reverse<J: Naming + Send + Sync, R: Threads + Wait + Abort + Sync>(
 
 #[test]
 fn reordered_repeats(rt: HostRuntime) {
-    repeat_in_reverse::<Brand, _>(&rt, rt.alloc(), opening(&rt));
+    repeat_in_reverse::<Brand, _>(&rt, rt.alloc(), opening(&rt, Profile::One, 2));
 }
 
 /// Ten seat calls are waited for, and whoever waits looks so often at the most.
@@ -284,7 +278,7 @@ fn call_ten<J: Naming>(
 
 /// The same of the first two seats.
 fn call_both<J: Naming, R: Abort>(rt: &R, seats: &mut Vec<Seat<J>>, watch: &Watch) -> bool {
-    let request = register(7).expect(rt, "a request");
+    let request = register(rt, 7);
     let mut both = seats.iter_mut();
     let one = both.next().expect(rt, "a seat");
     let two = both.next().expect(rt, "another seat");
@@ -296,7 +290,7 @@ fn call_both<J: Naming, R: Abort>(rt: &R, seats: &mut Vec<Seat<J>>, watch: &Watc
 /// The last port that is left offers a register, and is closed.
 fn offer_and_close<R: Wait + Abort>(rt: &R, ports: &mut Vec<Port>) {
     let mut port = ports.pop().expect(rt, "a port");
-    offer(rt, &mut port, register(7));
+    offer(rt, &mut port, register(rt, 7));
     drop(port.close(rt));
 }
 
@@ -309,7 +303,7 @@ fn call_while_held<J: Naming + Send + Sync, R: Threads + Wait + Abort + Sync>(
     requires { opening ≡ J.opening }
 {
     let watch = Watch::new();
-    let (publisher, mut seats) = opened::<J, R>(rt, alloc, opening);
+    let (publisher, mut seats) = opened::<J, R>(rt, alloc, opening, 2);
     let gate = Waiting(&watch);
     let made = serve(alloc, publisher, rt, ports(rt, 1), rising(), gate);
     let (server, mut ports) = made.expect(rt, "a server");
@@ -330,5 +324,5 @@ fn call_while_held<J: Naming + Send + Sync, R: Threads + Wait + Abort + Sync>(
 
 #[test]
 fn seats_answer_while_held(rt: HostRuntime) {
-    call_while_held::<Brand, _>(&rt, rt.alloc(), opening(&rt));
+    call_while_held::<Brand, _>(&rt, rt.alloc(), opening(&rt, Profile::One, 2));
 }

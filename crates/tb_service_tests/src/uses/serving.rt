@@ -2,28 +2,16 @@
 ghost use Rattle.std.specs.Prelude.{◌≡◌};
 
 use crate::comparing::holds;
-use crate::uses::making::{register, two_clients};
+use crate::making::{Every, opened, opening, register};
 use std::alloc::Global;
 use std::marker::Brand;
 use std::process::Abort;
 use std::sync::Wait;
-use tb_published::{Naming, Opening, Publisher, Seat, SeatCount, open};
+use tb_published::{Naming, Opening, Publisher, Seat};
 use tb_records::{Profile, Reply, Request, Status};
-use tb_service::{Moments, Open};
+use tb_service::Open;
 use tb_uses::seating::ask_two;
 use tb_uses::serving::serve_one;
-
-/// Always the same moment.
-#[derive(Drop)]
-struct Still;
-
-impl Moments for Still {
-    ghost tells = { λ before moment after. moment ≡ 10 };
-
-    fn now(&mut self) -> u64 {
-        10
-    }
-}
 
 /// Says whether a reply is of entry 1.
 fn is_first(reply: &Reply) -> bool {
@@ -49,7 +37,7 @@ fn expect_both<J: Naming>(
     let one = both.next().expect(rt, "a seat");
     let two = both.next().expect(rt, "another seat");
     let answers = ask_two(publisher, one, two, asked).expect(rt, "answers");
-    holds(rt, are_first(&answers), &"both of entry 1");
+    holds(rt, are_first(&answers), "both of entry 1");
     drop(answers);
 }
 
@@ -57,12 +45,11 @@ fn expect_both<J: Naming>(
 fn serve_register<J: Naming, R: Wait + Abort>(rt: &R, alloc: Global, opening: Opening)
     requires { opening ≡ J.opening }
 {
-    let count = SeatCount::new(2).expect(rt, "seats");
-    let made = open::<J, R>(alloc, rt, opening, count);
-    let (publisher, mut seats) = made.expect(rt, "a publisher");
-    let served = serve_one(rt, alloc, publisher, Still, Open, register(rt));
+    let (publisher, mut seats) = opened::<J, R>(rt, alloc, opening, 2);
+    let still = Every { next: 10, step: 0 };
+    let served = serve_one(rt, alloc, publisher, still, Open, register(rt, 7));
     let finished = served.expect(rt, "a server");
-    let asked = register(rt);
+    let asked = register(rt, 7);
     expect_both(rt, &finished.publisher, &mut seats, &asked);
     drop(asked);
     drop(finished.close(rt));
@@ -71,6 +58,6 @@ fn serve_register<J: Naming, R: Wait + Abort>(rt: &R, alloc: Global, opening: Op
 
 #[test]
 fn a_register_is_served_to_two(rt: HostRuntime) {
-    let opening = Opening::new(Profile::One, two_clients(&rt));
+    let opening = opening(&rt, Profile::One, 2);
     serve_register::<Brand, _>(&rt, rt.alloc(), opening);
 }
