@@ -15,8 +15,9 @@ tests      the tests of clients/sql, and its types where mypy is installed
 pages      its pages in Chromium
 postgresql the same tables in PostgreSQL
 
-Programs are crates/NAME/out/NAME, or where TBD and TBT say. Parts whose needs are not installed
-are passed over by name. --long takes a million transfers. Ends in 'N passed, 0 failed'.
+Programs are crates/NAME/out/NAME and apps/telovamish/telovamish, or what TBD and TELOVAMISH name.
+Parts whose needs are not installed are skipped by name. --long takes a million transfers. Ends in
+'N passed, 0 failed'.
 """
 import argparse
 import contextlib
@@ -59,8 +60,11 @@ ASKER, PROBER = 999_001, 999_002
 STATES = {0: "voided", 33: "posted", 34: "voided", 35: "expired"}
 
 
+BUILT = {"tbd": "crates/tbd/out/tbd", "telovamish": "apps/telovamish/telovamish"}
+
+
 def program(name):
-    return os.environ.get(name.upper(), str(ROOT / "crates" / name / "out" / name))
+    return os.environ.get(name.upper(), str(ROOT / BUILT[name]))
 
 
 def run(words, input=None, **more):
@@ -229,7 +233,7 @@ class Ledger:
 def load(path, ledger, *more):
     """Loads a ledger's file; the exit status and what was said."""
     words = [*TB_SQL, "load", path, "--ledger", ledger, "--quiet", *more]
-    words += ["--tbd", program("tbd"), "--tbt", program("tbt")]
+    words += ["--tbd", program("tbd"), "--telovamish", program("telovamish")]
     ran = subprocess.run(words, capture_output=True, text=True, timeout=PATIENCE)
     return ran.returncode, ran.stderr.strip()
 
@@ -408,7 +412,7 @@ def part_live(given, room):
     ledger = Ledger(str(room / "live.tbk"))
     run(ledger.words, b"")
     words = [*TB_SQL, "load", path, "--ledger", ledger.path, "--follow", "--quiet"]
-    words += ["--tbd", program("tbd"), "--tbt", program("tbt")]
+    words += ["--tbd", program("tbd"), "--telovamish", program("telovamish")]
     script = list(frames.pairs(failing(given.size, 1)))
     began = time.monotonic()
     load(whole, ledger.path)
@@ -507,7 +511,8 @@ def checked_by_server(ledger, path, socket):
     listen = [sys.executable, "-B", str(ROOT / "clients" / "python" / "tb_listen.py")]
     listener = subprocess.Popen([*listen, "--unix", socket, "--", *ledger.words])
     words = [*TB_SQL, "check", path, "--server", socket, "--ledger", ledger.path]
-    words += ["--tbd", program("tbd"), "--tbt", program("tbt"), "--wait", str(PATIENCE)]
+    words += ["--tbd", program("tbd"), "--telovamish", program("telovamish")]
+    words += ["--wait", str(PATIENCE)]
     plain = [it for it, row in rows(path, "accounts").items() if not row["flags"] & 0b100110]
     moved = 0
     try:
@@ -686,7 +691,8 @@ def main():
         parser.error(f"no such part: {' '.join(unknown)}; there are {', '.join(PARTS)}")
     chosen = given.parts or list(PARTS)
     if {"loads", "live", "server"} & set(chosen):
-        tried.built(program("tbd"), program("tbt"), how="build it, or set TBD and TBT")
+        how = "build it, or set TBD and TELOVAMISH"
+        tried.built(program("tbd"), program("telovamish"), how=how)
     for part in chosen:
         with tempfile.TemporaryDirectory() as room:
             PARTS[part](given, pathlib.Path(room))

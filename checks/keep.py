@@ -653,7 +653,7 @@ def names(tbd, folder):
     with open(os.path.join(folder, "dump.tbs"), "wb") as file:
         file.write(dumped(tbd, folder, "words.tbk"))
     told = told_of(tbd, folder, ["dump", "dump.tbs"])
-    case("a dump is no ledger", told == (5, b"", "tbd: NotAJournal: dump.tbs is a dump; tbs replay and tbt read it\n"), told)
+    case("a dump is no ledger", told == (5, b"", "tbd: NotAJournal: dump.tbs is a dump; tbs replay and telovamish dump read it\n"), told)
     told = told_of(tbd, folder, ["run", "words.tbk", "4", "2"])
     line = "tbd: OtherRules: words.tbk was made with CLIENTS_MAX 3 and PROFILE 1, not with CLIENTS_MAX 4 and PROFILE 2\n"
     case("other rules are reported", told == (7, b"", line), told)
@@ -702,7 +702,7 @@ def on_terminals(tbd, folder):
     master, slave = terminal()
     os.write(master, b"\x04")  # Ctrl-D
     ran = subprocess.run([tbd, "run", "typed.tbk", "3"], cwd=folder, stdin=slave, capture_output=True, timeout=SECONDS, check=False)
-    lines = b"tbd: standard input is a terminal, and run reads request frames there; tb-repl and tbt script take words\ntbd: made typed.tbk\n"
+    lines = b"tbd: standard input is a terminal, and run reads request frames there; telovamish repl and telovamish script take words\ntbd: made typed.tbk\n"
     case("requests from a terminal", (ran.returncode, ran.stdout, ran.stderr) == (0, b"", lines), ran)
     ran = subprocess.run([tbd, "run", "seen.tbk", "3"], cwd=folder, stdin=subprocess.DEVNULL, stdout=subprocess.PIPE, stderr=slave, timeout=SECONDS, check=False)
     shown = os.read(master, 4096) if select.select([master], [], [], SECONDS)[0] else b""

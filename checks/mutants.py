@@ -1,8 +1,8 @@
 #!/usr/bin/env python3
 """Mutation testing: small bugs, and which test or script catches each. A proof may refuse one too.
 
-    python3 checks/mutants.py [--list] [--texts] [--only WORD ..] [--uncaught] [--tests-only]
-                              [--last] [--write] [--jobs N] [--room FOLDER]
+    python3 checks/mutants.py [--list] [--texts] [--only WORD ..] [--tests-only] [--jobs N]
+                              [--room FOLDER]
 
 A bug is a block of a file of checks/mutants: a line `# NAME: what a user would see`, then `file:`,
 and lines `old:` followed by lines `new:` (lines of one text one behind the other; more pairs may
@@ -13,19 +13,15 @@ TB_MUTANT. The tests of all crates above a changed one are put into one crate, a
 program that a script runs are built once, by `rt try`, which proves nothing. Then the tests run
 with each bug on, and where they pass the scripts of checks/ that run a changed program.
 
-Ends in 'N passed, M failed': passed are the bugs that something catches. --write puts a row for
-each into docs/trust/mutants.csv, with the commit of the tests, and their counts into
-docs/trust/MUTANTS.md. --texts prints, in a second, which bugs can't be planted, alone or behind the
-others, have no row there or are caught by nothing. --uncaught tries those without such a row.
---last tries the script that caught a bug last before all tests, which take the longest.
+Prints what catches each, and how many a test catches and how many a script alone; ends in
+'N passed, M failed': passed are the bugs that something catches. --texts prints, in a second, which
+bugs can't be planted, alone or after the others.
 
 With --room the copy and what was built stay, and what has not changed is not built again.
 """
 import argparse
-import collections
 import concurrent.futures
 import contextlib
-import csv
 import hashlib
 import os
 import re
@@ -43,9 +39,6 @@ import tried
 
 ROOT = os.path.dirname(os.path.dirname(os.path.abspath(__file__)))
 FOLDER = f"{ROOT}/checks/mutants"
-ROWS = f"{ROOT}/docs/trust/mutants.csv"
-PAGE = f"{ROOT}/docs/trust/MUTANTS.md"
-BLOCK = re.compile(r"(<!-- mutants -->\n)(.*?)(<!-- end of mutants -->)", re.S)
 SWITCH = "TB_MUTANT"
 ALL_TESTS = "tb_mutant_tests"
 NO_TEST = "no_test_has_this_name"
@@ -59,7 +52,6 @@ BUILD_SECONDS = 3600
 SCRIPTS = {
     "storms.py": (["1"], {"tbs"}),
     "program.py": ([], {"tbs"}),
-    "text.py": ([], {"tbt", "tbs"}),
     "keep.py": (["--kills", "3", "--flips", "20", "--cuts", "20"], {"tbd", "tbs"}),
 }
 
@@ -423,7 +415,6 @@ class Catchers:
 
     def __init__(self, room, tests, programs, scripts):
         self.room, self.scripts = room, scripts
-        self.below, self.rows = crates_below(), read_rows()
         self.tests = build(room, ALL_TESTS, False) if tests else None
         self.names = self.listed() if tests else []
         self.seconds = {}
@@ -441,11 +432,10 @@ class Catchers:
         return re.findall(r"^(\S+): test$", said.stdout, re.M)
 
     def tests_of(self, mutant):
-        """The tests that a bug may show in: the one that caught it last, then the quickest."""
+        """The tests that a bug may show in, the quickest first."""
         crates = [it for it in self.below if mutant.crate in {it} | self.below[it]]
         names = [it for it in self.names if it.split("::")[0] in crates]
-        last = self.rows.get(mutant.name, "").removesuffix(NO_END)
-        return sorted(names, key=lambda it: (test_row(it) != last, self.seconds.get(it, 0)))
+        return sorted(names, key=lambda it: self.seconds.get(it, 0))
 
     def scripts_of(self, crate):
         return [
@@ -481,17 +471,10 @@ class Catchers:
                 return f"checks/{name}: {case}"
         return None
 
-    def catch(self, mutant, is_last_first):
-        """The first test, or else the first script, that fails with a bug on; or None. Where it is
-        wanted, the script that caught it last goes before all tests."""
+    def catch(self, mutant):
+        """The first test, or else the first script, that fails with a bug on; or None."""
         names = self.scripts_of(mutant.crate)
-        last = self.rows.get(mutant.name, "").partition(":")[0]
-        first = [it for it in names if is_last_first and last == f"checks/{it}"]
-        return (
-            self.script_that_fails(mutant, first)
-            or self.test_that_fails(mutant)
-            or self.script_that_fails(mutant, names)
-        )
+        return self.test_that_fails(mutant) or self.script_that_fails(mutant, names)
 
     def timed(self, name):
         """Whether a test fails with no bug on, and how long it takes."""
@@ -513,59 +496,14 @@ class Catchers:
         return wrong
 
 
-# The rows and their counts
+# The counts
 
 
-def all_rows():
-    """The row of each bug that was tried."""
-    if not os.path.isfile(ROWS):
-        return {}
-    with open(ROWS, encoding="utf-8", newline="") as file:
-        return {row["bug"]: row for row in csv.DictReader(file)}
-
-
-def read_rows():
-    """What catches each bug, as it was found last."""
-    return {bug: row["caught by"] for bug, row in all_rows().items()}
-
-
-def commit():
-    """The commit that is tried, with a + where a file differs from it."""
-    words = ["git", "-C", ROOT, "describe", "--always", "--abbrev=8", "--exclude=*", "--dirty=+"]
-    return subprocess.run(words, capture_output=True, text=True, check=True).stdout.strip()
-
-
-def counts(mutants, caught):
-    """The table of counts: how many bugs were tried, and what catches how many of them."""
-    row = collections.Counter()
-    for it in (it for it in mutants if it.name in caught):
-        by = caught[it.name]
-        row.update(["all", "script" if by.startswith("checks/") else "test" if by else "nothing"])
-    columns = ("all", "test", "script", "nothing")
-    lines = ["| Bugs | Caught by a test | By a script alone | By nothing |", "|---|---|---|---|"]
-    lines.append(f"| {' | '.join(str(row[it]) for it in columns)} |")
-    return "\n".join(lines) + "\n"
-
-
-def read_page():
-    with open(PAGE, encoding="utf-8") as file:
-        return file.read()
-
-
-def write_rows(caught, tried):
-    """Writes what catches each bug of a commit, with the old row of each not tried now."""
-    mutants, commits = all_mutants(), {it: row["commit"] for it, row in all_rows().items()}
-    commits.update(dict.fromkeys(caught, tried))
-    caught = {**read_rows(), **caught}
-    with open(ROWS, "w", encoding="utf-8", newline="") as file:
-        lines = csv.writer(file, lineterminator="\n")
-        lines.writerow(["crate", "bug", "what a user would see", "caught by", "commit"])
-        for it in (it for it in mutants if it.name in caught):
-            lines.writerow([it.crate, it.name, it.says, caught[it.name], commits[it.name]])
-    page = read_page()
-    if not BLOCK.search(page):
-        sys.exit(f"{PAGE} has no line <!-- mutants -->")
-    write(PAGE, BLOCK.sub(lambda it: it[1] + counts(mutants, caught) + it[3], page))
+def counts(caught):
+    """How many bugs a test catches, and how many a script alone."""
+    by_script = sum(1 for by in caught.values() if by.startswith("checks/"))
+    by_test = sum(1 for by in caught.values() if by) - by_script
+    return f"caught by a test: {by_test}; by a script alone: {by_script}"
 
 
 def read_words():
@@ -577,10 +515,7 @@ def read_words():
     parser.add_argument(
         "--only", nargs="+", metavar="WORD", help="bugs of these crates, or with a word in the name"
     )
-    parser.add_argument("--uncaught", action="store_true", help="bugs that no row says are caught")
-    parser.add_argument("--last", action="store_true", help="try first what caught a bug last")
     parser.add_argument("--tests-only", action="store_true", help="run tests alone, no scripts")
-    parser.add_argument("--write", action="store_true", help="write the rows and the counts")
     parser.add_argument(
         "--jobs", type=tried.count, default=os.cpu_count(), help="bugs tried at a time"
     )
@@ -589,20 +524,15 @@ def read_words():
 
 
 def try_texts(mutants):
-    """Tells each bug that can't be planted, has no row or is caught by nothing; the exit status."""
-    caught, wrong, texts = read_rows(), {}, {}
+    """Prints each bug that can't be planted; the exit status."""
+    wrong, texts = {}, {}
     for it in mutants:
         why = wrong_text(it) or wrong_behind(it, texts)
-        if why or not caught.get(it.name):
-            wrong[it.name] = why or "nothing of docs/trust/mutants.csv catches it"
-    for name in sorted(set(caught) - {it.name for it in mutants}):
-        wrong[name] = "in docs/trust/mutants.csv, and no bug of checks/mutants"
-    block = BLOCK.search(read_page())
-    if not block or block[2] != counts(mutants, caught):
-        wrong["docs/trust/MUTANTS.md"] = "its counts are others"
+        if why:
+            wrong[it.name] = why
     for name, why in wrong.items():
         print(f"{name}: {why}")
-    print(f"{len(mutants) + 1 - len(wrong)} passed, {len(wrong)} failed")
+    print(f"{len(mutants) - len(wrong)} passed, {len(wrong)} failed")
     return 1 if wrong else 0
 
 
@@ -622,7 +552,6 @@ def prepared(room, mutants, tests_only):
 
 def try_mutants(mutants, words, room):
     """Tries the chosen bugs, and prints what catches each; the exit status."""
-    tried = commit()
     catchers = prepared(room, mutants, words.tests_only)
     caught = {}
     with concurrent.futures.ThreadPoolExecutor(words.jobs) as pool:
@@ -631,12 +560,11 @@ def try_mutants(mutants, words, room):
             print("these fail with no bug on: " + ", ".join(without))
             print(f"0 passed, {len(mutants)} failed")
             return 1
-        tries = pool.map(lambda it: catchers.catch(it, words.last), mutants)
+        tries = pool.map(catchers.catch, mutants)
         for mutant, by in zip(mutants, tries):
             caught[mutant.name] = by or ""
             print(f"{mutant.crate} {mutant.name}: {by or 'NOTHING'}", flush=True)
-            if words.write and (by or not words.tests_only):
-                write_rows({mutant.name: by or ""}, tried)
+    print(counts(caught))
     left = sum(1 for by in caught.values() if not by)
     print(f"{len(caught) - left} passed, {left} failed")
     return 1 if left else 0
@@ -653,9 +581,6 @@ def main():
         mutants = [
             it for it in mutants if any(word == it.crate or word in it.name for word in words.only)
         ]
-    if words.uncaught:
-        rows = read_rows()
-        mutants = [it for it in mutants if not rows.get(it.name)]
     if not mutants:
         sys.exit("no bug is left of these")
     if words.list:

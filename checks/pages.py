@@ -5,7 +5,6 @@
   that CI proves.
 - The head of each crate's lib.rt or main.rt lists the modules of that crate, all of them and no
   other; where it lists those of a module, these too. So does the head of a module that lists any.
-- The first statements of README.md are those of examples/retry.text, which its first command reads.
 - Each name that a walk of docs/work/ARCHITECTURE.md gives as `module::function` or `Type::call` is
   there, in the crate that comes before it; so is each file that docs/work/ARCHITECTURE.md names,
   with the names in brackets behind it, or before it as `name of` it.
@@ -19,7 +18,7 @@
 - Each name that docs/work/GLOSSARY.md gives a word in the code is in the sources, the
   definitions or the Python client, and where it gives a crate with the name, there.
 
-Usage: checks/pages.py. Ends in 'N passed, 0 failed'. checks/blocks.py looks at the examples too.
+Usage: checks/pages.py. Ends in 'N passed, 0 failed'.
 """
 
 import functools
@@ -34,7 +33,7 @@ import tried
 ROOT = pathlib.Path(__file__).resolve().parent.parent
 CRATES = ROOT / "crates"
 BLOCK = re.compile(r"```rust\n(.*?)```", re.S)
-NAME = re.compile(r"`([A-Za-z_]+(?:::[A-Za-z_]+)+)`|\b(tb_\w+|avl_tree|tbs|tbd|tbt)\b")
+NAME = re.compile(r"`([A-Za-z_]+(?:::[A-Za-z_]+)+)`|\b(tb_\w+|avl_tree|tbs|tbd)\b")
 PATH = re.compile(
     r"(?<![\w/.*])((?:docs|checks|bench|clients|embed|crates|examples|tables)/[\w./-]*\w)(?![\w*/])"
 )
@@ -56,7 +55,7 @@ WRONG = (
 OPTIONS = (
     "crates/*/src/help.rt",
     "clients/python/tb_host/*.py",
-    "clients/python/tb_repl/*.py",
+    "apps/telovamish/src/telovamish/*.py",
     "clients/sql/tb_sql/commands.py",
 )
 
@@ -257,17 +256,6 @@ def counted():
         yield page, None if there else f"it does not say '{text}'"
 
 
-def first_statements():
-    """The statements that a reader of README.md meets first, and the file that they are run
-    from."""
-    shown = re.search(r"```text\n(.*?)```", (ROOT / "README.md").read_text(), re.S)
-    lines = (ROOT / "examples" / "retry.text").read_text().splitlines(keepends=True)
-    same = shown is not None and shown[1] == "".join(
-        line for line in lines if not line.startswith("#")
-    )
-    yield "README.md", None if same else "the first statements are not those of examples/retry.text"
-
-
 def believed():
     """Each definition that the reading list names, in its file."""
     page, file = ROOT / "docs/trust/BELIEVE.md", None
@@ -331,7 +319,6 @@ def glossed():
 CHECKS = (
     examples,
     heads,
-    first_statements,
     walks,
     named_files,
     paths,

@@ -23,17 +23,6 @@ SECONDS_MAX = 120 * tried.LONGER
 RUNNER = "clients/python/conformance_runner.py"
 CHECKS = {
     "pages": ["checks/pages.py"],
-    "hops": ["checks/hops.py"],
-    "words": ["checks/words.py"],
-    "figures": ["checks/figures.py"],
-    "measured": ["checks/measured.py"],
-    "pictures": ["checks/pictures.py"],
-    "blocks": ["checks/blocks.py"],
-    "shape": ["checks/shape.py", "--bounds"],
-    "limits": ["checks/limits.py"],
-    "heads": ["checks/cited.py", "--heads"],
-    "cited": ["checks/cited.py", "--bounds"],
-    "runs": ["checks/runs.py"],
     "edits": ["checks/edits.py", "--texts"],
     "mutants": ["checks/mutants.py", "--texts"],
     "builds": ["checks/keep.py", "--texts"],

@@ -1,10 +1,9 @@
 #!/usr/bin/env python3
-"""Looks for data races in the programs that have threads: the module that the kit's compiler makes
-of each is compiled a second time, with ThreadSanitizer, which knows atomics, and run. First build
-the programs:
+"""Looks for data races in the program that has threads: the module that the kit's compiler makes
+of it is compiled a second time, with ThreadSanitizer, which knows atomics, and run. First build
+the program:
 
     (cd crates/tbs && rt run -- run 2) < examples/first.script > /dev/null
-    (cd crates/tb_recorded && rt run -- 8 500 1)
     checks/races.py [TIMES]
 
 TIMES (3 by default) is how often each run is made. Each prints what the program prints as it was
@@ -24,7 +23,6 @@ import tried
 TOP = repository.ROOT
 RUNS = {
     "tbs": [["storm", "2", "3"], ["storm", "16", "1000"]],
-    "tb_recorded": [["4", "500", "2"], ["8", "500", "1"], ["16", "200", "3"]],
 }
 TARGET = ["--target=x86_64-unknown-linux-gnu", "--no-default-config"]
 

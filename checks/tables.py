@@ -41,6 +41,7 @@ PART = re.compile(BEGIN + r"(.*?)(?=^[^\n]*end of \1\b[^\n]*$)", re.M | re.S)
 PAGES = ("*.md", "docs/**/*.md", "clients/**/*.md", "crates/*/*.md", "embed/**/*.md")
 JAVA = "clients/java/src/main/java/tbclient"
 PYTHON = "clients/python/tb_client"
+COMMAND = "apps/telovamish/src/telovamish"
 
 
 def in_parts(table):
@@ -55,6 +56,7 @@ def in_parts(table):
 def whole(table, top):
     """The files that are generated whole. Those of a client that is not there are left out."""
     yield f"{PYTHON}/layout.py", python.layout(table)
+    yield f"{COMMAND}/words.json", python.words(table)
     if os.path.isdir(f"{top}/clients/go"):
         yield "clients/go/names.go", go.whole(table)
     if os.path.isdir(f"{top}/clients/java"):

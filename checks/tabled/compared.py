@@ -13,7 +13,6 @@ def comparisons(table, sources):
     yield from orders(table, sources)
     yield from layouts(table, sources)
     yield from limits(table, sources)
-    yield from words(table, sources)
     yield from clients(table, sources)
 
 
@@ -388,36 +387,6 @@ def limits(table, sources):
                 r"pub const RESERVED: u16 = (\w+);",
             ),
         )
-
-
-# Words of statements
-
-
-def words(table, sources):
-    names = {field["name"] for name in ("account", "transfer") for field in t.fields(table, name)}
-    rows = {t.camel(name): name for name in names | {"at", "client", "session", "request"}}
-    yield (
-        "layouts: field_name of statements",
-        rows,
-        lambda: r.texts(sources.specs("tb_text"), "field_name"),
-    )
-    yield (
-        "layouts: Field::name of statements",
-        rows,
-        lambda: r.arms(sources.code("tb_text"), "Field", "text"),
-    )
-    for kind, operation in (("account", "CreateAccounts"), ("transfer", "CreateTransfers")):
-        wanted = [t.camel(row["name"]) for row in table[f"{kind}_flags"]]
-        yield (
-            f"{kind}_flags: flags_of statements",
-            wanted,
-            lambda o=operation: flags_of(sources.specs("tb_text"), o),
-        )
-
-
-def flags_of(text, operation):
-    lines = r.first(rf"^flags_of {operation} =\n((?:[ \t]+[^\n]*\n)+)", text, "flags_of")[1]
-    return re.findall(r"flag\.(\w+)", lines)
 
 
 # What clients have by hand

@@ -1,4 +1,6 @@
-"""The parts of the client in Python, and of the embedded server's module."""
+"""The parts of the client in Python, of the embedded server's module, and of the command."""
+import json
+
 from . import table as t
 
 FORMATS = {"u8": "B", "u16": "H", "u32": "I", "u64": "Q"}
@@ -184,3 +186,47 @@ def embedded(table):
             [*lines, f"ABSENT, TOO_SMALL = {by_name['Absent']}, {by_name['TooSmall']}", ""]
         )
     }
+
+
+def words(table):
+    """The whole of the command's words.json: names with their numbers, and what each is."""
+    kinds, pairs = ("account", "transfer"), t.kinds(table)
+    found = {"limits": t.limits(table)}
+    found["operations"] = {name: number for number, name, _ in pairs["operation"]}
+    for kind in kinds:
+        fields = t.fields(table, kind)
+        found[f"{kind}_fields"] = {it["name"]: [it["at"], t.size_of(it)] for it in fields}
+        found[f"{kind}_flags"] = {name: bit for bit, name, _ in t.flags(table)[kind]}
+        rows = table[f"{kind}_results"]
+        found[f"{kind}_results"] = {it["name"]: it["code"] for it in rows if it["code"]}
+    found["statuses"] = [t.upper(it["name"]).lower() for it in table["statuses"]]
+    found["told"] = {it["name"]: it["says"] for it in table["told"]}
+    found["says"] = says(table)
+    return json.dumps(found, indent=1) + "\n"
+
+
+def says(table):
+    """What each name is, and what the table says of it."""
+    found = {}
+
+    def add(name, kind, text):
+        found.setdefault(name, []).append(f"{kind}{text and ': '}{text}")
+
+    for row in table["operations"]:
+        add(row["name"], "operation", row["says"])
+    for kind in ("account", "transfer"):
+        for field in t.fields(table, kind):
+            unit = f"{field['unit']}, " if "unit" in field else ""
+            add(field["name"], f"field of create_{kind}s", f"{unit}{8 * t.size_of(field)} bits")
+        for row in table[f"{kind}_flags"]:
+            add(row["name"], f"flag of create_{kind}s", row["says"])
+        for row in table[f"{kind}_results"]:
+            add(row["name"], f"result {row['code']} of create_{kind}s", row["says"])
+    for row in table["statuses"]:
+        add(t.upper(row["name"]).lower(), "status", f"the request {row['holds']}")
+    for name in ("run_faults", "dump_faults", "frame_faults"):
+        for row in table[name]:
+            add(row["name"], "fault", row["says"])
+    for row in table["told"]:
+        add(row["name"], "told by a listener", row["says"])
+    return found

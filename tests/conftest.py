@@ -1,0 +1,34 @@
+"""What the tests over built programs share: where a program is, and the client library's path."""
+
+import os
+import pathlib
+import shutil
+import sys
+
+import pytest
+
+ROOT = pathlib.Path(__file__).resolve().parent.parent
+for folder in ("checks", "clients/python"):
+    sys.path.append(str(ROOT / folder))
+
+
+def found(name):
+    """A program's path: by the variable of its name (TBS), else from PATH, else as `rt ci` leaves
+    it in this clone."""
+    chosen = os.environ.get(name.upper()) or shutil.which(name)
+    built = ROOT / "crates" / name / "out" / name
+    path = pathlib.Path(chosen) if chosen else built
+    return path if os.access(path, os.X_OK) else None
+
+
+@pytest.fixture(scope="session")
+def program():
+    """Gives a built program's path. The test fails without one: it is no skip."""
+
+    def path(name):
+        at = found(name)
+        if at is None:
+            pytest.fail(f"no program {name}: build it in crates/{name}, or set {name.upper()}")
+        return at
+
+    return path

@@ -1,0 +1,60 @@
+"""Every link of every page leads somewhere: a file of the repository, and a heading in it."""
+
+import re
+import subprocess
+from pathlib import Path
+
+import pytest
+
+from ..conftest import ROOT
+
+LINK = re.compile(r"!?\[[^\]\n]*\]\(([^)\s]+)\)")
+CODE = re.compile(r"^(```.*?^```|    .*?$)|`[^`\n]*`", re.M | re.S)
+HEADING = re.compile(r"^#+ (.+?)\s*$", re.M)
+
+
+def pages() -> list[Path]:
+    """The pages that are tracked or new, but for those of other people's making."""
+    words = ["git", "ls-files", "--cached", "--others", "--exclude-standard", "*.md"]
+    listed = subprocess.run(words, cwd=ROOT, capture_output=True, text=True, check=True)
+    return [ROOT / it for it in listed.stdout.split() if (ROOT / it).exists()]
+
+
+def anchors(page: Path) -> set[str]:
+    """The anchors of a page's headings, as the usual renderers make them."""
+    found: dict[str, int] = {}
+    names = set()
+    for heading in HEADING.findall(page.read_text()):
+        plain = re.sub(r"[`*]|\[([^\]]*)\]\([^)]*\)", r"\1", heading).lower()
+        name = re.sub(r"[^\w\- ]", "", plain).strip().replace(" ", "-")
+        names.add(name if name not in found else f"{name}-{found[name]}")
+        found[name] = found.get(name, 0) + 1
+    return names
+
+
+def broken(page: Path) -> list[str]:
+    """The links of a page that lead nowhere."""
+    wrong = []
+    for link in LINK.findall(CODE.sub("", page.read_text())):
+        path, _, anchor = link.partition("#")
+        if re.match(r"[a-z]+:", link):
+            continue
+        target = page.parent / path if path else page
+        if not target.exists():
+            wrong.append(link)
+        elif anchor and target.suffix == ".md" and anchor not in anchors(target):
+            wrong.append(link)
+    return wrong
+
+
+@pytest.mark.quick
+@pytest.mark.parametrize("page", pages(), ids=lambda it: str(it.relative_to(ROOT)))
+def test_links_of(page: Path) -> None:
+    assert broken(page) == []
+
+
+@pytest.mark.quick
+def test_a_broken_link_is_found(tmp_path: Path) -> None:
+    page = tmp_path / "page.md"
+    page.write_text("# One\n[a](page.md#one) [b](page.md#two) [c](gone.md) `[d](gone.md)`\n")
+    assert broken(page) == ["page.md#two", "gone.md"]

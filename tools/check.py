@@ -1,0 +1,144 @@
+#!/usr/bin/python3
+"""Proves everything and runs the quick tests: `make check`, which CI calls.
+
+Installs the Debian packages of tools/packages.txt that are missing (as root; another user gets
+their names and a failure), and runs `rt ci`. Over the programs that it built come the quick tests
+of tests/ and of telovamish, and the own tests of the Go, Java and Node clients. Each part prints
+what it prints. The last line is 'N passed, M failed' over all parts; a part that cannot be run
+counts as one failure.
+"""
+
+import os
+import re
+import shutil
+import subprocess
+import sys
+import time
+from collections.abc import Callable
+from dataclasses import dataclass
+from pathlib import Path
+
+ROOT = Path(__file__).resolve().parent.parent
+PYTHON = "/usr/bin/python3"
+Counts = tuple[int, int]
+
+
+@dataclass(frozen=True)
+class Part:
+    """A command of a folder, and how its output says what passed and what failed."""
+
+    name: str
+    folder: str
+    words: list[str]
+    count: Callable[[str], Counts]
+
+
+def number(pattern: str, text: str) -> int:
+    """The number of the last match, 0 without one."""
+    found = re.findall(pattern, text)
+    return int(found[-1]) if found else 0
+
+
+def closing_line(text: str) -> Counts:
+    """Of 'N passed, M failed', alone on a line or with more after it."""
+    return number(r"(\d+) passed, \d+ failed", text), number(r"\d+ passed, (\d+) failed", text)
+
+
+def pytest_counts(text: str) -> Counts:
+    last = text.strip().rpartition("\n")[2]
+    wrong = number(r"(\d+) failed", last) + number(r"(\d+) errors?", last)
+    return number(r"(\d+) passed", last), wrong
+
+
+def go_counts(text: str) -> Counts:
+    passed, failed = (re.findall(rf"^\s*--- {it}", text, re.M) for it in ("PASS", "FAIL"))
+    return len(passed), len(failed)
+
+
+def java_counts(text: str) -> Counts:
+    run = number(r"OK \((\d+) tests?\)", text) or number(r"Tests run: (\d+)", text)
+    failed = number(r"Failures: (\d+)", text)
+    return run - failed, failed
+
+
+def node_counts(text: str) -> Counts:
+    return number(r"# pass (\d+)", text), number(r"# fail (\d+)", text)
+
+
+PYTEST = [PYTHON, "-m", "pytest", "-q"]
+WORDS = [f"tests/test_{it}.py" for it in ("run", "page", "sending", "recorded_texts")]
+PARTS = [
+    Part("proofs", ".", ["rt", "ci"], closing_line),
+    Part("quick tests", ".", [*PYTEST, "-m", "quick", "tests"], pytest_counts),
+    Part("telovamish", "apps/telovamish", [*PYTEST, *WORDS], pytest_counts),
+    Part("Go", "clients/go", ["go", "test", "-v", "./..."], go_counts),
+    Part("Java", "clients/java", ["./build.sh", "test"], java_counts),
+    Part("Node", "clients/node", ["node", "--test"], node_counts),
+]
+
+
+def is_there(kind: str, name: str) -> bool:
+    """Whether a package's command, file or module is there."""
+    if kind == "command":
+        return shutil.which(name) is not None
+    if kind == "file":
+        return Path(name).exists()
+    look = [PYTHON, "-c", f"import {name}"]
+    return subprocess.run(look, capture_output=True, check=False).returncode == 0
+
+
+def missing() -> list[str]:
+    """The packages of the list that are not there."""
+    lines = (ROOT / "tools/packages.txt").read_text().splitlines()
+    rows = [it.split() for it in lines if it and not it.startswith("#")]
+    return [package for package, kind, name in rows if not is_there(kind, name)]
+
+
+def install(packages: list[str]) -> bool:
+    """Installs packages. Whether all are there afterwards."""
+    if os.geteuid() != 0:
+        print(f"not installed: {' '.join(packages)}")
+        return False
+    quietly = {**os.environ, "DEBIAN_FRONTEND": "noninteractive"}
+    subprocess.run(["apt-get", "update", "-q"], env=quietly, check=False)
+    words = ["apt-get", "install", "-y", "-q", "--no-install-recommends", *packages]
+    subprocess.run(words, env=quietly, check=False)
+    return not missing()
+
+
+def run(part: Part) -> Counts:
+    """Runs a part: its output goes out as it comes. A status other than 0 is a failure, and so is
+    a part in which nothing passed."""
+    print(f"== {part.name}", flush=True)
+    began, lines = time.monotonic(), []
+    words = dict(cwd=ROOT / part.folder, stdout=subprocess.PIPE, stderr=subprocess.STDOUT)
+    try:
+        process = subprocess.Popen(part.words, text=True, errors="replace", **words)
+    except OSError as why:
+        print(why)
+        return 0, 1
+    assert process.stdout
+    for line in process.stdout:
+        lines.append(line)
+        print(line, end="", flush=True)
+    status = process.wait()
+    passed, failed = part.count("".join(lines))
+    if (status or not passed) and not failed:
+        failed = 1
+    print(f"== {part.name}: {passed} and {failed} in {time.monotonic() - began:.0f} s", flush=True)
+    return passed, failed
+
+
+def main() -> int:
+    needed = missing()
+    if needed and not install(needed):
+        print("packages are missing\n0 passed, 1 failed")
+        return 1
+    counts = [run(part) for part in PARTS]
+    passed, failed = (sum(it) for it in zip(*counts))
+    print(f"{passed} passed, {failed} failed")
+    return 1 if failed else 0
+
+
+if __name__ == "__main__":
+    sys.exit(main())
