@@ -23,7 +23,7 @@ import measure
 import tried
 from measure import TBS, whole
 
-sys.path.append(str(measure.HERE.parent / "clients" / "python"))
+sys.path.append(str(measure.HERE.parent / "clients" / "python" / "src"))
 
 from tb_client import reply_length  # noqa: E402
 

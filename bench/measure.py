@@ -16,7 +16,7 @@ import threading
 import time
 
 HERE = pathlib.Path(__file__).resolve().parent
-sys.path.append(str(HERE.parent / "checks"))
+sys.path.append(str(HERE.parent / "tools"))
 
 import tried  # noqa: E402
 

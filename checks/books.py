@@ -1,5 +1,5 @@
 #!/usr/bin/env python3
-"""Tests clients/sql over the built programs: what its tables say is what the proved server answers.
+"""Tests apps/books over the built programs: what its tables say is what the proved server answers.
 
     checks/books.py [--size N] [--kills N] [--long] [PART ..]
 
@@ -11,7 +11,7 @@ kills      loads that are killed and run again are equal to one that was not
 live       `tb-sql load --follow` while `tbd run` adds to the file; both are killed amid that
 server     `tb-sql check --server` over a socket while money moves, and with a wrong code
 speed      events a CPU second, and the time of a statement and of the pages
-tests      the tests of clients/sql, and its types where mypy is installed
+tests      the tests of apps/books, and its types where mypy is installed
 pages      its pages in Chromium
 postgresql the same tables in PostgreSQL
 
@@ -36,12 +36,14 @@ import tempfile
 import threading
 import time
 
-import frames
-import tried
+sys.path.append(os.path.join(os.path.dirname(os.path.abspath(__file__)), "..", "tools"))
+
+import frames  # noqa: E402
+import tried  # noqa: E402
 
 ROOT = pathlib.Path(__file__).resolve().parent.parent
-SQL = ROOT / "clients" / "sql"
-sys.path[:0] = [str(ROOT / "clients" / "python"), str(SQL), str(SQL / "tests")]
+SQL = ROOT / "apps" / "books"
+sys.path[:0] = [str(ROOT / "clients/python/src"), str(SQL / "src"), str(SQL / "tests")]
 
 import tb_client  # noqa: E402
 from tb_client import Account, Operation, Transfer  # noqa: E402
@@ -508,7 +510,7 @@ def part_server(given, room):
 def checked_by_server(ledger, path, socket):
     """Runs the check against a listener while another client moves money, so that balances become
     other ones than at the lookup's entry. Its result, and how many transfers came meanwhile."""
-    listen = [sys.executable, "-B", str(ROOT / "clients" / "python" / "tb_listen.py")]
+    listen = ["/usr/bin/python3", "-B", str(ROOT / "apps" / "host" / "tb-listen")]
     listener = subprocess.Popen([*listen, "--unix", socket, "--", *ledger.words])
     words = [*TB_SQL, "check", path, "--server", socket, "--ledger", ledger.path]
     words += ["--tbd", program("tbd"), "--telovamish", program("telovamish")]
@@ -618,7 +620,7 @@ def python_with(*modules):
 
 
 def tested(name, tests, modules=(), programs=()):
-    """Runs tests of clients/sql, where what they need is installed."""
+    """Runs tests of apps/books, where what they need is installed."""
     python = python_with(*modules)
     missing = [it for it in programs if not shutil.which(it)]
     if python is None or missing:
@@ -644,7 +646,7 @@ def typed():
     if not shutil.which("mypy"):
         print("passed over: types: mypy is not installed")
         return
-    environment = {**os.environ, "MYPYPATH": str(ROOT / "clients" / "python")}
+    environment = {**os.environ, "MYPYPATH": str(ROOT / "clients/python/src")}
     words = ["mypy", "--cache-dir", "/dev/null"]
     ran = subprocess.run(words, cwd=SQL, env=environment, capture_output=True, text=True)
     tried.case("types, by mypy --strict", ran.returncode == 0, ran.stdout.strip()[-2000:])

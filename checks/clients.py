@@ -10,7 +10,7 @@ the kit, and the money), wrong (the wrong clients of each language, which the ki
 scenarios (those that are there are those that are made), types, examples (on the built tbs) and
 pages (what the page and the README show). A language that is not installed is passed over by name.
 Prints a line for each case, and 'N passed, M failed'. PROGRAM names another tbs, TBD another tbd.
-Where no tbd is built, clients/python/stand_in_tbd.py is in its place. Where mypy is not there, no
+Where no tbd is built, clients/python/tests/stand_in_tbd.py is in its place. Where mypy is not there, no
 types are checked.
 """
 import contextlib
@@ -27,14 +27,16 @@ import tempfile
 import textwrap
 import threading
 
-import frames
-import tried
-from frames import pair
-from tried import case
+sys.path.append(os.path.join(os.path.dirname(os.path.abspath(__file__)), "..", "tools"))
+
+import frames  # noqa: E402
+import tried  # noqa: E402
+from frames import pair  # noqa: E402
+from tried import case  # noqa: E402
 
 TOP = os.path.dirname(os.path.dirname(os.path.abspath(__file__)))
 CLIENT = f"{TOP}/clients/python"
-EMBED = f"{TOP}/embed/python"
+EMBED = f"{TOP}/clients/embed/python"
 PROGRAM = os.path.abspath(os.environ.get("PROGRAM", f"{TOP}/crates/tbs/out/tbs"))
 TBD = os.path.abspath(os.environ.get("TBD", f"{TOP}/crates/tbd/out/tbd"))
 SECONDS = 3600  # that one command may take, also on a busy computer
@@ -106,15 +108,14 @@ def types():
             "--strict",
             "--cache-dir",
             kept,
-            "tb_client",
-            "tb_host",
-            "tb_listen.py",
+            "src/tb_client",
+            f"{TOP}/apps/host/src/tb_host",
             "conformance_runner.py",
-            "example.py",
-            "example_sockets.py",
+            "examples/program.py",
+            "examples/sockets.py",
             f"{EMBED}/tb_embed.py",
         ]
-        status, output, told = ran(words, CLIENT, MYPYPATH=CLIENT)
+        status, output, told = ran(words, CLIENT, MYPYPATH=f"{CLIENT}/src:{TOP}/apps/host/src")
     case("types, by mypy --strict", status == 0, (output + told).strip()[-2000:])
 
 
@@ -171,7 +172,7 @@ def sockets():
     """The page's listener and its client over a Unix socket, and the README's client with the face
     of TigerBeetle's."""
     (shown,) = re.findall(r"```python\n(.*?)```", page(), re.S)
-    command = re.search(r"```sh\n(clients/python/tb_listen.py .*?)\n```", page())[1].replace(
+    command = re.search(r"```sh\n(apps/host/tb-listen .*?)\n```", page())[1].replace(
         "crates/tbd/out/tbd", KEEPER
     )
     command = shlex.split(command)
@@ -403,7 +404,7 @@ def examples():
     tests("the tests of the embedded server's module", EMBED)
     output = script("the example of the client in Python", CLIENT, "example.py", PROGRAM)
     case("what the example says", output == EXAMPLE, "" if output == EXAMPLE else output)
-    output = script("the example over sockets", CLIENT, "example_sockets.py", KEEPER)
+    output = script("the example over sockets", CLIENT, "examples/sockets.py", KEEPER)
     case("what that says", output == OVER_SOCKETS, "" if output == OVER_SOCKETS else output)
 
 

@@ -5,7 +5,7 @@ twice, and all replicas answer the same, whatever is killed, stopped or cut.
     checks/cluster.py [--only PART ..] [--faults N] [--kinds KIND ..] [--seed N] [--replica KIND]
     checks/cluster.py --show [--seconds N]
 
-Three nodes of etcd and three replicas (clients/python/tb_host) run on the loopback interface, with
+Three nodes of etcd and three replicas (apps/host/src/tb_host) run on the loopback interface, with
 links between them that can be cut. Clients move money meanwhile, and send the same bytes again
 until they have the reply. PROGRAM names the server, tb_script where nothing is given.
 
@@ -48,7 +48,7 @@ IS_OTHER = os.path.realpath(sys.executable) != os.path.realpath(PYTHON)
 if __name__ == "__main__" and IS_OTHER and os.access(PYTHON, os.X_OK):
     os.execv(PYTHON, [PYTHON, "-B", *sys.argv])  # Debian's packages are seen by its Python alone
 
-sys.path[:0] = [f"{TOP}/checks/clusters", f"{TOP}/checks"]
+sys.path[:0] = [f"{TOP}/checks/clusters", f"{TOP}/tools"]
 
 import agreement  # noqa: E402
 import kept  # noqa: E402

@@ -23,10 +23,12 @@ import sys
 import tempfile
 import threading
 
-import tried
+sys.path.append(os.path.join(os.path.dirname(os.path.abspath(__file__)), "..", "tools"))
+
+import tried  # noqa: E402
 
 ROOT = os.path.dirname(os.path.dirname(os.path.abspath(__file__)))
-sys.path.insert(0, os.path.join(ROOT, "clients", "python"))
+sys.path.insert(0, os.path.join(ROOT, "clients", "python", "src"))
 
 from tb_client import (  # noqa: E402
     HEADER,

@@ -23,7 +23,9 @@ import subprocess
 import sys
 import time
 
-import tried
+sys.path.append(os.path.join(os.path.dirname(os.path.abspath(__file__)), "..", "tools"))
+
+import tried  # noqa: E402
 
 TOP = os.path.dirname(os.path.dirname(os.path.abspath(__file__)))
 PROGRAM, READER = f"{TOP}/crates/tbs/out/tbs", f"{TOP}/crates/tb_refusals/out/tb_refusals"

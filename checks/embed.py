@@ -24,10 +24,10 @@ import tried
 from tried import case
 
 TOP = os.path.dirname(os.path.dirname(os.path.abspath(__file__)))
-EMBED = f"{TOP}/embed"
+EMBED = f"{TOP}/clients/embed"
 LIBRARY = f"{TOP}/crates/tb_embed/out/libtb_embed.a"
 PROGRAM = f"{TOP}/crates/tbs/out/tbs"
-sys.path[:0] = [f"{TOP}/checks/embed", f"{EMBED}/python", f"{TOP}/clients/python"]
+sys.path[:0] = [f"{TOP}/checks/embed", f"{TOP}/tools", f"{EMBED}/python", f"{TOP}/clients/python/src"]
 
 import names  # noqa: E402
 import refused  # noqa: E402

@@ -19,10 +19,12 @@ import tempfile
 import threading
 import time
 
-import tried
+sys.path.append(os.path.join(os.path.dirname(os.path.abspath(__file__)), "..", "tools"))
+
+import tried  # noqa: E402
 
 ROOT = os.path.dirname(os.path.dirname(os.path.abspath(__file__)))
-sys.path.insert(0, os.path.join(ROOT, "clients", "python"))
+sys.path[:0] = [f"{ROOT}/clients/python/src", f"{ROOT}/apps/host/src"]
 
 from tb_client import Account, Operation, Transfer, request_frame  # noqa: E402
 from tb_host.checksums import crc32c  # noqa: E402

@@ -26,9 +26,12 @@ import json
 import os
 import pathlib
 import re
+import sys
 
-import repository
-import tried
+sys.path.append(os.path.join(os.path.dirname(os.path.abspath(__file__)), "..", "tools"))
+
+import repository  # noqa: E402
+import tried  # noqa: E402
 
 ROOT = pathlib.Path(__file__).resolve().parent.parent
 CRATES = ROOT / "crates"
@@ -38,7 +41,7 @@ PATH = re.compile(
     r"(?<![\w/.*])((?:docs|checks|bench|clients|embed|crates|examples|tables)/[\w./-]*\w)(?![\w*/])"
 )
 # Of a folder out/, and what a page says may not be there.
-ABSENT = re.compile(r"/out(?:/|$)|^checks/mutants\.py$|^crates/NAME")
+ABSENT = re.compile(r"/out(?:/|$)|^tools/mutants\.py$|^crates/NAME")
 FILE = re.compile(r"`([\w./-]+\.(?:antt|rt|py|rs|h|md|txt))`")
 COMMAND = re.compile(r"(?:checks|bench)/\w+\.py")
 SECTION = re.compile(r'(docs/[\w/]+\.md), "?([A-Z][a-z]+(?: [a-z]+)*)(?=["),]| \|)')
@@ -54,9 +57,9 @@ WRONG = (
 # Where the options of the programs that users start are.
 OPTIONS = (
     "crates/*/src/help.rt",
-    "clients/python/tb_host/*.py",
+    "apps/host/src/tb_host/*.py",
     "apps/telovamish/src/telovamish/*.py",
-    "clients/sql/tb_sql/commands.py",
+    "apps/books/src/tb_sql/commands.py",
 )
 
 
@@ -297,7 +300,7 @@ def glossed():
     files = [
         *CRATES.glob("*/src/**/*.rt"),
         *CRATES.glob("*/specs/**/*.antt"),
-        *ROOT.glob("clients/python/tb_client/*.py"),
+        *ROOT.glob("clients/python/src/tb_client/*.py"),
     ]
     text = "\n".join(path.read_text() for path in files)
     there = set(re.findall(r"\w+", text)) | {path.name for path in CRATES.iterdir()}

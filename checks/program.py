@@ -14,11 +14,14 @@ import resource
 import select
 import signal
 import subprocess
+import sys
 import tempfile
 import time
 
-import tried
-from frames import account, dump_entry, dump_head, ids, mark, pair, reply, result, transfer
+sys.path.append(os.path.join(os.path.dirname(os.path.abspath(__file__)), "..", "tools"))
+
+import tried  # noqa: E402
+from frames import account, dump_entry, dump_head, ids, mark, pair, reply, result, transfer  # noqa: E402
 
 TOP = os.path.dirname(os.path.dirname(os.path.abspath(__file__)))
 PROGRAM = f"{TOP}/crates/tbs/out/tbs"

@@ -9,24 +9,27 @@ and so is `refusals`, the quick form of checks/refusals.py, where a program of i
 is older than its sources. Where nothing is run the status is 1.
 """
 import concurrent.futures
+import os
 import pathlib
 import shutil
 import subprocess
 import sys
 import time
 
-import repository
-import tried
+sys.path.append(os.path.join(os.path.dirname(os.path.abspath(__file__)), "..", "tools"))
+
+import repository  # noqa: E402
+import tried  # noqa: E402
 
 ROOT = pathlib.Path(__file__).resolve().parent.parent
 SECONDS_MAX = 120 * tried.LONGER
 RUNNER = "clients/python/conformance_runner.py"
 CHECKS = {
     "pages": ["checks/pages.py"],
-    "edits": ["checks/edits.py", "--texts"],
-    "mutants": ["checks/mutants.py", "--texts"],
+    "edits": ["tools/edits.py", "--texts"],
+    "mutants": ["tools/mutants.py", "--texts"],
     "builds": ["checks/keep.py", "--texts"],
-    "tables": ["checks/tables.py"],
+    "tables": ["tools/tables.py"],
     "names": ["checks/embed/names.py"],
     "wrappers": ["checks/embed/wrappers.py"],
     "scenarios": ["clients/conformance/make_scenarios.py"],

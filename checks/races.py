@@ -17,8 +17,10 @@ import subprocess
 import sys
 import tempfile
 
-import repository
-import tried
+sys.path.append(os.path.join(os.path.dirname(os.path.abspath(__file__)), "..", "tools"))
+
+import repository  # noqa: E402
+import tried  # noqa: E402
 
 TOP = repository.ROOT
 RUNS = {

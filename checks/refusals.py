@@ -20,11 +20,14 @@ import contextlib
 import os
 import struct
 import subprocess
+import sys
 import tempfile
 
-import frames
-import tried
-from frames import account, ids, transfer
+sys.path.append(os.path.join(os.path.dirname(os.path.abspath(__file__)), "..", "tools"))
+
+import frames  # noqa: E402
+import tried  # noqa: E402
+from frames import account, ids, transfer  # noqa: E402
 
 TOP = os.path.dirname(os.path.dirname(os.path.abspath(__file__)))
 PROGRAM = f"{TOP}/crates/tbs/out/tbs"

@@ -9,21 +9,24 @@ each sending a reply, a lost, late, cut or wrong one, a refusal, what a listener
 listener. All clients have to send the same bytes and to report the same (clients/conformance/kit.py
 --drawn). Then calls go to it at once, and some close what others use
 (clients/conformance/crowds.py). calls are those of ClientSync and ClientAsync in Python
-(clients/python/drawn_calls.py). wrong sees that each of these finds faults: those of clients that
+(clients/python/tests/drawn_calls.py). wrong sees that each of these finds faults: those of clients that
 are made wrong.
 
 A seed draws the same again. Where one fails the words to repeat it are printed. Prints a line for
 each part, and 'N passed, M failed'. A language that is not installed is passed over by name.
 """
+import os
 import re
 import shutil
 import subprocess
 import sys
 import tempfile
 
-import clients
-import tried
-from tried import case
+sys.path.append(os.path.join(os.path.dirname(os.path.abspath(__file__)), "..", "tools"))
+
+import clients  # noqa: E402
+import tried  # noqa: E402
+from tried import case  # noqa: E402
 
 CONFORMANCE = f"{clients.TOP}/clients/conformance"
 CALLS = f"{clients.CLIENT}/drawn_calls.py"
@@ -34,7 +37,7 @@ sys.path.insert(0, CONFORMANCE)
 
 from wrong_clients import WRONG, edited  # noqa: E402
 
-# What calls has to find, and what the kit has to: of each the edit of clients/python/tb_client.
+# What calls has to find, and what the kit has to: of each the edit of clients/python/src/tb_client.
 WRONG_CALLS = {
     "a request in doubt is answered to the next list": (
         "pools.py",

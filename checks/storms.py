@@ -9,9 +9,12 @@ TIMES (3 by default, 100 in the long form of docs/trust/TESTED.md) is how often 
 Prints a line for each storm, and 'N passed, M failed'.
 """
 import os
+import sys
 import time
 
-import tried
+sys.path.append(os.path.join(os.path.dirname(os.path.abspath(__file__)), "..", "tools"))
+
+import tried  # noqa: E402
 
 TOP = os.path.dirname(os.path.dirname(os.path.abspath(__file__)))
 PROGRAM = f"{TOP}/crates/tbs/out/tbs"

@@ -8,7 +8,7 @@ import sys
 import pytest
 
 ROOT = pathlib.Path(__file__).resolve().parent.parent
-for folder in ("checks", "clients/python"):
+for folder in ("checks", "tools", "clients/python/src"):
     sys.path.append(str(ROOT / folder))
 
 

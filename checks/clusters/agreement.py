@@ -6,9 +6,9 @@ import subprocess
 import sys
 import time
 
-from processes import CLIENT, PROGRAM
+from processes import CLIENT, HOST, PROGRAM
 
-sys.path.insert(0, CLIENT)
+sys.path[:0] = [CLIENT, f"{HOST}/src"]
 
 from tb_host.entries import Entry  # noqa: E402
 from tb_host.local_copy import records_of  # noqa: E402

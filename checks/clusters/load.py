@@ -12,7 +12,7 @@ import struct
 import sys
 import time
 
-sys.path.insert(0, f"{os.path.dirname(os.path.abspath(__file__))}/../../clients/python")
+sys.path.insert(0, f"{os.path.dirname(os.path.abspath(__file__))}/../../clients/python/src")
 
 from tb_client import Account, Operation, Transfer  # noqa: E402
 from tb_client.frames import request_frame  # noqa: E402

@@ -11,7 +11,9 @@ import time
 
 HERE = os.path.dirname(os.path.abspath(__file__))
 TOP = os.path.dirname(os.path.dirname(HERE))
-CLIENT = f"{TOP}/clients/python"
+CLIENT = f"{TOP}/clients/python/src"
+HOST = f"{TOP}/apps/host"
+ENVIRONMENT = {**os.environ, "PYTHONPATH": f"{HOST}/src:{CLIENT}"}
 PYTHON = "/usr/bin/python3"  # Debian's, which sees its packages
 PROGRAM = os.path.abspath(os.environ.get("PROGRAM", f"{TOP}/crates/tb_script/out/tb_script"))
 # The server with its replies kept in a file: those of its last start. A status above 128 is that
@@ -52,7 +54,7 @@ class Process:
         with open(self.log, "ab") as log:
             self.since = log.tell()
             self.process = subprocess.Popen(
-                self.words, stdin=subprocess.DEVNULL, stdout=log, stderr=log, cwd=CLIENT
+                self.words, stdin=subprocess.DEVNULL, stdout=log, stderr=log, env=ENVIRONMENT
             )
 
     def runs(self):
@@ -142,7 +144,7 @@ class Machines:
         self.folder, self.count, self.clients_max = folder, count, clients_max
         self.keeps_replies = keeps_replies
         self.tcp = free_ports(count)
-        words = replica or ["-m", "tb_host.machines"]
+        words = replica or [f"{HOST}/tb-replica"]
         self.replicas = [
             Process(f"replica{it}", self.replica_words(it, words), folder) for it in range(count)
         ]
@@ -184,8 +186,7 @@ class Machines:
     def part(self, *words, seconds=60):
         """Runs a part of tb-replica, as status. Answers its status, and what it printed."""
         ran = subprocess.run(
-            [PYTHON, "-B", "-m", "tb_host.machines", *words],
-            cwd=CLIENT,
+            [PYTHON, "-B", f"{HOST}/tb-replica", *words],
             capture_output=True,
             text=True,
             timeout=seconds,

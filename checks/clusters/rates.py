@@ -7,24 +7,24 @@ import sys
 import tempfile
 import time
 
-from processes import CLIENT, HERE, PYTHON, TOP, Process, free_ports, slowed, until
+from processes import HERE, HOST, PYTHON, TOP, Process, free_ports, slowed, until
 
 TBD = os.path.abspath(os.environ.get("TBD", f"{TOP}/crates/tbd/out/tbd"))
 LOADS = (("24 clients with single transfers", 24, 1), ("1 client with batches of 8190", 1, 8190))
 
 
-# The clients/python of another commit, whose listener takes its turns too: for instance that with
+# The apps/host of another commit, whose listener takes its turns too: for instance that with
 # which a bound was set.
 EARLIER = os.environ.get("EARLIER")
 
 
 @contextlib.contextmanager
-def listener(at=CLIENT, sync=0.0):
+def listener(at=HOST, sync=0.0):
     """The port of a listener over tbd, by the Python of a folder. Each sync of tbd's takes so many
     seconds more."""
     with tempfile.TemporaryDirectory(prefix="listener-") as folder:
         (port,) = free_ports(1)
-        words = [PYTHON, "-B", f"{at}/tb_listen.py", "--tcp", f"127.0.0.1:{port}", "--"]
+        words = [PYTHON, "-B", f"{at}/tb-listen", "--tcp", f"127.0.0.1:{port}", "--"]
         words = slowed([*words, TBD, "run", f"{folder}/ledger.tbk", "64"], sync)
         it = Process("listener", words, folder)
         it.start()
@@ -45,7 +45,7 @@ def rate(port, clients, batch, seconds):
 
 def compared(cluster, seconds, turns):
     """Prints the rates of a replica and of each listener, taken in turns, and their ratios."""
-    kinds = {"the listener over tbd": CLIENT, **({"the earlier one": EARLIER} if EARLIER else {})}
+    kinds = {"the listener over tbd": HOST, **({"the earlier one": EARLIER} if EARLIER else {})}
     for name, clients, batch in LOADS:
         with contextlib.ExitStack() as stack:
             ports = {
@@ -74,4 +74,4 @@ def restart(cluster, at):
     return time.monotonic() - began
 
 
-__all__ = ["CLIENT", "compared", "restart"]
+__all__ = ["HOST", "compared", "restart"]

@@ -5,7 +5,7 @@
  *     time      no trouble: prints how many requests a second were served, the least of five runs
  *
  * Linked with -Wl,--wrap=malloc,--wrap=realloc. */
-#include "../../embed/tb_embed.h"
+#include "../../clients/embed/tb_embed.h"
 
 #include <stdio.h>
 #include <stdlib.h>

@@ -8,7 +8,7 @@
  *               the items of each; the bytes are in memory of just that length, so that AddressSanitizer tells a read behind it
  *
  * checks/embed.py compares what it prints with frames.rs and with tb_client. It is C11 and C++17. */
-#include "../../embed/tb_embed.h"
+#include "../../clients/embed/tb_embed.h"
 
 #include <stdio.h>
 #include <stdlib.h>

@@ -3,7 +3,7 @@
 use std::io::{self, Read, Write};
 
 #[allow(dead_code)]
-#[path = "../../embed/rust/tb_embed.rs"]
+#[path = "../../clients/embed/rust/tb_embed.rs"]
 mod tb_embed;
 
 use tb_embed::*;

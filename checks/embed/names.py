@@ -1,6 +1,6 @@
 #!/usr/bin/env python3
 """Compares the numbers, names and layouts of the definitions in specs/ with those of
-embed/tb_embed.h, embed/rust/tb_embed.rs, the client in Python and docs/use/FORMATS.md: each has
+clients/embed/tb_embed.h, clients/embed/rust/tb_embed.rs, the client in Python and docs/use/FORMATS.md: each has
 just what the definitions have. Needs no library.
 
     checks/embed/names.py
@@ -15,7 +15,7 @@ import sys
 
 TOP = os.path.dirname(os.path.dirname(os.path.dirname(os.path.abspath(__file__))))
 sys.dont_write_bytecode = True
-sys.path[:0] = [f"{TOP}/checks", f"{TOP}/embed/python", f"{TOP}/clients/python"]
+sys.path[:0] = [f"{TOP}/checks", f"{TOP}/tools", f"{TOP}/clients/embed/python", f"{TOP}/clients/python/src"]
 
 import tried  # noqa: E402
 
@@ -256,7 +256,7 @@ def same(what, wanted, got):
 
 def comparisons():
     """Each comparison: what is compared, whether it holds, and why not."""
-    header, rust = read("embed/tb_embed.h"), read("embed/rust/tb_embed.rs")
+    header, rust = read("clients/embed/tb_embed.h"), read("clients/embed/rust/tb_embed.rs")
     yield from in_c(header)
     yield from in_rust(rust)
     yield from in_python()

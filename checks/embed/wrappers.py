@@ -1,5 +1,5 @@
 #!/usr/bin/env python3
-"""Tests what embed/tb_embed.h and embed/rust/tb_embed.rs make and read of frames, without the
+"""Tests what clients/embed/tb_embed.h and clients/embed/rust/tb_embed.rs make and read of frames, without the
 library: frames.c, as C and as C++, and frames.rs write the requests that the client in Python
 writes, refuse what a frame may not hold, and read requests and replies as the tests of
 docs/use/FORMATS.md say: right ones, each cut at each byte, each with changed bytes, and too long
@@ -22,7 +22,7 @@ import tempfile
 HERE = os.path.dirname(os.path.abspath(__file__))
 TOP = os.path.dirname(os.path.dirname(HERE))
 sys.dont_write_bytecode = True
-sys.path[:0] = [f"{TOP}/checks", f"{TOP}/clients/python"]
+sys.path[:0] = [f"{TOP}/checks", f"{TOP}/tools", f"{TOP}/clients/python/src"]
 
 import frames  # noqa: E402
 import tried  # noqa: E402

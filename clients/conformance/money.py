@@ -30,7 +30,7 @@ from runner import Ended, Runner  # noqa: E402
 
 PYTHON = f"{TOP}/clients/python"
 TBD = f"{TOP}/crates/tbd/out/tbd"
-STAND_IN = f"{sys.executable} -SE {PYTHON}/stand_in_tbd.py"
+STAND_IN = f"{sys.executable} -SE {PYTHON}/tests/stand_in_tbd.py"
 CALL = 60.0  # seconds that a call may take, with a server that is started again meanwhile
 KINDS = ("client", "server", "listener")
 
@@ -50,7 +50,7 @@ class Listening:
         listener = [
             sys.executable,
             "-B",
-            f"{PYTHON}/tb_listen.py",
+            f"{TOP}/apps/host/tb-listen",
             "--ahead",
             "60",
             "--unix",

@@ -21,7 +21,7 @@ from made import sequences  # noqa: E402
 from server import Connections, readable  # noqa: E402
 
 RUNNER = ["--", sys.executable, "-B", "clients/python/conformance_runner.py"]
-STAND_IN = "clients/python/stand_in_tbd.py"
+STAND_IN = "clients/python/tests/stand_in_tbd.py"
 JUNIT = "/usr/share/java/junit4.jar"
 
 

@@ -3,7 +3,7 @@
 
     clients/conformance/wrong_clients.py [--only PATTERN] [--from N] [--list] [--jobs N] [--texts]
 
-Each wrong client is an edit of clients/python/tb_client in a copy of its own. The kit has to fail
+Each wrong client is an edit of clients/python/src/tb_client in a copy of its own. The kit has to fail
 for it; the client as it is has to pass. Prints which scenario caught it, and 'N of M wrong clients
 are caught'. Status 1 where one is not.
 """
@@ -250,7 +250,7 @@ WRONG = {
 def edited(folder, edits):
     """A copy of the client with texts in place of others."""
     shutil.copytree(
-        f"{PYTHON}/tb_client", f"{folder}/tb_client", ignore=shutil.ignore_patterns("__pycache__")
+        f"{PYTHON}/src/tb_client", f"{folder}/src/tb_client", ignore=shutil.ignore_patterns("__pycache__")
     )
     shutil.copy(f"{PYTHON}/conformance_runner.py", folder)
     for at in range(0, len(edits), 3):

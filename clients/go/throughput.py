@@ -20,11 +20,12 @@ import time
 
 HERE = os.path.dirname(os.path.abspath(__file__))
 PYTHON = os.path.join(os.path.dirname(HERE), "python")
-STAND_IN = f"{sys.executable} -SE {PYTHON}/stand_in_tbd.py"
+LISTENER = os.path.join(HERE, "..", "..", "apps", "host", "tb-listen")
+STAND_IN = f"{sys.executable} -SE {PYTHON}/tests/stand_in_tbd.py"
 FOLDER = "$FOLDER"  # in a server's words: that of one measuring
 SHAPES = ((1, 1), (24, 1), (1, 8190))  # connections, transfers in a request
 sys.dont_write_bytecode = True
-sys.path.insert(0, PYTHON)
+sys.path.insert(0, f"{PYTHON}/src")
 
 import tb_client as tb  # noqa: E402
 
@@ -78,7 +79,7 @@ def in_go(path, connections, items, seconds):
 
 
 def servers(server):
-    listener = [sys.executable, "-B", f"{PYTHON}/tb_listen.py", "--ahead", "60"]
+    listener = [sys.executable, "-B", LISTENER, "--ahead", "60"]
     listener += ["--unix", f"{FOLDER}/ledger.sock", "--", *shlex.split(server)]
     listener += ["run", f"{FOLDER}/ledger.journal", "64"]
     return {

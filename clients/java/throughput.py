@@ -13,7 +13,8 @@ import threading
 import time
 
 HERE = os.path.dirname(os.path.abspath(__file__))
-PYTHON = os.path.join(os.path.dirname(HERE), "python")
+PYTHON = os.path.join(os.path.dirname(HERE), "python", "src")
+LISTENER = os.path.join(HERE, "..", "..", "apps", "host", "tb-listen")
 TBD = os.path.join(HERE, "..", "..", "crates", "tbd", "out", "tbd")
 ROWS = ((1, 1000, 1), (24, 100, 1), (1, 10, 8190))  # connections, requests of each, transfers
 
@@ -56,7 +57,7 @@ def measured(server, measure, row):
     """What a client makes over a listener and a ledger of its own."""
     with tempfile.TemporaryDirectory() as folder:
         path = f"{folder}/ledger.sock"
-        words = [sys.executable, "-B", f"{PYTHON}/tb_listen.py", "--unix", path, "--", *server]
+        words = [sys.executable, "-B", LISTENER, "--unix", path, "--", *server]
         words += ["run", f"{folder}/ledger.journal", "32"]
         listener = subprocess.Popen(words, stderr=subprocess.PIPE, text=True)
         try:

@@ -20,7 +20,8 @@ const { performance } = require("node:perf_hooks");
 const tb = require("./index.js");
 const { HEADER_SIZE, LAYOUTS } = require("./names.js");
 
-const PYTHON = path.join(__dirname, "..", "python");
+const PYTHON = path.join(__dirname, "..", "python", "src");
+const LISTENER = path.join(__dirname, "..", "..", "apps", "host", "tb-listen");
 const SINGLES = 4800; // requests of one transfer each
 const CONNECTIONS = 24;
 const BATCHES = 10;
@@ -137,7 +138,7 @@ function answer(place) {
 
 async function listening(folder, place) {
   const server = process.argv.slice(2);
-  const listener = ["-B", path.join(PYTHON, "tb_listen.py"), "--unix", place, "--", ...server];
+  const listener = ["-B", LISTENER, "--unix", place, "--", ...server];
   const words = server.length
     ? ["python3", ...listener, "run", path.join(folder, "ledger.journal"), "64"]
     : [process.execPath, __filename, ANSWER, place];

@@ -7,15 +7,18 @@ from __future__ import annotations
 
 import functools
 import json
+import os
 import platform
 import ssl
 import sys
 import threading
 from typing import Any, Callable, Dict, Iterator, List, Optional
 
-import tb_client as tb
-from tb_client.frames import header_of
-from tb_client.ids import MILLISECOND, Ids
+sys.path.insert(0, os.path.join(os.path.dirname(os.path.abspath(__file__)), "src"))
+
+import tb_client as tb  # noqa: E402
+from tb_client.frames import header_of  # noqa: E402
+from tb_client.ids import MILLISECOND, Ids  # noqa: E402
 
 FEATURES = ["unix", "tcp", "addresses", "tls", "parallel"]
 OPTIONS = ("attempts", "pause")

@@ -21,7 +21,7 @@ from typing import Dict, Iterator, List, Tuple
 
 HERE = os.path.dirname(os.path.abspath(__file__))
 sys.dont_write_bytecode = True
-sys.path.insert(0, HERE)
+sys.path.insert(0, f"{HERE}/src")
 
 import tb_client as tb  # noqa: E402
 
@@ -96,9 +96,9 @@ def main() -> int:
         description=__doc__, formatter_class=argparse.RawDescriptionHelpFormatter
     )
     parser.add_argument("--seconds", metavar="N", type=int, default=5, help="for each row (5)")
-    stand_in = f"{sys.executable} -SE {HERE}/stand_in_tbd.py"
+    stand_in = f"{sys.executable} -SE {HERE}/tests/stand_in_tbd.py"
     parser.add_argument("--server", metavar="COMMAND", default=stand_in, help="tbd, for example")
-    listener = f"{sys.executable} -B {HERE}/tb_listen.py"
+    listener = f"{sys.executable} -B {HERE}/../../apps/host/tb-listen"
     parser.add_argument("--listener", metavar="COMMAND", default=listener, help="of another clone")
     given = parser.parse_args()
     heads = ("connections", "transfers a request", "requests a second")

@@ -9,8 +9,8 @@ from typing import Iterator
 
 from conftest import APP
 
-CLIENTS = APP.parent.parent / "clients"
-sys.path.append(str(CLIENTS / "conformance"))
+LISTENER = APP.parent / "host" / "tb-listen"
+sys.path.append(str(APP.parent.parent / "clients" / "conformance"))
 
 import certificates  # noqa: E402
 
@@ -18,7 +18,7 @@ import certificates  # noqa: E402
 @contextlib.contextmanager
 def listening(tbd: str, folder, *options: str) -> Iterator[str]:
     """A listener on a port of this machine: the port's number."""
-    words = [str(CLIENTS / "python" / "tb_listen.py"), "--tcp", "127.0.0.1:0", *options]
+    words = [str(LISTENER), "--tcp", "127.0.0.1:0", *options]
     words += ["--", tbd, "run", str(folder / "ledger.tbk"), "4"]
     command = ["/usr/bin/python3", "-B", *words]
     with subprocess.Popen(command, stderr=subprocess.PIPE, text=True) as it:

@@ -14,7 +14,8 @@ const { after, before, test } = require("node:test");
 const tb = require("../index.js");
 
 const TOP = path.dirname(__dirname);
-const PYTHON = path.join(TOP, "..", "python");
+const STAND_IN = path.join(TOP, "..", "python", "tests", "stand_in_tbd.py");
+const LISTENER = path.join(TOP, "..", "..", "apps", "host", "tb-listen");
 
 const folder = mkdtempSync(path.join(tmpdir(), "tb-client-"));
 after(() => rmSync(folder, { recursive: true }));
@@ -60,8 +61,8 @@ test("the types, by tsc", { skip: isThere("tsc") ? false : "tsc is not there" },
 
 /** A listener with a server behind it, that keeps its ledger in a file. */
 async function listener() {
-  const server = ["python3", "-SE", path.join(PYTHON, "stand_in_tbd.py")];
-  const words = ["-B", path.join(PYTHON, "tb_listen.py"), "--unix", "real.sock", "--", ...server];
+  const server = ["python3", "-SE", STAND_IN];
+  const words = ["-B", LISTENER, "--unix", "real.sock", "--", ...server];
   const it = spawn("python3", [...words, "run", "ledger.journal", "64"], { cwd: folder });
   await new Promise((resolve, reject) => {
     it.stderr.on("data", (said) => String(said).includes("listens on") && resolve());

@@ -6,7 +6,7 @@ import json
 import pathlib
 from typing import Any
 
-# which checks/tables.py generates from tables/ledger.json
+# which tools/tables.py generates from tables/ledger.json
 TABLE: dict[str, Any] = json.loads(
     pathlib.Path(__file__).with_name("words.json").read_text(encoding="utf-8")
 )

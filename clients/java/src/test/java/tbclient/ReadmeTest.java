@@ -22,7 +22,7 @@ import org.junit.rules.TemporaryFolder;
 
 /** The program of README.md, as it stands there, over a listener and its server. */
 public class ReadmeTest {
-    private static final Path PYTHON = Path.of("../python").toAbsolutePath().normalize();
+    private static final Path TOP = Path.of("../..").toAbsolutePath().normalize();
     private static final Pattern BLOCK = Pattern.compile("```java\n(.*?)```", Pattern.DOTALL);
     private static final int[] KILLS = {150, 350, 250}; // ms after the file is there
 
@@ -58,13 +58,13 @@ public class ReadmeTest {
                 List.of(
                         "python3",
                         "-B",
-                        PYTHON + "/tb_listen.py",
+                        TOP + "/apps/host/tb-listen",
                         "--unix",
                         "ledger.sock",
                         "--",
                         "python3",
                         "-B",
-                        PYTHON + "/stand_in_tbd.py",
+                        TOP + "/clients/python/tests/stand_in_tbd.py",
                         "run",
                         "ledger.journal",
                         "8");

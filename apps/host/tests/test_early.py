@@ -1,0 +1,102 @@
+"""A signal that comes while a program is loaded: it ends at once, without a traceback, and with the
+status that it has for that signal later.
+
+    python3 -m pytest tests/test_early.py
+"""
+import os
+import re
+import signal
+import subprocess
+import sys
+import tempfile
+import unittest
+
+from paths import HOST, LISTENER, PYTHONPATH
+
+# Sends this process a signal when a module is looked for.
+SENDS = """
+import os, runpy, signal, sys
+signal.signal(signal.SIGINT, signal.default_int_handler)  # a shell's background has it ignored
+class Sends:
+    def find_spec(name, path=None, target=None):
+        if name == {name!r}:
+            os.kill(os.getpid(), {number})
+sys.meta_path.insert(0, Sends)
+sys.argv[1:] = {words}
+"""
+FIRST, LATE = "argparse", "uvloop"
+AS_MODULE = "runpy.run_module({!r}, run_name='__main__', alter_sys=True)"
+LISTENS = ["--unix", "it.sock", "--", "true", "run", "1"]
+REPLICATES = ["--log", "etcd://127.0.0.1:1/bank", "--copy", "copy", "--", "true", "run", "1"]
+
+
+def scripts():
+    """The code of each command that an installed package has, by its name."""
+    with open(os.path.join(HOST, "pyproject.toml"), encoding="utf-8") as file:
+        part = file.read().partition("[project.scripts]\n")[2].partition("\n\n")[0]
+    found = re.findall(r'^([\w-]+) = "([\w.]+):(\w+)"$', part, re.M)
+    return {name: f"from {module} import {it}; sys.exit({it}())" for name, module, it in found}
+
+
+class Loading(unittest.TestCase):
+    def ends(self, code, words, name, number):
+        """How a program ends that gets a signal amid its imports; it leaves nothing."""
+        script = SENDS.format(name=name, number=int(number), words=words) + code
+        kept = {it: value for it, value in os.environ.items() if it != "TB_LOOP"}
+        with tempfile.TemporaryDirectory() as folder:
+            ran = subprocess.run(
+                [sys.executable, "-c", script],
+                capture_output=True,
+                text=True,
+                cwd=folder,
+                env={**kept, "PYTHONPATH": PYTHONPATH, "PYTHONDONTWRITEBYTECODE": "1"},
+            )
+            left = os.listdir(folder)
+        return ran.returncode, ran.stderr, left
+
+    def test_hosts(self):
+        """SIGINT and SIGTERM end them as later; SIGHUP does nothing."""
+        commands = scripts()
+        listener = f"runpy.run_path({LISTENER!r}, run_name='__main__')"
+        for code, words in (
+            (commands["tb-listen"], LISTENS),
+            (listener, LISTENS),
+            (AS_MODULE.format("tb_host.listen"), LISTENS),
+            (commands["tb-replica"], REPLICATES),
+            (AS_MODULE.format("tb_host.machines"), ["run", *REPLICATES]),
+        ):
+            for number, name in ((signal.SIGINT, FIRST), (signal.SIGTERM, LATE)):
+                with self.subTest(code, number=number):
+                    self.assertEqual(self.ends(code, words, name, number), (0, "", []))
+        status, said, _ = self.ends(commands["tb-listen"], ["--nothing"], FIRST, signal.SIGHUP)
+        self.assertEqual((status, said.count("error: ")), (2, 1))
+
+    def test_parts_that_serve_nothing(self):
+        """SIGINT is told by the status of an interrupted program. SIGTERM is the system's."""
+        commands = scripts()
+        status = ["status", "--log", "etcd://127.0.0.1:1/bank"]
+        for code, words in (
+            (commands["tb-replica"], status),
+            (AS_MODULE.format("tb_host.machines"), status),
+        ):
+            with self.subTest(code):
+                found = self.ends(code, words, FIRST, signal.SIGINT)
+                self.assertEqual(found, (130, "", []))
+        found = self.ends(commands["tb-replica"], status, FIRST, signal.SIGTERM)
+        self.assertEqual(found, (-signal.SIGTERM, "", []))
+
+    def test_a_second_signal(self):
+        """One that comes when a host has ended changes nothing about its status."""
+        code = """
+from tb_host import early, listen
+listen.main = lambda: 8
+status = early.listen()
+for number in (signal.SIGTERM, signal.SIGINT, signal.SIGHUP):
+    os.kill(os.getpid(), number)
+sys.exit(status)
+"""
+        self.assertEqual(self.ends(code, [], "", signal.SIGTERM), (8, "", []))
+
+
+if __name__ == "__main__":
+    unittest.main()

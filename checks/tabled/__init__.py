@@ -1,1 +1,0 @@
-"""What checks/tables.py is made of: the table, its renderings, and what the Rattle sources say."""

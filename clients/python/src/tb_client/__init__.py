@@ -1,0 +1,134 @@
+"""A client of the ledger server, in the standard library alone.
+
+A `Session` is a client that is registered: it numbers its requests, sends one at a time, and sends
+the same bytes again until it has the reply. It works over any transport, an object with a call
+`exchange(moment, frame)` that gives back the frame of the reply or raises `ReplyLost`:
+
+    Program    `tbs run` as a process, over two pipes
+    Socket     a server that listens, as tb_listen.py does
+    Direct     a function that serves one frame, as that of clients/embed/python/tb_embed.py
+    Faulty     another transport, of which it loses the requests and replies that it is told to lose
+
+`ClientSync` and `ClientAsync` have the face of TigerBeetle's own client, over a pool of sessions.
+
+docs/use/CLIENTS.md says how to use it, docs/use/FORMATS.md has the frames, docs/use/RULES.md the
+result codes.
+"""
+import logging
+
+from .clients import ClientAsync, ClientSync
+from .errors import (
+    REFUSALS,
+    BadReply,
+    Busy,
+    CannotConnect,
+    CannotStart,
+    ClientError,
+    ClockJumped,
+    Closed,
+    Collision,
+    EventsFailed,
+    Evicted,
+    InDoubt,
+    Invalid,
+    InvalidType,
+    InvalidValue,
+    NewerRequest,
+    NewerSession,
+    NoMemory,
+    NoSession,
+    NothingInDoubt,
+    NotSent,
+    NotYet,
+    Older,
+    ProgramEnded,
+    Refused,
+    ReplyLost,
+    ScriptFull,
+    SessionTooLow,
+)
+from .frames import Reply, Request, reply_length, request_fault, request_frame
+from .ids import id
+from .layout import AMOUNT_MAX as amount_max  # as the amount of a post: all of the pending amount
+from .layout import HEADER, ITEMS_MAX, NUMBER_MAX
+from .names import (
+    AccountFlags,
+    CreateAccountResult,
+    CreateTransferResult,
+    Operation,
+    Status,
+    TransferFlags,
+)
+from .program import Program
+from .records import Account, CreateAccountsResult, CreateTransfersResult, EventResult, Transfer
+from .sessions import Saved, Session, require_ok
+from .sockets import Socket
+from .transports import Direct, Faulty, Transport
+
+__version__ = "0.1.0"
+MAX = amount_max
+
+logging.getLogger("tb_client").addHandler(logging.NullHandler())
+
+__all__ = [
+    "Account",
+    "AccountFlags",
+    "BadReply",
+    "Busy",
+    "CannotConnect",
+    "CannotStart",
+    "ClientAsync",
+    "ClientError",
+    "ClientSync",
+    "ClockJumped",
+    "Closed",
+    "Collision",
+    "CreateAccountResult",
+    "CreateAccountsResult",
+    "CreateTransferResult",
+    "CreateTransfersResult",
+    "Direct",
+    "EventResult",
+    "EventsFailed",
+    "Evicted",
+    "Faulty",
+    "HEADER",
+    "ITEMS_MAX",
+    "InDoubt",
+    "Invalid",
+    "InvalidType",
+    "InvalidValue",
+    "MAX",
+    "NUMBER_MAX",
+    "NewerRequest",
+    "NewerSession",
+    "NoMemory",
+    "NoSession",
+    "NotSent",
+    "NotYet",
+    "NothingInDoubt",
+    "Older",
+    "Operation",
+    "Program",
+    "ProgramEnded",
+    "REFUSALS",
+    "Refused",
+    "Reply",
+    "ReplyLost",
+    "Request",
+    "Saved",
+    "ScriptFull",
+    "Session",
+    "SessionTooLow",
+    "Socket",
+    "Status",
+    "Transfer",
+    "TransferFlags",
+    "Transport",
+    "amount_max",
+    "id",
+    "reply_length",
+    "request_fault",
+    "request_frame",
+    "require_ok",
+]

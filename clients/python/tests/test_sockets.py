@@ -1,0 +1,368 @@
+"""Sockets to several addresses, what a server tells, replies of other requests, and TLS's
+arguments."""
+import contextlib
+import os
+import shutil
+import socket
+import ssl
+import struct
+import sys
+import tempfile
+import threading
+import time
+import unittest
+from unittest import mock
+
+import tb_client as tb
+from paths import CONFORMANCE
+from tb_client import Socket
+from tb_client.ids import Ids
+from test_tb_client import faults_at_close
+
+sys.path.append(CONFORMANCE)
+import certificates  # noqa: E402
+
+
+def register(client):
+    return client.to_bytes(16, "little") + struct.pack("<QIB3xI12x", 0, 0, 2, 0)
+
+
+def registered(client, session=1):
+    return tb.Reply(client, session, 0, 2, 0, session, b"").to_bytes()
+
+
+class Server:
+    """Listens at a path, and gives each connection the next of some answers: bytes after a request,
+    or None to close at once."""
+
+    def __init__(self, path, *answers):
+        self.path, self.answers, self.requests, self.left = path, answers, [], []
+        self.socket = socket.socket(socket.AF_UNIX)
+        self.socket.bind(path)
+        self.socket.listen()
+        self.thread = threading.Thread(target=self.serve)
+        self.thread.start()
+
+    def serve(self):
+        for answer in self.answers:
+            it, _ = self.socket.accept()
+            with it:
+                it.settimeout(10)
+                self.requests.append(it.recv(48, socket.MSG_WAITALL))
+                if answer is not None:
+                    it.sendall(answer)
+                    if not answer.startswith(b"tb_listen"):
+                        self.left.append(it.recv(1))  # nothing, once the client has closed it
+
+    def end(self):
+        self.thread.join()
+        self.socket.close()
+
+
+class Addresses(unittest.TestCase):
+    def setUp(self):
+        self.folder = tempfile.TemporaryDirectory()
+        self.addCleanup(self.folder.cleanup)
+
+    def path(self, name):
+        return os.path.join(self.folder.name, name)
+
+    def test_the_next_one_where_none_listens(self):
+        server = Server(self.path("b"), registered(7))
+        with Socket([self.path("a"), self.path("b")]) as it:
+            self.assertEqual(it.exchange(0, register(7)), registered(7))
+            self.assertEqual(it.address, self.path("b"))
+        server.end()
+
+    def test_the_next_one_where_it_is_lost(self):
+        first, second = Server(self.path("a"), None), Server(self.path("b"), registered(7))
+        with tb.Session.register(
+            Socket([self.path("a"), self.path("b")]), 7, attempts=2
+        ) as session:
+            self.assertEqual(session.session, 1)
+        first.end()
+        second.end()
+        self.assertEqual(first.requests, second.requests)
+
+    def test_none_listens(self):
+        began = time.monotonic()
+        with Socket([self.path(it) for it in "abc"], timeout=0.3) as it, self.assertRaises(
+            tb.CannotConnect
+        ):
+            it.exchange(0, register(7))
+        self.assertGreaterEqual(time.monotonic() - began, 0.3, "it calls for all of its time")
+
+    def test_the_address_is_named_whose_fault_is_told(self):
+        folder = self.path("folder")
+        os.mkdir(folder)
+        for places, wanted in (
+            ([folder, self.path("none")], f"{self.path('none')}: No such file"),
+            ([self.path("none"), folder], f"{folder}: Connection refused"),
+        ):
+            with Socket(places, timeout=0.1) as it, self.assertRaises(tb.CannotConnect) as found:
+                it.exchange(0, register(7))
+            self.assertTrue(str(found.exception).startswith(wanted), found.exception)
+
+    def not_connected(self, places, **how):
+        """What a Socket says that cannot connect."""
+        with Socket(places, **how) as it, self.assertRaises(tb.CannotConnect) as found:
+            it.exchange(0, register(7))
+        return str(found.exception)
+
+    def test_a_fault_is_told_and_not_the_end_of_the_time(self):
+        with socket.socket() as listening, socket.socket() as waiting:
+            listening.bind(("127.0.0.1", 0))
+            listening.listen(0)
+            waiting.connect(listening.getsockname())  # no other one is answered
+            places = [self.path("none"), listening.getsockname()]
+            said = self.not_connected(places, timeout=0.3)
+            self.assertTrue(said.startswith(f"{places[0]}: No such file"), said)
+
+    def test_what_was_before_the_end_of_the_time_is_told(self):
+        """A server that was starting, and then cannot be called in time, or is silent."""
+        for is_silent in (False, True):
+            begins, told = socket.socketpair()
+            told.sendall(b"tb_listen: Starting\n")
+            told.shutdown(socket.SHUT_WR)
+            silent, other = socket.socketpair()
+            made = [begins, silent] if is_silent else [begins]
+
+            def call(address, timeout, tls, made=made):
+                if made:
+                    return made.pop(0)
+                time.sleep(timeout)
+                raise socket.timeout("timed out")
+
+            kind = tb.ReplyLost if is_silent else tb.CannotConnect
+            with mock.patch("tb_client.sockets._call", call), self.subTest(is_silent):
+                with Socket(self.path("a"), timeout=0.3) as it, self.assertRaises(kind) as found:
+                    it.exchange(0, register(7))
+            for it in (begins, told, silent, other):
+                it.close()
+            self.assertTrue(str(found.exception).endswith("Starting"), found.exception)
+
+    def test_a_server_is_told_that_closes_while_tls_is_agreed_on(self):
+        with socket.socket() as listening:
+            listening.bind(("127.0.0.1", 0))
+            listening.listen()
+            closing = threading.Thread(target=lambda: listening.accept()[0].close())
+            closing.start()  # the first connection; the others are not answered
+            tls = ssl.create_default_context()
+            said = self.not_connected(listening.getsockname(), timeout=3, tls=tls)
+            closing.join()
+        self.assertNotIn("timed out", said)
+
+    def test_a_host_of_many_addresses(self):
+        """Where they do not answer they take the time of one, and leave some for the next."""
+        with contextlib.ExitStack() as stack:
+            found, port = [], 0
+            for last in range(1, 5):
+                listening = stack.enter_context(socket.socket())
+                listening.bind((f"127.0.0.{last}", port))
+                listening.listen(0)
+                port = listening.getsockname()[1]
+                found.append((socket.AF_INET, socket.SOCK_STREAM, 6, "", (f"127.0.0.{last}", port)))
+                for _ in range(2):  # which fill its queue: no other one is answered
+                    it = stack.enter_context(socket.socket())
+                    it.setblocking(False)
+                    it.connect_ex(found[-1][4])
+            server = Server(self.path("a"), registered(7))
+            host = ("ledger.example", port)
+            with mock.patch("socket.getaddrinfo", return_value=found):
+                with Socket([host, self.path("a")], timeout=2) as it:
+                    self.assertEqual(it.exchange(0, register(7)), registered(7))
+                began = time.monotonic()
+                with Socket(host, timeout=0.5) as it, self.assertRaises(tb.CannotConnect):
+                    it.exchange(0, register(7))
+                self.assertLess(time.monotonic() - began, 1.5)
+            server.end()
+
+    def test_a_name_that_is_looked_up_for_long(self):
+        """The lookup is within the timeout, and one that fails is told. A number needs none."""
+        done = threading.Event()
+        found = socket.getaddrinfo
+
+        def late(*words, flags=0, **how):
+            if flags:
+                return found(*words, flags=flags, **how)
+            done.wait(20)
+            raise socket.gaierror(socket.EAI_AGAIN, "no name server answers")
+
+        with mock.patch("socket.getaddrinfo", late):
+            began = time.monotonic()
+            said = self.not_connected(("ledger.example", 1), timeout=0.3)
+            self.assertLess(time.monotonic() - began, 10)
+            self.assertEqual(said, "ledger.example:1: the lookup of the host's name timed out")
+            done.set()
+            said = self.not_connected(("ledger.example", 1), timeout=0.3)
+            self.assertIn("no name server answers", said)
+            with mock.patch.object(threading.Thread, "start", side_effect=RuntimeError):
+                said = self.not_connected(("ledger.example", 1), timeout=0.3)
+                self.assertIn("no name server answers", said)
+                said = self.not_connected(("127.0.0.1", 1), timeout=0.3)
+                self.assertIn("Connection refused", said)
+
+    def test_a_long_time(self):
+        """It is no short one: Python cuts its milliseconds to 32 bits."""
+        listening = socket.socket(socket.AF_UNIX)
+        listening.bind(self.path("a"))
+        listening.listen()
+
+        def answer_late():
+            with listening, listening.accept()[0] as it:
+                it.recv(48, socket.MSG_WAITALL)
+                time.sleep(1)
+                it.sendall(registered(7))
+
+        answering = threading.Thread(target=answer_late)
+        answering.start()
+        with Socket(self.path("a"), timeout=4294968) as it:
+            self.assertEqual(it.exchange(0, register(7)), registered(7))
+        answering.join()
+
+    def test_close_waits_for_one_exchange(self):
+        """Threads that wait behind it send nothing more."""
+        with socket.socket(socket.AF_UNIX) as listening:
+            listening.bind(self.path("a"))
+            listening.listen()  # and nobody answers
+            it = Socket(self.path("a"), timeout=2)
+            found = faults_at_close(it, lambda number: it.exchange(0, register(number)))
+        self.assertEqual(found, [tb.Closed] * 7 + [tb.ReplyLost])
+
+    def test_a_signal_s_handler_that_closes_it(self):
+        """Amid an exchange: it waited for the lock of the exchange that it interrupted, for ever.
+        The same where it comes while the connection is made."""
+        for call, told in (("_read", tb.ReplyLost), ("_call_each", tb.Closed)):
+            listening = socket.socket(socket.AF_UNIX)
+            with listening, self.subTest(call=call):
+                listening.bind(self.path(call))
+                listening.listen()
+                it = Socket(self.path(call), timeout=20)
+                inner = getattr(it, call)
+
+                def handled(*arguments):
+                    it.close()
+                    return inner(*arguments)
+
+                with mock.patch.object(it, call, handled):
+                    thread = threading.Thread(target=self.told, args=(it, told), daemon=True)
+                    thread.start()
+                    thread.join(10)
+                self.assertFalse(thread.is_alive())
+                self.assertIsNone(it._socket)
+
+    def test_a_signal_s_handler_that_asks(self):
+        """Amid an exchange of its thread: its frame would stand amid the other one's."""
+        server = Server(self.path("a"), registered(7))
+        it, told = Socket(self.path("a")), []
+        send = it._send
+
+        def handled(connection, frame):
+            try:
+                it.exchange(0, register(8))
+            except tb.NotSent as fault:
+                told.append(str(fault))
+            send(connection, frame)
+
+        with it, mock.patch.object(it, "_send", handled):
+            self.assertEqual(it.exchange(0, register(7)), registered(7))
+        server.end()
+        self.assertEqual(told, ["a signal's handler asked amid an exchange of its thread"])
+        self.assertEqual(server.requests, [register(7)])
+
+    def told(self, it, fault):
+        self.assertRaises(fault, it.exchange, 0, register(7))
+
+    def test_wrong_lists(self):
+        for wrong, error in (
+            ([], tb.InvalidValue),
+            (["a", 5], tb.InvalidType),
+            ([("h", 0)], tb.InvalidValue),
+            ((), tb.InvalidType),
+        ):
+            with self.assertRaises(error):
+                Socket(wrong)
+
+    def test_a_reply_of_another_request_ends_the_connection(self):
+        server = Server(self.path("a"), registered(8), registered(7))
+        with Socket(self.path("a")) as it:
+            with self.assertRaises(tb.BadReply) as fault:
+                it.exchange(0, register(7))
+            self.assertIn("of client 8", str(fault.exception))
+            self.assertEqual(it.exchange(0, register(7)), registered(7))
+        server.end()
+        self.assertEqual(server.left, [b"", b""])
+
+    def test_what_the_server_tells(self):
+        for number, (said, kind, name) in enumerate(
+            (
+                ("Busy", tb.Busy, "Busy"),
+                ("Full", tb.ReplyLost, "Full"),
+                ("Slow", tb.ReplyLost, "Slow"),
+                ("\x1b]2;Full\x07", tb.ReplyLost, ""),  # a terminal would take it for an order
+                ("a\rb", tb.ReplyLost, ""),
+            )
+        ):
+            server = Server(self.path(str(number)), f"tb_listen: {said}\n".encode())
+            with Socket(self.path(str(number))) as it, self.assertRaises(tb.ReplyLost) as lost:
+                it.exchange(0, register(7))
+            server.end()
+            self.assertEqual((type(lost.exception), lost.exception.told), (kind, name))
+            self.assertTrue(str(lost.exception).isprintable())
+
+
+class Tls(unittest.TestCase):
+    def test_wrong_arguments(self):
+        context = ssl.create_default_context()
+        with self.assertRaises(tb.InvalidType):
+            Socket(("localhost", 1), tls=True)
+        with self.assertRaises(tb.InvalidValue):
+            Socket("ledger.sock", tls=context)
+        with self.assertRaises(tb.InvalidValue):
+            Socket([("localhost", 1), "ledger.sock"], tls=context)
+        Socket([("localhost", 1), ("::1", 2)], tls=context).close()
+
+    @unittest.skipUnless(shutil.which("openssl"), "openssl is not installed")
+    def test_a_certificate_that_is_not_trusted(self):
+        """It is told at once, where no other address may answer later."""
+        with tempfile.TemporaryDirectory() as folder, socket.socket() as listening:
+            paths = certificates.made(folder)
+            served = certificates.server_context(paths, {"cert": "server"})
+            listening.bind(("127.0.0.1", 0))
+            listening.listen()
+            threading.Thread(target=self.agree, args=(listening, served), daemon=True).start()
+            address = ("localhost", listening.getsockname()[1])
+            context = ssl.create_default_context(cafile=paths["other_ca"])
+            for addresses, timeout, untrusted in (
+                ([address, address], 60, True),
+                ([("localhost", 1), address], 0.5, False),
+            ):
+                began = time.monotonic()
+                with Socket(addresses, timeout, context) as it:
+                    with self.assertRaises(tb.CannotConnect) as found:
+                        it.exchange(0, register(7))
+                self.assertEqual(found.exception.untrusted, untrusted)
+                self.assertEqual(time.monotonic() - began < timeout, untrusted)
+            with tb.ClientSync(0, [address], tls=context, timeout=20) as client:
+                with self.assertRaisesRegex(tb.CannotConnect, "^localhost:.* verify failed"):
+                    client.lookup_accounts([1])
+
+    @staticmethod
+    def agree(listening, context):
+        """Agrees on TLS with all who come, or tries to."""
+        with contextlib.suppress(OSError):
+            while True:
+                it, _ = listening.accept()
+                with contextlib.suppress(ssl.SSLError):
+                    context.wrap_socket(it, server_side=True).close()
+
+
+class OwnIds(unittest.TestCase):
+    def test_a_clock_that_is_set_back(self):
+        times, drawn = iter([5, 4, 6]), iter([b"\1" + bytes(9), b"\2" + bytes(9)])
+        ids = Ids(lambda: next(times) * 1_000_000, lambda count: next(drawn))
+        self.assertEqual([ids.next() for _ in range(3)], [5 << 80 | 1, 5 << 80 | 2, 6 << 80 | 2])
+
+
+if __name__ == "__main__":
+    unittest.main()

@@ -1,0 +1,221 @@
+#!/usr/bin/env python3
+"""Tries every must-fail edit, as CI tries those of crates/*/must-fail, side by side on all
+cores.
+
+    tools/edits.py [--jobs N] [CRATE ..]
+    tools/edits.py --only [--jobs N] [CRATE ..]
+    tools/edits.py --texts | --rules | --write [CRATE ..]
+
+CI tries the edits in crates/CRATE/must-fail. This script tries those and the ones in
+crates/CRATE/must-fail-release: it copies the repository, with what is kept of earlier checks, puts
+all edits of a crate into its must-fail folder there, proves the libraries below, and runs `rt
+must-fail CRATE`, one job a crate. Run it before a release, and whenever a public clause or a
+definition changes. Ends in 'N passed, M failed': passed are the edits that the prover refused.
+
+--only checks the function alone that an edit names, by `rt check --only`, several edits in one
+check where each changes nothing outside of its function. It says how an edit is refused: at a goal
+that is printed, inside an answer, where a search met a limit. An edit that leaves its function
+proved counts as failed, whatever else it breaks.
+
+An edit begins with two lines that `rt` does not read: `# rule:`, what its body breaks, and
+`# refused at:`, the function at whose goal it is refused, with the clause where it is known. The
+tables of docs/trust/MUTANTS.md are made of them: --write writes them, --rules prints all.
+
+--texts proves nothing, and takes a second: it reports each edit whose old text is not in its file
+exactly once, so that `rt must-fail` could not apply it, each that lacks one of the two lines, and
+whether the tables are up to date.
+"""
+import collections
+import os
+import re
+import shutil
+import subprocess
+import sys
+import tempfile
+import threading
+from concurrent.futures import ThreadPoolExecutor, as_completed
+
+import edited
+import repository
+import tried
+
+ROOT = repository.ROOT
+FOLDERS = ("must-fail", "must-fail-release")
+PAGE = f"{ROOT}/docs/trust/MUTANTS.md"
+BLOCK = re.compile(r"(<!-- edits: ([\w ]+) -->\n)(.*?)(<!-- end of edits -->)", re.S)
+
+
+def edits_of(crate):
+    """The paths of a crate's edits. Two of one name would hide each other, so that is an error."""
+    paths = {}
+    for folder in FOLDERS:
+        at = f"{ROOT}/crates/{crate}/{folder}"
+        for name in sorted(os.listdir(at)) if os.path.isdir(at) else []:
+            if name.endswith(".edit"):
+                if name in paths:
+                    sys.exit(f"{crate}: two edits are called {name}")
+                paths[name] = f"{at}/{name}"
+    return paths
+
+
+def table(edits, chosen):
+    """The rows of the edits that are chosen: a row for each rule of a crate."""
+    lines, last = ["| Crate | Rule | Edit | Refused at |", "|---|---|---|---|"], None
+    for crate, paths in edits.items():
+        rules = collections.defaultdict(list)
+        for name, path in paths.items():
+            said = edited.said_of(path)
+            if "rule" in said and chosen(path, said):
+                rules[said["rule"]].append((name.removesuffix(".edit"), said.get("refused at", "")))
+        for rule, found in rules.items():
+            names = ", ".join(name for name, _ in found)
+            # A clause without a name is the function's only one.
+            places = (re.sub(", (its|the trait's) clause$", "", place) for _, place in found)
+            places = ", ".join(dict.fromkeys(places))
+            lines.append(f"| {crate if crate != last else ''} | {rule} | {names} | {places} |")
+            last = crate
+    return "\n".join(lines).replace("|  |", "| |") + "\n"
+
+
+def blocks(edits):
+    """The tables of the page, by their names."""
+    folders = [path.split("/")[-2] for paths in edits.values() for path in paths.values()]
+    own, release = map(folders.count, FOLDERS)
+    return {
+        "ci": table(edits, lambda path, _: path.split("/")[-2] == FOLDERS[0]),
+        "files": table(edits, lambda _, said: said.get("shown") == "a ledger in a file"),
+        "counts": f"CI has {own} edits, the release {release} more.\n",
+    }
+
+
+def page_with(edits):
+    """The page as it is, and as it should be."""
+    with open(PAGE, encoding="utf-8") as file:
+        text = file.read()
+    made = blocks(edits)
+    marked = [it[2] for it in BLOCK.finditer(text)]
+    if sorted(marked) != sorted(made):
+        sys.exit(f"{PAGE} has marks of {', '.join(marked)}: it needs {', '.join(made)}, once each")
+    return text, BLOCK.sub(lambda it: f"{it[1]}{made[it[2]]}{it[4]}", text)
+
+
+def copy_into(room, crates):
+    """Copies what git knows of, and what is kept in out/, and puts all edits of the crates where
+    `rt must-fail` looks."""
+    repository.copied(room)
+    repository.kept(room)
+    for crate, edits in crates.items():
+        os.makedirs(f"{room}/crates/{crate}/must-fail", exist_ok=True)
+        for name, path in edits.items():
+            shutil.copy2(path, f"{room}/crates/{crate}/must-fail/{name}")
+
+
+def try_texts(edits):
+    """Tells each edit that cannot be applied, and whether the tables are up to date."""
+    for crate, paths in edits.items():
+        for name, path in paths.items():
+            why = edited.misfit(crate, path)
+            tried.case(f"{crate}/{name}", why is None, why, quietly=True)
+    present, made = page_with(all_edits())
+    how = "run tools/edits.py --write"
+    tried.case("the tables of MUTANTS.md", present == made, how, quietly=True)
+    return tried.status()
+
+
+def all_edits(chosen=()):
+    """The edits of these crates, or of all that have some."""
+    found = {crate: edits_of(crate) for crate in chosen or repository.crates()}
+    return {crate: paths for crate, paths in found.items() if paths}
+
+
+def try_crate(room, crate, edits, told):
+    """Runs `rt must-fail` for a crate, and tells what it says of each edit."""
+    lines = edited.said_by_rt(room, "must-fail", crate)
+    said = dict(re.findall(rf"must-fail {crate}/([^ :]+): (.*)", lines))
+    for name in edits:
+        told(crate, name, said.get(name, "NOT TRIED"))
+
+
+def try_as_ci(edits, lanes, told):
+    """Tries all edits in one copy, by `rt must-fail`."""
+    with tempfile.TemporaryDirectory(prefix="edits-") as room:
+        copy_into(room, edits)
+        for library in repository.below(edits):
+            if subprocess.run(
+                ["rt", "lib"],
+                cwd=f"{room}/crates/{library}",
+                stdout=subprocess.DEVNULL,
+                stderr=subprocess.STDOUT,
+            ).returncode:
+                sys.exit(f"{library} is not proved, so no edit above it can be judged")
+        each = [lanes.submit(try_crate, room, it, edits[it], told) for it in longest_first(edits)]
+        for run in as_completed(each):
+            run.result()
+
+
+def try_only(edits, lanes, told):
+    """Checks of each edit the function alone that it names; a copy for each crate."""
+    each = [lanes.submit(edited.checked, it, edits[it], told) for it in longest_first(edits)]
+    for run in as_completed(each):
+        run.result()
+
+
+def longest_first(edits):
+    """The crates, those with the most edits first, so that none of them is left for the end."""
+    return sorted(edits, key=lambda it: -len(edits[it]))
+
+
+def try_all(edits, jobs, way):
+    """Tries edits in one of the two ways, tells each that was refused or not, and counts them."""
+    lock = threading.Lock()
+
+    def told(crate, name, said):
+        with lock:
+            tried.case(f"{crate}/{name}", said.startswith("refused"), said)
+
+    with ThreadPoolExecutor(jobs) as lanes:
+        way(edits, lanes, told)
+    return tried.status()
+
+
+def given_words():
+    """What the command's words ask for, and the edits of the crates that they name."""
+    words = tried.arguments(__doc__)
+    words.add_argument(
+        "--jobs",
+        type=tried.count,
+        default=len(os.sched_getaffinity(0)),
+        help="how many crates are tried side by side (one a core)",
+    )
+    words.add_argument("--only", action="store_true", help="check the function of each edit alone")
+    words.add_argument("--texts", action="store_true", help="only whether each edit can be applied")
+    words.add_argument("--rules", action="store_true", help="only print all rules as a table")
+    words.add_argument("--write", action="store_true", help="only write the tables of MUTANTS.md")
+    words.add_argument("crates", nargs="*", metavar="CRATE")
+    given = words.parse_args()
+    for crate in given.crates:
+        if crate not in repository.crates():
+            words.error(f"crates.txt has no crate {crate}")
+    edits = all_edits(given.crates)
+    if not edits:
+        words.error(f"no edits are in {', '.join(given.crates)}")
+    return given, edits
+
+
+def main():
+    given, edits = given_words()
+    if given.texts:
+        return try_texts(edits)
+    if given.rules:
+        print(table(edits, lambda *_: True), end="")
+        return 0
+    if given.write:
+        made = page_with(all_edits())[1]
+        with open(PAGE, "w", encoding="utf-8") as file:
+            file.write(made)
+        return 0
+    return try_all(edits, given.jobs, try_only if given.only else try_as_ci)
+
+
+if __name__ == "__main__":
+    tried.main(main)

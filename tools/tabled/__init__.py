@@ -1,0 +1,1 @@
+"""What tools/tables.py is made of: the table, its renderings, and what the Rattle sources say."""
