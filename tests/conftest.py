@@ -3,6 +3,7 @@
 import os
 import pathlib
 import shutil
+import subprocess
 import sys
 
 import pytest
@@ -32,3 +33,25 @@ def program():
         return at
 
     return path
+
+
+@pytest.fixture(scope="session")
+def tbs(program):
+    return program("tbs")
+
+
+@pytest.fixture(scope="session")
+def tbd(program):
+    return program("tbd")
+
+
+def ran(words, given=b"", seconds=120, **how):
+    """Runs a program on these bytes: its status, its output and its standard error."""
+    how = {"stdout": subprocess.PIPE, "stderr": subprocess.PIPE, **how}
+    it = subprocess.run(list(map(str, words)), input=given, timeout=seconds, **how)
+    return it.returncode, it.stdout or b"", it.stderr or b""
+
+
+def pytest_addoption(parser):
+    parser.addoption("--storms", type=int, default=3, help="how often each storm is run")
+    parser.addoption("--every", type=int, default=1, help="refuse the first call, each N-th")

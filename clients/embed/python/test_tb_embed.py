@@ -1,5 +1,5 @@
 #!/usr/bin/env python3
-"""Tests of the module over a library that answers what it is told to. checks/embed.py has those
+"""Tests of the module over a library that answers what it is told to. tests/embedding/test_embedded.py has those
 over the true one.
 
     PYTHONPATH=../../python/src python3 -m unittest
@@ -295,7 +295,7 @@ class OverCtypes(unittest.TestCase):
 
 
 class Examples(unittest.TestCase):
-    """What the examples say where they are called wrongly. checks/embed.py runs them over the
+    """What the examples say where they are called wrongly. tests/embedding/test_embedded.py runs them over the
     true library."""
 
     def test_words(self):

@@ -1,5 +1,5 @@
 //! `tb_refusals FORM CLIENTS_MAX`: serves the script of standard input by calls that may want memory, and makes a call that
-//! was refused again. checks/refusals.py runs it with each allocation refused in turn, one a run. `tb_refusals read` reads frames.
+//! was refused again. tests/programs/test_refusals.py runs it with each allocation refused in turn, one a run. `tb_refusals read` reads frames.
 //!
 //! The forms `apply`, `take`, `offer` and `call` look at what a refused call left behind; `run`, `dump` and `replay` (which
 //! reads a dump) end at their first fault, and say of which kind it is. What was answered goes to standard output, a line for

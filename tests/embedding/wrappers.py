@@ -1,16 +1,10 @@
-#!/usr/bin/env python3
-"""Tests what clients/embed/tb_embed.h and clients/embed/rust/tb_embed.rs make and read of frames, without the
-library: frames.c, as C and as C++, and frames.rs write the requests that the client in Python
+"""What clients/embed/tb_embed.h and clients/embed/rust/tb_embed.rs make and read of frames, without
+the library: frames.c, as C and as C++, and frames.rs write the requests that the client in Python
 writes, refuse what a frame may not hold, and read requests and replies as the tests of
 docs/use/FORMATS.md say: right ones, each cut at each byte, each with changed bytes, and too long
 ones. The client in Python reads the same requests and replies, and takes just those that have no
-fault and nothing behind them.
+fault and nothing after them."""
 
-    checks/embed/wrappers.py
-
-Prints a line for each case, and 'N passed, M failed'. checks/embed.py does the same among other
-things.
-"""
 import os
 import random
 import shutil
@@ -21,11 +15,9 @@ import tempfile
 
 HERE = os.path.dirname(os.path.abspath(__file__))
 TOP = os.path.dirname(os.path.dirname(HERE))
-sys.dont_write_bytecode = True
-sys.path[:0] = [f"{TOP}/checks", f"{TOP}/tools", f"{TOP}/clients/python/src"]
+sys.path[:0] = [f"{TOP}/tools", f"{TOP}/clients/python/src"]
 
 import frames  # noqa: E402
-import tried  # noqa: E402
 from tb_client import (  # noqa: E402
     Account,
     AccountFlags,
@@ -506,14 +498,3 @@ def difference(got, wanted):
         (f"{a[:200]} in place of {b[:200]}" for a, b in pairs if a != b),
         got[-1500:] if got != wanted else "",
     )
-
-
-def main():
-    tried.arguments(__doc__).parse_args()
-    for what, holds, why in cases():
-        tried.case(what, holds, "" if holds else why)
-    return tried.status()
-
-
-if __name__ == "__main__":
-    tried.main(main)

@@ -1,38 +1,29 @@
-#!/usr/bin/env python3
-"""Runs the built program over examples/first.script and scripts made of it: replies, exit statuses
-and the line on standard error, for input and output of every kind that a shell can give. First
-build it:
+"""`tbs` over examples/first.script and scripts made of it: replies, exit statuses and the line on
+standard error, for input and output of every kind that a shell can give. Frames and faults are
+those of docs/use/FORMATS.md. Needs Linux (/dev/full)."""
 
-    (cd crates/tbs && rt run -- run 2) < examples/first.script > /dev/null
-    checks/program.py
-
-Prints a line for each case, and 'N passed, M failed'. Frames and faults are those of
-docs/use/FORMATS.md. Needs Linux (/dev/full).
-"""
 import os
 import resource
 import select
 import signal
 import subprocess
-import sys
 import tempfile
 import time
 
-sys.path.append(os.path.join(os.path.dirname(os.path.abspath(__file__)), "..", "tools"))
+import pytest
+from frames import account, dump_entry, dump_head, ids, mark, pair, reply, result, transfer
 
-import tried  # noqa: E402
-from frames import account, dump_entry, dump_head, ids, mark, pair, reply, result, transfer  # noqa: E402
+from ..conftest import ROOT, found, ran
 
-TOP = os.path.dirname(os.path.dirname(os.path.abspath(__file__)))
-PROGRAM = f"{TOP}/crates/tbs/out/tbs"
+PROGRAM = found("tbs")
 RUN = ["run", "2"]
-SECONDS = 60 * tried.LONGER  # that one run may take
+SECONDS = 60  # that one run may take
 MAX_TIME = 2**63 - 1
+pytestmark = [pytest.mark.quick, pytest.mark.usefixtures("tbs")]
 
 
 def read(name):
-    with open(f"{TOP}/examples/{name}", "rb") as it:
-        return it.read()
+    return (ROOT / "examples" / name).read_bytes()
 
 
 SCRIPT, REPLIES = read("first.script"), read("first.replies")
@@ -42,7 +33,7 @@ FIRST, FIRST_REPLY = SCRIPT[:56], REPLIES[:48]
 
 
 def changed(at, byte):
-    """The script's first pair, and behind it its second with one byte of the frame changed."""
+    """The script's first pair, and after it its second with one byte of the frame changed."""
     frame = bytearray(SCRIPT[56:])
     frame[8 + at] = byte
     return FIRST + bytes(frame)
@@ -54,7 +45,7 @@ def line(fault):
 
 def ended(script, words=RUN, **how):
     """Status, output and standard error of a run on these bytes."""
-    return tried.ran([PROGRAM, *words], script, seconds=60, **how)
+    return ran([PROGRAM, *words], script, SECONDS, **how)
 
 
 def with_file(script, words=RUN, **how):
@@ -76,21 +67,12 @@ def closing(*numbers):
     return lambda: [os.close(it) for it in numbers]
 
 
-def shown(parts):
-    """What was got or wanted, long bytes by their number."""
-    return ", ".join(
-        f"{len(it)} bytes" if isinstance(it, bytes) and len(it) > 80 else str(it) for it in parts
-    )
-
-
 def case(name, got, wanted):
-    """Compares what was got, mostly a status, an output and a line, with what is wanted."""
-    tried.case(
-        name, got == wanted, "" if got == wanted else f"got {shown(got)}; wanted {shown(wanted)}"
-    )
+    """Compares a status, an output and a line with what is wanted."""
+    assert got == wanted, name
 
 
-def inputs():
+def test_inputs():
     case("a file", with_file(SCRIPT)[0], (0, REPLIES, b""))
     case("a pipe", ended(SCRIPT), (0, REPLIES, b""))
     program = subprocess.Popen(
@@ -110,7 +92,7 @@ def inputs():
     case(
         "closed input", (closed.returncode, closed.stdout, closed.stderr), (1, b"", line("Device"))
     )
-    folder = os.open(TOP, os.O_RDONLY)
+    folder = os.open(ROOT, os.O_RDONLY)
     read_folder = subprocess.run(
         [PROGRAM, *RUN], stdin=folder, capture_output=True, timeout=SECONDS
     )
@@ -123,7 +105,7 @@ def inputs():
 
 def taken(program, length):
     """So many bytes of the program's replies, or those that come within ten seconds."""
-    got, end = b"", time.monotonic() + 10 * tried.LONGER
+    got, end = b"", time.monotonic() + 10
     while len(got) < length:
         ready, _, _ = select.select([program.stdout], [], [], max(0, end - time.monotonic()))
         more = os.read(program.stdout.fileno(), length - len(got)) if ready else b""
@@ -151,7 +133,7 @@ def conversation(sendings):
     return got, rest, fault, program.returncode
 
 
-def conversations():
+def test_conversations():
     pairs = [SCRIPT[start:end] for start, end in zip(PAIR_ENDS, PAIR_ENDS[1:])]
     replies = [REPLIES[start:end] for start, end in zip(REPLY_ENDS, REPLY_ENDS[1:])]
     case(
@@ -168,20 +150,17 @@ def conversations():
     case("replies come while the next frame is cut", cut, (replies, b"", b"", 0))
 
 
-def cuts():
-    """The script cut behind each of its bytes."""
+def test_cuts():
+    """The script cut after each of its bytes."""
     for end in range(len(SCRIPT) + 1):
         whole = max(k for k in range(4) if PAIR_ENDS[k] <= end)
         cut = PAIR_ENDS[whole] != end
         wanted = (2 if cut else 0, REPLIES[: REPLY_ENDS[whole]], line("Short") if cut else b"")
         got = ended(SCRIPT[:end])
-        if got != wanted:
-            case(f"the script cut behind {end} bytes", got, wanted)
-            return
-    case("the script cut behind each of its bytes", (), ())
+        case(f"the script cut after {end} bytes", got, wanted)
 
 
-def frames():
+def test_frames():
     faults = [
         ("ClientZero", changed(0, 0)),
         ("UnknownOperation", changed(28, 133)),
@@ -213,7 +192,7 @@ def frames():
     )
 
 
-def sessions():
+def test_sessions():
     """Repeats, each refusal, eviction, expiry and the second profile."""
     transfers = [pair(10, 7, 1, 3, 130, transfer(11, 1, 2, amount)) for amount in (100, 101)]
     again = [
@@ -318,11 +297,16 @@ def many_items():
     # after 10
     found = b"".join(account(id, timestamp=10 + id) for id in numbers)
     wanted = FIRST_REPLY + reply(7, 1, 1, 129, 0, 2) + reply(7, 1, 2, 131, 0, 3, found)
-    case("8190 accounts and their lookup", ended(FIRST + create + lookup), (0, wanted, b""))
-    return FIRST + create + lookup
+    return FIRST + create + lookup, wanted
 
 
-def outputs(long_script):
+def test_many_items():
+    script, replies = many_items()
+    case("8190 accounts and their lookup", ended(script), (0, replies, b""))
+
+
+def test_outputs():
+    long_script = many_items()[0]
     case("closed output", ended(SCRIPT, preexec_fn=closing(1)), (1, b"", line("Device")))
     case("closed output, and nothing to write", ended(b"", preexec_fn=closing(1)), (0, b"", b""))
     with open("/dev/full", "wb") as full:
@@ -358,7 +342,7 @@ def outputs(long_script):
     case("a pipe whose reader goes in the middle", got, (1, b"", line("Device")))
 
 
-def wrong_words():
+def test_wrong_words():
     for words in [
         [],
         ["run"],
@@ -419,9 +403,10 @@ DUMP = HEAD + b"".join(ENTRIES)
 DUMPED, REPLAY = ["dump", "2"], ["replay"]
 
 
-def dumps(long_script):
-    """Dumps, marks, and replays: a dump of each kind, cut behind each of its bytes, and each
+def test_dumps():
+    """Dumps, marks, and replays: a dump of each kind, cut after each of its bytes, and each
     fault."""
+    long_script = many_items()[0]
     case("a dump, to a file", with_file(SCRIPT, DUMPED)[0], (0, DUMP, b""))
     case("a dump, to a pipe", ended(SCRIPT, DUMPED), (0, DUMP, b""))
     case("a dump of new requests and repeats", ended(FIRST + SCRIPT, DUMPED), (0, DUMP, b""))
@@ -468,10 +453,7 @@ def dumps(long_script):
         else:
             wanted = (2, REPLIES[: REPLY_ENDS[whole]], line("Short"))
         got = ended(DUMP[:end], REPLAY)
-        if got != wanted:
-            case(f"the dump cut behind {end} bytes", got, wanted)
-            return
-    case("the dump cut behind each of its bytes", (), ())
+        case(f"the dump cut after {end} bytes", got, wanted)
 
     for name, head in [
         ("another signature", b"TBSDUMP2" + HEAD[8:]),
@@ -531,7 +513,7 @@ def dumps(long_script):
         case(f"{name}, and closed input", (closed.returncode, closed.stderr), (1, line("Device")))
 
 
-def storms():
+def test_storms():
     """Many client threads at once: the totals are the same whatever their order was."""
     for words, totals in [
         (["2", "3"], (2, 10, 6, 12)),
@@ -561,7 +543,7 @@ def storms():
         )
 
 
-def lines():
+def test_lines():
     """The line cannot be written: the status is the same."""
     with open("/dev/full", "wb") as full:
         ran = subprocess.run(
@@ -590,7 +572,7 @@ def lines():
     )
 
 
-def memory():
+def test_memory():
     """So little memory that the program serves a register, and has none for a body of 1048320
     bytes."""
 
@@ -620,25 +602,3 @@ def memory():
         ended(dump, REPLAY, preexec_fn=limited(least + 128)),
         (1, FIRST_REPLY, line("NoMemory")),
     )
-
-
-def main():
-    tried.arguments(__doc__).parse_args()
-    tried.built(PROGRAM)
-    inputs()
-    conversations()
-    cuts()
-    frames()
-    sessions()
-    long_script = many_items()
-    outputs(long_script)
-    dumps(long_script)
-    wrong_words()
-    storms()
-    lines()
-    memory()
-    return tried.status()
-
-
-if __name__ == "__main__":
-    tried.main(main)

@@ -1,4 +1,4 @@
-//! The frames of tb_embed.rs: frames MODE, with the modes and the lines of frames.c, which checks/embed.py compares with these.
+//! The frames of tb_embed.rs: frames MODE, with the modes and the lines of frames.c, which tests/embedding/test_embedded.py compares with these.
 //! No library is needed: the calls are left out.
 use std::io::{self, Read, Write};
 

@@ -1,32 +1,22 @@
-#!/usr/bin/env python3
-"""Looks for data races in the program that has threads: the module that the kit's compiler makes
-of it is compiled a second time, with ThreadSanitizer, which knows atomics, and run. First build
-the program:
+"""Data races in the program that has threads: the module that the kit's compiler makes of it is
+compiled a second time, with ThreadSanitizer, which knows atomics, and run. Each run prints what the
+program prints as it was built, and no report. As a control, the same module with its atomic stores
+made plain is reported. Needs cc with libtsan, and the kit's clang."""
 
-    (cd crates/tbs && rt run -- run 2) < examples/first.script > /dev/null
-    checks/races.py [TIMES]
-
-TIMES (3 by default) is how often each run is made. Each prints what the program prints as it was
-built, and no report; and as a control, the same module with its atomic stores made plain has to be
-reported. Needs cc with libtsan, and the kit's clang. Prints 'N passed, M failed'.
-"""
 import os
 import re
 import shutil
 import subprocess
-import sys
-import tempfile
 
-sys.path.append(os.path.join(os.path.dirname(os.path.abspath(__file__)), "..", "tools"))
+import pytest
+import repository
 
-import repository  # noqa: E402
-import tried  # noqa: E402
+from ..conftest import ran
 
 TOP = repository.ROOT
-RUNS = {
-    "tbs": [["storm", "2", "3"], ["storm", "16", "1000"]],
-}
+RUNS = [["storm", "2", "3"], ["storm", "16", "1000"]]
 TARGET = ["--target=x86_64-unknown-linux-gnu", "--no-default-config"]
+TIMES = 3
 
 # clang calls these by names of its own, which the runtime of cc does not have
 SHIM = """#include <string.h>
@@ -88,9 +78,9 @@ def module_of(crate, kit, folder):
         "-o",
         "out/module.o",
     ]
-    ran = subprocess.run(words, cwd=copy, stdout=subprocess.PIPE, stderr=subprocess.STDOUT)
-    if ran.returncode:
-        sys.exit(f"{crate} is not built: {ran.stdout.decode()[-2000:]}")
+    built = subprocess.run(words, cwd=copy, stdout=subprocess.PIPE, stderr=subprocess.STDOUT)
+    if built.returncode:
+        pytest.fail(f"{crate} is not built: {built.stdout.decode()[-2000:]}")
     module = f"{folder}/module.ll"
     subprocess.run(
         [
@@ -150,46 +140,22 @@ def linked(module, name, kit, folder):
 
 def run(program, words):
     """Status, output and reports."""
-    status, output, said = tried.ran([program, *words], seconds=1200)
+    status, output, said = ran([program, *words], seconds=1200)
     return status, output, said.count(b"WARNING: ThreadSanitizer")
 
 
-def main():
-    parser = tried.arguments(__doc__)
-    parser.add_argument("times", metavar="TIMES", type=tried.count, nargs="?", default=3)
-    times = parser.parse_args().times
-    tried.built(*(f"{TOP}/crates/{crate}/out/{crate}" for crate in RUNS))
+@pytest.mark.slow
+def test_races(tbs, tmp_path):
     for command in ("rt", "cc"):
-        if not shutil.which(command):
-            sys.exit(f"{command} is not installed")
+        assert shutil.which(command), f"{command} is not installed"
     kit = os.path.dirname(os.path.dirname(os.path.realpath(shutil.which("rt"))))
-    passed = failed = 0
-    for crate, runs in RUNS.items():
-        with tempfile.TemporaryDirectory() as folder:
-            module = instrumented(module_of(crate, kit, folder))
-            program = linked(module, "instrumented", kit, folder)
-            control = linked(
-                re.sub(r"store atomic (.*) seq_cst, align", r"store \1, align", module),
-                "control",
-                kit,
-                folder,
-            )
-            reports = run(control, runs[0])[2]
-            print(f"{crate} {' '.join(runs[0])}, atomic stores made plain: {reports} reports")
-            passed, failed = passed + (reports > 0), failed + (reports == 0)
-            for words in runs:
-                status, *wanted = run(f"{TOP}/crates/{crate}/out/{crate}", words)
-                found = [run(program, words) for _ in range(times)]
-                right = sum((status, *it) == (0, 0, *wanted) for it in found)
-                print(
-                    f"{crate} {' '.join(words)}: status {status}, {right} of {times} with the same "
-                    "output and no report",
-                    flush=True,
-                )
-                passed, failed = passed + right, failed + times - right
-    print(f"{passed} passed, {failed} failed")
-    return 1 if failed else 0
-
-
-if __name__ == "__main__":
-    tried.main(main)
+    module = instrumented(module_of("tbs", kit, tmp_path))
+    program = linked(module, "instrumented", kit, tmp_path)
+    plain = re.sub(r"store atomic (.*) seq_cst, align", r"store \1, align", module)
+    control = linked(plain, "control", kit, tmp_path)
+    assert run(control, RUNS[0])[2] > 0, "atomic stores made plain are reported"
+    for words in RUNS:
+        status, *wanted = run(tbs, words)
+        assert status == 0
+        for _ in range(TIMES):
+            assert run(program, words) == (0, *wanted), words

@@ -7,7 +7,7 @@
  *     read      reads replies from standard input, each behind its length (u32), and prints the fault, the status, the commit and
  *               the items of each; the bytes are in memory of just that length, so that AddressSanitizer tells a read behind it
  *
- * checks/embed.py compares what it prints with frames.rs and with tb_client. It is C11 and C++17. */
+ * tests/embedding/test_embedded.py compares what it prints with frames.rs and with tb_client. It is C11 and C++17. */
 #include "../../clients/embed/tb_embed.h"
 
 #include <stdio.h>

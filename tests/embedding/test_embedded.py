@@ -1,38 +1,27 @@
-#!/usr/bin/env python3
-"""Builds the server into programs in C, Rust and Python, and compares what they answer with the
-program's own replies; and compares the names, layouts and frames of the header, the wrapper in Rust
-and the client with the definitions and with each other. First build the library and the program:
+"""The server built into programs in C, Rust and Python: what they answer is what the program's own
+replies are. Needs cc and Linux, tb_embed's library (`rt lib` in crates/tb_embed) and `tbs`; c++ and
+rustc are left out where they are not there. KIT is the toolchain's folder (else `rt doc` prints
+it)."""
 
-    (cd crates/tb_embed && rt lib)
-    (cd crates/tbs && rt run -- run 2) < examples/first.script > /dev/null
-    checks/embed.py
-
-checks/embed/names.py and checks/embed/wrappers.py are the parts that need neither. Prints a line
-for each case, and 'N passed, M failed'. Needs cc and Linux; c++ and rustc are passed over by name
-where they are not there. KIT is the toolchain's folder (else `rt doc` prints it).
-"""
 import os
 import random
 import re
 import shutil
 import subprocess
 import sys
-import tempfile
-import time
 
-import tried
-from tried import case
+import pytest
 
-TOP = os.path.dirname(os.path.dirname(os.path.abspath(__file__)))
+from ..conftest import ROOT, found
+from . import refused
+
+TOP = str(ROOT)
 EMBED = f"{TOP}/clients/embed"
+HERE = f"{TOP}/tests/embedding"
 LIBRARY = f"{TOP}/crates/tb_embed/out/libtb_embed.a"
-PROGRAM = f"{TOP}/crates/tbs/out/tbs"
-sys.path[:0] = [f"{TOP}/checks/embed", f"{TOP}/tools", f"{EMBED}/python", f"{TOP}/clients/python/src"]
-
-import names  # noqa: E402
-import refused  # noqa: E402
-import wrappers  # noqa: E402
-from tb_client import ClientError  # noqa: E402
+PROGRAM = found("tbs")
+pytestmark = [pytest.mark.slow, pytest.mark.usefixtures("tbs")]
+sys.path[:0] = [f"{EMBED}/python", f"{TOP}/clients/python/src"]
 
 # What first.c, first.rs and first.py print, as docs/use/EMBEDDING.md shows it.
 FIRST = """\
@@ -54,9 +43,12 @@ def run(*command, **how):
 
 def built(name, *command):
     ran = run(*command)
-    return case(
-        name, ran.returncode == 0 and not ran.stderr, ran.stderr.decode(errors="replace")[-2000:]
-    )
+    case(name, ran.returncode == 0 and not ran.stderr, ran.stderr.decode(errors="replace")[-2000:])
+    return True
+
+
+def case(name, holds, said=""):
+    assert holds, f"{name}: {said}"
 
 
 def kit():
@@ -64,9 +56,22 @@ def kit():
 
 
 def has(tool):
-    if not shutil.which(tool):
-        print(f"passed over: {tool} is not there")
     return shutil.which(tool) is not None
+
+
+@pytest.fixture(scope="module")
+def folder(tmp_path_factory):
+    return str(tmp_path_factory.mktemp("embedded"))
+
+
+@pytest.fixture(scope="module")
+def built_programs(folder):
+    return programs(folder)
+
+
+@pytest.fixture(scope="module")
+def mixed(folder):
+    return made("mixed", 20000, 7, folder)
 
 
 def made(workload, size, seed, folder):
@@ -91,7 +96,7 @@ def read(path):
 CAREFUL = ["-Wall", "-Wextra", "-Wpedantic", "-Wconversion", "-Werror"]
 
 
-def headers(folder):
+def test_headers(folder):
     for compiler, word in (("cc", "-std=c11"), ("c++", "-std=c++17")):
         if has(compiler):
             source = f"{folder}/header.{'c' if compiler == 'cc' else 'cc'}"
@@ -137,7 +142,7 @@ def programs(folder):
         "-Wextra",
         "-Werror",
         f"{EMBED}/c/first.c",
-        f"{TOP}/checks/embed/allocator.c",
+        f"{HERE}/allocator.c",
         LIBRARY,
         "-o",
         f"{folder}/first_own",
@@ -154,18 +159,19 @@ def programs(folder):
     ):
         found["C"] = [f"{folder}/script_c"]
     sanitizers = "-fsanitize=address,undefined"
-    if run(
-        "cc",
-        sanitizers,
-        "-x",
-        "c",
-        "-",
-        "-o",
-        f"{folder}/empty",
-        input=b"int main(void) { return 0; }",
-    ).returncode:
-        print("passed over: cc has no AddressSanitizer here")
-    else:
+    if (
+        run(
+            "cc",
+            sanitizers,
+            "-x",
+            "c",
+            "-",
+            "-o",
+            f"{folder}/empty",
+            input=b"int main(void) { return 0; }",
+        ).returncode
+        == 0
+    ):
         built(
             "the first requests in C under AddressSanitizer",
             "cc",
@@ -240,9 +246,7 @@ def programs(folder):
                 ("servers in threads, in Rust", "threads"),
                 ("what goes wrong, in Rust", "errors"),
             ):
-                built(
-                    what, *words, f"{TOP}/checks/embed/{name}.rs", *linked, "-o", f"{folder}/{name}"
-                )
+                built(what, *words, f"{HERE}/{name}.rs", *linked, "-o", f"{folder}/{name}")
     whole = [
         "-Wl,--whole-archive",
         LIBRARY,
@@ -260,7 +264,7 @@ def programs(folder):
         "cc",
         *flags,
         "-Wl,--wrap=malloc,--wrap=realloc",
-        f"{TOP}/checks/embed/careful.c",
+        f"{HERE}/careful.c",
         LIBRARY,
         heap,
         "-o",
@@ -270,7 +274,7 @@ def programs(folder):
     return found
 
 
-def first_requests(folder):
+def test_first_requests(folder, built_programs):
     """What the examples print, and that the page shows it."""
     runs = {
         language: [f"{folder}/{name}"]
@@ -299,7 +303,7 @@ def page():
     return read(f"{TOP}/docs/use/EMBEDDING.md").decode()
 
 
-def called():
+def test_called():
     """What the library calls, which a program without the kit's archive has to define."""
     calls = set(re.findall(r" U (\w+)", run("nm", "-u", LIBRARY).stdout.decode()))
     named = re.search(r"It calls ([^.]*)\.", page())
@@ -319,10 +323,10 @@ def served(found, script, replies, what, *words):
         )
 
 
-def not_written(found, script):
+def test_not_written(built_programs):
     """Replies that the disk does not take: exit status 1, and a line that says so."""
-    for language, command in found.items():
-        with open(script, "rb") as source, open("/dev/full", "wb") as sink:
+    for language, command in built_programs.items():
+        with open(f"{TOP}/examples/first.script", "rb") as source, open("/dev/full", "wb") as sink:
             ran = subprocess.run(
                 [*command, "2"], stdin=source, stdout=sink, stderr=subprocess.PIPE, timeout=300
             )
@@ -343,7 +347,7 @@ int main(void) {{
 """
 
 
-def leaks(folder):
+def test_leaks(folder, built_programs):
     """AddressSanitizer reports a server that was not closed, and nothing where it was closed."""
     for what, close, status in (
         ("a server that is not closed leaks", "", 1),
@@ -377,11 +381,11 @@ def careful(folder, mode, script, replies, what):
     case(what, ran.returncode == 0, ran.stdout.decode().strip())
 
 
-def threads(folder, script, replies):
+def test_threads(folder, built_programs, mixed):
     """Servers of their own in four threads, and one that four threads share under a mutex, each
     request sent twice."""
     if os.path.exists(f"{folder}/threads"):
-        ran = run(f"{folder}/threads", script, replies)
+        ran = run(f"{folder}/threads", *mixed)
         case(
             "servers in threads",
             (ran.returncode, ran.stdout) == (0, b"credits_posted of account 2: 800\n"),
@@ -389,7 +393,7 @@ def threads(folder, script, replies):
         )
 
 
-def errors(folder):
+def test_errors(folder, built_programs):
     """What the wrapper in Rust answers where a request is wrong, refused, or not served."""
     if os.path.exists(f"{folder}/errors"):
         ran = run(f"{folder}/errors")
@@ -400,13 +404,13 @@ def errors(folder):
         )
 
 
-def client(shared):
+def test_client(built_programs, folder):
     """The client of clients/python, over the embedded server: a lost request and a lost reply,
     and the money moved once."""
     from tb_client import Account, Direct, Faulty, InvalidValue, Session, Transfer, require_ok
     from tb_embed import Closed, Refused, Server
 
-    with Server(shared, clients_max=2) as server:
+    with Server(f"{folder}/libtb_embed.so", clients_max=2) as server:
         session = Session.register(
             Faulty(Direct(server.serve), requests=[3], replies=[4]), 7, now=lambda: 10
         )
@@ -429,7 +433,7 @@ def client(shared):
         except Refused as refused:
             case("bytes that are no frame", str(refused) == "Malformed")
     try:
-        Server(shared, clients_max=65)
+        Server(f"{folder}/libtb_embed.so", clients_max=65)
         case("wrong arguments", False)
     except InvalidValue as refused:
         case("wrong arguments", str(refused) == "clients_max must be 1 to 64, not 65")
@@ -440,7 +444,7 @@ def client(shared):
         case("a closed server", str(refused) == "Closed")
 
 
-def damaged(shared):
+def test_damaged_frames(built_programs, folder):
     """The second frame of the first script with bytes changed at random: malformed where `tbs`
     finds a fault in it, else the reply that `tbs` gives. A wrong length is always malformed: the
     bytes are one frame, and no stream."""
@@ -458,7 +462,7 @@ def damaged(shared):
             [PROGRAM, "run", "2"], input=script[:64] + bytes(frame), capture_output=True
         )
         malformed = wrong_length or ran.returncode == 2
-        with Server(shared, clients_max=2) as server:
+        with Server(f"{folder}/libtb_embed.so", clients_max=2) as server:
             first = server.serve(10, script[8:56])
             try:
                 got = first + server.serve(10, bytes(frame))
@@ -468,71 +472,16 @@ def damaged(shared):
     case("300 damaged frames", same and 0 < faults < 300, f"{faults} malformed")
 
 
-def calls_a_second(found, folder):
-    """Requests of one transfer; the processor of a busy machine makes these numbers low, so
-    compare them with each other."""
-    script, replies = made("single", 100000, 1, folder)
-    careful(folder, "time", script, replies, "calls a second in C, replies compared")
-    count = 110000 + 61
-    for language, command in (
-        ("Rust, by pipes", found.get("Rust")),
-        ("Python, by pipes", found.get("Python")),
-        ("tbs run, by files", [PROGRAM, "run"]),
-    ):
-        if command:
-            least = 1e9
-            for _ in range(3):
-                with open(script, "rb") as source, open(os.devnull, "wb") as sink:
-                    start = time.monotonic()
-                    subprocess.run([*command, "64"], stdin=source, stdout=sink, check=True)
-                    least = min(least, time.monotonic() - start)
-            print(
-                f"calls a second in {language}, with starting and reading: "
-                f"{1e-6 * count / least:.2f} million"
-            )
+FIRST_SCRIPT = f"{TOP}/examples/first.script", f"{TOP}/examples/first.replies"
 
 
-def main():
-    tried.arguments(__doc__).parse_args()
-    for path, how in (
-        (LIBRARY, "`rt lib` in crates/tb_embed"),
-        (PROGRAM, "`rt run` in crates/tbs"),
-    ):
-        if not os.path.exists(path):
-            sys.exit(f"{path} is not there: {how} builds it")
-    for part in (names.comparisons(), wrappers.cases()):
-        for what, holds, why in part:
-            case(what, holds, "" if holds else why)
-    with tempfile.TemporaryDirectory() as folder:
-        headers(folder)
-        found = programs(folder)
-        first_requests(folder)
-        called()
-        first = f"{TOP}/examples/first.script", f"{TOP}/examples/first.replies"
-        served(found, *first, "the first script", "2")
-        not_written(found, first[0])
-        mixed = made("mixed", 20000, 7, folder)
-        served(found, *mixed, "a random script of everything, right and wrong,", "64")
-        careful(folder, "small", *mixed, "a room too small by one byte")
-        careful(folder, "memory", *first, "each allocation failing, in the first script")
-        careful(
-            folder,
-            "memory",
-            *made("mixed", 120, 3, folder),
-            "each allocation failing, in a random script",
-        )
-        if "C under AddressSanitizer" in found:
-            leaks(folder)
-        threads(folder, *mixed)
-        errors(folder)
-        for part in (client, damaged):
-            try:
-                part(f"{folder}/libtb_embed.so")
-            except ClientError as error:
-                case(f"the part {part.__name__}", False, repr(error))
-        calls_a_second(found, folder)
-    return tried.status()
+def test_scripts(built_programs, mixed):
+    served(built_programs, *FIRST_SCRIPT, "the first script", "2")
+    served(built_programs, *mixed, "a random script of everything, right and wrong,", "64")
 
 
-if __name__ == "__main__":
-    tried.main(main)
+def test_a_careful_caller(folder, built_programs, mixed):
+    careful(folder, "small", *mixed, "a room too small by one byte")
+    careful(folder, "memory", *FIRST_SCRIPT, "each allocation failing, in the first script")
+    short = made("mixed", 120, 3, folder)
+    careful(folder, "memory", *short, "each allocation failing, in a random script")

@@ -1,45 +1,37 @@
-#!/usr/bin/env python3
-"""Refuses each allocation, each read and each write of the built programs in turn, once each, and
-looks at what they answer. First build them:
-
-    (cd crates/tbs && rt run -- run 2) < examples/first.script > /dev/null
-    (cd crates/tb_refusals && rt run -- take 2) < examples/first.script > /dev/null
-    (cd crates/tbd && rt run -- --version)
-    checks/refusals.py [--every N]
+"""Each allocation, each read and each write of the built programs refused in turn, once each, and
+what they answer then.
 
 `tb_refusals` serves a script by each call that may want memory, and makes what was refused again.
 What is right comes from the frames of this file, from examples/first.replies, and from `tbs` when
 nothing is refused. All memory has to be given back after each run, whatever was refused. A loop
 that refuses nothing shows nothing: each case counts its refusals and has a least number of them.
-With --every the first call is refused, and each N-th behind it: `--every 10` is the quick form, of
-which one refusal for each case is asked. Prints a line for each case, and 'N passed, M failed'.
-checks/refusals/refuse.c, which the programs are run over, needs cc and Linux.
+With `--every N` the first call is refused, and each N-th after it. refuse.c, which the programs
+are run over, needs cc and Linux.
 """
+
 import collections
 import contextlib
 import os
 import struct
 import subprocess
-import sys
-import tempfile
 
-sys.path.append(os.path.join(os.path.dirname(os.path.abspath(__file__)), "..", "tools"))
+import frames
+import pytest
+from frames import account, ids, transfer
 
-import frames  # noqa: E402
-import tried  # noqa: E402
-from frames import account, ids, transfer  # noqa: E402
+from ..conftest import ROOT, found
 
-TOP = os.path.dirname(os.path.dirname(os.path.abspath(__file__)))
-PROGRAM = f"{TOP}/crates/tbs/out/tbs"
-AGAIN = f"{TOP}/crates/tb_refusals/out/tb_refusals"
-KEEPER = f"{TOP}/crates/tbd/out/tbd"
-SECONDS = 60 * tried.LONGER  # that one run may take
+HERE = ROOT / "tests" / "programs"
+PROGRAM, AGAIN, KEEPER = map(found, ("tbs", "tb_refusals", "tbd"))
+SECONDS = 60  # that one run may take
+pytestmark = pytest.mark.slow
 Ran = collections.namedtuple("Ran", "status output lines asked refused blocks")
 
 
-def case(name, why, told=""):
-    """Passed where there is no reason why not."""
-    tried.case(name, not why, why or told)
+def case(name, why, counted=""):
+    """Passes if there is no reason why not."""
+    print(name, counted)
+    assert not why, f"{name}: {why}"
 
 
 class Script:
@@ -93,7 +85,7 @@ def rows():
 
 
 def chains():
-    """The broken chain, a chain that breaks behind its post, and what is pending, posted, voided
+    """The broken chain, a chain that breaks after its post, and what is pending, posted, voided
     and closed."""
     script = Script()
     script.pair(7, 0, 0, 2)
@@ -163,7 +155,7 @@ class Refuser:
     def __init__(self, folder, every):
         self.shared, self.report = f"{folder}/refuse.so", f"{folder}/report"
         self.every = every
-        source = f"{TOP}/checks/refusals/refuse.c"
+        source = HERE / "refuse.c"
         subprocess.run(
             ["cc", "-Wall", "-Wextra", "-shared", "-fPIC", "-O2", source, "-o", self.shared],
             check=True,
@@ -195,15 +187,22 @@ class Refuser:
         return count if self.every == 1 else 1
 
 
+@pytest.fixture(scope="module")
+def refuser(program, request, tmp_path_factory):
+    for name in ("tbs", "tb_refusals", "tbd"):
+        program(name)
+    return Refuser(tmp_path_factory.mktemp("refused"), request.config.getoption("--every"))
+
+
 def right(words, script):
     """What `tbs` answers when nothing is refused."""
     ran = plain(PROGRAM, words, script)
     if ran.status:
-        raise SystemExit(f"tbs {words}: {ran.lines}")
+        pytest.fail(f"tbs {words}: {ran.lines}")
     return ran.output
 
 
-def told(counts):
+def shown(counts):
     return ", ".join(f"{count} {name}" for name, count in sorted(counts.items()))
 
 
@@ -230,7 +229,7 @@ def each_growth(refuser, name, form, clients, script, judge, least, wanted):
     missing = [it for it in wanted if not counts[it]]
     if not counts or refuser.every == 1 and (calls < least or missing):
         whys.append(f"only {calls} refusals of calls, none of {missing}")
-    case(name, "; ".join(whys[:3]), f"{sum(counts.values())} allocations refused: {told(counts)}")
+    case(name, "; ".join(whys[:3]), f"{sum(counts.values())} allocations refused: {shown(counts)}")
 
 
 def refusal_of(ran):
@@ -313,8 +312,8 @@ def ends(pairs, first=0):
 
 
 def faults(script, starts, header, written):
-    """A run that ends at its fault: Frame(NoMemory) behind a header whose body finds no room,
-    NoMemory behind a whole pair, or before the first byte; and the output is what belongs to all
+    """A run that ends at its fault: Frame(NoMemory) after a header whose body finds no room,
+    NoMemory after a whole pair, or before the first byte; and the output is what belongs to all
     pairs before."""
     whole = len(script)
 
@@ -357,74 +356,73 @@ def beginnings(words, pairs, head=b""):
     return [right(words, head + b"".join(pairs[:count])) for count in range(len(pairs) + 1)]
 
 
-def growths(refuser):
-    clients = 2
-    for name, script in (
-        ("the rows", rows()),
-        ("the broken chains", chains()),
-        ("evictions", evictions()),
-    ):
-        replies, history = right(["run", clients], script.bytes), right(
-            ["dump", clients], script.bytes
-        )
-        each_growth(
-            refuser,
-            f"apply, {name}",
-            "apply",
-            clients,
-            script.bytes,
-            answers(replies),
-            4,
-            ["apply NoMemory"],
-        )
-        taken = ["open NoMemory", "take NoMemory", "take Unpublished behind"] + [
-            "answer NoMemory"
-        ] * (name != "evictions")
-        each_growth(
-            refuser,
-            f"open, take and answer, {name}",
-            "take",
-            clients,
-            script.bytes,
-            answers(replies + history),
-            20,
-            taken,
-        )
-        offered = [
-            "open NoMemory",
-            "service NoMemory",
-            "enter NoMemory",
-            "run NoMemory",
-            "offered_by NoMemory",
-        ]
-        each_growth(
-            refuser,
-            f"offers and a server, {name}",
-            "offer",
-            clients,
-            script.bytes,
-            offers_stand(script.pairs, clients),
-            30,
-            offered,
-        )
-        served(refuser, name, script, clients)
-    for name, script in ("the rows", rows()), ("evictions", evictions()):
-        replies, history = right(["run", clients], script.bytes), right(
-            ["dump", clients], script.bytes
-        )
-        each_growth(
-            refuser,
-            f"calls next to a server, {name}",
-            "call",
-            clients,
-            script.bytes,
-            calls_answer(replies, history),
-            30,
-            ["enter NoMemory", "join NoThread"],
-        )
+SCRIPTS = {"the rows": rows, "the broken chains": chains, "evictions": evictions}
 
 
-def storms(refuser):
+@pytest.mark.parametrize("name", SCRIPTS)
+def test_growth(refuser, name):
+    clients, script = 2, SCRIPTS[name]()
+    replies, history = right(["run", clients], script.bytes), right(["dump", clients], script.bytes)
+    each_growth(
+        refuser,
+        f"apply, {name}",
+        "apply",
+        clients,
+        script.bytes,
+        answers(replies),
+        4,
+        ["apply NoMemory"],
+    )
+    taken = ["open NoMemory", "take NoMemory", "take Unpublished behind"] + ["answer NoMemory"] * (
+        name != "evictions"
+    )
+    each_growth(
+        refuser,
+        f"open, take and answer, {name}",
+        "take",
+        clients,
+        script.bytes,
+        answers(replies + history),
+        20,
+        taken,
+    )
+    offered = [
+        "open NoMemory",
+        "service NoMemory",
+        "enter NoMemory",
+        "run NoMemory",
+        "offered_by NoMemory",
+    ]
+    each_growth(
+        refuser,
+        f"offers and a server, {name}",
+        "offer",
+        clients,
+        script.bytes,
+        offers_stand(script.pairs, clients),
+        30,
+        offered,
+    )
+    served(refuser, name, script, clients)
+
+
+@pytest.mark.parametrize("name", ["the rows", "evictions"])
+def test_growth_next_to_a_server(refuser, name):
+    clients, script = 2, SCRIPTS[name]()
+    replies, history = right(["run", clients], script.bytes), right(["dump", clients], script.bytes)
+    each_growth(
+        refuser,
+        f"calls next to a server, {name}",
+        "call",
+        clients,
+        script.bytes,
+        calls_answer(replies, history),
+        30,
+        ["enter NoMemory", "join NoThread"],
+    )
+
+
+def test_storm(refuser):
     """A storm with each allocation refused in turn: its four lines, or NoMemory, or a client that
     gave up, and all memory given back."""
     words = ["storm", 2, 3]
@@ -447,7 +445,7 @@ def storms(refuser):
     case(
         "storm 2 3",
         "; ".join(whys[:3]),
-        f"{sum(counts.values())} allocations refused: {told(counts)}",
+        f"{sum(counts.values())} allocations refused: {shown(counts)}",
     )
 
 
@@ -598,12 +596,12 @@ def each_growth_of_tbd(refuser, words, script, judge, new, least):
             os.unlink(new)
     if not sum(counts.values()) or refuser.every == 1 and counts["NoMemory"] < least:
         whys.append(f"only {counts['NoMemory']} refusals were reported")
-    case(f"tbd {words[0]}", "; ".join(whys[:3]), f"allocations refused: {told(counts)}")
+    case(f"tbd {words[0]}", "; ".join(whys[:3]), f"allocations refused: {shown(counts)}")
 
 
-def ledgers(refuser, folder):
+def test_ledgers(refuser, tmp_path):
     """A ledger in a file, where memory is refused."""
-    pairs, file, new = rows().pairs, f"{folder}/kept.tbk", f"{folder}/new.tbk"
+    pairs, file, new = rows().pairs, f"{tmp_path}/kept.tbk", f"{tmp_path}/new.tbk"
     written, histories = beginnings(["run", 2], pairs), beginnings(["dump", 2], pairs)
     script = b"".join(pairs)
     each_growth_of_tbd(
@@ -628,12 +626,12 @@ def ledgers(refuser, folder):
         case("the file is as before", "" if it.read() == before else "another file")
 
 
-def devices(refuser):
+def forms():
     script = rows()
     starts = [0] + ends(script.pairs)
     head, entries = dumped(script.bytes, 2)
     dump = head + b"".join(entries)
-    forms = [
+    return [
         ("run", ["run", 2], script.bytes, beginnings(["run", 2], script.pairs), starts),
         (
             "run by profile 2",
@@ -658,46 +656,36 @@ def devices(refuser):
             [16] + ends(entries, 16),
         ),
     ]
-    for name, words, source, written, begins in forms:
-        each_read(refuser, f"{name}, each read fails", words, source, written, begins)
-        for kind, how in ("write", "fails"), ("stall", "takes nothing"):
-            each_write(refuser, f"{name}, each write {how}", words, source, kind, written[-1])
-            each_write(
-                refuser,
-                f"{name}, each write {how} in a conversation",
-                words,
-                source,
-                kind,
-                written[-1],
-                read=MOST,
-            )
-            writes_stop(
-                refuser, f"{name}, each write {how} from one on", words, source, kind, written[-1]
-            )
-            writes_stop(
-                refuser,
-                f"{name}, each write {how} from one on in a conversation",
-                words,
-                source,
-                kind,
-                written[-1],
-                read=MOST,
-            )
 
 
-def main():
-    parser = tried.arguments(__doc__)
-    parser.add_argument("--every", metavar="N", type=tried.count, default=1)
-    every = parser.parse_args().every
-    tried.built(PROGRAM, AGAIN, KEEPER)
-    with tempfile.TemporaryDirectory() as folder:
-        refuser = Refuser(folder, every)
-        growths(refuser)
-        storms(refuser)
-        ledgers(refuser, folder)
-        devices(refuser)
-    return tried.status()
+FORMS = ["run", "run by profile 2", "dump", "dump with a mark", "replay"]
 
 
-if __name__ == "__main__":
-    tried.main(main)
+@pytest.mark.parametrize("form", FORMS)
+def test_devices(refuser, form):
+    (found,) = (it for it in forms() if it[0] == form)
+    name, words, source, written, begins = found
+    each_read(refuser, f"{name}, each read fails", words, source, written, begins)
+    for kind, how in ("write", "fails"), ("stall", "takes nothing"):
+        each_write(refuser, f"{name}, each write {how}", words, source, kind, written[-1])
+        each_write(
+            refuser,
+            f"{name}, each write {how} in a conversation",
+            words,
+            source,
+            kind,
+            written[-1],
+            read=MOST,
+        )
+        writes_stop(
+            refuser, f"{name}, each write {how} from one on", words, source, kind, written[-1]
+        )
+        writes_stop(
+            refuser,
+            f"{name}, each write {how} from one on in a conversation",
+            words,
+            source,
+            kind,
+            written[-1],
+            read=MOST,
+        )

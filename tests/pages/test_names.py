@@ -1,59 +1,42 @@
-#!/usr/bin/env python3
-"""Checks what pages say of the code, as far as a search can tell.
+"""What pages say of the code is there, as far as a search can say.
 
 - Each Rust example of a page CALLING.md is there word for word, but for its imports, in a crate
-  that CI proves.
+  that the gate proves.
 - The head of each crate's lib.rt or main.rt lists the modules of that crate, all of them and no
-  other; where it lists those of a module, these too. So does the head of a module that lists any.
+  other; if it lists those of a module, these too. So does the head of a module that lists any.
 - Each name that a walk of docs/work/ARCHITECTURE.md gives as `module::function` or `Type::call` is
-  there, in the crate that comes before it; so is each file that docs/work/ARCHITECTURE.md names,
-  with the names in brackets behind it, or before it as `name of` it.
+  in the crate that comes before it; so is each file that the page names, with the names in brackets
+  after it, or before it as `name of` it.
 - Each definition that docs/trust/BELIEVE.md lists is in the file that it names.
-- Each file that a page names by its path from the top is there, but for what is built; and each
-  script of checks/ and bench/ that a page names may be run as it is written there.
-- So may each file that begins with #!.
-- Each section that is named behind a page, as docs/use/CLIENTS.md, Clocks, is one of that page.
+- Each file that a page names by its path from the top is there, except what is built.
+- Each file that begins with #! may be run.
 - Each option of a program that users start is on a page of docs/use/.
-- The numbers of the conformance kit's scenarios and of the wrong clients are those that are there.
-- Each name that docs/work/GLOSSARY.md gives a word in the code is in the sources, the
-  definitions or the Python client, and where it gives a crate with the name, there.
-
-Usage: checks/pages.py. Ends in 'N passed, 0 failed'.
+- Each name that docs/work/GLOSSARY.md gives a word in the code is in the sources, the definitions
+  or the Python client, and if it gives a crate with the name, there.
 """
 
 import functools
-import json
 import os
 import pathlib
 import re
-import sys
 
-sys.path.append(os.path.join(os.path.dirname(os.path.abspath(__file__)), "..", "tools"))
+import pytest
+import repository
 
-import repository  # noqa: E402
-import tried  # noqa: E402
+from ..conftest import ROOT
 
-ROOT = pathlib.Path(__file__).resolve().parent.parent
 CRATES = ROOT / "crates"
 BLOCK = re.compile(r"```rust\n(.*?)```", re.S)
 NAME = re.compile(r"`([A-Za-z_]+(?:::[A-Za-z_]+)+)`|\b(tb_\w+|avl_tree|tbs|tbd)\b")
 PATH = re.compile(
-    r"(?<![\w/.*])((?:docs|checks|bench|clients|embed|crates|examples|tables)/[\w./-]*\w)(?![\w*/])"
+    r"(?<![\w/.*])((?:docs|apps|checks|bench|clients|crates|packaging|tables|tests|tools)/"
+    r"[\w./-]*\w)(?![\w*/])"
 )
 # Of a folder out/, and what a page says may not be there.
-ABSENT = re.compile(r"/out(?:/|$)|^tools/mutants\.py$|^crates/NAME")
+ABSENT = re.compile(r"/out(?:/|$)|^crates/NAME")
 FILE = re.compile(r"`([\w./-]+\.(?:antt|rt|py|rs|h|md|txt))`")
-COMMAND = re.compile(r"(?:checks|bench)/\w+\.py")
-SECTION = re.compile(r'(docs/[\w/]+\.md), "?([A-Z][a-z]+(?: [a-z]+)*)(?=["),]| \|)')
 OPTION = re.compile(r"(?<![\w-])--[a-z][a-z-]*")
 STRING = re.compile(r'"(--[a-z][a-z-]*)"')
-# The wrong clients of each language.
-WRONG = (
-    "clients/conformance/wrong_clients.py",
-    "clients/go/wrong_clients.py",
-    "clients/java/wrong_clients.py",
-    "clients/node/wrong-clients.js",
-)
 # Where the options of the programs that users start are.
 OPTIONS = (
     "crates/*/src/help.rt",
@@ -193,12 +176,9 @@ def paths():
     pages = ("*.md", "docs/**/*.md", "clients/**/*.md", "crates/*/CALLING.md")
     for page in sorted(it for pattern in pages for it in ROOT.glob(pattern)):
         for path in sorted(set(PATH.findall(page.read_text()))):
-            if not ABSENT.search(path):
+            if not ABSENT.search(path) and not (page.parent / path).exists():
                 there = (ROOT / path).exists()
                 yield page.relative_to(ROOT), None if there else f"{path} is not there"
-                if there and COMMAND.fullmatch(path):
-                    runs = os.access(ROOT / path, os.X_OK)
-                    yield page.relative_to(ROOT), None if runs else f"{path} may not be run"
 
 
 def scripts():
@@ -211,15 +191,6 @@ def scripts():
             yield name, None if runs else "begins with #!, and may not be run"
 
 
-def sections():
-    """Each section that a file names behind a page, where that page has none of this name."""
-    for name in repository.files(ROOT):
-        if name.endswith((".md", ".py")):
-            for page, section in SECTION.findall((ROOT / name).read_text()):
-                found = re.search(rf"^##+ {section}", (ROOT / page).read_text(), re.M)
-                yield name, None if found else f"{page} has no section {section}"
-
-
 def options():
     """Each option of a program, where no page of docs/use/ names it."""
     pages = [page.read_text() for page in ROOT.glob("docs/use/*.md")]
@@ -229,34 +200,6 @@ def options():
         for option in sorted({*words.findall(path.read_text())} - named):
             yield path.relative_to(ROOT), f"{option} is on no page of docs/use/"
         yield path.relative_to(ROOT), None
-
-
-def wrong_clients(path: str) -> int:
-    """How many wrong clients a script has."""
-    listed = re.search(r"^(?:const )?WRONG = \{$(.*?)^\}", (ROOT / path).read_text(), re.S | re.M)
-    return len(re.findall(r'^ +"[^"\n]+": [(\[]', listed[1], re.M)) if listed else 0
-
-
-def counted():
-    """The numbers of scenarios and of wrong clients, where a page gives others."""
-    groups = {
-        path.stem: len(json.loads(path.read_text()))
-        for path in ROOT.glob("clients/conformance/scenarios/*.json")
-    }
-    count, limits = sum(groups.values()) - groups["begins"], groups["cancel"]
-    python, go, java, node = map(wrong_clients, WRONG)
-    said = (
-        ("docs/trust/TESTED.md", f"{count} scenarios ({count - limits} in Python)"),
-        ("docs/trust/TESTED.md", f"{python} wrong ones in Python, {go} in Go, {java} in Java"),
-        ("docs/trust/TESTED.md", f"in Java, {node} in Node"),
-        ("docs/use/CLIENTS.md", f"# {count} scenarios"),
-        ("docs/use/CLIENTS.md", f"| {count - limits} of {count}; {limits} are of a limit"),
-        ("docs/use/CLIENTS.md", 3 * f" | {count} of {count}"),
-        ("clients/python/README.md", f"the conformance kit: {count} scenarios"),
-    )
-    for page, text in said:
-        there = text in (ROOT / page).read_text()
-        yield page, None if there else f"it does not say '{text}'"
 
 
 def believed():
@@ -326,21 +269,15 @@ CHECKS = (
     named_files,
     paths,
     scripts,
-    sections,
     options,
-    counted,
     believed,
     glossed,
 )
 
 
-def main() -> int:
-    tried.arguments(__doc__).parse_args()
-    for check in CHECKS:
-        for place, wrong in check():
-            tried.case(place, wrong is None, wrong, quietly=True)
-    return tried.status()
-
-
-if __name__ == "__main__":
-    tried.main(main)
+@pytest.mark.quick
+@pytest.mark.parametrize("check", CHECKS, ids=lambda it: it.__name__)
+def test_what_pages_say(check):
+    cases = list(check())
+    assert cases
+    assert [f"{place}: {wrong}" for place, wrong in cases if wrong] == []

@@ -1,23 +1,14 @@
-#!/usr/bin/env python3
 """Compares the numbers, names and layouts of the definitions in specs/ with those of
-clients/embed/tb_embed.h, clients/embed/rust/tb_embed.rs, the client in Python and docs/use/FORMATS.md: each has
-just what the definitions have. Needs no library.
+clients/embed/tb_embed.h, clients/embed/rust/tb_embed.rs, the client in Python and
+docs/use/FORMATS.md: each has just what the definitions have. Needs no library."""
 
-    checks/embed/names.py
-
-Prints a line for each comparison, and 'N passed, M failed'. checks/embed.py does the same among
-other things.
-"""
 import os
 import re
 import subprocess
 import sys
 
 TOP = os.path.dirname(os.path.dirname(os.path.dirname(os.path.abspath(__file__))))
-sys.dont_write_bytecode = True
-sys.path[:0] = [f"{TOP}/checks", f"{TOP}/tools", f"{TOP}/clients/embed/python", f"{TOP}/clients/python/src"]
-
-import tried  # noqa: E402
+sys.path[:0] = [f"{TOP}/clients/embed/python", f"{TOP}/clients/python/src"]
 
 # Each kind: the file of its definitions with the words for the number and the text, the enum and
 # the prefix in C, the name in Rust and in Python.
@@ -233,7 +224,7 @@ def asserted(what, lines):
         ['#include "tb_embed.h"', *(f'TB_ASSERT({it}, "{it}");' for it in lines), ""]
     )
     ran = subprocess.run(
-        ["cc", "-std=c11", "-fsyntax-only", "-x", "c", f"-I{TOP}/embed", "-"],
+        ["cc", "-std=c11", "-fsyntax-only", "-x", "c", f"-I{TOP}/clients/embed", "-"],
         input=source.encode(),
         capture_output=True,
     )
@@ -439,14 +430,3 @@ def in_pages(page):
         {number: it for it, number in numbers(spec("Faults"), "fault_number").items()},
         faults,
     )
-
-
-def main():
-    tried.arguments(__doc__).parse_args()
-    for what, holds, why in comparisons():
-        tried.case(what, holds, "" if holds else why)
-    return tried.status()
-
-
-if __name__ == "__main__":
-    tried.main(main)
