@@ -31,9 +31,7 @@ LONGEST = 3600 * tried.LONGER  # seconds of a load, of which each takes minutes
 
 
 def is_newer(program, sources):
-    return program.exists() and all(
-        it.stat().st_mtime < program.stat().st_mtime for it in sources
-    )
+    return program.exists() and all(it.stat().st_mtime < program.stat().st_mtime for it in sources)
 
 
 def build(name, folder):

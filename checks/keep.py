@@ -34,12 +34,25 @@ import tried  # noqa: E402
 ROOT = os.path.dirname(os.path.dirname(os.path.abspath(__file__)))
 sys.path.insert(0, os.path.join(ROOT, "clients", "python", "src"))
 
-from tb_client import HEADER, Account, Operation, Reply, Status, Transfer, reply_length, request_frame  # noqa: E402
+from tb_client import (
+    HEADER,
+    Account,
+    Operation,
+    Reply,
+    Status,
+    Transfer,
+    reply_length,
+    request_frame,
+)  # noqa: E402
 
 CLIENTS = 24
-SECONDS = tried.from_environment("KEEP_SECONDS", "20", int)  # a reply, an end and a check that take longer are missing
+SECONDS = tried.from_environment(
+    "KEEP_SECONDS", "20", int
+)  # a reply, an end and a check that take longer are missing
 CASH, SALES = 1, 2
-STEP = tried.from_environment("KEEP_STEP", "64", int)  # the megabytes of a file that are read between two reports
+STEP = tried.from_environment(
+    "KEEP_STEP", "64", int
+)  # the megabytes of a file that are read between two reports
 EINTR, EIO, ENOSPC = 4, 5, 28
 
 
@@ -97,8 +110,16 @@ class Client:
                 self.frame = request_frame(self.number, 0, 0, Operation.register)
             else:
                 self.request += 1
-                transfer = Transfer(self.number << 32 | self.request, CASH, SALES, 1, ledger=700, code=10)
-                self.frame = request_frame(self.number, self.session, self.request, Operation.create_transfers, transfer.to_bytes())
+                transfer = Transfer(
+                    self.number << 32 | self.request, CASH, SALES, 1, ledger=700, code=10
+                )
+                self.frame = request_frame(
+                    self.number,
+                    self.session,
+                    self.request,
+                    Operation.create_transfers,
+                    transfer.to_bytes(),
+                )
         return self.frame
 
     def take(self, reply):
@@ -135,7 +156,13 @@ class Ledger:
             env.update(LD_PRELOAD=shim, KEEP_FILE=self.file, KEEP_FAULT=fault or "")
             if log:
                 env["KEEP_LOG"] = log
-        return subprocess.Popen([self.tbd, "run", self.file, "64"], stdin=subprocess.PIPE, stdout=subprocess.PIPE, stderr=subprocess.PIPE, env=env)
+        return subprocess.Popen(
+            [self.tbd, "run", self.file, "64"],
+            stdin=subprocess.PIPE,
+            stdout=subprocess.PIPE,
+            stderr=subprocess.PIPE,
+            env=env,
+        )
 
     def pair(self, frame):
         self.moment += 1
@@ -193,8 +220,13 @@ class Ledger:
         process = self.start()
         self.opener.frame = request_frame(7, 0, 0, Operation.register)
         self.round(process, [self.opener])
-        body = Account(CASH, ledger=700, code=10).to_bytes() + Account(SALES, ledger=700, code=10).to_bytes()
-        self.send(process, [request_frame(7, self.opener.session, 1, Operation.create_accounts, body)])
+        body = (
+            Account(CASH, ledger=700, code=10).to_bytes()
+            + Account(SALES, ledger=700, code=10).to_bytes()
+        )
+        self.send(
+            process, [request_frame(7, self.opener.session, 1, Operation.create_accounts, body)]
+        )
         case("accounts are made", not Reply.from_bytes(self.reply(process)).items)
         process.stdin.close()
         case("status 0 at the end", ended(process) == 0)
@@ -207,15 +239,35 @@ class Ledger:
         for it in self.clients:
             self.again(process, it)
         self.opener.request = 2
-        self.send(process, [request_frame(7, self.opener.session, 2, Operation.lookup_accounts, struct.pack("<QQ", SALES, 0))])
+        self.send(
+            process,
+            [
+                request_frame(
+                    7,
+                    self.opener.session,
+                    2,
+                    Operation.lookup_accounts,
+                    struct.pack("<QQ", SALES, 0),
+                )
+            ],
+        )
         sales = Reply.from_bytes(self.reply(process)).items[0]
         process.stdin.close()
         status = ended(process)
         made = sum(it.made for it in self.clients)
         entries = 3 + sum(it.request + bool(it.session) for it in self.clients)
         told = check(self.tbd, self.file)
-        well = status == 0 and not self.wrong and sales.credits_posted == made and told.get("entries") == entries
-        case(name, well, f"status {status}, {made} acknowledged, {sales.credits_posted} posted, {entries} entries, {told}, {self.wrong[:3]}")
+        well = (
+            status == 0
+            and not self.wrong
+            and sales.credits_posted == made
+            and told.get("entries") == entries
+        )
+        case(
+            name,
+            well,
+            f"status {status}, {made} acknowledged, {sales.credits_posted} posted, {entries} entries, {told}, {self.wrong[:3]}",
+        )
 
 
 def check(tbd, file, shim=None, fault=""):
@@ -223,8 +275,13 @@ def check(tbd, file, shim=None, fault=""):
     env = dict(os.environ)
     if shim:
         env.update(LD_PRELOAD=shim, KEEP_FILE=file, KEEP_FAULT=fault)
-    ran = subprocess.run([tbd, "check", file], capture_output=True, text=True, env=env, timeout=SECONDS)
-    told = {name: int(number) for name, number in re.findall(r"^([a-z_ ]+) (\d+)(?:, .*)?$", ran.stdout, re.M)}
+    ran = subprocess.run(
+        [tbd, "check", file], capture_output=True, text=True, env=env, timeout=SECONDS
+    )
+    told = {
+        name: int(number)
+        for name, number in re.findall(r"^([a-z_ ]+) (\d+)(?:, .*)?$", ran.stdout, re.M)
+    }
     return {"status": ran.returncode, "said": ran.stderr.strip(), **told}
 
 
@@ -250,7 +307,10 @@ def kills(tbd, folder, count, rng):
             except BrokenPipeError:
                 pass
         if (number + 1) % 100 == 0:
-            print(f"{number + 1} kills, {ledger.answered} requests answered, {time.monotonic() - began:.0f} s", flush=True)
+            print(
+                f"{number + 1} kills, {ledger.answered} requests answered, {time.monotonic() - began:.0f} s",
+                flush=True,
+            )
     ledger.settle(f"{count} kills: nothing acknowledged is lost, nothing is twice")
 
 
@@ -267,7 +327,11 @@ def faulty(tbd, folder, shim, fault, status, name):
     except BrokenPipeError:
         pass
     found = ended(process)
-    case(f"{name}: status", found == status, f"{found} for {status}: {process.stderr.read().decode()}")
+    case(
+        f"{name}: status",
+        found == status,
+        f"{found} for {status}: {process.stderr.read().decode()}",
+    )
     ledger.settle(f"{name}: nothing is lost, nothing is twice")
     os.unlink(ledger.file)
 
@@ -281,9 +345,30 @@ def faults(tbd, folder, shim):
         faulty(tbd, folder, shim, f"write {number} {EIO}", 1, f"write {number} fails")
         # The first call is the cut of the opening.
         for part in (0, 1, 7, 100) if number > 1 else ():
-            faulty(tbd, folder, shim, f"torn {number} {part} {EIO}", 1, f"write {number} is cut after {part} bytes")
-            faulty(tbd, folder, shim, f"die {number} {part}", -9, f"killed in write {number} after {part} bytes")
-            faulty(tbd, folder, shim, f"short {number} {part}", 0, f"write {number} takes {part} bytes first")
+            faulty(
+                tbd,
+                folder,
+                shim,
+                f"torn {number} {part} {EIO}",
+                1,
+                f"write {number} is cut after {part} bytes",
+            )
+            faulty(
+                tbd,
+                folder,
+                shim,
+                f"die {number} {part}",
+                -9,
+                f"killed in write {number} after {part} bytes",
+            )
+            faulty(
+                tbd,
+                folder,
+                shim,
+                f"short {number} {part}",
+                0,
+                f"write {number} takes {part} bytes first",
+            )
     for limit in (2000, 5000, 5001, 20000):
         faulty(tbd, folder, shim, f"full {limit}", 8, f"the disk is full at {limit} bytes")
 
@@ -296,16 +381,28 @@ def reads(tbd, folder, shim, data):
     sound = check(tbd, path)
     number = 1
     while (told := check(tbd, path, shim, f"read {number} {EIO}"))["status"]:
-        case(f"read {number} fails: Device", told["status"] == 1 and told["said"] == f"tbd: Device: {path}", told)
-        case(f"read {number} is interrupted: read again", check(tbd, path, shim, f"read {number} {EINTR}") == sound)
+        case(
+            f"read {number} fails: Device",
+            told["status"] == 1 and told["said"] == f"tbd: Device: {path}",
+            told,
+        )
+        case(
+            f"read {number} is interrupted: read again",
+            check(tbd, path, shim, f"read {number} {EINTR}") == sound,
+        )
         number += 1
     case("reads that failed were some", number > 3, f"{number - 1}")
     for count in (1, 7, 100, 4096):
-        case(f"reads that give {count} bytes at most", check(tbd, path, shim, f"few {count}") == sound)
+        case(
+            f"reads that give {count} bytes at most",
+            check(tbd, path, shim, f"few {count}") == sound,
+        )
     for number in (1, 2, 3):
         faulty(tbd, folder, shim, f"read {number} {EIO}", 1, f"read {number} of a start fails")
     for count in (1, 100):
-        faulty(tbd, folder, shim, f"few {count}", 0, f"a start whose reads give {count} bytes at most")
+        faulty(
+            tbd, folder, shim, f"few {count}", 0, f"a start whose reads give {count} bytes at most"
+        )
 
 
 def logged(log):
@@ -326,9 +423,15 @@ def traced(log):
         lines = [line.split(None, 1) for line in file]
     program = next((number for number, said in lines if said.startswith("pwrite64(")), None)
     for number, said in lines:
-        found = re.match(r"(pwrite64|ftruncate|fdatasync|fsync|write\(1,)", said) if number == program else None
+        found = (
+            re.match(r"(pwrite64|ftruncate|fdatasync|fsync|write\(1,)", said)
+            if number == program
+            else None
+        )
         if found:
-            yield {"p": "W", "w": "O"}.get(said[0], "T" if said.startswith("ft") else "S"), '"\\377", 1, ' in said
+            yield {"p": "W", "w": "O"}.get(
+                said[0], "T" if said.startswith("ft") else "S"
+            ), '"\\377", 1, ' in said
 
 
 def told_early(calls):
@@ -360,7 +463,11 @@ def order(tbd, folder, shim, fault, name):
 
 def orders(tbd, folder, shim):
     early, told = order(tbd, folder, shim, None, "order")
-    case("each reply comes behind the sync of its entry", early == 0 and told >= 20, f"{early} of {told}")
+    case(
+        "each reply comes behind the sync of its entry",
+        early == 0 and told >= 20,
+        f"{early} of {told}",
+    )
     for fault in ("nosync", "early 1"):
         early, told = order(tbd, folder, shim, fault, fault.replace(" ", "_"))
         case(f"a control that must be caught: {fault}", early > 0, f"{early} of {told}")
@@ -368,9 +475,24 @@ def orders(tbd, folder, shim):
 
 # Mutants: the program's own body, where nothing is to be caught, one that replies before it commits, and one that does not sync.
 BUILDS = (
-    ("the program as it is", "crates/tb_keep/src/rounds.rt", "keeper.journal.commit()?;", "keeper.journal.commit()?;"),
-    ("replies before it commits", "crates/tb_keep/src/rounds.rt", "keeper.journal.commit()?;", "hand_out(replies, writer)?; keeper.journal.commit()?;"),
-    ("does not sync", "crates/tb_journal/src/journals.rt", "Ok(()) => device.sync(),", "Ok(()) => Ok(()),"),
+    (
+        "the program as it is",
+        "crates/tb_keep/src/rounds.rt",
+        "keeper.journal.commit()?;",
+        "keeper.journal.commit()?;",
+    ),
+    (
+        "replies before it commits",
+        "crates/tb_keep/src/rounds.rt",
+        "keeper.journal.commit()?;",
+        "hand_out(replies, writer)?; keeper.journal.commit()?;",
+    ),
+    (
+        "does not sync",
+        "crates/tb_journal/src/journals.rt",
+        "Ok(()) => device.sync(),",
+        "Ok(()) => Ok(()),",
+    ),
 )
 
 
@@ -394,12 +516,34 @@ def builds(tbd, folder):
             file.write(text.replace(old, new))
         kept = os.path.join(folder, "built.tbk")
         subprocess.run([tbd, "run", kept, "2"], stdin=subprocess.DEVNULL, check=True)
-        words = ["strace", "-f", "-qq", "-s", "4", "-e", "trace=pwrite64,ftruncate,fdatasync,fsync,write", "-o", log, "rt", "try", "--", "run", kept, "2"]
+        words = [
+            "strace",
+            "-f",
+            "-qq",
+            "-s",
+            "4",
+            "-e",
+            "trace=pwrite64,ftruncate,fdatasync,fsync,write",
+            "-o",
+            log,
+            "rt",
+            "try",
+            "--",
+            "run",
+            kept,
+            "2",
+        ]
         with open(f"{ROOT}/examples/first.script", "rb") as script:
-            ran = subprocess.run(words, cwd=f"{copy}/crates/tbd", stdin=script, capture_output=True, check=False)
+            ran = subprocess.run(
+                words, cwd=f"{copy}/crates/tbd", stdin=script, capture_output=True, check=False
+            )
         early, told = told_early(traced(log))
         well = ran.returncode == 0 and told > 0 and (early > 0) == (old != new)
-        case(f"a build: {name}", well, f"status {ran.returncode}, {early} of {told} sent early: {ran.stderr[-500:].decode(errors='replace')}")
+        case(
+            f"a build: {name}",
+            well,
+            f"status {ran.returncode}, {early} of {told} sent early: {ran.stderr[-500:].decode(errors='replace')}",
+        )
         print(f"a build: {name}: {early} of {told} sent early", flush=True)
         with open(f"{copy}/{path}", "w", encoding="utf-8") as file:
             file.write(text)
@@ -440,7 +584,10 @@ WORDS = [
     ("run ledger.tbk 2 3", "run ledger.tbk 2 3: PROFILE is 1 or 2"),
     ("run ledger.tbk", "run ledger.tbk: CLIENTS_MAX is missing, 1 to 64"),
     ("check", "check: FILE is missing"),
-    ("run ledger.tbk 2 1 --reports", "run ledger.tbk 2 1 --reports: only --progress may follow PROFILE"),
+    (
+        "run ledger.tbk 2 1 --reports",
+        "run ledger.tbk 2 1 --reports: only --progress may follow PROFILE",
+    ),
     ("check ledger.tbk 2", "check: too many words"),
     ("serve", "serve: unknown; tbd --help shows the forms"),
 ]
@@ -448,7 +595,16 @@ WORDS = [
 
 def told_of(tbd, folder, words, data=b"", output=subprocess.PIPE, **how):
     """The status of words, what goes to the output, and what is reported."""
-    ran = subprocess.run([tbd, *words], cwd=folder, input=data, stdout=output, stderr=subprocess.PIPE, timeout=SECONDS, check=False, **how)
+    ran = subprocess.run(
+        [tbd, *words],
+        cwd=folder,
+        input=data,
+        stdout=output,
+        stderr=subprocess.PIPE,
+        timeout=SECONDS,
+        check=False,
+        **how,
+    )
     return ran.returncode, ran.stdout, ran.stderr.decode()
 
 
@@ -464,9 +620,15 @@ def told_of_words(tbd, folder):
     told = told_of(tbd, folder, ["check", b"\xff"])
     case("a word that is no text", told == (2, b"", "tbd: Usage: a word is not UTF-8\n"), told)
     told = told_of(tbd, folder, ["check", "a\x1b[2J\n\x9bb"])
-    case("a path with an escape code", told == (1, b"", "tbd: Device: cannot find a?[2J??b\n"), told)
+    case(
+        "a path with an escape code", told == (1, b"", "tbd: Device: cannot find a?[2J??b\n"), told
+    )
     told = told_of(tbd, folder, ["serve\x07"])
-    case("a word with a control character", told == (2, b"", "tbd: Usage: serve?: unknown; tbd --help shows the forms\n"), told)
+    case(
+        "a word with a control character",
+        told == (2, b"", "tbd: Usage: serve?: unknown; tbd --help shows the forms\n"),
+        told,
+    )
     told_of(tbd, folder, ["run", "words.tbk", "3"], pair_of_a_register())
     for form in ("dump", "check"):
         with open("/dev/full", "wb") as full:
@@ -477,17 +639,31 @@ def told_of_words(tbd, folder):
         copy = shutil.copy(tbd, os.path.join(folder, "copy"))
         os.chmod(copy, 0o755)
         told = told_of(copy, folder, ["check", "words.tbk"], user=65534)
-        case("no permission", told == (1, b"", "tbd: Device: no permission to open words.tbk\n"), told)
+        case(
+            "no permission",
+            told == (1, b"", "tbd: Device: no permission to open words.tbk\n"),
+            told,
+        )
 
 
 def lost_replies(tbd, folder):
     """A `run` whose output is lost ends at the first reply, though more input may come."""
     with open("/dev/full", "wb") as full:
-        process = subprocess.Popen([tbd, "run", "lost.tbk", "3"], cwd=folder, stdin=subprocess.PIPE, stdout=full, stderr=subprocess.PIPE)
+        process = subprocess.Popen(
+            [tbd, "run", "lost.tbk", "3"],
+            cwd=folder,
+            stdin=subprocess.PIPE,
+            stdout=full,
+            stderr=subprocess.PIPE,
+        )
     process.stdin.write(pair_of_a_register())
     process.stdin.flush()
     told = ended(process), process.stderr.read()
-    case("lost output of run", told == (1, b"tbd: made lost.tbk\ntbd: Device: standard output\n"), told)
+    case(
+        "lost output of run",
+        told == (1, b"tbd: made lost.tbk\ntbd: Device: standard output\n"),
+        told,
+    )
     process.stdin.close()
 
 
@@ -500,7 +676,16 @@ def told_of_ends(tbd, folder):
     told = check(tbd, os.path.join(folder, "torn.tbk"))
     case("what is reported of torn bytes", told["bytes behind"] == 3, told)
     told = told_of(tbd, folder, ["run", "torn.tbk", "3"])
-    case("torn bytes are reported", told == (0, b"", f"tbd: cut 3 bytes of a batch that was not committed, behind byte {len(data) - 1}\n"), told)
+    case(
+        "torn bytes are reported",
+        told
+        == (
+            0,
+            b"",
+            f"tbd: cut 3 bytes of a batch that was not committed, behind byte {len(data) - 1}\n",
+        ),
+        told,
+    )
     with open(os.path.join(folder, "turned.tbk"), "wb") as file:
         file.write(data[:-2] + bytes([data[-2] ^ 1]) + data[-1:])
     told = told_of(tbd, folder, ["dump", "turned.tbk"])
@@ -516,10 +701,19 @@ def failing_dumps(tbd, folder, shim):
     status = 1
     while status:
         number += 1
-        env = {**os.environ, "LD_PRELOAD": shim, "KEEP_FILE": path, "KEEP_FAULT": f"read {number} {EIO}"}
+        env = {
+            **os.environ,
+            "LD_PRELOAD": shim,
+            "KEEP_FILE": path,
+            "KEEP_FAULT": f"read {number} {EIO}",
+        }
         told = told_of(tbd, folder, ["dump", path], env=env)
         status = told[0]
-        case(f"read {number} of a dump fails", status == 0 or (status, told[2]) == (1, f"tbd: Device: {path}\n"), told)
+        case(
+            f"read {number} of a dump fails",
+            status == 0 or (status, told[2]) == (1, f"tbd: Device: {path}\n"),
+            told,
+        )
     case("a dump whose reads do not fail is whole", told == whole and number > 3, (number, told))
 
 
@@ -527,12 +721,25 @@ def told_by_check(tbd, folder):
     """What is reported of a file that is not there, and of one of each profile, with a register."""
     absent = os.path.join(folder, "absent.tbk")
     told = check(tbd, absent)
-    case("a file that is not there", told["status"] == 1 and absent in told["said"] and not os.path.exists(absent), told)
+    case(
+        "a file that is not there",
+        told["status"] == 1 and absent in told["said"] and not os.path.exists(absent),
+        told,
+    )
     for profile in (1, 2):
         path = os.path.join(folder, f"profile{profile}.tbk")
         told_of(tbd, folder, ["run", path, "3", str(profile)], pair_of_a_register())
         told = check(tbd, path)
-        wanted = {"status": 0, "said": "", "records": 2, "entries": 1, "profile": profile, "clients_max": 3, "last time": 5, "bytes behind": 0}
+        wanted = {
+            "status": 0,
+            "said": "",
+            "records": 2,
+            "entries": 1,
+            "profile": profile,
+            "clients_max": 3,
+            "last time": 5,
+            "bytes behind": 0,
+        }
         case(f"what is reported of profile {profile}", told == wanted, told)
 
 
@@ -578,9 +785,18 @@ def looks(tbd, folder):
     dumps.append(dumped(tbd, folder, ledger.file))
     well = None not in dumps and dumps[0] != dumps[-1]
     case("dumps next to a server", well, [it and len(it) for it in dumps])
-    case("each dump is a prefix of the next", well and all(later.startswith(it) for it, later in zip(dumps, dumps[1:])))
-    case("no dump ends within an entry", well and all(entry_ends(it)[-1] == len(it) for it in dumps))
-    case("checks next to a server", all(it["status"] == 0 and it["said"] == "" for it in told), told[:2])
+    case(
+        "each dump is a prefix of the next",
+        well and all(later.startswith(it) for it, later in zip(dumps, dumps[1:])),
+    )
+    case(
+        "no dump ends within an entry", well and all(entry_ends(it)[-1] == len(it) for it in dumps)
+    )
+    case(
+        "checks next to a server",
+        all(it["status"] == 0 and it["said"] == "" for it in told),
+        told[:2],
+    )
     entries = [it.get("entries", 0) for it in told]
     case("each check finds what the one before found", entries == sorted(entries), entries)
 
@@ -592,8 +808,11 @@ NOBODY = 65534
 def on_a_read_only_mount(tbd, place, wanted):
     """The same on a mount that is read-only for everyone, in a namespace of its own."""
     words = ["unshare", "-rm", "sh", "-c", READ_ONLY, "sh", place]
-    tried_out = [*words, "sh", "-c", "! touch \"$0\"", f"{place}/kept.tbk"]
-    if not shutil.which("unshare") or subprocess.run(tried_out, capture_output=True, check=False).returncode:
+    tried_out = [*words, "sh", "-c", '! touch "$0"', f"{place}/kept.tbk"]
+    if (
+        not shutil.which("unshare")
+        or subprocess.run(tried_out, capture_output=True, check=False).returncode
+    ):
         print("passed over: a read-only mount: none can be made here")
         return
     told = told_of(words[0], place, [*words[1:], tbd, "dump", f"{place}/kept.tbk"])
@@ -608,7 +827,11 @@ def read_only(tbd, folder):
     os.mkdir(place)
     told_of(tbd, place, ["run", "kept.tbk", "3"], pair_of_a_register())
     path = os.path.join(place, "kept.tbk")
-    case("a new file has mode 0600", os.stat(path).st_mode & 0o777 == 0o600, oct(os.stat(path).st_mode))
+    case(
+        "a new file has mode 0600",
+        os.stat(path).st_mode & 0o777 == 0o600,
+        oct(os.stat(path).st_mode),
+    )
     wanted = dumped(tbd, place, "kept.tbk")
     copy, how = shutil.copy(tbd, os.path.join(folder, "tbd_copy")), {}
     os.chmod(copy, 0o755)
@@ -621,11 +844,18 @@ def read_only(tbd, folder):
         if how:
             os.chown(path, owner, owner)
         os.chmod(path, mode)
-        case(f"a dump of a file of mode {mode:o}", wanted and dumped(copy, place, "kept.tbk", **how) == wanted)
+        case(
+            f"a dump of a file of mode {mode:o}",
+            wanted and dumped(copy, place, "kept.tbk", **how) == wanted,
+        )
         told = told_of(copy, place, ["check", "kept.tbk"], **how)
         case(f"a check of a file of mode {mode:o}", told[0] == 0 and told[2] == "", told)
         told = told_of(copy, place, ["run", "kept.tbk", "3"], **how)
-        case(f"a file of mode {mode:o} is not served", told == (1, b"", "tbd: Device: no permission to open kept.tbk\n"), told)
+        case(
+            f"a file of mode {mode:o} is not served",
+            told == (1, b"", "tbd: Device: no permission to open kept.tbk\n"),
+            told,
+        )
     os.chmod(place, 0o755)
     if how:
         os.chown(path, 0, 0)
@@ -640,22 +870,46 @@ def names(tbd, folder):
     os.mkdir(os.path.join(folder, "folder.tbk"))
     for form in (["run", "link.tbk", "3"], ["check", "link.tbk"], ["dump", "link.tbk"]):
         told = told_of(tbd, folder, form)
-        case(f"a link to nothing: {form[0]}", told == (1, b"", "tbd: Device: link.tbk is a link to nothing\n"), told)
-    case("no file is made through a link to nothing", not os.path.exists(os.path.join(folder, "nowhere.tbk")))
+        case(
+            f"a link to nothing: {form[0]}",
+            told == (1, b"", "tbd: Device: link.tbk is a link to nothing\n"),
+            told,
+        )
+    case(
+        "no file is made through a link to nothing",
+        not os.path.exists(os.path.join(folder, "nowhere.tbk")),
+    )
     for name in ("pipe.tbk", "folder.tbk", "/dev/null"):
         for form in (["check", name], ["dump", name], ["run", name, "3"]):
             told = told_of(tbd, folder, form)
-            case(f"no regular file: {' '.join(form)}", told == (1, b"", f"tbd: Device: {name} is no regular file\n"), told)
+            case(
+                f"no regular file: {' '.join(form)}",
+                told == (1, b"", f"tbd: Device: {name} is no regular file\n"),
+                told,
+            )
     for word in ("run", "follow"):
         told = told_of(tbd, folder, [word, "folder.tbk", "3"])
-        case(f"a folder is not served: {word}", told == (1, b"", "tbd: Device: folder.tbk is no regular file\n"), told)
+        case(
+            f"a folder is not served: {word}",
+            told == (1, b"", "tbd: Device: folder.tbk is no regular file\n"),
+            told,
+        )
     os.symlink(os.path.join(folder, "words.tbk"), os.path.join(folder, "good.tbk"))
     told = told_of(tbd, folder, ["check", "good.tbk"])
     case("a link to a file", told[0] == 0, told)
     with open(os.path.join(folder, "dump.tbs"), "wb") as file:
         file.write(dumped(tbd, folder, "words.tbk"))
     told = told_of(tbd, folder, ["dump", "dump.tbs"])
-    case("a dump is no ledger", told == (5, b"", "tbd: NotAJournal: dump.tbs is a dump; tbs replay and telovamish dump read it\n"), told)
+    case(
+        "a dump is no ledger",
+        told
+        == (
+            5,
+            b"",
+            "tbd: NotAJournal: dump.tbs is a dump; tbs replay and telovamish dump read it\n",
+        ),
+        told,
+    )
     told = told_of(tbd, folder, ["run", "words.tbk", "4", "2"])
     line = "tbd: OtherRules: words.tbk was made with CLIENTS_MAX 3 and PROFILE 1, not with CLIENTS_MAX 4 and PROFILE 2\n"
     case("other rules are reported", told == (7, b"", line), told)
@@ -664,7 +918,11 @@ def names(tbd, folder):
 def reported(tbd, folder):
     """Starts that are reported."""
     told = told_of(tbd, folder, ["run", "reported.tbk", "3", "--progress"], pair_of_a_register())
-    case("a start that is reported", (told[0], told[2]) == (0, "tbd: made reported.tbk\ntbd: ready\n"), told)
+    case(
+        "a start that is reported",
+        (told[0], told[2]) == (0, "tbd: made reported.tbk\ntbd: ready\n"),
+        told,
+    )
     told = told_of(tbd, folder, ["run", "reported.tbk", "3"])
     case("a start that is not", told == (0, b"", ""), told)
 
@@ -672,19 +930,38 @@ def reported(tbd, folder):
 def long_starts(tbd, folder):
     """A start over more than so many megabytes: its progress is reported where that is asked for, and else nothing."""
     wrong = Transfer(1, CASH, SALES, 1, ledger=700, code=10).to_bytes() * 8190
-    frames = [request_frame(7, 1, number, Operation.create_transfers, wrong) for number in range(1, STEP + 1)]
+    frames = [
+        request_frame(7, 1, number, Operation.create_transfers, wrong)
+        for number in range(1, STEP + 1)
+    ]
     script = pair_of_a_register() + b"".join(struct.pack("<Q", 5) + it for it in frames)
     path = os.path.join(folder, "long.tbk")
     told = []
     for words, data in ((), script), (("--progress",), b""), ((), b""):
         words = [tbd, "run", "long.tbk", "3", *words]
-        ran = subprocess.run(words, cwd=folder, input=data, stdout=subprocess.DEVNULL, stderr=subprocess.PIPE, timeout=10 * SECONDS, check=False)
+        ran = subprocess.run(
+            words,
+            cwd=folder,
+            input=data,
+            stdout=subprocess.DEVNULL,
+            stderr=subprocess.PIPE,
+            timeout=10 * SECONDS,
+            check=False,
+        )
         told.append((ran.returncode, ran.stderr.decode()))
     length = os.path.getsize(path)
     size = length // 10**6
-    case(f"a file of more than {STEP} MB", told[0] == (0, "tbd: made long.tbk\n") and length > STEP * 10**6, (told[0], length))
+    case(
+        f"a file of more than {STEP} MB",
+        told[0] == (0, "tbd: made long.tbk\n") and length > STEP * 10**6,
+        (told[0], length),
+    )
     lines = rf"tbd: reading long.tbk, 0 of {size} MB\ntbd: reading long.tbk, ({STEP}|{STEP + 1}) of {size} MB\ntbd: ready\n"
-    case("a long start that is reported", told[1][0] == 0 and re.fullmatch(lines, told[1][1]), told[1])
+    case(
+        "a long start that is reported",
+        told[1][0] == 0 and re.fullmatch(lines, told[1][1]),
+        told[1],
+    )
     case("a long start that is not", told[2] == (0, ""), told[2])
     os.unlink(path)
 
@@ -703,12 +980,33 @@ def on_terminals(tbd, folder):
     """What is reported where requests would be typed, and where lines are seen on a terminal."""
     master, slave = terminal()
     os.write(master, b"\x04")  # Ctrl-D
-    ran = subprocess.run([tbd, "run", "typed.tbk", "3"], cwd=folder, stdin=slave, capture_output=True, timeout=SECONDS, check=False)
+    ran = subprocess.run(
+        [tbd, "run", "typed.tbk", "3"],
+        cwd=folder,
+        stdin=slave,
+        capture_output=True,
+        timeout=SECONDS,
+        check=False,
+    )
     lines = b"tbd: standard input is a terminal, and run reads request frames there; telovamish repl and telovamish script take words\ntbd: made typed.tbk\n"
-    case("requests from a terminal", (ran.returncode, ran.stdout, ran.stderr) == (0, b"", lines), ran)
-    ran = subprocess.run([tbd, "run", "seen.tbk", "3"], cwd=folder, stdin=subprocess.DEVNULL, stdout=subprocess.PIPE, stderr=slave, timeout=SECONDS, check=False)
+    case(
+        "requests from a terminal", (ran.returncode, ran.stdout, ran.stderr) == (0, b"", lines), ran
+    )
+    ran = subprocess.run(
+        [tbd, "run", "seen.tbk", "3"],
+        cwd=folder,
+        stdin=subprocess.DEVNULL,
+        stdout=subprocess.PIPE,
+        stderr=slave,
+        timeout=SECONDS,
+        check=False,
+    )
     shown = os.read(master, 4096) if select.select([master], [], [], SECONDS)[0] else b""
-    case("a start that is seen on a terminal", (ran.returncode, shown) == (0, b"tbd: made seen.tbk\ntbd: ready\n"), ran)
+    case(
+        "a start that is seen on a terminal",
+        (ran.returncode, shown) == (0, b"tbd: made seen.tbk\ntbd: ready\n"),
+        ran,
+    )
     os.close(slave)
     os.close(master)
 
@@ -718,7 +1016,13 @@ def told_at_once(tbd, folder):
     ours, theirs = socket.socketpair(socket.AF_UNIX, socket.SOCK_SEQPACKET)
     with ours:
         with theirs:
-            subprocess.run([tbd, "check", "absent.tbk"], cwd=folder, stderr=theirs, timeout=SECONDS, check=False)
+            subprocess.run(
+                [tbd, "check", "absent.tbk"],
+                cwd=folder,
+                stderr=theirs,
+                timeout=SECONDS,
+                check=False,
+            )
         said = ours.recv(4096)
     case("a line goes out at once", said == b"tbd: Device: cannot find absent.tbk\n", said)
 
@@ -749,8 +1053,14 @@ def more_of(process, count):
 
 def followers(tbd, folder, path, after):
     """A dump of a file that goes on, with a head and without one."""
-    words = [[tbd, "dump", path, "--follow"], [tbd, "dump", path, "--after", str(after), "--follow"]]
-    going = [subprocess.Popen(it, cwd=folder, stdout=subprocess.PIPE, stderr=subprocess.PIPE) for it in words]
+    words = [
+        [tbd, "dump", path, "--follow"],
+        [tbd, "dump", path, "--after", str(after), "--follow"],
+    ]
+    going = [
+        subprocess.Popen(it, cwd=folder, stdout=subprocess.PIPE, stderr=subprocess.PIPE)
+        for it in words
+    ]
     for it in going:
         atexit.register(it.kill)  # where the script ends before them
     return going
@@ -784,12 +1094,20 @@ def follows(tbd, folder):
         follower.terminate()
         case(f"{name}: ends by SIGTERM", ended(follower) == -15, follower.returncode)
     told = told_of(tbd, folder, ["dump", ledger.file, "--after", str(after)])
-    case("--after: the later entries without a head", told == (0, wanted[1], ""), (told[0], len(told[1]), told[2]))
+    case(
+        "--after: the later entries without a head",
+        told == (0, wanted[1], ""),
+        (told[0], len(told[1]), told[2]),
+    )
     told = told_of(tbd, folder, ["dump", ledger.file, "--after", str(len(ends))])
     case("--after a commit that is to come", told == (0, b"", ""), told)
     with open("/dev/full", "wb") as full:
         told = told_of(tbd, folder, ["dump", ledger.file, "--follow"], output=full)
-    case("--follow ends at a write that fails", told == (1, None, "tbd: Device: standard output\n"), told)
+    case(
+        "--follow ends at a write that fails",
+        told == (1, None, "tbd: Device: standard output\n"),
+        told,
+    )
     closed_pipe(tbd, folder, ledger)
     shorter_file(tbd, folder, ledger)
 
@@ -859,14 +1177,28 @@ def sound_copies(tbd, folder, data):
     entries = len(entry_ends(dump)) - 1
     for form in ("salvage", "backup"):
         for torn in (b"", b"\0\2\0"):
-            path, new = os.path.join(folder, "torn.tbk"), os.path.join(folder, f"{form}{len(torn)}.tbk")
+            path, new = os.path.join(folder, "torn.tbk"), os.path.join(
+                folder, f"{form}{len(torn)}.tbk"
+            )
             with open(path, "wb") as file:
                 file.write(data + torn)
             (status, said, line), kept = copied(tbd, form, path, new)
             behind = f"bytes behind {len(torn)}{', not committed yet or torn' if torn else ''}\n"
-            well = (status, line) == (0, "") and said.startswith(f"entries {entries}\n".encode()) and said.endswith(behind.encode())
-            case(f"{form} of a file with {len(torn)} torn bytes", well and kept == dump, (status, said, line))
-            case(f"{form}: mode 0600", os.stat(new).st_mode & 0o777 == 0o600, oct(os.stat(new).st_mode))
+            well = (
+                (status, line) == (0, "")
+                and said.startswith(f"entries {entries}\n".encode())
+                and said.endswith(behind.encode())
+            )
+            case(
+                f"{form} of a file with {len(torn)} torn bytes",
+                well and kept == dump,
+                (status, said, line),
+            )
+            case(
+                f"{form}: mode 0600",
+                os.stat(new).st_mode & 0o777 == 0o600,
+                oct(os.stat(new).st_mode),
+            )
             told = told_of(tbd, folder, ["run", new, "64"])
             case(f"{form}: it can be served", told == (0, b"", ""), told)
 
@@ -891,15 +1223,26 @@ def copies_of_no_ledger(tbd, folder):
             (["words.tbk", "words.tbk"], 2, "Usage: words.tbk exists"),
             (["words.tbk", "to_nothing.tbk"], 2, "Usage: to_nothing.tbk exists"),
             (["words.tbk", "nowhere/new.tbk"], 1, "Device: cannot find nowhere/new.tbk"),
-            (["words.tbk", "64"], 2, f"Usage: {form} words.tbk 64: NEW is a number or begins with -; write ./NEW"),
+            (
+                ["words.tbk", "64"],
+                2,
+                f"Usage: {form} words.tbk 64: NEW is a number or begins with -; write ./NEW",
+            ),
             (["words.tbk"], 2, f"Usage: {form} words.tbk: NEW is missing"),
             (["words.tbk", "new.tbk", "more"], 2, f"Usage: {form}: too many words"),
         ):
             told = told_of(tbd, folder, [form, *words])
             lines = told[2].splitlines()
-            well = told[:2] == (status, b"") and len(lines) == 1 and lines[0].startswith(f"tbd: {line}")
+            well = (
+                told[:2] == (status, b"")
+                and len(lines) == 1
+                and lines[0].startswith(f"tbd: {line}")
+            )
             case(f"{form} {' '.join(words)}", well, told)
-            case(f"{form} {' '.join(words)}: nothing is made", not os.path.exists(os.path.join(folder, "new.tbk")) and not os.path.exists(target))
+            case(
+                f"{form} {' '.join(words)}: nothing is made",
+                not os.path.exists(os.path.join(folder, "new.tbk")) and not os.path.exists(target),
+            )
     with open(os.path.join(folder, "taken.tbk"), "rb") as file:
         case("a file that exists is not overwritten", file.read() == b"another file")
 
@@ -907,7 +1250,9 @@ def copies_of_no_ledger(tbd, folder):
 def copies_on_a_full_disk(tbd, folder, shim, data):
     """A disk that is full amid a copy, and a sync of it that fails, are reported by their status; the file is as before."""
     path = os.path.join(folder, "sound.tbk")
-    for number, (fault, status) in enumerate((("full 2000", 8), ("full 5000", 8), (f"sync 1 {EIO}", 9), (f"write 2 {EIO}", 1))):
+    for number, (fault, status) in enumerate(
+        (("full 2000", 8), ("full 5000", 8), (f"sync 1 {EIO}", 9), (f"write 2 {EIO}", 1))
+    ):
         for form in ("salvage", "backup"):
             new = os.path.join(folder, f"full{number}{form}.tbk")
             env = {**os.environ, "LD_PRELOAD": shim, "KEEP_FILE": new, "KEEP_FAULT": fault}
@@ -926,7 +1271,11 @@ def backups(tbd, folder):
         told = [told_of(tbd, folder, ["backup", ledger.file, new]) for new in news]
     dumps = [dumped(tbd, folder, it) for it in [*news, ledger.file]]
     case("backups next to a server", all((it[0], it[2]) == (0, "") for it in told), told[:2])
-    well = None not in dumps and dumps[0] != dumps[-1] and all(later.startswith(it) for it, later in zip(dumps, dumps[1:]))
+    well = (
+        None not in dumps
+        and dumps[0] != dumps[-1]
+        and all(later.startswith(it) for it, later in zip(dumps, dumps[1:]))
+    )
     case("each backup is a prefix of the next", well, [it and len(it) for it in dumps])
     served = told_of(tbd, folder, ["run", news[-1], "64"])
     case("a backup can be served", served == (0, b"", ""), served)
@@ -939,7 +1288,13 @@ def cuts(tbd, folder, data, latches, entries, count):
         told = look_at(tbd, path, data[:length])
         # A latch at the end, or none, ends the records; any other cut leaves a block that is not whole.
         whole = length in latches or length - 1 in latches
-        if not told["same"] or told["status"] != (0 if whole else 6) or whole and told["entries"] != sum(latch < length for latch in latches[:-1]) - 1 - (length - 1 in latches[:-1]):
+        if (
+            not told["same"]
+            or told["status"] != (0 if whole else 6)
+            or whole
+            and told["entries"]
+            != sum(latch < length for latch in latches[:-1]) - 1 - (length - 1 in latches[:-1])
+        ):
             wrong.append((length, told))
     case(f"cut at each of the last {count} bytes", not wrong, wrong[:2])
 
@@ -962,13 +1317,17 @@ def flips(tbd, folder, data, latches, entries, count, rng):
 
 def main():
     parser = tried.arguments(__doc__)
-    parser.add_argument("--tbd", type=os.path.abspath, default=os.path.join(ROOT, "crates", "tbd", "out", "tbd"))
+    parser.add_argument(
+        "--tbd", type=os.path.abspath, default=os.path.join(ROOT, "crates", "tbd", "out", "tbd")
+    )
     parser.add_argument("--kills", type=tried.count, default=1000)
     parser.add_argument("--flips", type=tried.count, default=10000)
     parser.add_argument("--cuts", type=tried.count, default=1000)
     parser.add_argument("--seed", type=int, default=1)
     parser.add_argument("--builds", action="store_true", help="builds that are wrong, too")
-    parser.add_argument("--texts", action="store_true", help="only whether these builds can be made")
+    parser.add_argument(
+        "--texts", action="store_true", help="only whether these builds can be made"
+    )
     asked = parser.parse_args()
     if asked.texts:
         return try_texts()
@@ -976,7 +1335,20 @@ def main():
     rng = random.Random(asked.seed)
     with tempfile.TemporaryDirectory() as folder:
         shim = os.path.join(folder, "shim.so")
-        subprocess.run(["gcc", "-O1", "-Wall", "-Wextra", "-shared", "-fPIC", "-o", shim, os.path.join(ROOT, "checks", "keep", "shim.c")], check=True)
+        subprocess.run(
+            [
+                "gcc",
+                "-O1",
+                "-Wall",
+                "-Wextra",
+                "-shared",
+                "-fPIC",
+                "-o",
+                shim,
+                os.path.join(ROOT, "checks", "keep", "shim.c"),
+            ],
+            check=True,
+        )
         told_of_words(asked.tbd, folder)
         lost_replies(asked.tbd, folder)
         told_of_ends(asked.tbd, folder)

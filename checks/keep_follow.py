@@ -43,9 +43,7 @@ def pair(moment, session, number, operation, body=b""):
 def contents(count, rng):
     """The pairs of so many entries: client 7 registers, creates two accounts and moves money, and
     sends its last request again now and then."""
-    accounts = b"".join(
-        Account(id=number, ledger=700, code=10).to_bytes() for number in (1, 2)
-    )
+    accounts = b"".join(Account(id=number, ledger=700, code=10).to_bytes() for number in (1, 2))
     yield pair(10, 0, 0, Operation.register) + pair(10, 1, 1, Operation.create_accounts, accounts)
     number, last = 1, b""
     for _ in range(count - 1):
@@ -126,9 +124,7 @@ def kills(options, folder, log, rng):
         position = 0
         for _ in range(3):
             begin = answers[position][0]
-            told, right = killed(
-                options.kept, path, b"".join(items[position:]), whole[begin:], rng
-            )
+            told, right = killed(options.kept, path, b"".join(items[position:]), whole[begin:], rng)
             tried.case("what was sent is right", right, quietly=True)
             answer, said = standing(options.kept, path)
             if not tried.case("a start is answered", answer is not None, said, quietly=True):

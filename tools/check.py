@@ -2,8 +2,8 @@
 """Proves everything and runs the quick tests: `make check`, which CI calls.
 
 Installs the Debian packages of tools/packages.txt that are missing (as root; another user gets
-their names and a failure), and runs `rt ci`. Over the programs that it built come the quick tests
-of tests/ and of telovamish, and the own tests of the Go, Java and Node clients. Each part prints
+their names and a failure), and runs `rt ci`. Over the programs that it built come formats, types,
+the quick tests of tests/ and of telovamish, and the own tests of the four clients. Each part prints
 what it prints. The last line is 'N passed, M failed' over all parts; a part that cannot be run
 counts as one failure.
 """
@@ -65,12 +65,23 @@ def node_counts(text: str) -> Counts:
     return number(r"# pass (\d+)", text), number(r"# fail (\d+)", text)
 
 
+def by_status(_: str) -> Counts:
+    """Of a command whose exit status alone says whether it passed."""
+    return 1, 0
+
+
 PYTEST = [PYTHON, "-m", "pytest", "-q"]
+PACKAGES = ["clients/python", "apps/telovamish", "apps/host", "apps/books"]
 WORDS = [f"tests/test_{it}.py" for it in ("run", "page", "sending", "recorded_texts")]
 PARTS = [
     Part("proofs", ".", ["rt", "ci"], closing_line),
+    Part("format of Python", ".", ["black", "--check", "--quiet", "."], by_status),
+    Part("lint of Python", ".", ["flake8"], by_status),
+    *(Part(f"types of {it}", it, ["mypy"], by_status) for it in PACKAGES),
     Part("quick tests", ".", [*PYTEST, "-m", "quick", "tests"], pytest_counts),
     Part("telovamish", "apps/telovamish", [*PYTEST, *WORDS], pytest_counts),
+    Part("client in Python", "clients/python", [*PYTEST, "-n", "2", "tests"], pytest_counts),
+    Part("format of Go", "clients/go", ["sh", "-c", 'test -z "$(gofmt -l .)"'], by_status),
     Part("Go", "clients/go", ["go", "test", "-v", "./..."], go_counts),
     Part("Java", "clients/java", ["./build.sh", "test"], java_counts),
     Part("Node", "clients/node", ["node", "--test"], node_counts),
@@ -124,7 +135,7 @@ def run(part: Part) -> Counts:
     status = process.wait()
     passed, failed = part.count("".join(lines))
     if (status or not passed) and not failed:
-        failed = 1
+        passed, failed = max(passed - 1, 0), 1
     print(f"== {part.name}: {passed} and {failed} in {time.monotonic() - began:.0f} s", flush=True)
     return passed, failed
 

@@ -17,16 +17,12 @@ def chosen(wrong, given):
     """Those that were asked for, by number and name. Ends the script where there is none, or where
     they were only to be listed."""
     named = {
-        number: name
-        for number, name in enumerate(wrong, 1)
-        if fnmatch.fnmatch(name, given.only)
+        number: name for number, name in enumerate(wrong, 1) if fnmatch.fnmatch(name, given.only)
     }
     if not named:
         sys.exit(f"no wrong client has such a name: {given.only}")
     found = {
-        f"{number} {name}": wrong[name]
-        for number, name in named.items()
-        if number >= given.least
+        f"{number} {name}": wrong[name] for number, name in named.items() if number >= given.least
     }
     if not found:
         sys.exit(f"no wrong client is there from number {given.least} on")

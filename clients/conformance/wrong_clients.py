@@ -250,7 +250,9 @@ WRONG = {
 def edited(folder, edits):
     """A copy of the client with texts in place of others."""
     shutil.copytree(
-        f"{PYTHON}/src/tb_client", f"{folder}/src/tb_client", ignore=shutil.ignore_patterns("__pycache__")
+        f"{PYTHON}/src/tb_client",
+        f"{folder}/src/tb_client",
+        ignore=shutil.ignore_patterns("__pycache__"),
     )
     shutil.copy(f"{PYTHON}/conformance_runner.py", folder)
     for at in range(0, len(edits), 3):

@@ -712,7 +712,16 @@ class Systemd(unittest.TestCase):
             words = f'exec 3<&{place.fileno()}; LISTEN_FDS=1 LISTEN_PID=$$ exec "$@"'
             command = [sys.executable, "-B", LISTENER, "--", *KEEPER]
             listener = subprocess.Popen(
-                ["bash", "-c", words, "bash", *command, "run", os.path.join(folder, "ledger"), "64"],
+                [
+                    "bash",
+                    "-c",
+                    words,
+                    "bash",
+                    *command,
+                    "run",
+                    os.path.join(folder, "ledger"),
+                    "64",
+                ],
                 pass_fds=[place.fileno()],
                 stderr=subprocess.PIPE,
                 text=True,

@@ -523,9 +523,7 @@ def bad_replies():
             begin="registered-once",
         )
     for name, (operation, items, body) in BODIES.items():
-        asked, right = frame_of(1, operation, items), {
-            "ok": NOTHING[operation]
-        }
+        asked, right = frame_of(1, operation, items), {"ok": NOTHING[operation]}
         yield scenario(
             f"bad-body-{name}",
             "The body is no answer to this request: BadReply, and it stays in doubt.",

@@ -489,9 +489,7 @@ def cancelled():
             },
         },
         saved(0, asked),
-        retry(
-            [accept("d"), *served(asked, empty(1, FIND_ACCOUNTS), "d")], {"ok": {"records": []}}
-        ),
+        retry([accept("d"), *served(asked, empty(1, FIND_ACCOUNTS), "d")], {"ok": {"records": []}}),
         saved(1),
         needs=["cancel", "parallel"],
     )
