@@ -1,0 +1,175 @@
+"""Stand-ins for the proved server programs, as processes of a simulated machine.
+
+The ledger is that of stand_in_tbd.py, which has the rules of sessions. `run FILE CLIENTS_MAX` keeps
+its entries on the machine's disk, `run CLIENTS_MAX` keeps nothing.
+"""
+
+from __future__ import annotations
+
+import asyncio
+import signal
+import struct
+from typing import Any, Callable, Optional
+
+from stand_in_tbd import Ledger
+
+REFUSAL = struct.Struct("<QIBB2xIQ4x")
+PAIR = 56  # bytes of a moment and a header
+
+
+def replied(ledger: Ledger, moment: int, frame: bytes) -> tuple[bytes, bool]:
+    """The reply to a request, and whether the request was executed now."""
+    status = ledger.status(frame)
+    if status is None:
+        return ledger.enter(ledger.next_time(moment, frame), frame), True
+    if status == 0:
+        return ledger.sessions[frame[:16]][3], False
+    session, number, operation = struct.unpack_from("<QIB", frame, 16)
+    return frame[:16] + REFUSAL.pack(session, number, operation, status, 0, 0), False
+
+
+class Incoming:
+    """What a process writes, as its parent reads it."""
+
+    def __init__(self) -> None:
+        self.count = 0
+        self.stream = asyncio.StreamReader(limit=1 << 18)
+        self.stream.set_transport(self)  # type: ignore[arg-type]
+        self.take: Callable[[bytes], None] = self.stream.feed_data
+        self.is_open = True
+
+    def come(self, data: bytes) -> None:
+        if self.is_open:
+            self.count += len(data)
+            self.take(data)
+
+    def pause_reading(self) -> None:
+        pass
+
+    def resume_reading(self) -> None:
+        pass
+
+    def written(self) -> int:
+        return self.count
+
+    def close(self) -> None:
+        if self.is_open:
+            self.is_open = False
+            self.stream.feed_eof()
+
+
+class Outgoing:
+    """What a process is written."""
+
+    def __init__(self, taken: Callable[[bytes], None], closed: Callable[[], None]) -> None:
+        self.taken, self.closed = taken, closed
+        self.has_room, self.broke = asyncio.Event(), asyncio.Event()
+        self.has_room.set()
+        self.is_open = True
+
+    def write(self, data: bytes) -> None:
+        if self.is_open:
+            self.taken(data)
+
+    def send(self, *parts: bytes) -> None:
+        for it in parts:
+            self.write(it)
+
+    async def drain(self) -> None:
+        await self.has_room.wait()
+
+    def close(self) -> None:
+        if self.is_open:
+            self.is_open = False
+            self.closed()
+
+    drop = close
+
+
+class Process:
+    """A server's process. Its work is done on its machine, some time after it was asked for."""
+
+    def __init__(self, world: Any, host: Any, words: list[str]) -> None:
+        self.world, self.host, self.words = world, host, [it for it in words if it[:1] != "-"]
+        self.pid = world.next_pid(self)
+        self.output, self.told = Incoming(), Incoming()
+        self.stdout, self.stderr = self.output.stream, self.told.stream
+        self.stdin = Outgoing(self._take, self._close)
+        self.returncode: Optional[int] = None
+        self.at_end: Callable[[], None] = lambda: None
+        self.data, self.is_due = b"", False
+        self.is_ready = self.is_closing = False
+        self.ledger = Ledger(int(self.words[-1]) if self.words[1] == "run" else 64)
+        self.disk = world.disk(host) if len(self.words) > 3 or self.words[1] == "check" else None
+        self._later(self._begin, "start")
+
+    def _later(self, work: Callable[..., None], what: str) -> None:
+        delay = self.world.delay(what)
+        asyncio.get_running_loop().call_later(delay, work, context=self.host.context)
+
+    def _begin(self) -> None:
+        if self.returncode is not None:
+            return
+        for moment, frame in self.disk or ():
+            replied(self.ledger, moment, frame)
+        if self.words[1] == "check":
+            self.output.come(f"last time {self.ledger.time}\n".encode())
+            self.end(0)
+            return
+        if self.disk is not None:
+            self.told.come(b"tbd: ready\n")
+        self.is_ready = True
+        self._work()
+
+    def _take(self, data: bytes) -> None:
+        self.data += data
+        if not self.is_due:
+            self.is_due = True
+            self._later(self._work, "work")
+
+    def _close(self) -> None:
+        self.is_closing = True
+        self._later(self._work, "work")
+
+    def _work(self) -> None:
+        """Answers the pairs that are whole."""
+        self.is_due = False
+        if self.returncode is not None or not self.is_ready:
+            return
+        replies = []
+        while len(self.data) >= PAIR:
+            size = PAIR + int.from_bytes(self.data[40:44], "little")
+            if len(self.data) < size:
+                break
+            moment, frame = int.from_bytes(self.data[:8], "little"), self.data[8:size]
+            self.data = self.data[size:]
+            reply, is_new = replied(self.ledger, moment, frame)
+            if is_new and self.disk is not None:
+                self.disk.append((moment, frame))
+            replies.append(reply)
+        self._write(b"".join(replies))
+        if self.is_closing and not self.data:
+            self.end(0)
+
+    def _write(self, data: bytes) -> None:
+        """The replies come in two pieces, so that some are cut."""
+        at = self.world.drawn.randrange(len(data) + 1) if data else 0
+        self.output.come(data[:at])
+        if data[at:]:
+            self.output.come(data[at:])
+
+    def end(self, status: int) -> None:
+        if self.returncode is None:
+            self.at_end()
+            self.returncode = status
+            self.stdin.is_open = False
+            self.stdin.broke.set()
+            self.output.close()
+            self.told.close()
+
+    def kill(self) -> None:
+        self.end(-signal.SIGKILL)
+
+    def close(self) -> None:
+        self.output.close()
+        self.told.close()
