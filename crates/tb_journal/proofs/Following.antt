@@ -2,7 +2,7 @@
 use Rattle.std.proofs.Common.{◌≡◌, ◌≢◌, ◌⊎◌, inl, inr, ⊎_elim, ℕ, ◌+◌, ◌-◌, ◌≤◌, ◌<◌, ◌==◌, Bool, List, [], ◌∷◌, ◌++◌, length, drop, refl, sym, ◌∙◌, subst, arith, if◌then◌else◌, length-drop}
 use Rattle.std.proofs.lemmas.Grind.{common_steps}
 use Rattle.std.specs.Int.{w32, from_le_bytes}
-use Rattle.tb_journal.specs.Contents.{Front, Ends, Spoiled, Whole, behind_latch, front, contents, records_end}
+use Rattle.tb_journal.specs.Contents.{is_closed, Front, Ends, Spoiled, Whole, behind_latch, front, contents, records_end}
 use Rattle.tb_journal.specs.Reading.{HasAhead, asked}
 use Rattle.tb_journal.specs.private.Hops.{HopsTo, LeadsFrom, HasPiece}
 use Rattle.tb_journal.specs.declared.hops.Hop.{Hop}
@@ -16,25 +16,28 @@ use Rattle.tb_journal.proofs.Growths.{final_later, damaged_final, damage_final, 
 
 -- a whole block is as long as its length says
 
-behind_size : (closed : Bool) (n : ℕ) (f : Front) (r : List ℕ) → (f ≡ Whole r → n ≡ length r) → (if closed then Ends else f) ≡ Whole r → (if closed then 8 else 8 + n) ≡ 8 + length r
+behind_size : (closed : Bool) (n : ℕ) (f : Front) (r : List ℕ) → (f ≡ Whole r → n ≡ length r) → (if closed then Ends else f) ≡ Whole r → (if closed then 11 else 11 + n) ≡ 11 + length r
 behind_size closed n f r count is = grind (arith, common_steps)
 
 never : (b : Bool) (r : List ℕ) → (if b then Ends else Spoiled) ≡ Whole r → ⊥
 never b r is = grind (arith, common_steps)
 
-pub asked_whole : (bytes r : List ℕ) → front bytes ≡ Whole r → asked bytes ≡ 8 + length r
+pub asked_whole : (bytes r : List ℕ) → front bytes ≡ Whole r → asked bytes ≡ 11 + length r
 asked_whole [] r is = absurd (cc)
-asked_whole (g ∷ []) r is = absurd (cc)
-asked_whole (g ∷ a ∷ []) r is = absurd (never (g == 0) r is)
-asked_whole (g ∷ a ∷ b ∷ []) r is = absurd (never (g == 0) r is)
-asked_whole (g ∷ a ∷ b ∷ c ∷ []) r is = absurd (never (g == 0) r is)
-asked_whole (g ∷ a ∷ b ∷ c ∷ s ∷ []) r is = absurd (never (g == 0) r is)
-asked_whole (g ∷ a ∷ b ∷ c ∷ s ∷ t ∷ []) r is = absurd (never (g == 0) r is)
-asked_whole (g ∷ a ∷ b ∷ c ∷ s ∷ t ∷ u ∷ []) r is = absurd (never (g == 0) r is)
-asked_whole (g ∷ a ∷ b ∷ c ∷ s ∷ t ∷ u ∷ v ∷ rest) r is =
+asked_whole (w ∷ []) r is = absurd (cc)
+asked_whole (w ∷ x ∷ []) r is = absurd (cc)
+asked_whole (w ∷ x ∷ y ∷ []) r is = absurd (cc)
+asked_whole (w ∷ x ∷ y ∷ z ∷ []) r is = absurd (never (is_closed w x y z) r is)
+asked_whole (w ∷ x ∷ y ∷ z ∷ a ∷ []) r is = absurd (never (is_closed w x y z) r is)
+asked_whole (w ∷ x ∷ y ∷ z ∷ a ∷ b ∷ []) r is = absurd (never (is_closed w x y z) r is)
+asked_whole (w ∷ x ∷ y ∷ z ∷ a ∷ b ∷ c ∷ []) r is = absurd (never (is_closed w x y z) r is)
+asked_whole (w ∷ x ∷ y ∷ z ∷ a ∷ b ∷ c ∷ s ∷ []) r is = absurd (never (is_closed w x y z) r is)
+asked_whole (w ∷ x ∷ y ∷ z ∷ a ∷ b ∷ c ∷ s ∷ t ∷ []) r is = absurd (never (is_closed w x y z) r is)
+asked_whole (w ∷ x ∷ y ∷ z ∷ a ∷ b ∷ c ∷ s ∷ t ∷ u ∷ []) r is = absurd (never (is_closed w x y z) r is)
+asked_whole (w ∷ x ∷ y ∷ z ∷ a ∷ b ∷ c ∷ s ∷ t ∷ u ∷ v ∷ rest) r is =
     let size = a ∷ b ∷ c ∷ [] in
     let sum = from_le_bytes w32 (s ∷ t ∷ u ∷ v ∷ []) in
-    behind_size (g == 0) (from_le_bytes w32 (size ++ 0 ∷ [])) (behind_latch size sum rest) r (λ whole. (stays_behind size sum rest r whole).count) is
+    behind_size (is_closed w x y z) (from_le_bytes w32 (size ++ 0 ∷ [])) (behind_latch size sum rest) r (λ whole. (stays_behind size sum rest r whole).count) is
 
 -- behind the records that a file begins with
 
@@ -99,13 +102,13 @@ module _ (at : ℕ) (file later : List ℕ) (after : Later file later) (opened :
 pub record IsFollowed (at len : ℕ) (piece : List ℕ) (end : ℕ) (rest : List ℕ) : Type 0 where
   pub begins : at ≤ end
   pub place : end + length rest ≡ at + length piece
-  pub leads : (file later : List ℕ) → HasPiece at file later piece len → LeadsTo at file → LeadsTo end file × HasAhead 8 end file rest
+  pub leads : (file later : List ℕ) → HasPiece at file later piece len → LeadsTo at file → LeadsTo end file × HasAhead 11 end file rest
 
 pub followed_first : (at len : ℕ) (piece : List ℕ) → IsFollowed at len piece at piece
 followed_first at len piece = record { begins = omega arith; place = refl; leads = λ file later has leads. (leads, has.ahead) }
 
 module _ (at len : ℕ) (piece : List ℕ) (end : ℕ) (rest : List ℕ) (followed : IsFollowed at len piece end rest) where
-  module _ (next : ℕ) (hop : (file : List ℕ) → HasAhead 8 end file rest → HopsTo (hops.Further next) end file len) where
+  module _ (next : ℕ) (hop : (file : List ℕ) → HasAhead 11 end file rest → HopsTo (hops.Further next) end file len) where
     leads_to : (file later : List ℕ) → HasPiece at file later piece len → LeadsTo at file → LeadsTo next file
     leads_to file later has leads =
         let before = followed.leads file later has leads in
@@ -113,7 +116,7 @@ module _ (at len : ℕ) (piece : List ℕ) (end : ℕ) (rest : List ℕ) (follow
         subst (λ (k : ℕ). LeadsTo k file) (sym there.1)
         (leads_further end file later has.after there.0 before.0 (omega (arith, there.1, there.2, has.counts)))
 
-    pub followed_next : end < next → 8 ≤ length rest → next - end ≤ length rest - 8 → (behind : List ℕ) → behind ≡ drop (next - end) rest → IsFollowed at len piece next behind
+    pub followed_next : end < next → 11 ≤ length rest → next - end ≤ length rest - 11 → (behind : List ℕ) → behind ≡ drop (next - end) rest → IsFollowed at len piece next behind
     followed_next further some room behind is =
         let k = next - end in
         let long : length (drop k rest) ≡ length rest - k = length-drop k rest in
@@ -132,7 +135,7 @@ module _ (at len : ℕ) (piece : List ℕ) (end : ℕ) (rest : List ℕ) (follow
     pub leads_on : (file later : List ℕ) → HasPiece at file later piece len → LeadsTo at file → LeadsTo next later
     leads_on file later has leads = leads_later next file later (leads_to file later has leads) has.after
 
-  pub leads_from : (hop : Hop) → ((file : List ℕ) → HasAhead 8 end file rest → HopsTo hop end file len)
+  pub leads_from : (hop : Hop) → ((file : List ℕ) → HasAhead 11 end file rest → HopsTo hop end file len)
       → (file later : List ℕ) → HasPiece at file later piece len → LeadsTo at file → LeadsFrom hop file later
   leads_from (hops.Further next) hop file later has leads = leads_on next hop file later has leads
   leads_from (hops.Closed last) hop file later has leads =

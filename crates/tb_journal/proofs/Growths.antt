@@ -1,7 +1,7 @@
 -- What stays of a file that grows while it is read.
 use Rattle.std.proofs.Common.{◌≡◌, inl, inr, ⊎_elim, ℕ, ◌≤◌, List, [], ◌∷◌, ◌++◌, length, take, drop, refl, sym, ◌∙◌, ap, subst, arith}
 use Rattle.std.proofs.lemmas.List.{append-nil, append_assoc, take-take}
-use Rattle.tb_journal.specs.Contents.{Contents, NotAJournal, Damaged, Records, with_records, walk, contents, records_end}
+use Rattle.tb_journal.specs.Contents.{latch_closed, Contents, NotAJournal, Damaged, Records, with_records, walk, contents, records_end}
 use Rattle.tb_journal.specs.Scans.{ScanState, BeginsWith, IsAhead, HasRead}
 use Rattle.tb_journal.specs.Growing.{Extends, LaterThan, Later, Grown}
 use Rattle.tb_journal.specs.Snapshots.{HasDamageBefore, LeadsTo, IsFinal}
@@ -99,7 +99,7 @@ begins_kept records file later begins after = by (contents file) refl after
         shorter_same (records_end records) (records_end whole) later file le after.same
 
 pub begins_later : (records : List (List ℕ)) (file later : List ℕ) → BeginsWith records file → Later file later → BeginsWith records later
-begins_later records file later begins after = ap contents (begins_kept records file later begins after) ∙ begins
+begins_later records file later begins after = ap (λ (l : List ℕ). contents (l ++ latch_closed)) (begins_kept records file later begins after) ∙ begins
 
 -- blocks that lead to an offset stay
 

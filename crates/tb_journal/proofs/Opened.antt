@@ -1,14 +1,14 @@
 -- A journal over a file that was read.
-use Rattle.std.proofs.Common.{rules, ◌≡◌, inr, ◌≤◌, ◌^◌, ℕ, List, length, refl, sym, ap, ◌∙◌, arith, Result, Ok, Err, IfOk, IfErr}
+use Rattle.std.proofs.Common.{rules, ◌≡◌, inr, ◌≤◌, ◌<◌, ◌+◌, ◌^◌, ℕ, true, List, [], length, refl, sym, ap, ◌∙◌, arith, Result, Ok, Err, IfOk, IfErr}
 use Rattle.std.proofs.lemmas.Grind.{common_steps}
 use Rattle.tb_journal.specs.declared.faults.JournalFault.TheVariants as faults
 use Rattle.tb_journal.specs.declared.opening.OpenFault.{OpenFault}
 use Rattle.tb_journal.specs.declared.opening.OpenFault.TheVariants as open_faults
 use Rattle.tb_journal.specs.declared.opening.NotOpened.{NotOpened}
 use Rattle.tb_journal.specs.declared.reading.Extent.{Extent}
-use Rattle.tb_journal.specs.Device.{Disk, LeavesOnly}
+use Rattle.tb_journal.specs.Device.{Disk, IsSettled, LeavesOnly}
 use Rattle.tb_journal.specs.Contents.{Contents, Records, contents, recorded, records_of, records_end}
-use Rattle.tb_journal.specs.Opening.{HasOpenCause, IsAsBefore, StandsForTheSame, IsOfDevice, IsOfExtent, Recovers, RefusesFile}
+use Rattle.tb_journal.specs.Opening.{HasOpenCause, IsAsBefore, StandsForTheSame, IsOfDevice, IsOfExtent, Recovers, RefusesFile, Repairs, IsOpened}
 use Rattle.tb_journal.specs.Reading.{TellsExtent, extent_of}
 use Rattle.tb_journal.specs.Ready.{Kept}
 use Rattle.tb_journal.proofs.Moments.{then, weaker}
@@ -24,7 +24,7 @@ pub record IsTold (found : Contents) (extent : Extent) : Type 0 where
 pub is_told : (found : Contents) (extent : Extent) → extent_of found ≡ Ok extent → IsTold found extent
 is_told found extent is = grind (arith, common_steps)
 
-pub too_long : (disk : Disk) (extent : Extent) → extent_of (contents disk.seen) ≡ Ok extent → 2 ^ 62 ≤ extent.end → HasOpenCause {T = Unit {0}} (Err (open_faults.Device faults.Full)) disk disk
+pub too_long : (disk : Disk) (extent : Extent) → extent_of (contents disk.seen) ≡ Ok extent → 2 ^ 62 < extent.end + 4 → HasOpenCause {T = Unit {0}} (Err (open_faults.Device faults.Full)) disk disk
 too_long disk extent read long =
     let told = is_told (contents disk.seen) extent read in
     record { ok = tt; cause = inr (refl, omega (arith, long, told.end, within disk.seen (recorded disk.seen) told.reads), none_at_once disk) }
@@ -55,3 +55,21 @@ read_then_opened before mid after extent read seen first second = search (rules,
 
     same : (c : List ℕ) → contents c ≡ Records (recorded mid.seen) → StandsForTheSame before c
     same c is = inr (is ∙ ap (λ (f : List ℕ). Records (recorded f)) seen ∙ sym (is_told (contents before.seen) extent read).reads)
+
+-- the journal of a file that was read, behind the cut
+pub opens : {D : Type 0} (disk : D → Disk) (before : Disk) (new : D) (extent : Extent) (done : Unit {0}) (batch : List (List ℕ)) → extent_of (contents before.seen) ≡ Ok extent
+    → Repairs (Ok done) before (disk new) → IsSettled before → batch ≡ []
+    → IsOpened disk before.seen (record { device = new; end = extent.end; count = extent.count; waiting = batch; usable = true })
+opens disk before new extent done batch read repairs settled none =
+    let told = is_told (contents before.seen) extent read in
+    let after = repairs.settled settled in
+    record {
+      reads = told.reads;
+      ready = record {
+        at_rest = record { reads = repairs.ok.0.reads; closed = repairs.ok.0.closed; kept = after.kept; sound = after.sound };
+        ends = told.end ∙ ap records_end (sym repairs.ok.1);
+        counts = told.count ∙ ap length (sym repairs.ok.1);
+      };
+      same = repairs.ok.1;
+      none_waits = none;
+    }

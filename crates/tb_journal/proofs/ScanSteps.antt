@@ -1,17 +1,22 @@
 -- The next step of a scan, by what follows the records that it has read.
-use Rattle.std.proofs.Common.{◌≡◌, inr, ℕ, ◌+◌, ◌-◌, ◌≤◌, ◌^◌, Bool, List, [], ◌∷◌, ◌++◌, length, take, drop, refl, sym, ◌∙◌, ap, subst, arith, length-append, length-drop, length-take, take-append-drop, Err}
+use Rattle.std.specs.List.{starts_with}
+use Rattle.std.specs.Cmp.Lexicographic.{pointwise}
+use Rattle.std.proofs.Common.{true, false, nat_eq, if◌then◌else◌, ⊎_elim, ◌≡◌, inr, ℕ, ◌+◌, ◌-◌, ◌≤◌, ◌^◌, Bool, List, [], ◌∷◌, ◌++◌, length, take, drop, refl, sym, ◌∙◌, ap, subst, arith, length-append, length-drop, length-take, take-append-drop, Err}
 use Rattle.std.proofs.lemmas.Grind.{common_steps}
-use Rattle.std.proofs.lemmas.List.{append-nil, take_all, drop_all, drop-take}
+use Rattle.std.proofs.lemmas.List.{append_assoc, take_at, drop_at, length-take-le, drop-take, take-take}
 use Rattle.tb_journal.specs.declared.faults.JournalFault.TheVariants as faults
 use Rattle.tb_journal.specs.declared.opening.OpenFault.TheVariants as open_faults
 use Rattle.tb_journal.specs.declared.reading.Head.{Head}
 use Rattle.tb_journal.specs.declared.reading.Head.TheVariants as heads
 use Rattle.tb_journal.specs.Device.{Disk}
-use Rattle.tb_journal.specs.Contents.{Front, Ends, Spoiled, Whole, front, Damaged, Records, with_record, with_records, walk, contents, records_end}
+use Rattle.tb_journal.specs.Contents.{magic, NotAJournal, latch_closed, Front, Ends, Spoiled, Whole, front, Damaged, Records, with_record, with_records, walk, contents, records_end}
 use Rattle.tb_journal.specs.Opening.{HasOpenCause}
 use Rattle.tb_journal.specs.Scans.{ScanState, BeginsWith, IsAhead, HasRead}
-use Rattle.tb_journal.specs.Reading.{head_is, FindsHead}
-use Rattle.tb_journal.proofs.BlockWalks.{take_parts, drop_parts, walk-whole, walk-spoiled, is_whole, IsFile, is_file, ended, with_records-Records, with_records-Damaged}
+use Rattle.tb_journal.specs.Reading.{HasAhead, head_is, FindsHead}
+use Rattle.tb_journal.specs.private.Hops.{StartsAs}
+use Rattle.std.proofs.lemmas.Bool.Decides.{Decides-eqb}
+use Rattle.std.proofs.lemmas.Slice.Eq.{slice_eq-Decides}
+use Rattle.tb_journal.proofs.BlockWalks.{take_parts, drop_parts, walk-whole, walk-spoiled, is_whole, IsFile, is_file, begins_long, ended, with_records-Records, with_records-Damaged}
 use Rattle.tb_journal.proofs.Causes.{none_at_once}
 use Rattle.tb_journal.proofs.Committing.{blocks_length-append}
 
@@ -32,14 +37,14 @@ module _ (records : List (List ℕ)) (file : List ℕ) (begins : BeginsWith reco
   abbrev end : ℕ
   end = records_end records
 
-  parts : IsFile (take end file) records
-  parts = is_file (take end file) records begins
+  parts : IsFile (take end file ++ latch_closed) records
+  parts = is_file (take end file ++ latch_closed) records begins
 
   pub end_within : end ≤ length file
-  end_within = omega (arith, parts.within, length-take end file)
+  end_within = begins_long records file begins
 
-  first_whole : take end (take end file) ≡ take end file
-  first_whole = take_all end (take end file) (omega (arith, length-take end file))
+  first_whole : take end (take end file ++ latch_closed) ≡ take end file
+  first_whole = take_at (take end file) latch_closed end (length-take-le end file end_within)
 
   pub goes_on : (others : List ℕ) → contents (take end file ++ others) ≡ with_records records (walk 0 end others)
   goes_on others = ap (λ (l : List ℕ). contents (l ++ others)) (sym first_whole) ∙ parts.goes_on others
@@ -55,14 +60,15 @@ module _ (records : List (List ℕ)) (file : List ℕ) (begins : BeginsWith reco
 
   pub one_more : (r : List ℕ) → front (drop end file) ≡ Whole r → BeginsWith (records ++ r ∷ []) file
   one_more r is =
-      let n = 8 + length r in
+      let n = 11 + length r in
       let rest = take n (drop end file) in
       let whole = is_whole (drop end file) r is in
       let far : records_end (records ++ r ∷ []) ≡ end + n = omega (arith, blocks_length-append records (r ∷ [])) in
-      let here : front rest ≡ Whole r = ap front (sym (append-nil rest)) ∙ whole.stays [] in
-      let nothing : drop n rest ≡ [] = drop_all n rest (omega (arith, length-take n (drop end file))) in
-      let alone : walk 0 end rest ≡ Records (r ∷ []) = walk-whole rest r end here ∙ ap (λ (l : List ℕ). with_record r (walk 0 (end + n) l)) nothing in
-      ap (λ (k : ℕ). contents (take k file)) far ∙ ap contents (take_parts end n file) ∙ goes_on rest
+      let closed = rest ++ latch_closed in
+      let nothing : drop n closed ≡ latch_closed = drop_at rest latch_closed n (length-take-le n (drop end file) whole.within) in
+      let alone : walk 0 end closed ≡ Records (r ∷ []) = walk-whole closed r end (whole.stays latch_closed) ∙ ap (λ (l : List ℕ). with_record r (walk 0 (end + n) l)) nothing in
+      ap (λ (k : ℕ). contents (take k file ++ latch_closed)) far
+      ∙ ap contents (ap (λ (l : List ℕ). l ++ latch_closed) (take_parts end n file) ∙ append_assoc (take end file) rest latch_closed) ∙ goes_on closed
       ∙ ap (with_records records) alone ∙ with_records-Records records (r ∷ [])
 
 -- what is ahead behind a block
@@ -90,18 +96,18 @@ module _ (records : List (List ℕ)) (file : List ℕ) (old : ScanState) (read :
   pub step_spoiled : head ≡ heads.Spoiled → contents file ≡ Damaged old.end
   step_spoiled is = next_damaged records file read.begins (stands (front_spoiled (front ahead) (sym is ∙ told))) ∙ ap Damaged (sym read.end)
 
-  pub step_whole : (len end count : ℕ) (last behind : List ℕ) → head ≡ heads.Whole len → end ≡ old.end + (8 + len) → count ≡ old.count + 1 → last ≡ take len (drop 8 ahead) → behind ≡ drop len (drop 8 ahead) → HasRead (records ++ last ∷ []) file (record { end = end; count = count; last = last; ahead = behind })
+  pub step_whole : (len end count : ℕ) (last behind : List ℕ) → head ≡ heads.Whole len → end ≡ old.end + (11 + len) → count ≡ old.count + 1 → last ≡ take len (drop 11 ahead) → behind ≡ drop len (drop 11 ahead) → HasRead (records ++ last ∷ []) file (record { end = end; count = count; last = last; ahead = behind })
   step_whole len end count last behind is far one taken left =
       let whole = front_whole (front ahead) len (sym is ∙ told) in
       let r = whole.0 in
       let there = is_whole ahead r whole.1 in
-      let same : last ≡ r = taken ∙ ap (λ (n : ℕ). take n (drop 8 ahead)) (sym whole.2) ∙ there.is in
+      let same : last ≡ r = taken ∙ ap (λ (n : ℕ). take n (drop 11 ahead)) (sym whole.2) ∙ there.is in
       let long : length last ≡ len = ap length same ∙ whole.2 in
       record {
         begins = subst (λ (x : List ℕ). BeginsWith (records ++ x ∷ []) file) (sym same) (one_more records file read.begins r (stands whole.1));
         end = omega (arith, far, read.end, long, blocks_length-append records (last ∷ []));
         count = omega (arith, one, read.count, length-append records (last ∷ []));
-        ahead = subst (IsAhead end file) (drop_parts 8 len ahead ∙ sym left) (ahead_behind (8 + len) old.end end file ahead (omega (arith, there.within, whole.2)) far found.same);
+        ahead = subst (IsAhead end file) (drop_parts 11 len ahead ∙ sym left) (ahead_behind (11 + len) old.end end file ahead (omega (arith, there.within, whole.2)) far found.same);
       }
 
 -- a file whose records end too far behind
@@ -111,3 +117,26 @@ too_far disk records scan read long = record {
   ok = tt;
   cause = inr (refl, omega (arith, read.end, long, end_within records disk.seen read.begins), none_at_once disk);
 }
+
+-- a file that begins with other bytes
+
+first_bytes : (file ahead : List ℕ) → HasAhead 8 0 file ahead → take 8 ahead ≡ take 8 file
+first_bytes file ahead has = ⊎_elim
+    (λ enough. ap (take 8) has.same ∙ take-take 8 (length ahead) file enough)
+    (λ whole. ap (take 8) whole) has.enough
+
+pub foreign : (file ahead : List ℕ) → HasAhead 8 0 file ahead → starts_with nat_eq ahead magic ≡ false → contents file ≡ NotAJournal
+foreign file ahead has other =
+    let same : starts_with nat_eq file magic ≡ false = ap (λ (l : List ℕ). pointwise nat_eq magic l) (sym (first_bytes file ahead has)) ∙ other in
+    ap (λ (b : Bool). if b then walk 0 8 (drop 8 file) else NotAJournal) same
+
+-- or as a journal does
+
+begun : (file ahead : List ℕ) → HasAhead 8 0 file ahead → starts_with nat_eq ahead magic ≡ true → BeginsWith [] file
+begun file ahead has is =
+    let first : magic ≡ take 8 file = (slice_eq-Decides Decides-eqb magic (take 8 ahead) (starts_with nat_eq ahead magic) refl).0 is ∙ first_bytes file ahead has in
+    ap (λ (l : List ℕ). contents (l ++ latch_closed)) (sym first)
+
+pub begins_as : (b : Bool) (file ahead : List ℕ) → HasAhead 8 0 file ahead → b ≡ starts_with nat_eq ahead magic → StartsAs b file
+begins_as true file ahead has is = begun file ahead has (sym is)
+begins_as false file ahead has is = foreign file ahead has (sym is)

@@ -1,39 +1,75 @@
 -- What a crash leaves in each step of a commit, a recovery and a creation.
-use Rattle.std.proofs.Common.{rules, ◌≡◌, ◌⊎◌, inl, ℕ, suc, ◌+◌, ◌-◌, ◌≤◌, ◌==◌, Bool, true, false, List, [], ◌∷◌, ◌++◌, length, take, drop, get_or, flat_map, refl, sym, ◌∙◌, ap, arith, length-append, length-drop, append_assoc, take-append-drop, if◌then◌else◌}
+use Rattle.std.proofs.Common.{rules, ◌≡◌, ◌⊎◌, ⊎_elim, inl, inr, ℕ, suc, ◌+◌, ◌-◌, ◌≤◌, ◌==◌, Bool, true, false, List, [], ◌∷◌, ◌++◌, length, take, drop, get_or, flat_map, refl, sym, ◌∙◌, ap, arith, length-append, length-drop, length-take, append_assoc, take-append-drop, if◌then◌else◌}
 use Rattle.std.proofs.lemmas.Grind.{common_steps}
 use Rattle.std.proofs.lemmas.List.{append-nil, take_at, drop_at, take_all, drop_all, drop_more, take-take, length-take-le}
 use Rattle.std.specs.List.{AllByRecursion}
+use Rattle.std.specs.Int.{w32, from_le_bytes}
+use Rattle.std.proofs.lemmas.Bool.{cases_lt}
+use Rattle.tb_journal.specs.Shown.{drop_parts}
 use Rattle.tb_journal.specs.Device.{Torn, Cut, overwritten}
-use Rattle.tb_journal.specs.Contents.{Fits, block, at_rest, Front, Ends, behind_latch, front, Records, joined, skipped, walk, contents, blocks_length, records_end}
-use Rattle.tb_journal.proofs.BlockWalks.{take_parts, IsFile, is_file, with_records-Records, ended}
+use Rattle.tb_journal.specs.Contents.{Fits, latch_closed, latch_open, is_closed, block, at_rest, Front, Ends, Spoiled, Whole, with_record, with_records, behind_latch, front, Records, joined, skipped, walk, contents, blocks_length, records_end}
+use Rattle.tb_journal.proofs.BlockWalks.{take_parts, IsFile, is_file, with_records-Records, ended, ends_closed, latch_there}
 use Rattle.tb_journal.proofs.Blocks.{walk-at_rest, length-blocks}
 
 -- latches
 
 -- a closed latch ends the records, whatever follows it
-pub closed_latch : (latch : ℕ) (behind : List ℕ) → (latch == 0) ≡ true → front (latch ∷ behind) ≡ Ends
-closed_latch latch behind h = grind (arith, common_steps)
+first_choice : (b : Bool) (f : Front) → b ≡ true → (if b then Ends else f) ≡ Ends
+first_choice b f is = grind (arith, common_steps)
+
+other_choice : (b : Bool) (f : Front) → b ≡ false → (if b then Ends else f) ≡ f
+other_choice b f is = grind (arith, common_steps)
+
+-- what is behind an open latch
+abbrev open_front : List ℕ → Front
+open_front (a ∷ b ∷ c ∷ s ∷ t ∷ u ∷ v ∷ rest) = behind_latch (a ∷ b ∷ c ∷ []) (from_le_bytes w32 (s ∷ t ∷ u ∷ v ∷ [])) rest
+open_front short = Spoiled
+
+-- by the latch, and then by what is behind it
+front_is : (w x y z : ℕ) (behind : List ℕ) → front (w ∷ x ∷ y ∷ z ∷ behind) ≡ (if is_closed w x y z then Ends else open_front behind)
+front_is w x y z [] = refl
+front_is w x y z (a ∷ []) = refl
+front_is w x y z (a ∷ b ∷ []) = refl
+front_is w x y z (a ∷ b ∷ c ∷ []) = refl
+front_is w x y z (a ∷ b ∷ c ∷ s ∷ []) = refl
+front_is w x y z (a ∷ b ∷ c ∷ s ∷ t ∷ []) = refl
+front_is w x y z (a ∷ b ∷ c ∷ s ∷ t ∷ u ∷ []) = refl
+front_is w x y z (a ∷ b ∷ c ∷ s ∷ t ∷ u ∷ v ∷ rest) = refl
+
+pub closed_latch : (w x y z : ℕ) (behind : List ℕ) → is_closed w x y z ≡ true → front (w ∷ x ∷ y ∷ z ∷ behind) ≡ Ends
+closed_latch w x y z behind h = front_is w x y z behind ∙ first_choice (is_closed w x y z) (open_front behind) h
+
+pub closed_front : (behind : List ℕ) → front (latch_closed ++ behind) ≡ Ends
+closed_front behind = closed_latch 90 195 150 105 behind refl
 
 -- any other latch is as good as the one that is written
-any_latch : (latch : ℕ) (behind : List ℕ) → (latch == 0) ≡ false → front (latch ∷ behind) ≡ front (255 ∷ behind)
-any_latch latch behind h = grind (arith, common_steps)
+any_latch : (w x y z : ℕ) (behind : List ℕ) → is_closed w x y z ≡ false → front (w ∷ x ∷ y ∷ z ∷ behind) ≡ front (255 ∷ 255 ∷ 255 ∷ 255 ∷ behind)
+any_latch w x y z behind h = front_is w x y z behind ∙ other_choice (is_closed w x y z) (open_front behind) h ∙ sym (front_is 255 255 255 255 behind)
 
-walk-any_latch : (latch at : ℕ) (behind : List ℕ) → (latch == 0) ≡ false → walk 0 at (latch ∷ behind) ≡ walk 0 at (255 ∷ behind)
-walk-any_latch g at behind h = ap (λ (f : Front). joined f at (walk (skipped f) (at + 1) behind)) (any_latch g behind h)
+-- a block is skipped with what is in its latch
+skip_latch : (f : Front) (at w x y p q r : ℕ) (behind : List ℕ)
+    → joined f at (walk (skipped f) (at + 1) (w ∷ x ∷ y ∷ behind)) ≡ joined f at (walk (skipped f) (at + 1) (p ∷ q ∷ r ∷ behind))
+skip_latch Ends at w x y p q r behind = refl
+skip_latch Spoiled at w x y p q r behind = refl
+skip_latch (Whole bytes) at w x y p q r behind =
+    let far : 10 + length bytes ≡ suc (suc (suc (7 + length bytes))) = omega arith in
+    ap (λ (n : ℕ). with_record bytes (walk n (at + 1) (w ∷ x ∷ y ∷ behind))) far ∙ ap (λ (n : ℕ). with_record bytes (walk n (at + 1) (p ∷ q ∷ r ∷ behind))) (sym far)
+
+pub walk-any_latch : (w x y z at : ℕ) (behind : List ℕ) → is_closed w x y z ≡ false → walk 0 at (w ∷ x ∷ y ∷ z ∷ behind) ≡ walk 0 at (255 ∷ 255 ∷ 255 ∷ 255 ∷ behind)
+walk-any_latch w x y z at behind h =
+    ap (λ (f : Front). joined f at (walk (skipped f) (at + 1) (x ∷ y ∷ z ∷ behind))) (any_latch w x y z behind h)
+    ∙ skip_latch (front (255 ∷ 255 ∷ 255 ∷ 255 ∷ behind)) at x y z 255 255 255 behind
 
 -- what ends the records ends them where it is truncated
 
-behind_never : (b : Bool) (size : List ℕ) (sum : ℕ) (rest : List ℕ) → (if b then Ends else behind_latch size sum rest) ≡ Ends → b ≡ true
-behind_never b size sum rest is = grind (arith, common_steps)
-
-ends_at : (g a : ℕ) (rest : List ℕ) → front (g ∷ a ∷ rest) ≡ Ends → (g == 0) ≡ true
-ends_at g a rest is = grind (arith, common_steps)
-
-front_cut : (k : ℕ) (bytes : List ℕ) → front bytes ≡ Ends → front (take k bytes) ≡ Ends
-front_cut k bytes is = grind (arith, common_steps, ends_at)
-
-pub short_front : (bytes : List ℕ) → length bytes ≤ 1 → front bytes ≡ Ends
-short_front bytes h = grind (arith, common_steps)
+front_cut : (k : ℕ) (bytes : List ℕ) → front bytes ≡ Ends → 4 ≤ k → front (take k bytes) ≡ Ends
+front_cut k [] is some = absurd (cc)
+front_cut k (w ∷ []) is some = absurd (cc)
+front_cut k (w ∷ x ∷ []) is some = absurd (cc)
+front_cut k (w ∷ x ∷ y ∷ []) is some = absurd (cc)
+front_cut k (w ∷ x ∷ y ∷ z ∷ rest) is some =
+    let far : k ≡ suc (suc (suc (suc (k - 4)))) = omega (arith, some) in
+    ap (λ (n : ℕ). front (take n (w ∷ x ∷ y ∷ z ∷ rest))) far ∙ closed_latch w x y z (take (k - 4) rest) (ends_closed w x y z rest is)
 
 -- a file of records, of which the blocks alone count
 
@@ -54,85 +90,99 @@ module _ (file : List ℕ) (records : List (List ℕ)) (reads : contents file �
   pub with_end : (others : List ℕ) → front others ≡ Ends → contents (take end file ++ others) ≡ Records records
   with_end others is = parts.goes_on others ∙ ended records end others is
 
-  -- a cut at their end
-  pub cut_torn : (c : List ℕ) → Cut end file c → contents c ≡ Records records
+  pub room : end + 4 ≤ length file
+  room = parts.room
+
+  -- with the closed latch behind them they are all that counts
+  abbrev pub rested : List ℕ
+  rested = take (end + 4) file
+
+  pub rested_is : rested ≡ take end file ++ latch_closed
+  rested_is = take_parts end 4 file ∙ ap (λ (l : List ℕ). take end file ++ l) (latch_there (drop end file) parts.ends).1
+
+  pub reads_rested : contents rested ≡ Records records
+  reads_rested = ap contents rested_is ∙ with_end latch_closed refl
+
+  pub rested_closed : rested ≡ take end rested ++ latch_closed
+  rested_closed = rested_is ∙ ap (λ (l : List ℕ). l ++ latch_closed) (sym (take-take end (end + 4) file (omega arith)))
+
+  -- a cut behind that latch
+  pub cut_torn : (c : List ℕ) → Cut (end + 4) file c → contents c ≡ Records records
   cut_torn c cut =
-      let le = within in
+      let le = room in
       let k = length c - end in
+      let some : 4 ≤ k = omega (arith, cut.no_shorter, le) in
       let far : length c ≡ end + k = omega (arith, cut.no_shorter, le) in
       let whole : c ≡ take end file ++ take k (drop end file) = sym cut.front ∙ ap (λ (n : ℕ). take n file) far ∙ take_parts end k file in
-      ap contents whole ∙ with_end (take k (drop end file)) (front_cut k (drop end file) parts.ends)
-
-  -- the closing latch behind it
-  pub close_torn : (c : List ℕ) → Torn end 1 (take end file) c → contents c ≡ Records records
-  close_torn c torn =
-      let long = length_front in
-      let begins : take end c ≡ take end file = torn.before ∙ take-take end end file (omega arith) in
-      let whole : c ≡ take end file ++ drop end c = sym (take-append-drop end c) ∙ ap (λ (l : List ℕ). l ++ drop end c) begins in
-      ap contents whole ∙ with_end (drop end c) (short_front (drop end c) (omega (arith, torn.no_longer, long, length-drop end c)))
-
-  pub closes : (c : List ℕ) → c ≡ overwritten (take end file) end (0 ∷ []) → c ≡ take end file ++ 0 ∷ []
-  closes c is = search (rules, length_front, take-take, drop_all)
-
-  pub reads_closed : contents (take end file ++ 0 ∷ []) ≡ Records records
-  reads_closed = with_end (0 ∷ []) refl
-
-  pub front_closed : (others : List ℕ) → take end (take end file ++ others) ≡ take end file
-  front_closed others = take_at (take end file) others end length_front
+      ap contents whole ∙ with_end (take k (drop end file)) (front_cut k (drop end file) parts.ends some)
 
 -- a file at rest: its blocks, and a closed latch
 
-module _ (file : List ℕ) (records : List (List ℕ)) (reads : contents file ≡ Records records) (closed : file ≡ take (records_end records) file ++ 0 ∷ []) where
+module _ (file : List ℕ) (records : List (List ℕ)) (reads : contents file ≡ Records records) (closed : file ≡ take (records_end records) file ++ latch_closed) where
   abbrev latch_at : ℕ
   latch_at = records_end records
 
-  pub length_file : length file ≡ latch_at + 1
-  length_file = ap length closed ∙ length-append (take latch_at file) (0 ∷ []) ∙ ap (λ (n : ℕ). n + 1) (length_front file records reads)
+  pub length_file : length file ≡ latch_at + 4
+  length_file = ap length closed ∙ length-append (take latch_at file) latch_closed ∙ ap (λ (n : ℕ). n + 4) (length_front file records reads)
 
   -- the closed latch is in each outcome of a write behind it
-  pub behind_torn : (n : ℕ) (c : List ℕ) → Torn (latch_at + 1) n file c → contents c ≡ Records records
+  pub behind_torn : (n : ℕ) (c : List ℕ) → Torn (latch_at + 4) n file c → contents c ≡ Records records
   behind_torn n c torn =
       let long = length_file in
-      let begins : take (latch_at + 1) c ≡ take latch_at file ++ 0 ∷ [] = torn.before ∙ take_all (latch_at + 1) file (omega (arith, long)) ∙ closed in
-      let whole : c ≡ take latch_at file ++ (0 ∷ drop (latch_at + 1) c) =
-      sym (take-append-drop (latch_at + 1) c) ∙ ap (λ (l : List ℕ). l ++ drop (latch_at + 1) c) begins ∙ append_assoc (take latch_at file) (0 ∷ []) (drop (latch_at + 1) c) in
-      ap contents whole ∙ with_end file records reads (0 ∷ drop (latch_at + 1) c) (closed_latch 0 (drop (latch_at + 1) c) refl)
+      let begins : take (latch_at + 4) c ≡ take latch_at file ++ latch_closed = torn.before ∙ take_all (latch_at + 4) file (omega (arith, long)) ∙ closed in
+      let whole : c ≡ take latch_at file ++ (latch_closed ++ drop (latch_at + 4) c) =
+      sym (take-append-drop (latch_at + 4) c) ∙ ap (λ (l : List ℕ). l ++ drop (latch_at + 4) c) begins ∙ append_assoc (take latch_at file) latch_closed (drop (latch_at + 4) c) in
+      ap contents whole ∙ with_end file records reads (latch_closed ++ drop (latch_at + 4) c) (closed_front (drop (latch_at + 4) c))
 
-  pub written_behind : (tail c : List ℕ) → c ≡ overwritten file (latch_at + 1) tail → c ≡ take latch_at file ++ (0 ∷ tail)
-  written_behind tail c is = search (rules, length_file, take_all, drop_all, append-nil, append_assoc)
+  pub written_behind : (tail c : List ℕ) → c ≡ overwritten file (latch_at + 4) tail → c ≡ take latch_at file ++ (latch_closed ++ tail)
+  written_behind tail c is =
+      let long = length_file in
+      is
+      ∙ ap (λ (l : List ℕ). l ++ (tail ++ drop (latch_at + 4 + length tail) file)) (take_all (latch_at + 4) file (omega (arith, long)) ∙ closed)
+      ∙ ap (λ (l : List ℕ). (take latch_at file ++ latch_closed) ++ (tail ++ l)) (drop_all (latch_at + 4 + length tail) file (omega (arith, long)))
+      ∙ ap (λ (l : List ℕ). (take latch_at file ++ latch_closed) ++ l) (append-nil tail)
+      ∙ append_assoc (take latch_at file) latch_closed tail
 
-  module _ (tail : List ℕ) (new : List (List ℕ)) (opens : 255 ∷ tail ≡ at_rest new) (fits : AllByRecursion Fits new) where
-    front_staged : take latch_at (take latch_at file ++ (0 ∷ tail)) ≡ take latch_at file
-    front_staged = take_at (take latch_at file) (0 ∷ tail) latch_at (length_front file records reads)
+  module _ (tail : List ℕ) (new : List (List ℕ)) (opens : latch_open ++ tail ≡ at_rest new) (fits : AllByRecursion Fits new) where
+    pub front_staged : take latch_at (take latch_at file ++ (latch_closed ++ tail)) ≡ take latch_at file
+    front_staged = take_at (take latch_at file) (latch_closed ++ tail) latch_at (length_front file records reads)
 
-    back_staged : drop (latch_at + 1) (take latch_at file ++ (0 ∷ tail)) ≡ tail
+    pub back_staged : drop (latch_at + 4) (take latch_at file ++ (latch_closed ++ tail)) ≡ tail
     back_staged =
-        search (rules, length_front file records reads, append_assoc (take latch_at file) (0 ∷ []) tail, drop_at, length-append (take latch_at file) (0 ∷ []))
+        ap (drop (latch_at + 4)) (sym (append_assoc (take latch_at file) latch_closed tail))
+        ∙ drop_at (take latch_at file ++ latch_closed) tail (latch_at + 4) (length-append (take latch_at file) latch_closed ∙ ap (λ (n : ℕ). n + 4) (length_front file records reads))
 
-    pub long_staged : length (take latch_at file ++ (0 ∷ tail)) ≡ latch_at + suc (length tail)
-    long_staged = length-append (take latch_at file) (0 ∷ tail) ∙ ap (λ (n : ℕ). n + suc (length tail)) (length_front file records reads)
+    pub long_staged : length (take latch_at file ++ (latch_closed ++ tail)) ≡ latch_at + (4 + length tail)
+    long_staged = omega (arith, length-append (take latch_at file) (latch_closed ++ tail), length-append latch_closed tail, length_front file records reads)
 
-    pub reads_new : contents (take latch_at file ++ (255 ∷ tail)) ≡ Records (records ++ new)
+    pub reads_new : contents (take latch_at file ++ (latch_open ++ tail)) ≡ Records (records ++ new)
     reads_new =
         grind (arith, common_steps, is_file file records reads, walk-at_rest new latch_at fits, with_records-Records records new)
 
     -- the blocks are whole in each outcome of the write of the latch
-    pub latch_torn : (c : List ℕ) → Torn latch_at 1 (take latch_at file ++ (0 ∷ tail)) c → (contents c ≡ Records records) ⊎ (contents c ≡ Records (records ++ new))
-    latch_torn c torn =
-        let long = long_staged in
-        let latch = get_or c latch_at 0 in
-        let rest : drop latch_at c ≡ latch ∷ tail = drop_more c latch_at 0 (omega (arith, torn.no_shorter, long)) ∙ ap (λ (l : List ℕ). latch ∷ l) (torn.after ∙ back_staged) in
-        let whole : c ≡ take latch_at file ++ (latch ∷ tail) =
-        sym (take-append-drop latch_at c) ∙ ap (λ (l : List ℕ). l ++ drop latch_at c) (torn.before ∙ front_staged) ∙ ap (λ (l : List ℕ). take latch_at file ++ l) rest in
-        by_latch c latch whole (latch == 0) refl
-      where
-        by_latch : (c : List ℕ) (latch : ℕ) → c ≡ take latch_at file ++ (latch ∷ tail) → (b : Bool) → (latch == 0) ≡ b → (contents c ≡ Records records) ⊎ (contents c ≡ Records (records ++ new))
-        by_latch c latch whole true is = inl (ap contents whole ∙ with_end file records reads (latch ∷ tail) (closed_latch latch tail is))
-        by_latch c latch whole false is =
-            grind (arith, common_steps, is_file file records reads, walk-any_latch latch latch_at tail is, reads_new)
+    pub four : (l : List ℕ) → 4 ≤ length l → drop 4 l ≡ tail → (w : ℕ) × (x : ℕ) × (y : ℕ) × (z : ℕ) × (l ≡ w ∷ x ∷ y ∷ z ∷ tail)
+    four [] long is = absurd (omega (arith, long))
+    four (w ∷ []) long is = absurd (omega (arith, long))
+    four (w ∷ x ∷ []) long is = absurd (omega (arith, long))
+    four (w ∷ x ∷ y ∷ []) long is = absurd (omega (arith, long))
+    four (w ∷ x ∷ y ∷ z ∷ rest) long is = (w, x, y, z, ap (λ (t : List ℕ). w ∷ x ∷ y ∷ z ∷ t) is)
 
-    pub opened : (c : List ℕ) → c ≡ overwritten (take latch_at file ++ (0 ∷ tail)) latch_at (255 ∷ []) → c ≡ take latch_at file ++ (255 ∷ tail)
-    opened c is = grind (arith, common_steps, front_staged, back_staged)
+    pub latch_torn : (c : List ℕ) → Torn latch_at 4 (take latch_at file ++ (latch_closed ++ tail)) c → (contents c ≡ Records records) ⊎ (contents c ≡ Records (records ++ new))
+    latch_torn c torn =
+        let latch = four (drop latch_at c) (omega (arith, torn.no_shorter, long_staged, length-drop latch_at c)) (sym (drop_parts latch_at 4 c) ∙ torn.after ∙ back_staged) in
+        let whole : c ≡ take latch_at file ++ (latch.0 ∷ latch.1 ∷ latch.2 ∷ latch.3 ∷ tail) =
+        sym (take-append-drop latch_at c) ∙ ap (λ (l : List ℕ). l ++ drop latch_at c) (torn.before ∙ front_staged) ∙ ap (λ (l : List ℕ). take latch_at file ++ l) latch.4 in
+        by_latch c latch.0 latch.1 latch.2 latch.3 whole (is_closed latch.0 latch.1 latch.2 latch.3) refl
+      where
+        by_latch : (c : List ℕ) (w x y z : ℕ) → c ≡ take latch_at file ++ (w ∷ x ∷ y ∷ z ∷ tail) → (b : Bool) → is_closed w x y z ≡ b → (contents c ≡ Records records) ⊎ (contents c ≡ Records (records ++ new))
+        by_latch c w x y z whole true is = inl (ap contents whole ∙ with_end file records reads (w ∷ x ∷ y ∷ z ∷ tail) (closed_latch w x y z tail is))
+        by_latch c w x y z whole false is = inr
+            (ap contents whole ∙ (is_file file records reads).goes_on (w ∷ x ∷ y ∷ z ∷ tail)
+            ∙ ap (with_records records) (walk-any_latch w x y z latch_at tail is)
+            ∙ sym ((is_file file records reads).goes_on (latch_open ++ tail)) ∙ reads_new)
+
+    pub opened : (c : List ℕ) → c ≡ overwritten (take latch_at file ++ (latch_closed ++ tail)) latch_at latch_open → c ≡ take latch_at file ++ (latch_open ++ tail)
+    opened c is = is ∙ ap (λ (l : List ℕ). l ++ (latch_open ++ drop (latch_at + 4) (take latch_at file ++ (latch_closed ++ tail)))) front_staged ∙ ap (λ (l : List ℕ). take latch_at file ++ (latch_open ++ l)) back_staged
 
     blocks_length-append : (xs ys : List (List ℕ)) → blocks_length (xs ++ ys) ≡ blocks_length xs + blocks_length ys
     blocks_length-append [] ys = sym (let e : 0 + blocks_length ys ≡ blocks_length ys = omega arith in e)
@@ -141,11 +191,11 @@ module _ (file : List ℕ) (records : List (List ℕ)) (reads : contents file �
     pub end_new : records_end (records ++ new) ≡ latch_at + blocks_length new
     end_new = omega (arith, blocks_length-append records new)
 
-    pub closed_new : take latch_at file ++ (255 ∷ tail) ≡ take (records_end (records ++ new)) (take latch_at file ++ (255 ∷ tail)) ++ 0 ∷ []
+    pub closed_new : take latch_at file ++ (latch_open ++ tail) ≡ take (records_end (records ++ new)) (take latch_at file ++ (latch_open ++ tail)) ++ latch_closed
     closed_new =
-        let all : take latch_at file ++ (255 ∷ tail) ≡ (take latch_at file ++ flat_map block new) ++ 0 ∷ [] =
-        ap (λ (l : List ℕ). take latch_at file ++ l) opens ∙ sym (append_assoc (take latch_at file) (flat_map block new) (0 ∷ [])) in
+        let all : take latch_at file ++ (latch_open ++ tail) ≡ (take latch_at file ++ flat_map block new) ++ latch_closed =
+        ap (λ (l : List ℕ). take latch_at file ++ l) opens ∙ sym (append_assoc (take latch_at file) (flat_map block new) (latch_closed)) in
         let long : length (take latch_at file ++ flat_map block new) ≡ records_end (records ++ new) =
         length-append (take latch_at file) (flat_map block new) ∙ ap (λ (n : ℕ). n + length (flat_map block new)) (length_front file records reads)
         ∙ ap (λ (n : ℕ). latch_at + n) (length-blocks new) ∙ sym end_new in
-        all ∙ ap (λ (l : List ℕ). l ++ 0 ∷ []) (sym (ap (take (records_end (records ++ new))) all ∙ take_at (take latch_at file ++ flat_map block new) (0 ∷ []) (records_end (records ++ new)) long))
+        all ∙ ap (λ (l : List ℕ). l ++ latch_closed) (sym (ap (take (records_end (records ++ new))) all ∙ take_at (take latch_at file ++ flat_map block new) (latch_closed) (records_end (records ++ new)) long))

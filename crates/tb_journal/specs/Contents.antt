@@ -1,13 +1,13 @@
 -- What the bytes of a journal's file represent.
 -- Cited by public contracts of: journals, opening.
-use Rattle.std.specs.Prelude.{◌≡◌, ℕ, ◌+◌, ◌<◌, ◌^◌, ◌==◌, ◌&&◌, nat_le, nat_eq, zero, suc, List, [], ◌∷◌, ◌++◌, length, take, drop, flat_map, codes, if◌then◌else◌, refl}
+use Rattle.std.specs.Prelude.{◌≡◌, ℕ, ◌+◌, ◌<◌, ◌^◌, ◌==◌, ◌&&◌, nat_le, nat_eq, zero, suc, List, [], ◌∷◌, ◌++◌, length, take, drop, flat_map, codes, replicate, Bool, if◌then◌else◌, refl}
 use Rattle.std.specs.Int.{w32, to_le_bytes, from_le_bytes}
 use Rattle.std.specs.List.{AllByRecursion, starts_with}
 use Rattle.tb_journal.specs.Checksum.{checksum, byte_on, bit_on}
 
 -- the first 8 bytes
 abbrev pub magic : List ℕ
-magic = codes "TBJRNL01"
+magic = codes "TBJRNL02"
 
 -- what has a block: fewer than 2^24 bytes
 pub record Fits (record_bytes : List ℕ) : Type 0 where
@@ -18,13 +18,23 @@ pub record Fits (record_bytes : List ℕ) : Type 0 where
 abbrev pub size_bytes : List ℕ → List ℕ
 size_bytes record_bytes = take 3 (to_le_bytes w32 (length record_bytes))
 
+-- a closed latch: four bytes that nothing else writes there. Any other four bytes are an open one
+abbrev pub latch_closed : List ℕ
+latch_closed = 90 ∷ 195 ∷ 150 ∷ 105 ∷ []
+
+abbrev pub latch_open : List ℕ
+latch_open = 255 ∷ 255 ∷ 255 ∷ 255 ∷ []
+
+abbrev pub is_closed : ℕ → ℕ → ℕ → ℕ → Bool
+is_closed w x y z = (w == 90 && x == 195) && (y == 150 && z == 105)
+
 -- an open latch, the length, the checksum of length and record, and the record
 abbrev pub block : List ℕ → List ℕ
-block bytes = 255 ∷ (size_bytes bytes ++ (to_le_bytes w32 (checksum (size_bytes bytes ++ bytes)) ++ bytes))
+block bytes = 255 ∷ 255 ∷ 255 ∷ 255 ∷ (size_bytes bytes ++ (to_le_bytes w32 (checksum (size_bytes bytes ++ bytes)) ++ bytes))
 
 -- blocks, and a closed latch behind them
 abbrev pub at_rest : List (List ℕ) → List ℕ
-at_rest records = flat_map block records ++ 0 ∷ []
+at_rest records = flat_map block records ++ latch_closed
 
 -- a whole file of these records
 abbrev pub journal_of : List (List ℕ) → List ℕ
@@ -42,12 +52,11 @@ behind_latch size sum rest =
     let count = from_le_bytes w32 (size ++ 0 ∷ []) in
     if nat_le count (length rest) && (sum == checksum (size ++ take count rest)) then Whole (take count rest) else Spoiled
 
--- a latch of 0 is closed, and one with nothing behind it ends the records too
+-- a closed latch ends the records, and nothing else does
 abbrev pub front : List ℕ → Front
-front [] = Ends
-front (latch ∷ []) = Ends
-front (latch ∷ a ∷ b ∷ c ∷ s ∷ t ∷ u ∷ v ∷ rest) = if latch == 0 then Ends else behind_latch (a ∷ b ∷ c ∷ []) (from_le_bytes w32 (s ∷ t ∷ u ∷ v ∷ [])) rest
-front (latch ∷ behind) = if latch == 0 then Ends else Spoiled
+front (w ∷ x ∷ y ∷ z ∷ a ∷ b ∷ c ∷ s ∷ t ∷ u ∷ v ∷ rest) = if is_closed w x y z then Ends else behind_latch (a ∷ b ∷ c ∷ []) (from_le_bytes w32 (s ∷ t ∷ u ∷ v ∷ [])) rest
+front (w ∷ x ∷ y ∷ z ∷ behind) = if is_closed w x y z then Ends else Spoiled
+front short = Spoiled
 
 -- a file is no journal, is damaged at a place, or has records
 pub data Contents : Type 0 where
@@ -72,14 +81,15 @@ joined Ends at others = Records []
 joined Spoiled at others = Damaged at
 joined (Whole bytes) at others = with_record bytes others
 
--- the bytes of a block behind its latch
+-- the bytes of a block behind its first one
 abbrev pub skipped : Front → ℕ
-skipped (Whole bytes) = 7 + length bytes
+skipped (Whole bytes) = 10 + length bytes
 skipped other = 0
 
 -- the blocks from a place on, after so many bytes that belong to the one before
 abbrev pub walk : ℕ → ℕ → List ℕ → Contents
-walk skip at [] = Records []
+walk zero at [] = Damaged at
+walk (suc skip) at [] = Damaged (at + suc skip)
 walk (suc skip) at (byte ∷ bytes) = walk skip (at + 1) bytes
 walk zero at (latch ∷ behind) = joined (front (latch ∷ behind)) at (walk (skipped (front (latch ∷ behind))) (at + 1) behind)
 
@@ -101,7 +111,7 @@ IsJournal file = contents file ≡ Records (recorded file)
 -- the bytes that their blocks take
 abbrev pub blocks_length : List (List ℕ) → ℕ
 blocks_length [] = 0
-blocks_length (bytes ∷ records) = 8 + length bytes + blocks_length records
+blocks_length (bytes ∷ records) = 11 + length bytes + blocks_length records
 
 -- where they end in a file
 abbrev pub records_end : List (List ℕ) → ℕ
@@ -113,17 +123,39 @@ pub nothing_is_no_journal : contents [] ≡ NotAJournal
 nothing_is_no_journal = refl
 
 -- a closed latch ends the records, whatever follows
-pub ends_at_a_closed_latch : contents (codes "TBJRNL01" ++ 0 ∷ 7 ∷ 7 ∷ []) ≡ Records []
+pub ends_at_a_closed_latch : contents (codes "TBJRNL02" ++ (latch_closed ++ 7 ∷ 7 ∷ [])) ≡ Records []
 ends_at_a_closed_latch = refl
 
--- an open latch with nothing behind it ends them too
-pub ends_at_the_end : contents (codes "TBJRNL01" ++ 255 ∷ []) ≡ Records []
-ends_at_the_end = refl
+-- no file ends without one: it was cut short, and is damaged at that place
+pub cut_at_a_block : contents (codes "TBJRNL02" ++ block (codes "ab")) ≡ Damaged 21
+unfolding byte_on bit_on
+cut_at_a_block = refl
+
+pub cut_in_a_latch : contents (codes "TBJRNL02" ++ (block (codes "ab") ++ take 3 latch_closed)) ≡ Damaged 21
+unfolding byte_on bit_on
+cut_in_a_latch = refl
+
+pub open_at_the_end : contents (codes "TBJRNL02" ++ (block (codes "ab") ++ latch_open)) ≡ Damaged 21
+unfolding byte_on bit_on
+open_at_the_end = refl
 
 pub two_records : contents (journal_of (codes "ab" ∷ [] ∷ [])) ≡ Records (codes "ab" ∷ [] ∷ [])
 unfolding byte_on bit_on
 two_records = refl
 
 -- a block that is torn is damage, at its latch
-pub cut_short : contents (codes "TBJRNL01" ++ 255 ∷ 1 ∷ 0 ∷ []) ≡ Damaged 8
+pub cut_short : contents (codes "TBJRNL02" ++ 255 ∷ 255 ∷ 255 ∷ 255 ∷ 1 ∷ 0 ∷ []) ≡ Damaged 8
 cut_short = refl
+
+-- no one byte closes an open latch, and neither do four zeros: the record is there still, or the file is damaged
+pub one_zero : contents (codes "TBJRNL02" ++ (0 ∷ drop 1 (block (codes "ab")) ++ latch_closed)) ≡ Records (codes "ab" ∷ [])
+unfolding byte_on bit_on
+one_zero = refl
+
+pub four_zeros : contents (codes "TBJRNL02" ++ (0 ∷ 0 ∷ 0 ∷ 0 ∷ drop 4 (block (codes "ab")) ++ latch_closed)) ≡ Records (codes "ab" ∷ [])
+unfolding byte_on bit_on
+four_zeros = refl
+
+pub all_zeros : contents (codes "TBJRNL02" ++ (replicate 13 0 ++ latch_closed)) ≡ Damaged 8
+unfolding byte_on bit_on
+all_zeros = refl

@@ -7,7 +7,7 @@ use Rattle.tb_journal.specs.declared.opening.OpenFault.{OpenFault}
 use Rattle.tb_journal.specs.declared.opening.OpenFault.TheVariants as open_faults
 use Rattle.tb_journal.specs.declared.opening.NotOpened.{NotOpened}
 use Rattle.tb_journal.specs.Device.{Disk, IsSettled, LeavesOnly, FailsNone, HasFailed, HasCause}
-use Rattle.tb_journal.specs.Contents.{NotAJournal, Records, contents, journal_of, recorded}
+use Rattle.tb_journal.specs.Contents.{NotAJournal, Damaged, Records, contents, journal_of, recorded}
 use Rattle.tb_journal.specs.Steps.{IsWhole}
 use Rattle.tb_journal.specs.Ready.{Kept, IsReady}
 use Rattle.tb_journal.specs.Opening.{IsAsBefore}
@@ -22,10 +22,10 @@ is_torn_from (byte ∷ bytes) (own ∷ first) = (byte == 0 || byte == own) && is
 abbrev pub is_blank : List ℕ → Bool
 is_blank file = is_torn_from file (journal_of [])
 
--- a file of 9 bytes at most in which there is no record
+-- a file of 12 bytes at most in which there is no record: its first bytes, or the latch behind them, are not all there
 pub record IsUnborn (file : List ℕ) : Type 0 where
-  pub short : length file ≤ 9
-  pub none : (contents file ≡ NotAJournal) ⊎ (contents file ≡ Records [])
+  pub short : length file ≤ 12
+  pub none : (contents file ≡ NotAJournal) ⊎ ((contents file ≡ Damaged 8) ⊎ (contents file ≡ Records []))
 
 -- what a crash may leave of a file while a journal is created there: the file as it was, or, if it was blank, no record
 abbrev pub MayBeCreated : Disk → List ℕ → Type 0

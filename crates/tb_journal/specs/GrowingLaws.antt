@@ -15,5 +15,5 @@ LaterMomentsFollow = (first next last : List ℕ) → Later first next → Later
 
 -- a snapshot that met its end at one moment of a file shows records that begin those of every later moment
 abbrev pub ShownIsAPrefix : Type 0
-ShownIsAPrefix = (closed : Bool) (end : ℕ) (met shown last : List ℕ) (records : List (List ℕ)) → ShowsOf closed end met shown → Later met last
+ShownIsAPrefix = (closed : Bool) (end len : ℕ) (met shown last : List ℕ) (records : List (List ℕ)) → ShowsOf closed end len met shown → Later met last
     → contents shown ≡ Records records → Extends records shown last

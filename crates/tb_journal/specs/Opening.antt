@@ -1,6 +1,6 @@
 -- How a journal is opened, and what stays of its file.
 -- Cited by public contracts of: opening, scans.
-use Rattle.std.specs.Prelude.{◌≡◌, ◌⊎◌, ℕ, ◌≤◌, ◌^◌, List, [], length, Result, Ok, Err, IfOk, IfErr, OnOk, true}
+use Rattle.std.specs.Prelude.{◌≡◌, ◌⊎◌, ℕ, ◌+◌, ◌<◌, ◌≤◌, ◌^◌, List, [], length, Result, Ok, Err, IfOk, IfErr, OnOk, true}
 use Rattle.tb_journal.specs.declared.faults.JournalFault.{JournalFault}
 use Rattle.tb_journal.specs.declared.faults.JournalFault.TheVariants as faults
 use Rattle.tb_journal.specs.declared.reading.Extent.{Extent}
@@ -31,11 +31,11 @@ LeavesAsBefore before after = LeavesOnly before after (IsAsBefore before)
 abbrev pub StandsForTheSame : Disk → List ℕ → Type 0
 StandsForTheSame before file = before.may_leave file ⊎ (contents file ≡ contents before.seen)
 
--- why a journal is not opened: the file is refused, the fault has a cause, or the file has no space for one more byte
+-- why a journal is not opened: the file is refused, the fault has a cause, or the file has no space for a closed latch
 abbrev pub IsOpenCause : Disk → Disk → OpenFault → Type 0
 IsOpenCause before after (open_faults.Refused why) = (contents before.seen ≡ refused_as why) × FailsNone before after
 IsOpenCause before after (open_faults.Device fault) =
-    IsCause before after fault ⊎ ((fault ≡ faults.Full) × (2 ^ 62 ≤ length before.seen) × FailsNone before after)
+    IsCause before after fault ⊎ ((fault ≡ faults.Full) × (2 ^ 62 < length before.seen + 4) × FailsNone before after)
 
 -- a fault of the device, or of memory: it says nothing against the file
 abbrev pub IsOfDevice : OpenFault → Type 0
@@ -96,7 +96,7 @@ Recovers (Ok journal) file =
     (contents file ≡ Records (recorded file)) × IsOfExtent (record { end = records_end (recorded file); count = length (recorded file) }) journal
 Recovers (Err failed) file = RefusesFile failed.fault file
 
--- what follows the records is cut off, and a closed latch written
+-- what follows the closed latch behind the records is cut off
 pub record Repairs (result : Result (Unit {0}) JournalFault) (before after : Disk) : Type 0 where
   pub ok : OnOk result (IsWhole after × (recorded after.seen ≡ recorded before.seen))
   pub settled : IsSettled before → OnOk result (IsSettled after)

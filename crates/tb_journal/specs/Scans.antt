@@ -5,7 +5,7 @@ use Rattle.tb_journal.specs.declared.opening.OpenFault.{OpenFault}
 use Rattle.tb_journal.specs.declared.opening.OpenFault.TheVariants as open_faults
 use Rattle.tb_journal.specs.declared.reading.Refusal.TheVariants as refusals
 use Rattle.tb_journal.specs.Checksum.{byte_on, bit_on}
-use Rattle.tb_journal.specs.Contents.{NotAJournal, Damaged, Records, magic, block, contents, records_end}
+use Rattle.tb_journal.specs.Contents.{NotAJournal, Damaged, Records, magic, latch_closed, block, contents, records_end}
 use Rattle.tb_journal.specs.Opening.{refused_as, HasOpenCause}
 use Rattle.tb_journal.specs.Device.{Disk}
 use Rattle.tb_journal.specs.Growing.{Later}
@@ -17,9 +17,9 @@ pub record ScanState : Type 0 where
   pub last : List ℕ
   pub ahead : List ℕ
 
--- the file begins with these records: cut off behind them, it represents them and no others
+-- the file begins with these records: cut off behind them, with a closed latch there, it represents them and no others
 abbrev pub BeginsWith : List (List ℕ) → List ℕ → Type 0
-BeginsWith records file = contents (take (records_end records) file) ≡ Records records
+BeginsWith records file = contents (take (records_end records) file ++ latch_closed) ≡ Records records
 
 -- these bytes are those of the file from an offset on, as far as they go
 abbrev pub IsAhead : ℕ → List ℕ → List ℕ → Type 0
@@ -75,17 +75,17 @@ IsOfStart fault = Unit {0}
 -- rows
 
 -- a damaged block behind a good one takes nothing from the good one
-pub begins_before_damage : BeginsWith (codes "ab" ∷ []) (codes "TBJRNL01" ++ (block (codes "ab") ++ 255 ∷ 1 ∷ []))
+pub begins_before_damage : BeginsWith (codes "ab" ∷ []) (codes "TBJRNL02" ++ (block (codes "ab") ++ 255 ∷ 255 ∷ 255 ∷ 255 ∷ 1 ∷ []))
 unfolding byte_on bit_on
 begins_before_damage = refl
 
 -- each journal begins with no record
-pub begins_with_none : BeginsWith [] (codes "TBJRNL01" ++ 255 ∷ 7 ∷ [])
+pub begins_with_none : BeginsWith [] (codes "TBJRNL02" ++ 255 ∷ 255 ∷ 255 ∷ 255 ∷ 7 ∷ [])
 begins_with_none = refl
 
 -- by its first bytes alone no file is one without records, and without a read none is refused
 pub no_end_by_the_first_bytes : ((file : List ℕ) → take 8 file ≡ magic → contents file ≡ Records []) → ⊥
-no_end_by_the_first_bytes says = let no : Damaged 8 ≡ Records [] = says (magic ++ 255 ∷ 1 ∷ []) refl in absurd (cc)
+no_end_by_the_first_bytes says = let no : Damaged 8 ≡ Records [] = says (magic ++ 255 ∷ 255 ∷ 255 ∷ 255 ∷ 1 ∷ []) refl in absurd (cc)
 
 pub no_refusal_without_a_read : ((file : List ℕ) → contents file ≡ NotAJournal) → ⊥
-no_refusal_without_a_read says = let no : Records [] ≡ NotAJournal = says (magic ++ 0 ∷ []) in absurd (cc)
+no_refusal_without_a_read says = let no : Records [] ≡ NotAJournal = says (magic ++ latch_closed) in absurd (cc)

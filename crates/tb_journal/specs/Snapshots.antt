@@ -1,16 +1,21 @@
 -- What a snapshot of a file shows that grows while it is read.
 -- Cited by public contracts of: snapshots.
-use Rattle.std.specs.Prelude.{◌≡◌, ◌⊎◌, ℕ, ◌+◌, ◌≤◌, Bool, true, false, List, [], ◌∷◌, ◌++◌, length, take, drop}
-use Rattle.tb_journal.specs.Contents.{Ends, Spoiled, front, Contents, NotAJournal, Damaged, Records, contents, records_end}
+use Rattle.std.specs.Prelude.{◌≡◌, ◌⊎◌, ℕ, ◌+◌, ◌-◌, ◌≤◌, Bool, true, false, List, [], ◌∷◌, ◌++◌, length, take, drop, replicate}
+use Rattle.tb_journal.specs.Contents.{latch_closed, Ends, Spoiled, front, Contents, NotAJournal, Damaged, Records, contents, records_end}
 use Rattle.tb_journal.specs.Scans.{BeginsWith}
 use Rattle.tb_journal.specs.Reading.{asked}
 use Rattle.tb_journal.specs.Growing.{Later}
 
--- a file, the offset at which a snapshot of it ends, and whether a closed latch was met there
+-- a file, the offset at which the blocks of a snapshot of it end, how many bytes it had then, and whether a closed latch was met there
 pub record Snapped (G : Type 0) : Type 0 where
   pub file : G
   pub end : ℕ
+  pub len : ℕ
   pub closed : Bool
+
+-- a closed latch, and so many bytes that say nothing
+abbrev pub behind_blocks : ℕ → List ℕ
+behind_blocks others = latch_closed ++ replicate others 0
 
 -- the records that a file begins with end there
 pub record EndsAt (end : ℕ) (file : List ℕ) : Type 0 where
@@ -36,11 +41,12 @@ IsFinal NotAJournal = Unit {0}
 IsFinal (Damaged at) = Unit {0}
 IsFinal (Records records) = ⊥
 
--- the blocks up to the closed latch that was met, with that latch
-pub record ShowsBlocks (end : ℕ) (file shown : List ℕ) : Type 0 where
+-- the blocks up to the closed latch that was met, that latch, and zeros in the place of what is behind it: all of this at one moment
+pub record ShowsBlocks (end len : ℕ) (file shown : List ℕ) : Type 0 where
   pub leads : LeadsTo end file
   pub closed : front (drop end file) ≡ Ends
-  pub is : shown ≡ take end file ++ 0 ∷ []
+  pub sized : len ≡ length file
+  pub is : shown ≡ take end file ++ behind_blocks (len - (end + 4))
 
 -- a file that no longer grows, whole
 pub record ShowsAll (file shown : List ℕ) : Type 0 where
@@ -48,15 +54,15 @@ pub record ShowsAll (file shown : List ℕ) : Type 0 where
   pub is : shown ≡ file
 
 -- what a snapshot shows of a file with these bytes at the moment when its end was met
-abbrev pub ShowsOf : Bool → ℕ → List ℕ → List ℕ → Type 0
-ShowsOf true end file shown = ShowsBlocks end file shown
-ShowsOf false end file shown = ShowsAll file shown
+abbrev pub ShowsOf : Bool → ℕ → ℕ → List ℕ → List ℕ → Type 0
+ShowsOf true end len file shown = ShowsBlocks end len file shown
+ShowsOf false end len file shown = ShowsAll file shown
 
 -- and since: the file may have grown
 pub record Shows {G : Type 0} (snapshot : Snapped G) (file shown : List ℕ) : Type 0 where
   pub met : List ℕ
   pub since : Later met file
-  pub shows : ShowsOf snapshot.closed snapshot.end met shown
+  pub shows : ShowsOf snapshot.closed snapshot.end snapshot.len met shown
 
 -- a snapshot holds these bytes, whatever its file is by now
 pub record IsHeld {G : Type 0} (grows : G → List ℕ → Type 0) (snapshot : Snapped G) (shown : List ℕ) : Type 0 where
@@ -64,13 +70,15 @@ pub record IsHeld {G : Type 0} (grows : G → List ℕ → Type 0) (snapshot : S
   pub now : grows snapshot.file file
   pub shows : Shows snapshot file shown
 
--- a snapshot of a file represents what the file represented at some moment of the call
+-- a snapshot of a file represents what the file represented at some moment of the call, and has as many bytes: so the verdict on it
+-- is the one on the file
 pub record Takes {G : Type 0} (grows : G → List ℕ → Type 0) (file : List ℕ) (snapshot : Snapped G) : Type 0 where
   pub later : List ℕ
   pub after : Later file later
   pub shown : List ℕ
   pub held : IsHeld grows snapshot shown
   pub same : contents shown ≡ contents later
+  pub long : length shown ≡ length later
 
 -- the same of one that showed something before: its bytes are those, and what was committed since
 pub record Refreshes {G : Type 0} (grows : G → List ℕ → Type 0) (file shown : List ℕ) (snapshot : Snapped G) : Type 0 where

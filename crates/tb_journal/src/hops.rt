@@ -1,18 +1,18 @@
 //! The blocks in a piece of a file, followed by their lengths.
-ghost use Rattle.std.specs.Prelude.{◌≡◌, ◌<◌, ◌^◌, List, ℕ};
+ghost use Rattle.std.specs.Prelude.{◌≤◌, ◌≡◌, ◌<◌, ◌^◌, List, ℕ};
 ghost use Rattle.tb_journal.specs.declared.hops.Hop.TheVariants as variants;
 ghost use Rattle.tb_journal.specs.Reading.{HasAhead};
 ghost use Rattle.tb_journal.specs.private.Hops.{HopsTo, FollowsPiece, TellsLatch, IsNear};
 
-use crate::reading::asked;
+use crate::reading::{asked, is_closed};
 
 // Latch, length and checksum of a block.
-const FIXED_BYTES: usize = 8;
+const FIXED_BYTES: usize = 11;
 
 // Where the blocks of a piece lead.
 #[derive(Clone, Copy)]
 pub enum Hop {
-    // To a closed latch, or the end of the file, at this offset.
+    // To a closed latch at this offset.
     Closed(usize),
     // To this offset, which is not in the piece.
     Further(usize),
@@ -26,7 +26,7 @@ pub fn follow(piece: &[u8], at: usize, len: usize) -> Hop
     requires near { at < 2 ^ 62 }
     ensures leads { FollowsPiece result at piece.now len }
     ensures further { (next : ℕ) → result ≡ variants.Further next → at < next }
-    ensures near { (end : ℕ) → result ≡ variants.Closed end → IsNear end }
+    ensures closed { (end : ℕ) → result ≡ variants.Closed end → (at ≤ end) × IsNear end }
 {
     let mut end = at;
     let mut rest = piece;
@@ -47,11 +47,11 @@ pub fn follow(piece: &[u8], at: usize, len: usize) -> Hop
 
 // Over one block.
 fn step(rest: &[u8], at: usize, len: usize) -> Hop
-    ensures hops { (file : List ℕ) → HasAhead 8 at file rest.now → HopsTo result at file len }
+    ensures hops { (file : List ℕ) → HasAhead 11 at file rest.now → HopsTo result at file len }
     ensures further { (next : ℕ) → result ≡ variants.Further next → at < next }
     ensures closed { (end : ℕ) → result ≡ variants.Closed end → end ≡ at }
 {
-    if let [] | [_] | [0, ..] = rest {
+    if is_end(rest) {
         return Hop::Closed(at);
     }
     match at.checked_add(asked(rest)) {
@@ -60,9 +60,12 @@ fn step(rest: &[u8], at: usize, len: usize) -> Hop
     }
 }
 
-// Says whether these bytes begin with a closed latch, or are the last of a file that ends there.
+// Says whether these bytes begin with a closed latch.
 pub fn is_end(rest: &[u8]) -> bool
-    ensures { (at : ℕ) (file : List ℕ) → HasAhead 8 at file rest.now → TellsLatch at file result }
+    ensures { (at : ℕ) (file : List ℕ) → HasAhead 11 at file rest.now → TellsLatch at file result }
 {
-    matches!(rest, [] | [_] | [0, ..])
+    match rest {
+        [w, x, y, z, ..] => is_closed(*w, *x, *y, *z),
+        _ => false,
+    }
 }

@@ -5,7 +5,7 @@ ghost use Rattle.tb_journal.specs.Contents.{at_rest, recorded, records_end};
 ghost use Rattle.tb_journal.specs.Ready.{Kept, IsWritable, IsReady, grown, with_waiting, Acknowledges, LeavesAllOrNone};
 ghost use Rattle.tb_journal.specs.Steps.{IsWhole, Overwrites, WritesBatch};
 
-use crate::batches::{Batch, OPEN};
+use crate::batches::{Batch, LATCH_BYTES, OPEN};
 use crate::devices::Device;
 use crate::faults::JournalFault;
 use crate::written::Written;
@@ -52,7 +52,7 @@ impl<D: Device> Journal<D> {
         if content.len() >= RECORD_BYTES_MAX {
             return Err(JournalFault::TooLong);
         }
-        if content.len() + 8 > FILE_BYTES_MAX - self.end - self.batch.bytes().len() {
+        if content.len() + 11 > FILE_BYTES_MAX - self.end - self.batch.bytes().len() {
             return Err(JournalFault::Full);
         }
         match self.batch.add(content) {
@@ -111,7 +111,7 @@ impl<D: Device> Journal<D> {
         }
         match publish(&mut self.device, self.end, self.batch.bytes()) {
             Ok(()) => {
-                self.end += self.batch.bytes().len() - 1;
+                self.end += self.batch.bytes().len() - LATCH_BYTES;
                 self.count += self.batch.count();
                 self.batch.clear();
                 Ok(())
@@ -173,16 +173,16 @@ pub fn write_kept<D: Device>(device: &mut D, at: usize, bytes: &[u8]) -> Result<
 
 // Writes blocks behind the closed latch at this offset, and then opens it.
 pub fn publish<D: Device>(device: &mut D, end: usize, batch: &[u8]) -> Result<(), JournalFault>
-    requires some { 1 ≤ length batch.now }
+    requires some { 4 ≤ length batch.now }
     requires short { end < 2 ^ 63 }
     requires whole { D.tells → IsWhole (D.disk device.old) }
     requires ends { D.tells → end ≡ records_end (recorded (D.disk device.old).seen) }
     ensures other { IfErr result (λ fault. fault ≡ JournalFault.NotEmpty → ⊥) }
     ensures publishes { D.tells → WritesBatch batch.now result (D.disk device.old) (D.disk device.new) }
 {
-    let (_, tail) = batch.split_at(1);
-    match write_kept(device, end + 1, tail) {
-        Ok(()) => write_kept(device, end, &[OPEN]),
+    let (_, tail) = batch.split_at(LATCH_BYTES);
+    match write_kept(device, end + LATCH_BYTES, tail) {
+        Ok(()) => write_kept(device, end, &OPEN),
         Err(fault) => Err(fault),
     }
 }

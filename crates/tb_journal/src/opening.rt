@@ -1,5 +1,5 @@
 //! A journal is created, or opened from a file that a crash may have left.
-ghost use Rattle.std.specs.Prelude.{◌≡◌, ◌≤◌, true, List, ℕ, length, Ok, IfOk, IfErr, [], OnOk};
+ghost use Rattle.std.specs.Prelude.{◌≡◌, ◌≤◌, ◌<◌, ◌^◌, true, List, ℕ, length, Ok, IfOk, IfErr, [], OnOk};
 ghost use Rattle.tb_journal.specs.Device.{IsOnDisk, LeavesOnly, IsSettled, HasCause, GivesBytes, LeavesIfSound, OfHeld};
 ghost use Rattle.tb_journal.specs.Contents.{contents, recorded, records_end, IsJournal};
 ghost use Rattle.tb_journal.specs.Steps.{Shortens};
@@ -8,7 +8,7 @@ ghost use Rattle.tb_journal.specs.Ready.{IsOver};
 ghost use Rattle.tb_journal.specs.Opening.{IsOfExtent, Recovers, StandsForTheSame, IsOfDevice, HasOpenCause, IsUntouched, Repairs, device_left, LeavesSameRecords, CausedBy, GivesBack, OpensIfSound};
 ghost use Rattle.tb_journal.specs.Creating.{is_torn_from, is_blank, MayBeCreated, IsLeft, HasCreateCause, CreatesIn, IsNew, IsUnborn, FindsBlank, WritesFirst};
 
-use crate::batches::{Batch, CLOSED};
+use crate::batches::{Batch, LATCH_BYTES};
 use crate::devices::Device;
 use crate::faults::JournalFault;
 use crate::journals::{FILE_BYTES_MAX, Journal, write_kept};
@@ -55,17 +55,14 @@ fn cut_kept<D: Device>(device: &mut D, len: usize) -> Result<(), JournalFault>
     }
 }
 
-// Cuts off what follows the records, and writes a closed latch there. The cut is durable
-// first: behind a latch that is torn open, what was there would count.
+// Cuts off what follows the closed latch behind the records. Nothing is written: the latch is there.
 fn repair<D: Device>(device: &mut D, end: usize) -> Result<(), JournalFault>
+    requires short { end < 2 ^ 63 }
     requires reads { D.tells → IsJournal (D.disk device.old).seen }
     requires ends { D.tells → end ≡ records_end (recorded (D.disk device.old).seen) }
     ensures { D.tells → Repairs result (D.disk device.old) (D.disk device.new) }
 {
-    match cut_kept(device, end) {
-        Ok(()) => write_kept(device, end, &[CLOSED]),
-        Err(fault) => Err(fault),
-    }
+    cut_kept(device, end + LATCH_BYTES)
 }
 
 impl<D: Device> Journal<D> {
@@ -87,7 +84,7 @@ impl<D: Device> Journal<D> {
         ensures cause { D.tells → CausedBy D.disk device result HasOpenCause }
     {
         let Extent { end, count } = extent;
-        if end >= FILE_BYTES_MAX {
+        if end > FILE_BYTES_MAX - LATCH_BYTES {
             return Err(NotOpened::of_device(device, JournalFault::Full));
         }
         let Ok(batch) = Batch::new(alloc) else {
@@ -131,7 +128,7 @@ pub fn recover<D: Device>(alloc: Global, device: D) -> Result<Journal<D>, NotOpe
 }
 
 // A journal without records.
-const FIRST: [u8; 9] = [84, 66, 74, 82, 78, 76, 48, 49, 0];
+const FIRST: [u8; 12] = [84, 66, 74, 82, 78, 76, 48, 50, 90, 195, 150, 105];
 
 /// Creates a journal without records in an empty file. Any other file stays as it was, but one such
 /// as a crash leaves of a creation: nothing was acknowledged there, and the call
@@ -172,7 +169,7 @@ fn finds_blank<D: Device>(device: &mut D) -> Result<bool, JournalFault>
             if len > FIRST.len() {
                 return Ok(false);
             }
-            let mut bytes = [0; 9];
+            let mut bytes = [0; 12];
             match read_kept(device, &mut bytes) {
                 Ok(count) => Ok(is_blank(&bytes[..count])),
                 Err(fault) => Err(fault),

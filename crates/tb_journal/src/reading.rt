@@ -1,14 +1,14 @@
 //! How the bytes of a journal are read: the head of a block, and CRC-32C, sixteen bytes at a time, by tables of what each byte makes
 //! with zeros behind it.
 ghost use Rattle.std.specs.Prelude.{◌≡◌, [], ◌∷◌, ◌≤◌, ◌<◌, ◌++◌, bit_xor};
-ghost use Rattle.tb_journal.specs.Contents.{front, behind_latch};
+ghost use Rattle.tb_journal.specs.Contents.{is_closed, front, behind_latch};
 ghost use Rattle.tb_journal.specs.Reading.{head_is, asked};
 ghost use Rattle.tb_journal.specs.Checksum.{byte_on, remainder, checksum, zeros_on};
 
 use crate::tables::REMAINDERS;
 
 /// The first bytes of a journal's file.
-pub const MAGIC: [u8; 8] = [84, 66, 74, 82, 78, 76, 48, 49];
+pub const MAGIC: [u8; 8] = [84, 66, 74, 82, 78, 76, 48, 50];
 
 // What is at the head of some bytes.
 #[derive(Clone, Copy, PartialEq, Eq)]
@@ -35,13 +35,22 @@ pub enum Refusal {
     Damaged { at: usize },
 }
 
+// Says whether these bytes are a closed latch.
+pub fn is_closed(w: u8, x: u8, y: u8, z: u8) -> bool
+    ensures { result ≡ is_closed w x y z }
+{
+    w == 90 && x == 195 && y == 150 && z == 105
+}
+
 // So many bytes from a place on say what is there.
 pub fn asked(bytes: &[u8]) -> usize
     ensures { result ≡ asked bytes.now }
 {
     match bytes {
-        [latch, a, b, c, ..] if *latch != 0 => 8 + u32::from_le_bytes([*a, *b, *c, 0]) as usize,
-        _ => 8,
+        [w, x, y, z, a, b, c, ..] if !is_closed(*w, *x, *y, *z) => {
+            11 + u32::from_le_bytes([*a, *b, *c, 0]) as usize
+        }
+        _ => 11,
     }
 }
 
@@ -50,8 +59,8 @@ pub fn head_of(bytes: &[u8]) -> Head
     ensures { result ≡ head_is (front bytes.now) }
 {
     match bytes {
-        [] | [_] | [0, ..] => Head::End,
-        [_, a, b, c, s, t, u, v, rest @ ..] => {
+        [w, x, y, z, ..] if is_closed(*w, *x, *y, *z) => Head::End,
+        [_, _, _, _, a, b, c, s, t, u, v, rest @ ..] => {
             let sum = u32::from_le_bytes([*s, *t, *u, *v]);
             head_behind_latch(*a, *b, *c, sum, rest)
         }

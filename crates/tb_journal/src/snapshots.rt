@@ -1,14 +1,14 @@
 //! A growing file as it was at one moment.
-ghost use Rattle.std.specs.Prelude.{◌≡◌, ◌≤◌, ◌<◌, ◌^◌, List, ℕ, length, Ok, IfOk, OnOk, OnErr, IfErr};
+ghost use Rattle.std.specs.Prelude.{◌≡◌, ◌≤◌, ◌<◌, ◌+◌, ◌^◌, take, drop, List, ℕ, length, Ok, IfOk, OnOk, OnErr, IfErr};
 ghost use Rattle.tb_journal.specs.Device.{IsOfCall, AnswersLength};
 ghost use Rattle.tb_journal.specs.Real.{untold};
 ghost use Rattle.tb_journal.specs.declared.hops.Hop.TheVariants as variants;
 ghost use Rattle.tb_journal.specs.Reading.{HasAhead};
-ghost use Rattle.tb_journal.specs.Snapshots.{Snapped, IsHeld, Takes, Refreshes};
-ghost use Rattle.tb_journal.specs.private.Hops.{IsFound, StartsAs, Grows, HopsFrom, Finds, FindsMore, TellsLatch, TellsEnd, TellsStart, ReadsBlocks, Closes, IsNear};
+ghost use Rattle.tb_journal.specs.Snapshots.{Snapped, behind_blocks, IsHeld, Takes, Refreshes};
+ghost use Rattle.tb_journal.specs.private.Hops.{IsFound, StartsAs, Grows, HopsFrom, Finds, FindsMore, HopsSized, TellsEnd, TellsStart, ReadsBlocks, Closes, IsNear};
 ghost use Rattle.tb_journal.specs.Growing.{HasGrown};
 
-use crate::batches::CLOSED;
+use crate::batches::{CLOSED, LATCH_BYTES};
 use crate::devices::Device;
 use crate::faults::JournalFault;
 use crate::growing::Growing;
@@ -24,15 +24,24 @@ const PIECE_BYTES: usize = 1 << 16;
 // Where its blocks begin.
 const START_BYTES: usize = MAGIC.len();
 
-// Where a file ends, and whether by a closed latch.
+// Where the blocks of a file end, how many bytes it has, and whether a closed latch was met.
 #[derive(Clone, Copy)]
 pub struct Found {
     pub end: usize,
+    pub len: usize,
     pub closed: bool,
 }
 
-/// A file that grows, as a device that holds the bytes of one moment: the blocks up to the closed latch that was met, and
-/// that latch. A file that is damaged or no journal is shown whole, since nobody appends to it.
+// A file that is shown whole.
+const WHOLE: Found = Found {
+    end: 0,
+    len: 0,
+    closed: false,
+};
+
+/// A file that grows, as a device that holds the bytes of one moment: the blocks up to the closed latch that was met, that latch, and
+/// zeros in the place of what was behind it. So its length is that of the file. A file that is damaged or no journal is shown whole, since
+/// nobody appends to it.
 ///
 /// It is read alone: a write or a cut fails, and a sync does nothing, so what it holds may be lost at a power loss.
 #[derive(Drop)]
@@ -45,9 +54,9 @@ pub struct Snapshot<G: Growing> {
 impl<G: Growing> Model for Snapshot<G> {
     ghost Value = { Snapped G };
 
-    ghost view = { λ s. record { file = s.file; end = s.found.end; closed = s.found.closed } };
+    ghost view = { λ s. record { file = s.file; end = s.found.end; len = s.found.len; closed = s.found.closed } };
 
-    ghost invariant = { λ s. IsNear s.found.end × (8 ≤ length s.piece.items) };
+    ghost invariant = { λ s. IsNear s.found.end × (11 ≤ length s.piece.items) };
 }
 
 impl<G: Growing + Drop> Snapshot<G> {
@@ -111,17 +120,14 @@ impl<G: Growing> Device for Snapshot<G> {
         if !self.found.closed {
             return self.file.read_at(at, into);
         }
-        if at > self.found.end {
-            return Ok(0);
-        }
-        read_closed(&mut self.file, self.found.end, at, into)
+        read_closed(&mut self.file, self.found.end, self.found.len, at, into)
     }
 
     fn len(&mut self) -> Result<usize, JournalFault> {
         if !self.found.closed {
             return self.file.len();
         }
-        Ok(self.found.end + 1)
+        Ok(self.found.len.max(self.found.end + LATCH_BYTES))
     }
 
     fn write_at(&mut self, _at: usize, _bytes: &[u8]) -> Result<(), JournalFault> {
@@ -137,60 +143,78 @@ impl<G: Growing> Device for Snapshot<G> {
     }
 }
 
-// Reads of the blocks up to this offset, and of a closed latch behind them. Fails where the file no longer has them.
+// Reads of what is shown: the blocks up to this offset, a closed latch, and zeros up to a length. Fails where the file no longer has the blocks.
 fn read_closed<G: Growing>(
     file: &mut G,
     end: usize,
+    len: usize,
     at: usize,
     into: &mut [u8],
 ) -> Result<usize, JournalFault>
-    requires within { at ≤ end }
+    requires near { IsNear end }
     ensures within { IfOk result (λ count. count ≤ length into.new) }
-    ensures bytes { ReadsBlocks (G.grows file.old) (G.grows file.new) end at into.new result }
+    ensures bytes { ReadsBlocks (G.grows file.old) (G.grows file.new) end len at into.new result }
     ensures names { IfErr result IsOfCall }
 {
     let count = file.read_at(at, into)?;
-    close(into, count, end - at)
+    close(into, count, at, end, len)
 }
 
-// Puts a closed latch behind so many bytes of those that were read, where it fits. Says how many they are then:
-// fails where the file has fewer.
-fn close(into: &mut [u8], count: usize, left: usize) -> Result<usize, JournalFault>
-    requires { count ≤ length into.old }
+// Writes what is shown behind the blocks over what was read there.
+fn close(
+    into: &mut [u8],
+    count: usize,
+    at: usize,
+    end: usize,
+    len: usize,
+) -> Result<usize, JournalFault>
+    requires near { IsNear end }
+    requires within { count ≤ length into.old }
     ensures within { IfOk result (λ told. told ≤ length into.new) }
-    ensures closes { IfOk result (Closes count left into.old into.new) }
+    ensures closes { Closes count at end len into.old into.new result }
     ensures names { IfErr result IsOfCall }
 {
+    let left = end.saturating_sub(at);
     if left >= into.len() {
         return Ok(count);
     }
     if count < left {
         return Err(JournalFault::Failed);
     }
-    into[left] = CLOSED;
-    Ok(left + 1)
+    let shown = len.max(end + LATCH_BYTES);
+    let told = into.len().min(shown.saturating_sub(at));
+    put_behind(&mut into[left..told], at.saturating_sub(end));
+    Ok(told)
+}
+
+// Writes a closed latch and zeros, from so many of their bytes on.
+fn put_behind(into: &mut [u8], skip: usize)
+    ensures { (others : ℕ) → skip + length into.old ≤ 4 + others → into.new ≡ take (length into.old) (drop skip (behind_blocks others)) }
+{
+    into.fill(0);
+    if skip < LATCH_BYTES {
+        let n = into.len().min(LATCH_BYTES - skip);
+        into[..n].copy_from_slice(&CLOSED[skip..skip + n]);
+    }
 }
 
 // Where a file ends, from its first bytes on.
 fn find<G: Growing>(file: &mut G, piece: &mut [u8]) -> Result<Found, JournalFault>
-    requires { 8 ≤ length piece.old }
+    requires { 11 ≤ length piece.old }
     ensures found { (bytes : List ℕ) → G.grows file.old bytes → IfOk result (IsFound (G.grows file.new) bytes) }
     ensures near { IfOk result (λ found. IsNear found.end) }
     ensures names { IfErr result IsOfCall }
 {
     match begins(file, piece) {
         Ok(true) => find_end(file, piece, START_BYTES),
-        Ok(false) => Ok(Found {
-            end: 0,
-            closed: false,
-        }),
+        Ok(false) => Ok(WHOLE),
         Err(fault) => Err(fault),
     }
 }
 
 // Says whether a file begins as a journal does.
 fn begins<G: Growing>(file: &mut G, piece: &mut [u8]) -> Result<bool, JournalFault>
-    requires { 8 ≤ length piece.old }
+    requires { 11 ≤ length piece.old }
     ensures tells { TellsStart (G.grows file.old) (G.grows file.new) result }
     ensures names { IfErr result IsOfCall }
 {
@@ -207,54 +231,46 @@ fn is_journal(bytes: &[u8]) -> bool
 // Where it ends now, of which a closed latch was met at this offset. Most often that latch is closed still.
 fn find_more<G: Growing>(file: &mut G, piece: &mut [u8], end: usize) -> Result<Found, JournalFault>
     requires near { IsNear end }
-    requires some { 8 ≤ length piece.old }
+    requires some { 11 ≤ length piece.old }
     ensures found { FindsMore (G.grows file.old) (G.grows file.new) end result }
     ensures same { Grows (G.grows file.old) (G.grows file.new) }
     ensures near { IfOk result (λ found. IsNear found.end) }
     ensures names { IfErr result IsOfCall }
 {
     match still_closed(file, piece, end) {
-        Ok(true) => Ok(Found { end, closed: true }),
-        Ok(false) => find_end(file, piece, end),
+        Ok((len, true)) => Ok(Found {
+            end,
+            len,
+            closed: true,
+        }),
+        Ok((_, false)) => find_end(file, piece, end),
         Err(fault) => Err(fault),
     }
 }
 
-// Says whether the latch at this offset is closed, or the file ends there. Fails where the file is shorter.
+// The number of bytes, and then whether the latch at this offset is closed. Fails where the file is shorter.
 fn still_closed<G: Growing>(
     file: &mut G,
     piece: &mut [u8],
     end: usize,
-) -> Result<bool, JournalFault>
-    requires { 8 ≤ length piece.old }
-    ensures tells { TellsEnd (G.grows file.old) (G.grows file.new) end result }
+) -> Result<(usize, bool), JournalFault>
+    requires { 11 ≤ length piece.old }
+    ensures tells { (bytes : List ℕ) → G.grows file.old bytes → IfOk result (TellsEnd (G.grows file.new) end bytes) }
+    ensures same { Grows (G.grows file.old) (G.grows file.new) }
     ensures names { IfErr result IsOfCall }
 {
-    let long = file.len()?;
-    match file.read_at(end, piece) {
-        Ok(count) => latch_of(&piece[..count], long, end),
-        Err(fault) => Err(fault),
-    }
-}
-
-// Says whether these bytes at an offset begin with a closed latch, or are the last. An offset is kept where the file reaches it:
-// one that got shorter is another file.
-fn latch_of(rest: &[u8], len: usize, end: usize) -> Result<bool, JournalFault>
-    ensures reaches { OnOk result (end ≤ len) }
-    ensures shorter { OnErr result (len < end) }
-    ensures tells { (file : List ℕ) → HasAhead 8 end file rest.now
-        → IfOk result (TellsLatch end file) }
-    ensures names { IfErr result IsOfCall }
-{
+    let len = file.len()?;
+    let count = file.read_at(end, piece)?;
+    // An offset is kept where the file reaches it: one that got shorter is another file.
     if len < end {
         return Err(JournalFault::Failed);
     }
-    Ok(is_end(rest))
+    Ok((len, is_end(&piece[..count])))
 }
 
 // Where a file ends whose blocks lead to this offset.
 fn find_end<G: Growing>(file: &mut G, piece: &mut [u8], from: usize) -> Result<Found, JournalFault>
-    requires { 8 ≤ length piece.old }
+    requires { 11 ≤ length piece.old }
     ensures found { Finds (G.grows file.old) (G.grows file.new) from result }
     ensures same { Grows (G.grows file.old) (G.grows file.new) }
     ensures near { IfOk result (λ found. IsNear found.end) }
@@ -262,27 +278,54 @@ fn find_end<G: Growing>(file: &mut G, piece: &mut [u8], from: usize) -> Result<F
 {
     let mut end = from;
     while end < FILE_BYTES_MAX {
-        match hop_from(file, piece, end) {
-            Ok(Hop::Further(next)) => end = next,
-            Ok(Hop::Closed(end)) => return Ok(Found { end, closed: true }),
-            Ok(Hop::Broken) => return Ok(Found {
-                end: 0,
-                closed: false,
-            }),
+        match hop_sized(file, piece, end) {
+            Ok((_, Hop::Further(next))) => end = next,
+            Ok((len, Hop::Closed(at))) => {
+                if at <= end {
+                    return Ok(Found {
+                        end,
+                        len,
+                        closed: true,
+                    });
+                }
+                end = at;
+            }
+            Ok((_, Hop::Broken)) => return Ok(WHOLE),
             Err(fault) => return Err(fault),
         }
     }
     Err(JournalFault::Full)
 }
 
+// The number of bytes, and then over the blocks of the piece at this offset.
+fn hop_sized<G: Growing>(
+    file: &mut G,
+    piece: &mut [u8],
+    at: usize,
+) -> Result<(usize, Hop), JournalFault>
+    requires some { 11 ≤ length piece.old }
+    requires near { at < 2 ^ 62 }
+    ensures leads { HopsSized (G.grows file.old) (G.grows file.new) at result }
+    ensures same { Grows (G.grows file.old) (G.grows file.new) }
+    ensures further { IfOk result (λ told. (next : ℕ) → told.1 ≡ variants.Further next → at < next) }
+    ensures closed { IfOk result (λ told. (end : ℕ) → told.1 ≡ variants.Closed end → (at ≤ end) × IsNear end) }
+    ensures names { IfErr result IsOfCall }
+{
+    let len = file.len()?;
+    match hop_from(file, piece, at) {
+        Ok(hop) => Ok((len, hop)),
+        Err(fault) => Err(fault),
+    }
+}
+
 // Over the blocks of the piece at this offset.
 fn hop_from<G: Growing>(file: &mut G, piece: &mut [u8], at: usize) -> Result<Hop, JournalFault>
-    requires some { 8 ≤ length piece.old }
+    requires some { 11 ≤ length piece.old }
     requires near { at < 2 ^ 62 }
     ensures leads { HopsFrom (G.grows file.old) (G.grows file.new) at result }
     ensures same { Grows (G.grows file.old) (G.grows file.new) }
     ensures further { (next : ℕ) → result ≡ Ok (variants.Further next) → at < next }
-    ensures near { (end : ℕ) → result ≡ Ok (variants.Closed end) → IsNear end }
+    ensures closed { (end : ℕ) → result ≡ Ok (variants.Closed end) → (at ≤ end) × IsNear end }
     ensures names { IfErr result IsOfCall }
 {
     let count = file.read_at(at, piece)?;

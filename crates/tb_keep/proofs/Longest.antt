@@ -1,11 +1,12 @@
 -- No legal history with whose records a file begins has more of them than the one that is taken.
-use Rattle.std.proofs.Common.{arith, ℕ, zero, suc, ◌≡◌, ◌⊎◌, ◌+◌, ◌≤◌, inl, inr, ⊎_elim, List, [], ◌∷◌, ◌++◌, length, take, drop, Option, None, Some, sym, ap, ◌∙◌, subst, append_assoc, append-nil, length-take}
-use Rattle.std.proofs.lemmas.List.{take_all, take-append-drop, take-take}
+use Rattle.std.proofs.Common.{arith, ℕ, zero, suc, ◌≡◌, ◌⊎◌, ◌+◌, ◌≤◌, inl, inr, ⊎_elim, List, [], ◌∷◌, ◌++◌, length, take, drop, Option, None, Some, sym, ap, ◌∙◌, subst, append_assoc, append-nil}
+use Rattle.std.proofs.lemmas.List.{take_at, take-take, length-take-le}
 use Rattle.tb_journal.specs.declared.opening.OpenFault.TheVariants as open_faults
 use Rattle.tb_journal.specs.declared.reading.Refusal.TheVariants as refusals
-use Rattle.tb_journal.specs.Contents.{Front, Ends, Spoiled, Whole, front, joined, skipped, Contents, NotAJournal, Damaged, Records, with_record, with_records, walk, contents, records_end}
+use Rattle.tb_journal.specs.Contents.{latch_closed, Front, Ends, Spoiled, Whole, front, joined, skipped, Contents, NotAJournal, Damaged, Records, with_record, with_records, walk, contents, records_end}
 use Rattle.tb_journal.specs.Scans.{BeginsWith}
-use Rattle.tb_journal.proofs.BlockWalks.{begins_shorter, is_file}
+use Rattle.tb_journal.proofs.BlockWalks.{begins_long, begins_shorter}
+use Rattle.tb_journal.proofs.ScanSteps.{all}
 use Rattle.tb_records.specs.declared.faults.FrameFault.{FrameFault}
 use Rattle.tb_machine.specs.declared.restoring.RestoreFault.{RestoreFault}
 use Rattle.tb_keep.specs.declared.faults.StartFault.{StartFault}
@@ -33,29 +34,29 @@ behind_block : (f : Front) (at place : ℕ) (behind : List ℕ) → ((skip from 
     → joined f at (walk (skipped f) (at + 1) behind) ≡ Damaged place → at ≤ place
 behind_block Ends at place behind later is = absurd (cc)
 behind_block Spoiled at place behind later is = let same : at ≡ place = cc (is) in omega (arith, same)
-behind_block (Whole bytes) at place behind later is = omega (arith, later (7 + length bytes) (at + 1) (inner bytes (walk (7 + length bytes) (at + 1) behind) place is))
+behind_block (Whole bytes) at place behind later is = omega (arith, later (10 + length bytes) (at + 1) (inner bytes (walk (10 + length bytes) (at + 1) behind) place is))
 
 place_after : (skip at : ℕ) (bytes : List ℕ) (place : ℕ) → walk skip at bytes ≡ Damaged place → at ≤ place
-place_after zero at [] place is = absurd (cc)
-place_after (suc skip) at [] place is = absurd (cc)
+place_after zero at [] place is = let same : at ≡ place = cc (is) in omega (arith, same)
+place_after (suc skip) at [] place is = let same : at + suc skip ≡ place = cc (is) in omega (arith, same)
 place_after (suc skip) at (b ∷ bytes) place is = omega (arith, place_after skip (at + 1) bytes place is)
 place_after zero at (latch ∷ behind) place is = behind_block (front (latch ∷ behind)) at place behind (λ skip from walks. place_after skip from behind place walks) is
 
 damage_behind : (records : List (List ℕ)) (file : List ℕ) (at : ℕ) → BeginsWith records file → contents file ≡ Damaged at → records_end records ≤ at
 damage_behind records file at begins is =
     let end = records_end records in
-    let first = take end file in
-    let same : take end first ≡ first = take_all end first (omega (arith, length-take end file)) in
-    let whole : take end first ++ drop end file ≡ file = ap (λ (l : List ℕ). l ++ drop end file) same ∙ take-append-drop end file in
-    place_after 0 end (drop end file) at (inner_all records (walk 0 end (drop end file)) at (sym ((is_file first records begins).goes_on (drop end file)) ∙ ap contents whole ∙ is))
+    place_after 0 end (drop end file) at (inner_all records (walk 0 end (drop end file)) at (sym (all records file begins) ∙ is))
 
 -- of two lists of records that a file begins with one begins with the other
 
 shorter_first : (a b : List (List ℕ)) (file : List ℕ) → BeginsWith a file → BeginsWith b file → records_end a ≤ records_end b → (rest : List (List ℕ)) × (b ≡ a ++ rest)
 shorter_first a b file begins also less =
-    let cut = take (records_end b) file in
-    let same : take (records_end a) cut ≡ take (records_end a) file = take-take (records_end a) (records_end b) file less in
-    begins_rest a b cut (ap contents same ∙ begins) also
+    let m = records_end a in
+    let n = records_end b in
+    let cut = take n file ++ latch_closed in
+    let long : length (take n file) ≡ n = length-take-le n file (begins_long b file also) in
+    let same : take m cut ≡ take m file = sym (take-take m n cut less) ∙ ap (take m) (take_at (take n file) latch_closed n long) ∙ take-take m n file less in
+    begins_rest a b cut (ap (λ (l : List ℕ). contents (l ++ latch_closed)) same ∙ begins) also
 
 not_memory_record : (place : ℕ) (f : FrameFault) → start.Record place f ≡ start.NoMemory → ⊥
 not_memory_record place f is = absurd (cc)

@@ -1,15 +1,14 @@
 -- Records that a file begins with, and all of its records.
-use Rattle.std.proofs.Common.{rules, ℕ, ◌≡◌, ◌⊎◌, inl, inr, List, [], ◌∷◌, ◌++◌, take, drop, refl, sym, ap, ◌∙◌, subst, append_assoc, append-nil, length-take, arith, Err, Ok}
+use Rattle.std.proofs.Common.{rules, ℕ, ◌≡◌, ◌⊎◌, inl, inr, List, [], ◌∷◌, ◌++◌, refl, sym, ap, ◌∙◌, subst, append_assoc, append-nil, arith, Err, Ok}
 use Rattle.std.proofs.lemmas.Grind.{common_steps}
-use Rattle.std.proofs.lemmas.List.{take_all, take-append-drop}
 use Rattle.tb_records.specs.declared.limits.Profile.{Profile}
 use Rattle.tb_records.specs.DumpBytes.{head_bytes}
 use Rattle.tb_records.proofs.Sendings.{sent_few}
 use Rattle.tb_journal.specs.declared.reading.Extent.{Extent}
-use Rattle.tb_journal.specs.Contents.{Contents, NotAJournal, Damaged, Records, contents, with_record, with_records, walk, records_of, recorded, records_end}
+use Rattle.tb_journal.specs.Contents.{Contents, NotAJournal, Damaged, Records, contents, records_of, recorded}
 use Rattle.tb_journal.specs.Reading.{extent_of}
 use Rattle.tb_journal.specs.Scans.{BeginsWith}
-use Rattle.tb_journal.proofs.BlockWalks.{is_file}
+use Rattle.tb_journal.proofs.Growths.{begins_part}
 use Rattle.tb_machine.specs.Histories.{State}
 use Rattle.tb_keep.specs.declared.faults.StartFault.{StartFault}
 use Rattle.tb_keep.specs.declared.faults.StartFault.TheVariants as start
@@ -30,23 +29,8 @@ extent_reads file extent is = is_records (contents file) extent is
 
 -- they begin with those that the file begins with
 
-front_of : (records : List (List ℕ)) (others : Contents) (all : List (List ℕ)) → with_records records others ≡ Records all → (rest : List (List ℕ)) × (all ≡ records ++ rest)
-front_of [] others all is = (all, refl)
-front_of (r ∷ records) others all is = by (λ more e. front_of records others more e) (with_records records others) refl is
-  where
-    by : ((more : List (List ℕ)) → with_records records others ≡ Records more → (rest : List (List ℕ)) × (more ≡ records ++ rest))
-        → (c : Contents) → with_records records others ≡ c → with_record r c ≡ Records all → (rest : List (List ℕ)) × (all ≡ (r ∷ records) ++ rest)
-    by later NotAJournal e is = absurd (cc)
-    by later (Damaged at) e is = absurd (cc)
-    by later (Records more) e is = grind (arith, common_steps)
-
 pub begins_rest : (records all : List (List ℕ)) (file : List ℕ) → BeginsWith records file → contents file ≡ Records all → (rest : List (List ℕ)) × (all ≡ records ++ rest)
-begins_rest records all file begins reads =
-    let end = records_end records in
-    let front = take end file in
-    let same : take end front ≡ front = take_all end front (omega (arith, length-take end file)) in
-    let whole : take end front ++ drop end file ≡ file = ap (λ (l : List ℕ). l ++ drop end file) same ∙ take-append-drop end file in
-    front_of records (walk 0 end (drop end file)) all (sym ((is_file front records begins).goes_on (drop end file)) ∙ ap contents whole ∙ reads)
+begins_rest records all file begins reads = begins_part records all file begins reads
 
 -- so what stops the first of them stops all
 
@@ -141,7 +125,11 @@ is_no_history start.OtherRules rules file has stops = (rules, has, stops)
 is_no_history (start.Record place f) rules file has stops = (rules, has, stops)
 is_no_history (start.Entry f) rules file has stops = (rules, has, stops)
 is_no_history start.NoMemory rules file has stops = (rules, has, stops)
-is_no_history (start.TornTooLong at bytes) rules file has stops = (rules, has, stops)
+is_no_history (start.TornTooLong at bytes) rules file has stops = absurd (never stops.records stops.stops)
+  where
+    never : (records : List (List ℕ)) → StopsFile (start.TornTooLong at bytes) rules.profile rules.clients_max records → ⊥
+    never records (head, rest, is, inl none) = none
+    never records (head, rest, is, inr (own, (T, (front, last, behind, all, leads, none)))) = none
 
 -- and where it is refused before its records are read no history is reported of it
 

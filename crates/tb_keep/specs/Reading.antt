@@ -1,6 +1,6 @@
 -- What is read of a kept file, without a write.
 -- Cited by public contracts of: dumps, laws, recovering, worked_rows.
-use Rattle.std.specs.Prelude.{ℕ, ◌≡◌, ◌⊎◌, List, [], ◌∷◌, ◌++◌, Option, None, Some, Result, Ok, Err, OnOk, IfErr}
+use Rattle.std.specs.Prelude.{ℕ, ◌≡◌, ◌⊎◌, ◌≤◌, ◌^◌, List, [], ◌∷◌, ◌++◌, Option, None, Some, Result, Ok, Err, OnOk, IfErr}
 use Rattle.tb_records.specs.declared.faults.FrameFault.TheVariants.{Device}
 use Rattle.tb_records.specs.declared.limits.Profile.{Profile}
 use Rattle.tb_records.specs.DumpBytes.{head_bytes, IsClients}
@@ -19,7 +19,7 @@ use Rattle.tb_keep.specs.declared.faults.StartFault.{StartFault}
 use Rattle.tb_keep.specs.declared.faults.StartFault.TheVariants as start
 use Rattle.tb_keep.specs.declared.recovering.Rules.{Rules}
 use Rattle.tb_keep.specs.Keeping.{History, state_of, head_record, IsLedger}
-use Rattle.tb_keep.specs.Recovering.{StopsReading}
+use Rattle.tb_keep.specs.Recovering.{StopsOpening, torn_bytes}
 
 abbrev pub rules_of : Profile → ℕ → Rules
 rules_of profile clients_max = record { profile = profile; clients_max = clients_max }
@@ -69,15 +69,16 @@ pub record IsHistory (rules : Rules) (S : State) (file : List ℕ) : Type 0 wher
   pub clients : history.clients_max ≡ rules.clients_max
   pub state : S ≡ state_of history
 
--- the file represents no history: it is not read, it has no head, or a record behind it is none of the next entry
+-- no start opens the file: it is not read, it has no head, a record behind it is none of the next entry, or more torn bytes are behind its
+-- records than one batch can have
 abbrev pub IsNoHistory : StartFault → List ℕ → Type 0
 IsNoHistory (start.Journal fault) file = RefusesFile fault file
 IsNoHistory start.Head file = HasNoHead file
-IsNoHistory fault file = (rules : Rules) × HasRules rules file × StopsReading fault rules.profile rules.clients_max file
+IsNoHistory fault file = (rules : Rules) × HasRules rules file × StopsOpening fault rules.profile rules.clients_max file
 
 -- that history and where the records end, or why there is none
 abbrev pub FindsHistory : Result (Rules × State × Extent) StartFault → List ℕ → Type 0
-FindsHistory (Ok found) file = IsHistory found.0 found.1 file × (extent_of (contents file) ≡ Ok found.2)
+FindsHistory (Ok found) file = IsHistory found.0 found.1 file × (extent_of (contents file) ≡ Ok found.2) × (torn_bytes file ≤ 2 ^ 22)
 FindsHistory (Err fault) file = IsNoHistory fault file
 
 -- the records behind the first

@@ -2,18 +2,20 @@
 ghost use Rattle.std.specs.Prelude.{◌≡◌, ℕ, true, List, [], IfOk};
 ghost use Rattle.tb_records.specs.Transport.{IsSent};
 ghost use Rattle.tb_journal.specs.Scans.{GoesFurther};
-ghost use Rattle.tb_keep.specs.private.Entering.{StaysKept, FindsRules, HeadCause, OfBehind, UnreadCause, head_of};
+ghost use Rattle.tb_keep.specs.private.Entering.{StaysKept, FindsRules, HeadCause, OfBehind, OfExtent, UnreadCause, head_of};
 ghost use Rattle.tb_keep.specs.Creating.{IsUntouched};
 ghost use Rattle.tb_keep.specs.Recovering.{HasStartCause};
-ghost use Rattle.tb_keep.specs.Reading.{RulesAnswer, RulesIn, FindsHistory, Dumps, HasDumpCause, OfRead};
+ghost use Rattle.tb_keep.specs.Reading.{RulesAnswer, RulesIn, HasRules, IsHistory, FindsHistory, Dumps, HasDumpCause, OfRead};
 ghost use Rattle.tb_keep.specs.Following.{HasLaterCause, WritesEntries};
 ghost use Rattle.tb_keep.specs.private.Sending.{SendsNext, SendsAll, above};
 ghost use Rattle.tb_keep.specs.private.Taking.{IsNotTaken};
 
+use crate::creating::torn_behind;
 use crate::faults::{DumpFault, SalvageFault, StartFault};
 use crate::recovering::{Rules, entered_behind, read_head, read_record};
+use crate::rounds::BATCH_BYTES_MAX;
 use std::alloc::Global;
-use tb_journal::{Device, Extent, Scan};
+use tb_journal::{Device, Extent, OpenFault, Scan};
 use tb_machine::Machine;
 use tb_records::dumps::send_head;
 use tb_records::{DumpHead, FrameFault, Sink, put_all};
@@ -108,8 +110,40 @@ fn history_behind<D: Device>(
 {
     let same = rules;
     match entered_behind(global, global, same, scan, device) {
-        Ok((machine, extent)) => Ok((rules, machine, extent)),
+        Ok((machine, extent)) => history_of(rules, machine, extent, device),
         Err(fault) => Err(fault),
+    }
+}
+
+/// The history of a file that was read to this extent. Where more torn bytes are behind its records than one batch can have, it is
+/// refused, as by a start.
+fn history_of<D: Device>(
+    rules: Rules,
+    machine: Machine<Global>,
+    extent: Extent,
+    device: &mut D,
+) -> Result<(Rules, Machine<Global>, Extent), StartFault>
+    ensures found { OfExtent (D.holds device.old) extent
+        (λ file. HasRules rules file → IsHistory rules machine file → FindsHistory result file) }
+    ensures same { (file : List ℕ) → D.holds device.old file → D.holds device.new file }
+    ensures stays { D.tells → StaysKept (D.disk device.old) (D.disk device.new) }
+    ensures cause { D.tells → HasStartCause result (D.disk device.old) (D.disk device.new) }
+{
+    match torn_behind(device, extent) {
+        Ok(torn) => {
+            if torn > BATCH_BYTES_MAX as u64 {
+                drop(machine);
+                return Err(StartFault::TornTooLong {
+                    at: extent.end as u64,
+                    bytes: torn,
+                });
+            }
+            Ok((rules, machine, extent))
+        }
+        Err(fault) => {
+            drop(machine);
+            Err(StartFault::Journal(OpenFault::Device(fault)))
+        }
     }
 }
 

@@ -22,7 +22,7 @@ use tb_keep::Rules;
 use tb_log::Follower;
 
 /// A torn commit leaves at most so many bytes behind the records and the latch there: one record and its latch.
-const TORN_BYTES_MAX: u64 = (1 << 24) + 8;
+const TORN_BYTES_MAX: u64 = (1 << 24) + 11;
 
 /// A device whose file was not opened as a kept log, and why.
 #[derive(Drop)]
@@ -51,7 +51,7 @@ fn torn_behind<D: Device>(device: &mut D, extent: Extent) -> Result<u64, Journal
     ensures cause { D.tells → HasCause result (D.disk device.old) (D.disk device.new) }
 {
     match device.len() {
-        Ok(len) => Ok(len.saturating_sub(extent.end).saturating_sub(1) as u64),
+        Ok(len) => Ok(len.saturating_sub(extent.end).saturating_sub(4) as u64),
         Err(fault) => Err(fault),
     }
 }

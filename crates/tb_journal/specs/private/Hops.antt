@@ -1,6 +1,6 @@
 -- How the blocks of a file are followed by their lengths.
 -- Cited by private contracts alone, of: hops, snapshots.
-use Rattle.std.specs.Prelude.{◌≡◌, ◌≢◌, ◌⊎◌, ℕ, ◌+◌, ◌^◌, ◌≤◌, ◌<◌, Bool, true, false, List, [], ◌∷◌, ◌++◌, length, take, drop, set, Result, IfOk}
+use Rattle.std.specs.Prelude.{◌≡◌, ◌≢◌, ◌⊎◌, ℕ, ◌+◌, ◌-◌, ◌^◌, ◌≤◌, ◌<◌, Bool, true, false, List, [], ◌∷◌, ◌++◌, length, take, drop, Result, IfOk}
 use Rattle.tb_journal.specs.declared.faults.JournalFault.{JournalFault}
 use Rattle.tb_journal.specs.declared.hops.Hop.{Hop}
 use Rattle.tb_journal.specs.declared.hops.Hop.TheVariants as hops
@@ -10,7 +10,7 @@ use Rattle.tb_journal.specs.Contents.{Ends, Spoiled, front, NotAJournal, content
 use Rattle.tb_journal.specs.Scans.{BeginsWith}
 use Rattle.tb_journal.specs.Reading.{HasAhead, asked}
 use Rattle.tb_journal.specs.Growing.{Later, Grown}
-use Rattle.tb_journal.specs.Snapshots.{LeadsTo, IsFinal, ShowsBlocks, ShowsOf}
+use Rattle.tb_journal.specs.Snapshots.{LeadsTo, IsFinal, ShowsBlocks, ShowsOf, behind_blocks}
 
 -- what is at an offset of a file, where another moment of it has so many bytes
 abbrev pub HopsTo : Hop → ℕ → List ℕ → ℕ → Type 0
@@ -26,7 +26,7 @@ LeadsFrom hops.Broken file later = IsFinal (contents file)
 
 -- a piece of a file that was read at one moment, and the number of its bytes at a later one
 pub record HasPiece (at : ℕ) (file later piece : List ℕ) (len : ℕ) : Type 0 where
-  pub ahead : HasAhead 8 at file piece
+  pub ahead : HasAhead 11 at file piece
   pub after : Later file later
   pub counts : len ≡ length later
 
@@ -35,7 +35,7 @@ pub record IsFound (grows : List ℕ → Type 0) (file : List ℕ) (found : Foun
   pub met : List ℕ
   pub after : Later file met
   pub shown : List ℕ
-  pub shows : ShowsOf found.closed found.end met shown
+  pub shows : ShowsOf found.closed found.end found.len met shown
   pub later : List ℕ
   pub since : Later met later
   pub now : grows later
@@ -54,6 +54,17 @@ pub record HopsOn (grows : List ℕ → Type 0) (file : List ℕ) (hop : Hop) : 
   pub now : grows later
   pub leads : LeadsFrom hop met later
 
+-- the latch at an offset to which the blocks lead was closed when the file had so many bytes
+pub record WasClosed (grows : List ℕ → Type 0) (at len : ℕ) (file : List ℕ) : Type 0 where
+  pub met : List ℕ
+  pub after : Later file met
+  pub sized : len ≡ length met
+  pub leads : LeadsTo at met
+  pub closed : front (drop at met) ≡ Ends
+  pub later : List ℕ
+  pub since : Later met later
+  pub now : grows later
+
 -- the first bytes of a file are those of a journal, or not
 abbrev pub StartsAs : Bool → List ℕ → Type 0
 StartsAs true file = BeginsWith [] file
@@ -71,36 +82,46 @@ FollowsPiece hop at piece len = (file later : List ℕ) → HasPiece at file lat
 abbrev pub HopsFrom : (List ℕ → Type 0) → (List ℕ → Type 0) → ℕ → Result Hop JournalFault → Type 0
 HopsFrom before after at result = (bytes : List ℕ) → before bytes → LeadsTo at bytes → IfOk result (HopsOn after bytes)
 
+-- the same, with the number of its bytes before that: a latch that is closed there was closed then
+abbrev pub HopsSized : (List ℕ → Type 0) → (List ℕ → Type 0) → ℕ → Result (ℕ × Hop) JournalFault → Type 0
+HopsSized before after at result = (bytes : List ℕ) → before bytes → LeadsTo at bytes
+    → IfOk result (λ told. HopsOn after bytes told.1 × (told.1 ≡ hops.Closed at → WasClosed after at told.0 bytes))
+
 -- where it ends whose blocks lead to an offset
 abbrev pub Finds : (List ℕ → Type 0) → (List ℕ → Type 0) → ℕ → Result Found JournalFault → Type 0
 Finds before after from result = (bytes : List ℕ) → before bytes → LeadsTo from bytes → IfOk result (IsFound after bytes)
 
 -- where it ends now that a closed latch was met at an offset
 abbrev pub FindsMore : (List ℕ → Type 0) → (List ℕ → Type 0) → ℕ → Result Found JournalFault → Type 0
-FindsMore before after end result = (bytes shown met : List ℕ) → before bytes → Later met bytes → ShowsBlocks end met shown → IfOk result (GoesOn after bytes shown)
+FindsMore before after end result = (len : ℕ) (bytes shown met : List ℕ) → before bytes → Later met bytes → ShowsBlocks end len met shown → IfOk result (GoesOn after bytes shown)
 
--- whether nothing follows a latch, or one does
+-- whether a closed latch is there
 abbrev pub TellsLatch : ℕ → List ℕ → Bool → Type 0
 TellsLatch end file true = front (drop end file) ≡ Ends
 TellsLatch end file false = front (drop end file) ≢ Ends
 
--- whether nothing is at an offset
-abbrev pub TellsEnd : (List ℕ → Type 0) → (List ℕ → Type 0) → ℕ → Result Bool JournalFault → Type 0
-TellsEnd before after end result = (bytes : List ℕ) → before bytes → Grown after bytes (λ later. IfOk result (TellsLatch end later))
+-- whether the latch at an offset is closed, and how many bytes the file had before that was looked at
+pub record TellsEnd (grows : List ℕ → Type 0) (end : ℕ) (bytes : List ℕ) (told : ℕ × Bool) : Type 0 where
+  pub sized : Grown grows bytes (λ later. Unit {0})
+  pub is : TellsLatch end sized.later told.1
+  pub before : List ℕ
+  pub after : Later bytes before
+  pub since : Later before sized.later
+  pub long : told.0 ≡ length before
 
 -- whether it begins as a journal
 abbrev pub TellsStart : (List ℕ → Type 0) → (List ℕ → Type 0) → Result Bool JournalFault → Type 0
 TellsStart before after result = (bytes : List ℕ) → before bytes → Grown after bytes (λ later. IfOk result (λ begins. StartsAs begins later))
 
--- what is read of blocks and a closed latch
-abbrev pub ReadsBlocks : (List ℕ → Type 0) → (List ℕ → Type 0) → ℕ → ℕ → List ℕ → Result ℕ JournalFault → Type 0
-ReadsBlocks before after end at into result = (bytes : List ℕ) → before bytes
-    → Grown after bytes (λ later. end ≤ length later → IfOk result (λ count. ReadsAt count at (take end later ++ 0 ∷ []) into))
+-- what is read of blocks, a closed latch and what is behind it
+abbrev pub ReadsBlocks : (List ℕ → Type 0) → (List ℕ → Type 0) → ℕ → ℕ → ℕ → List ℕ → Result ℕ JournalFault → Type 0
+ReadsBlocks before after end len at into result = (bytes : List ℕ) → before bytes
+    → Grown after bytes (λ later. end ≤ length later → IfOk result (λ count. ReadsAt count at (take end later ++ behind_blocks (len - (end + 4))) into))
 
--- a read of so many bytes, of which so many come before a closed latch
-abbrev pub Closes : ℕ → ℕ → List ℕ → List ℕ → ℕ → Type 0
-Closes count left read into told = ((length read ≤ left) × (told ≡ count) × (into ≡ read))
-    ⊎ ((left < length read) × (left ≤ count) × (told ≡ left + 1) × (into ≡ set read left 0))
+-- a read of a file, of which what is shown instead of the bytes behind the blocks was written over what was read there
+abbrev pub Closes : ℕ → ℕ → ℕ → ℕ → List ℕ → List ℕ → Result ℕ JournalFault → Type 0
+Closes count at end len read into result = (file : List ℕ) → end ≤ length file → ReadsAt count at file read
+    → IfOk result (λ told. ReadsAt told at (take end file ++ behind_blocks (len - (end + 4))) into)
 
 -- an offset that is far from the greatest one
 abbrev pub IsNear : ℕ → Type 0

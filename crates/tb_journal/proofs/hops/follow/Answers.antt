@@ -15,5 +15,5 @@ pub returns-in_default : goal.returns-in_default
 returns-in_default c = record {
   leads = leads_from c.args.at c.args.len c.args.piece.now c.loop-next.end c.loop-next.rest.now c.loop-next.invariant c.step.result c.step.ensures.hops;
   further = λ next is. absurd (c.in_default.not-Further next is);
-  near = λ end is. omega (arith, c.step.ensures.closed end is, c.loop-next.invariant.place, c.requires.near);
+  closed = λ end is. (omega (arith, c.step.ensures.closed end is, c.loop-next.invariant.begins), omega (arith, c.step.ensures.closed end is, c.loop-next.invariant.place, c.requires.near));
 }

@@ -1,5 +1,8 @@
 use Rattle.std.proofs.lemmas.Grind.{common_steps}
 use Rattle.std.proofs.Common.{length, ap, subst, sym, arith}
+use Rattle.tb_journal.specs.Device.{LeavesOnly}
+use Rattle.tb_journal.specs.Contents.{recorded}
+use Rattle.tb_journal.specs.Steps.{IsBeforeOrAfter}
 use Rattle.tb_journal.specs.Ready.{Kept, IsWritable, IsReady}
 use Rattle.tb_journal.proofs.Committing.{fewer, next_writable, settled_of, ready_of}
 use Rattle.tb_journal.proofs.journals.Journal.commit.Goals as goal
@@ -21,3 +24,17 @@ returns-in-Ok-clause-ready g c t old =
     let ready = subst (λ (j : Kept g.row.D.Denot). IsReady g.D.Device.disk j) (sym c.self.view_is) old in
     let publishes = c.in-Ok.ensures.publishes t c.self.inside.batch c.bytes.ensures.fits c.bytes.ensures.spells (omega (arith, c.count.ensures, c.if-count-eq0.false)) in
     ready_of g.D.Device.disk _ (returns-in-Ok-clause-writable g c t) (publishes.settled (settled_of g.D.Device.disk _ ready))
+
+pub returns-in-Ok-clause-any_moment : goal.returns-in-Ok-clause-any_moment
+returns-in-Ok-clause-any_moment g c t old =
+    let ready = subst (λ (j : Kept g.row.D.Denot). IsReady g.D.Device.disk j) (sym c.self.view_is) old in
+    let publishes = c.in-Ok.ensures.publishes t c.self.inside.batch c.bytes.ensures.fits c.bytes.ensures.spells (omega (arith, c.count.ensures, c.if-count-eq0.false)) in
+    subst (λ (j : Kept g.row.D.Denot). LeavesOnly (g.D.Device.disk j.device) (g.D.Device.disk c.publish.new.device) (IsBeforeOrAfter (recorded (g.D.Device.disk j.device).seen) j.waiting))
+    c.self.view_is (publishes.any_moment (settled_of g.D.Device.disk _ ready))
+
+pub returns-in-Err-clause-any_moment : goal.returns-in-Err-clause-any_moment
+returns-in-Err-clause-any_moment g c t old =
+    let ready = subst (λ (j : Kept g.row.D.Denot). IsReady g.D.Device.disk j) (sym c.self.view_is) old in
+    let publishes = c.in-Err.ensures.publishes t c.self.inside.batch c.bytes.ensures.fits c.bytes.ensures.spells (omega (arith, c.count.ensures, c.if-count-eq0.false)) in
+    subst (λ (j : Kept g.row.D.Denot). LeavesOnly (g.D.Device.disk j.device) (g.D.Device.disk c.publish.new.device) (IsBeforeOrAfter (recorded (g.D.Device.disk j.device).seen) j.waiting))
+    c.self.view_is (publishes.any_moment (settled_of g.D.Device.disk _ ready))

@@ -1,10 +1,15 @@
-use Rattle.std.proofs.lemmas.Grind.{common_steps}
-use Rattle.std.proofs.Common.{arith}
-use Rattle.tb_journal.proofs.Opened.{is_told, too_long}
+use Rattle.std.proofs.Common.{Err, arith, subst, sym}
+use Rattle.tb_journal.specs.declared.opening.NotOpened.{NotOpened}
+use Rattle.tb_journal.specs.Opening.{HasOpenCause}
+use Rattle.tb_journal.proofs.Opened.{opens, too_long}
 use Rattle.tb_journal.proofs.journals.Journal.open.Goals as goal
 
-pub returns-then-end-ge-FILE_BYTES_MAX-clause-cause : goal.returns-then-end-ge-FILE_BYTES_MAX-clause-cause
-returns-then-end-ge-FILE_BYTES_MAX-clause-cause g c t = grind (arith, common_steps, too_long)
-
 pub returns-in-Ok-repair-clause-opened : goal.returns-in-Ok-repair-clause-opened
-returns-in-Ok-repair-clause-opened g c t = grind (arith, common_steps, is_told)
+returns-in-Ok-repair-clause-opened g c t sound =
+    opens g.D.Device.disk (g.D.Device.disk c.args.device) c.repair.new.device c.args.extent c.in-Ok-repair.field-0 c.in-Ok.batch
+    (c.requires.read t) (c.in-Ok-repair.ensures t) (record { kept = c.requires.kept t sound; sound = sound }) c.in-Ok.ensures
+
+pub returns-then-end-clause-cause : goal.returns-then-end-clause-cause
+returns-then-end-clause-cause g c t =
+    subst (λ (r : NotOpened g.row.D.Denot). HasOpenCause {T = Unit {0}} (Err r.fault) (g.D.Device.disk c.args.device) (g.D.Device.disk r.device)) (sym c.of_device.ensures)
+    (too_long (g.D.Device.disk c.args.device) c.args.extent (c.requires.read t) (omega (arith, c.if-end.true)))

@@ -9,3 +9,6 @@ returns-clause-bytes g c file held = reads_of_blocks c.self.view_is held c.if-no
 
 pub returns-clause-same : goal.returns-clause-same
 returns-clause-same g c file held = stays_held c.self.view_is held c.read_closed.new.file (λ bytes is. grown_as (c.read_closed.ensures.bytes bytes is) tt)
+
+pub returns-then-not-self-clause-same : goal.returns-then-not-self-clause-same
+returns-then-not-self-clause-same g c file held = stays_held c.self.view_is held c.read_at.new.self (λ bytes is. grown_as (c.read_at.ensures.bytes bytes is) tt)
