@@ -62,18 +62,18 @@ whole_length file (Ok len) long = record { whole = file; goes_on = whole_same fi
 whole_length file (Err fault) long = tt
 
 -- and so does a file of which a snapshot shows a part
-pub whole_shown : (closed : Bool) (end : ℕ) (met shown last : List ℕ) → ShowsOf closed end met shown → Later met last → WholeOf (contents shown) shown last
-whole_shown closed end met shown last shows after = by (contents shown) refl
+pub whole_shown : (closed : Bool) (end len : ℕ) (met shown last : List ℕ) → ShowsOf closed end len met shown → Later met last → WholeOf (contents shown) shown last
+whole_shown closed end len met shown last shows after = by (contents shown) refl
   where
     final : (c : Contents) → IsFinal c → contents shown ≡ c → contents last ≡ c
     final c end_of is =
-        let was : contents met ≡ c = sym (shown_contents closed end met shown shows) ∙ is in
+        let was : contents met ≡ c = sym (shown_contents closed end len met shown shows) ∙ is in
         ap contents (final_later met last (subst IsFinal (sym was) end_of) after) ∙ was
 
     by : (c : Contents) → contents shown ≡ c → WholeOf c shown last
     by NotAJournal is = final NotAJournal tt is
     by (Damaged at) is = final (Damaged at) tt is
-    by (Records records) is = shown_prefix closed end met shown last records shows after is
+    by (Records records) is = shown_prefix closed end len met shown last records shows after is
 
 module _ {G : Type 0} (grows : G → List ℕ → Type 0) (before : Snapped G) (now : G) where
   pub shown_length : (result : Result ℕ JournalFault)
@@ -84,7 +84,7 @@ module _ {G : Type 0} (grows : G → List ℕ → Type 0) (before : Snapped G) (
       let met = held.shows.met in
       record {
         whole = grown.later;
-        goes_on = whole_shown before.closed before.end met shown grown.later held.shows.shows (later_then met held.file grown.later held.shows.since grown.after);
+        goes_on = whole_shown before.closed before.end before.len met shown grown.later held.shows.shows (later_then met held.file grown.later held.shows.since grown.after);
         long = grown.has;
       }
   shown_length (Err fault) long shown held = tt

@@ -27,5 +27,5 @@ pub wrong_sent : (said : Wrong) (shown : List (List ℕ)) (what : List ℕ) (r :
 wrong_sent said shown what r old new same_shown same_what sent = rw (← same_shown, ← same_what) sent
 
 -- what was cut off is reported, with the place where the records end
-pub told_cut : (cut len bytes at : ℕ) (before after : Output) → bytes ≡ cut → at ≡ len - bytes - 1 → TellsCut bytes at before after → TellsCut cut (len - cut - 1) before after
+pub told_cut : (cut len bytes at : ℕ) (before after : Output) → bytes ≡ cut → at ≡ len - bytes - 4 → TellsCut bytes at before after → TellsCut cut (len - cut - 4) before after
 told_cut cut len bytes at before after same place told = rw (← same, ← place) told

@@ -57,7 +57,7 @@ copied_of len salvaged = record {
   entries = salvaged.keeper.state.commit;
   time = salvaged.keeper.state.books.time;
   end = salvaged.end;
-  behind = len - salvaged.end - 1;
+  behind = len - salvaged.end - 4;
   damage = damage_of salvaged.stop;
 }
 
@@ -70,7 +70,7 @@ pub record IsCopy {N : Type 0} (its : devices.Ghosts N) (holds : List ℕ → Ty
   pub entries : c.entries ≡ length history.entries
   pub time : c.time ≡ (state_of history).books.time
   pub end : c.end ≡ salvaged.end
-  pub behind : c.behind ≡ len - salvaged.end - 1
+  pub behind : c.behind ≡ len - salvaged.end - 4
   pub damage : c.damage ≡ damage_of salvaged.stop
 
 -- why a copy that ended so is refused: none, where the file needs not be whole

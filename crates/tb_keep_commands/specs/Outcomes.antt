@@ -140,7 +140,7 @@ module _ {D : Type 0} (its : devices.Ghosts D) where
     pub noted : Output
     pub made : TellsMade len path quiet noted
     pub started : Output
-    pub cut : TellsCut keeper.cut (len - keeper.cut - 1) noted started
+    pub cut : TellsCut keeper.cut (len - keeper.cut - 4) noted started
     pub ready : TellsReady reports started told
     pub result : Result ℕ KeepFault
     pub after : Keeping D

@@ -35,7 +35,7 @@ summary_of found len = record {
   records = found.records;
   entries = found.entries;
   time = found.time;
-  behind = len - found.end - 1;
+  behind = len - found.end - 4;
 }
 
 -- a number behind its name, before other lines

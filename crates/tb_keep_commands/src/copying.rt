@@ -26,7 +26,7 @@ fn copied_of<N: Device>(salvaged: &Salvaged<N>, len: usize) -> Copied
         entries: machine.commit(),
         time: machine.time(),
         end: salvaged.end,
-        behind: len.saturating_sub(salvaged.end as usize).saturating_sub(1),
+        behind: len.saturating_sub(salvaged.end as usize).saturating_sub(4),
         damage: damage_of(salvaged.stop),
     }
 }

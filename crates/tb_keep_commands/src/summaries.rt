@@ -29,7 +29,7 @@ impl Found {
             records: self.records,
             entries: self.entries,
             time: self.time,
-            behind: len.saturating_sub(self.end).saturating_sub(1),
+            behind: len.saturating_sub(self.end).saturating_sub(4),
         }
     }
 }

@@ -87,7 +87,7 @@ module _ {D : Type 0} (its : devices.Ghosts D) where
     pub noted : Output
     pub made : TellsMade len path quiet noted
     pub started : Output
-    pub cut : TellsCut keeper.cut (len - keeper.cut - 1) noted started
+    pub cut : TellsCut keeper.cut (len - keeper.cut - 4) noted started
     pub wanted : SaysLine (wanted_line keeper.now.position) started told
     pub result : Result ℕ KeepLogFault
     pub after : Keeping D

@@ -43,7 +43,7 @@ fn keep<D: Device + Drop, A: Allocator + Clone, R: Source, W: Sink, E: Sink>(
 {
     let mut keeper = keeper;
     let cut = keeper.cut_bytes();
-    let at = (len as u64).saturating_sub(cut).saturating_sub(1);
+    let at = (len as u64).saturating_sub(cut).saturating_sub(4);
     tell_made(len, path, faults);
     tell_cut(cut, at, faults);
     tell_wanted(keeper.position(), faults);

@@ -6,14 +6,14 @@ use std::process::Abort;
 use tb_journal::Memory;
 
 /// What a torn write leaves in its range: bytes of the batch, zeros, and ones.
-const TORN: &[[u8; 22]] = &[
+const TORN: &[[u8; 28]] = &[
     [
         0, 0, 0, 0x7a, 0xa3, 0x64, 0x60, //
-        255, 6, 0, 0, 0x53, 0x98, 0x6c, 0xa5, 115, 101, 99, 111, 110, 100, //
-        0,
+        255, 255, 255, 255, 6, 0, 0, 0x53, 0x98, 0x6c, 0xa5, 115, 101, 99, 111, 110, 100, //
+        90, 195, 150, 105,
     ],
-    [0; 22],
-    [255; 22],
+    [0; 28],
+    [255; 28],
 ];
 
 /// What a crash leaves.
@@ -22,11 +22,13 @@ pub(crate) fn left_after(rt: &impl Abort, file: &Memory, moment: usize, torn: &[
     sure(rt, file.after_crash(moment, torn))
 }
 
-/// Says whether the bytes are those of all three records. Any byte but 0 is an open latch, and stays as it was.
+/// Says whether the bytes are those of all three records. Any latch but a closed one is open, and stays as it was.
 fn is_whole(bytes: &[u8]) -> bool {
     let mut whole = THREE_RECORDS;
-    if let Some(latch) = bytes.get(18) {
-        whole[18] = *latch;
+    for at in 21..25usize {
+        if let Some(byte) = bytes.get(at) {
+            whole[at] = *byte;
+        }
     }
     bytes == whole.as_slice()
 }
@@ -63,7 +65,7 @@ pub(crate) fn expect_records(
     most: usize,
 ) {
     for bytes in TORN {
-        for len in 0..23 {
+        for len in 0..29 {
             let (torn, _) = bytes.split_at(len);
             let count = records_after(rt, alloc, file, moment, torn);
             expect_at(rt, moment as u64, least <= count && count <= most);
@@ -97,7 +99,7 @@ fn an_open_latch_counts_with_all_its_batch(rt: HostRuntime) {
     let latch = journal.device().moments().saturating_sub(1);
     for byte in 0..=255u8 {
         let count = records_after(&rt, alloc, journal.device(), latch, &[byte]);
-        expect_at(&rt, byte as u64, (count == 1) == (byte == 0));
+        expect_at(&rt, byte as u64, (count == 1) == (byte == 90));
     }
     drop(journal);
 }

@@ -56,12 +56,12 @@ fn end_at(rt: &impl Abort, alloc: Global, number: u64, why: JournalFault) -> (En
 /// How the run ends whose call of this number fails.
 fn want_at(number: u64, why: JournalFault) -> End {
     match number {
-        // To open a journal takes a sync, two looks, a cut, a sync, a write and a sync.
-        1 | 5 | 7 => End::Opening(JournalFault::SyncFailed),
-        2..=4 | 6 => End::Opening(why),
+        // To open a journal takes a sync, two looks, a cut and a sync.
+        1 | 5 => End::Opening(JournalFault::SyncFailed),
+        2..=4 => End::Opening(why),
         // A commit takes a write, a sync, a write and a sync.
-        8 | 10 => End::Committing(why),
-        9 | 11 => End::Committing(JournalFault::SyncFailed),
+        6 | 8 => End::Committing(why),
+        7 | 9 => End::Committing(JournalFault::SyncFailed),
         _ => End::Nowhere,
     }
 }

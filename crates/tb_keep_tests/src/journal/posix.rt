@@ -225,8 +225,8 @@ fn left_on(rt: &impl Abort, alloc: Global, space: usize) -> Option<usize> {
 fn journals_on_a_full_disk(rt: HostRuntime) {
     for space in 0..THREE_RECORDS.len() {
         let want = match space {
-            0..=8 => None,
-            9..=18 => Some(0),
+            0..=11 => None,
+            12..=24 => Some(0),
             _ => Some(1),
         };
         expect_at(&rt, space as u64, left_on(&rt, rt.alloc(), space) == want);

@@ -11,17 +11,17 @@ use tb_journal::{
 };
 
 /// The journal of one record, and what a crash left behind its closed latch.
-const TORN: [u8; 21] = [
-    84, 66, 74, 82, 78, 76, 48, 49, //
-    255, 2, 0, 0, 0x89, 0xf7, 0x93, 0x26, 97, 98, //
-    0, 2, 0,
+const TORN: [u8; 27] = [
+    84, 66, 74, 82, 78, 76, 48, 50, //
+    255, 255, 255, 255, 2, 0, 0, 0x89, 0xf7, 0x93, 0x26, 97, 98, //
+    90, 195, 150, 105, 2, 0,
 ];
 
 /// The journal of one record, of which a byte turned.
-const DAMAGED: [u8; 19] = [
-    84, 66, 74, 82, 78, 76, 48, 49, //
-    255, 2, 0, 0, 0x89, 0xf7, 0x93, 0x26, 97, 99, //
-    0,
+const DAMAGED: [u8; 25] = [
+    84, 66, 74, 82, 78, 76, 48, 50, //
+    255, 255, 255, 255, 2, 0, 0, 0x89, 0xf7, 0x93, 0x26, 97, 99, //
+    90, 195, 150, 105,
 ];
 
 /// Opens a file that is there.

@@ -17,7 +17,7 @@ use tb_journal::{
 const PIECE_BYTES: usize = 65_536;
 
 /// The last block of the three records is not whole.
-const DAMAGED: Refusal = Refusal::Damaged { at: 26 };
+const DAMAGED: Refusal = Refusal::Damaged { at: 32 };
 
 /// Reads the next record of a device, which is to be this one.
 pub(crate) fn expect_next<D: Device>(
@@ -99,7 +99,7 @@ fn a_record_stands_in_two_pieces(rt: HostRuntime) {
     let alloc = rt.alloc();
     let long = sevens(&rt, alloc, PIECE_BYTES);
     for place in 0..20 {
-        let (first, _) = long.split_at(PIECE_BYTES - 16 - place);
+        let (first, _) = long.split_at(PIECE_BYTES - 19 - place);
         expect_two(&rt, alloc, first, b"second");
     }
     drop(long);
@@ -109,11 +109,9 @@ fn a_record_stands_in_two_pieces(rt: HostRuntime) {
 fn the_last_block_is_cut_at_each_byte(rt: HostRuntime) {
     let alloc = rt.alloc();
     let damaged = Err(OpenFault::Refused(DAMAGED));
-    for len in 26..40 {
+    for len in 32..49 {
         let (bytes, _) = THREE_RECORDS.split_at(len);
-        // Of a latch alone nothing was written.
-        let behind = if len < 28 { Ok(false) } else { damaged };
-        let _extent = expect_records(&rt, alloc, bytes, &[b"ab", &[]], behind);
+        let _extent = expect_records(&rt, alloc, bytes, &[b"ab", &[]], damaged);
     }
 }
 
@@ -121,7 +119,7 @@ fn the_last_block_is_cut_at_each_byte(rt: HostRuntime) {
 fn damage_is_told_behind_good_records(rt: HostRuntime) {
     let alloc = rt.alloc();
     let mut bytes = THREE_RECORDS;
-    bytes[39] = 101;
+    bytes[48] = 101;
     let damaged = Err(OpenFault::Refused(DAMAGED));
     let _extent = expect_records(&rt, alloc, &bytes, &[b"ab", &[]], damaged);
     let mut file = file_of(&rt, alloc, &bytes);

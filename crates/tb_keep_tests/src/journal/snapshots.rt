@@ -15,22 +15,24 @@ use tb_journal::{Device, Growing, JournalFault, OpenFault, Refusal, Scan, Snapsh
 const PIECE_BYTES: usize = 65_536;
 
 /// The first record written in part behind its closed latch.
-const PART: [u8; 13] = [84, 66, 74, 82, 78, 76, 48, 49, 0, 2, 0, 0, 0x89];
+const PART: [u8; 16] = [
+    84, 66, 74, 82, 78, 76, 48, 50, 90, 195, 150, 105, 2, 0, 0, 0x89,
+];
 
 /// The same, written in whole.
-const WRITTEN: [u8; 19] = [
-    84, 66, 74, 82, 78, 76, 48, 49, //
-    0, 2, 0, 0, 0x89, 0xf7, 0x93, 0x26, 97, 98, //
-    0,
+const WRITTEN: [u8; 25] = [
+    84, 66, 74, 82, 78, 76, 48, 50, //
+    90, 195, 150, 105, 2, 0, 0, 0x89, 0xf7, 0x93, 0x26, 97, 98, //
+    90, 195, 150, 105,
 ];
 
 /// The second batch written behind the first, its latch closed still.
-const WRITTEN_TWO: [u8; 41] = [
-    84, 66, 74, 82, 78, 76, 48, 49, //
-    255, 2, 0, 0, 0x89, 0xf7, 0x93, 0x26, 97, 98, //
-    0, 0, 0, 0, 0x7a, 0xa3, 0x64, 0x60, //
-    255, 6, 0, 0, 0x53, 0x98, 0x6c, 0xa5, 115, 101, 99, 111, 110, 100, //
-    0,
+const WRITTEN_TWO: [u8; 53] = [
+    84, 66, 74, 82, 78, 76, 48, 50, //
+    255, 255, 255, 255, 2, 0, 0, 0x89, 0xf7, 0x93, 0x26, 97, 98, //
+    90, 195, 150, 105, 0, 0, 0, 0x7a, 0xa3, 0x64, 0x60, //
+    255, 255, 255, 255, 6, 0, 0, 0x53, 0x98, 0x6c, 0xa5, 115, 101, 99, 111, 110, 100, //
+    90, 195, 150, 105,
 ];
 
 /// Two commits, of one record and of two, and how many records each moment of them represents.
@@ -95,14 +97,13 @@ fn commits_between_any_two_reads(rt: HostRuntime) {
     }
 }
 
-/// Compares the records of a snapshot of these bytes, what comes behind them, and its length.
+/// Compares the records of a snapshot of these bytes, what comes behind them, and its length, which is that of the file.
 fn expect_snapshot(
     rt: &impl Abort,
     alloc: Global,
     bytes: &[u8],
     records: &[&[u8]],
     behind: Result<bool, OpenFault>,
-    len: usize,
 ) {
     let _extent = expect_records(rt, alloc, bytes, records, behind);
     let mut snapshot = sure(rt, Snapshot::new(alloc, file_of(rt, alloc, bytes)));
@@ -112,32 +113,31 @@ fn expect_snapshot(
     }
     expect_same(rt, scan.next(&mut snapshot), behind);
     drop(scan);
-    expect_number(rt, Device::len(&mut snapshot), len);
+    expect_number(rt, Device::len(&mut snapshot), bytes.len());
     expect_number(rt, snapshot.file_len(), bytes.len());
     drop(snapshot);
 }
 
-/// The last block is cut at each byte: a scan of the snapshot says what one of the file says, and bytes behind the closed
-/// latch are not shown.
+/// The last block and the latch behind it are cut at each byte: a scan of the snapshot says what one of the file says.
 #[test]
 fn torn_and_damaged_files(rt: HostRuntime) {
     let alloc = rt.alloc();
-    expect_snapshot(&rt, alloc, &WRITTEN_TWO, &[b"ab"], Ok(false), 19);
-    for len in 26..40 {
+    expect_snapshot(&rt, alloc, &WRITTEN_TWO, &[b"ab"], Ok(false));
+    for len in 32..49 {
         let (bytes, _) = THREE_RECORDS.split_at(len);
-        let damaged = Err(OpenFault::Refused(Refusal::Damaged { at: 26 }));
-        let (behind, shown) = if len < 28 {
-            (Ok(false), 27)
-        } else {
-            (damaged, len)
-        };
-        expect_snapshot(&rt, alloc, bytes, &[b"ab", &[]], behind, shown);
+        let damaged = Err(OpenFault::Refused(Refusal::Damaged { at: 32 }));
+        expect_snapshot(&rt, alloc, bytes, &[b"ab", &[]], damaged);
+    }
+    for len in 49..53 {
+        let (bytes, _) = THREE_RECORDS.split_at(len);
+        let damaged = Err(OpenFault::Refused(Refusal::Damaged { at: 49 }));
+        expect_snapshot(&rt, alloc, bytes, &[b"ab", &[], b"second"], damaged);
     }
     // Damage with whole blocks behind it.
     let mut bytes = THREE_RECORDS;
-    bytes[17] = 99;
+    bytes[20] = 99;
     let damaged = Err(OpenFault::Refused(Refusal::Damaged { at: 8 }));
-    expect_snapshot(&rt, alloc, &bytes, &[], damaged, 41);
+    expect_snapshot(&rt, alloc, &bytes, &[], damaged);
 }
 
 /// Why a scan was not started. One that was is dropped.
@@ -170,7 +170,7 @@ fn blocks_in_two_pieces(rt: HostRuntime) {
     let alloc = rt.alloc();
     let long = sevens(&rt, alloc, 3 * PIECE_BYTES);
     for place in 0..20 {
-        let (first, _) = long.split_at(PIECE_BYTES - 16 - place);
+        let (first, _) = long.split_at(PIECE_BYTES - 19 - place);
         let file = file_of_two(&rt, alloc, first, &long);
         let len = file.bytes().len();
         let mut snapshot = sure(&rt, Snapshot::new(alloc, file));
@@ -207,8 +207,8 @@ fn a_snapshot_is_not_written(rt: HostRuntime) {
     expect_failed(&rt, snapshot.write_at(18, &[255]), JournalFault::Failed);
     expect_failed(&rt, snapshot.cut(8), JournalFault::Failed);
     expect_same(&rt, snapshot.sync(), Ok(()));
-    let mut found = [7; 5];
-    expect_same(&rt, Device::read_at(&mut snapshot, 16, &mut found), Ok(3));
+    let mut found = [7; 7];
+    expect_same(&rt, Device::read_at(&mut snapshot, 19, &mut found), Ok(6));
     drop(snapshot);
-    expect_bytes(&rt, &found, &[97, 98, 0, 7, 7]);
+    expect_bytes(&rt, &found, &[97, 98, 90, 195, 150, 105, 7]);
 }

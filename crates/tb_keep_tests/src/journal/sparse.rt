@@ -90,7 +90,7 @@ fn records_behind_four_gigabytes(rt: HostRuntime) {
     drop(fs::remove_file(&rt, path));
     far_journal(&rt, path);
     let mut real = sure(&rt, Real::open(&rt, path));
-    expect_read(&rt, &mut real, FAR_BYTES, 19, &ONE_RECORD);
+    expect_read(&rt, &mut real, FAR_BYTES, 25, &ONE_RECORD);
     expect_read(&rt, &mut real, 0, 5, b"head\0");
     let journal = sure(&rt, recover(rt.alloc(), Behind { real }));
     expect(&rt, journal.count() == 1);

@@ -8,23 +8,23 @@ use std::alloc::Global;
 use std::process::Abort;
 use tb_journal::{Device, Journal, JournalFault, Memory, create, recover};
 
-/// The file of a journal without records: `TBJRNL01`, and a closed latch.
-pub(crate) const NO_RECORDS: [u8; 9] = [84, 66, 74, 82, 78, 76, 48, 49, 0];
+/// The file of a journal without records: `TBJRNL02`, and a closed latch.
+pub(crate) const NO_RECORDS: [u8; 12] = [84, 66, 74, 82, 78, 76, 48, 50, 90, 195, 150, 105];
 
 /// One record, `ab`. The checksum of `02 00 00 61 62` is 2693f789.
-pub(crate) const ONE_RECORD: [u8; 19] = [
-    84, 66, 74, 82, 78, 76, 48, 49, //
-    255, 2, 0, 0, 0x89, 0xf7, 0x93, 0x26, 97, 98, //
-    0,
+pub(crate) const ONE_RECORD: [u8; 25] = [
+    84, 66, 74, 82, 78, 76, 48, 50, //
+    255, 255, 255, 255, 2, 0, 0, 0x89, 0xf7, 0x93, 0x26, 97, 98, //
+    90, 195, 150, 105,
 ];
 
 /// The records `ab`, an empty one, and `second`.
-pub(crate) const THREE_RECORDS: [u8; 41] = [
-    84, 66, 74, 82, 78, 76, 48, 49, //
-    255, 2, 0, 0, 0x89, 0xf7, 0x93, 0x26, 97, 98, //
-    255, 0, 0, 0, 0x7a, 0xa3, 0x64, 0x60, //
-    255, 6, 0, 0, 0x53, 0x98, 0x6c, 0xa5, 115, 101, 99, 111, 110, 100, //
-    0,
+pub(crate) const THREE_RECORDS: [u8; 53] = [
+    84, 66, 74, 82, 78, 76, 48, 50, //
+    255, 255, 255, 255, 2, 0, 0, 0x89, 0xf7, 0x93, 0x26, 97, 98, //
+    255, 255, 255, 255, 0, 0, 0, 0x7a, 0xa3, 0x64, 0x60, //
+    255, 255, 255, 255, 6, 0, 0, 0x53, 0x98, 0x6c, 0xa5, 115, 101, 99, 111, 110, 100, //
+    90, 195, 150, 105,
 ];
 
 /// What a test wants to hold of a number, which is reported where it does not.

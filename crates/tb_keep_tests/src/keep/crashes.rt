@@ -177,15 +177,13 @@ fn each_call_fails_once(rt: HostRuntime) {
     drop(whole);
 }
 
-/// What is reported where each call of an opening fails, one after another: a sync, the file and its end, its length, and the
-/// repair with two syncs.
+/// What is reported where each call of an opening fails, one after another: a sync, the file and its end, its length, and a cut
+/// and its sync.
 const OPENING: &[JournalFault] = &[
     JournalFault::SyncFailed,
     JournalFault::Failed,
     JournalFault::Failed,
     JournalFault::Failed,
-    JournalFault::Failed,
-    JournalFault::SyncFailed,
     JournalFault::Failed,
     JournalFault::SyncFailed,
 ];

@@ -99,7 +99,7 @@ fn a_history_is_read(rt: HostRuntime) {
 #[test]
 fn a_file_without_records_has_no_rules(rt: HostRuntime) {
     let alloc = rt.alloc();
-    let mut file = file_of(&rt, alloc, b"TBJRNL01\0");
+    let mut file = file_of(&rt, alloc, b"TBJRNL02\x5a\xc3\x96\x69");
     let is_head = match read_rules(alloc, &mut file) {
         Err(fault) => fault == StartFault::Head,
         Ok(_) => false,

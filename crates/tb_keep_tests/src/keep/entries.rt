@@ -31,7 +31,7 @@ fn written(
 }
 
 /// Where the records of the entries are in the file.
-const RECORDS: &[(usize, usize)] = &[(30, 94), (102, 422), (430, 622), (630, 710)];
+const RECORDS: &[(usize, usize)] = &[(36, 100), (111, 431), (442, 634), (645, 725)];
 
 /// The last so many bytes of all entries: the records of a file without their blocks' first 8 bytes each.
 fn last_of(rt: &impl Abort, alloc: Global, count: usize) -> Vec<u8> {

@@ -16,16 +16,16 @@ use tb_records::{ClientsMax, FrameFault, Profile};
 
 /// A file without entries: the journal's first bytes, the block of the head (its latch, 6 bytes, a checksum, TBK1, profile 1,
 /// two clients), and a closed latch. The checksum is taken as it is.
-const NEW: [u8; 23] = [
-    84, 66, 74, 82, 78, 76, 48, 49, //
-    255, 6, 0, 0, 0, 0, 0, 0, //
+const NEW: [u8; 29] = [
+    84, 66, 74, 82, 78, 76, 48, 50, //
+    255, 255, 255, 255, 6, 0, 0, 0, 0, 0, 0, //
     84, 66, 75, 49, 1, 2, //
-    0,
+    90, 195, 150, 105,
 ];
 
 /// Says whether the bytes are those of a new file, whatever the checksum.
 fn is_new(bytes: &[u8]) -> bool {
-    bytes.len() == 23 && same(&bytes[..12], &NEW[..12]) && same(&bytes[16..], &NEW[16..])
+    bytes.len() == 29 && same(&bytes[..15], &NEW[..15]) && same(&bytes[19..], &NEW[19..])
 }
 
 /// Lets a record wait that is not empty.
@@ -90,14 +90,14 @@ pub fn expect_fault(rt: &impl Abort, alloc: Global, bytes: &[u8], rules: Rules, 
 const HEAD: [u8; 6] = [84, 66, 75, 49, 1, 2];
 
 /// Where the block of the record behind the head begins, and its record.
-const SECOND: usize = 22;
+const SECOND: usize = 25;
 
-const IN_SECOND: usize = 30;
+const IN_SECOND: usize = 36;
 
 /// The same of the next one, behind an entry of 64 bytes.
-const THIRD: usize = 94;
+const THIRD: usize = 100;
 
-const IN_THIRD: usize = 102;
+const IN_THIRD: usize = 111;
 
 /// The entry of a register of client 7: its commit number 1, its time 10, and the frame.
 const FIRST: [u8; 64] = [
@@ -167,7 +167,7 @@ const WITHOUT_HEAD: &[Row] = &[
         &HEAD,
         &[],
         &[],
-        17,
+        20,
         StartFault::Journal(OpenFault::Refused(Refusal::Damaged { at: 8 })),
     ),
 ];
@@ -309,7 +309,7 @@ pub fn expect_start_over(
 }
 
 /// Files in which `start` creates.
-const BEGUN: &[&[u8]] = &[b"", b"TBJRN\0\0", b"TBJRNL01\0behind"];
+const BEGUN: &[&[u8]] = &[b"", b"TBJRN\0\0", b"TBJRNL02\x5a\xc3\x96\x69behind"];
 
 #[test]
 fn starts(rt: HostRuntime) {

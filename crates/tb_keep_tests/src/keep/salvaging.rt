@@ -14,9 +14,9 @@ use tb_keep::{BATCH_BYTES_MAX, NotSalvaged, SalvageFault, Salvaged, StartFault, 
 use tb_machine::{RestoreFault, Unfit};
 use tb_records::FrameFault;
 
-/// Where the blocks of the script's file begin: the head, the entries of a register, two accounts, a transfer and a lookup (8 bytes
+/// Where the blocks of the script's file begin: the head, the entries of a register, two accounts, a transfer and a lookup (11 bytes
 /// and the entry), and the latch behind them.
-const BLOCKS: [usize; 6] = [8, 22, 94, 422, 622, 710];
+const BLOCKS: [usize; 6] = [8, 25, 100, 431, 634, 725];
 
 /// What a salvage gives: the entries, where they end, and why no more.
 type Given = Result<(u64, u64, Option<StartFault>), SalvageFault>;
@@ -54,7 +54,7 @@ fn salvaged_into(rt: &impl Abort, alloc: Global, bytes: &[u8], there: &[u8]) -> 
 /// The first so many bytes of a file, up to where a block begins, and a closed latch.
 fn cut_to(rt: &impl Abort, alloc: Global, bytes: &[u8], end: usize) -> Vec<u8> {
     let mut cut = copy_of(rt, alloc, bytes.get(..end).unwrap_or_default());
-    sure(rt, cut.push(0));
+    sure(rt, cut.extend_from_slice(&[90, 195, 150, 105]));
     cut
 }
 
@@ -62,7 +62,7 @@ fn cut_to(rt: &impl Abort, alloc: Global, bytes: &[u8], end: usize) -> Vec<u8> {
 fn a_whole_file_is_taken_over_whole(rt: HostRuntime) {
     let alloc = rt.alloc();
     let bytes = kept_bytes(&rt, alloc);
-    let whole = Ok((4, 710, None));
+    let whole = Ok((4, 725, None));
     expect_salvaged(&rt, alloc, &bytes, &[], whole, &bytes);
     drop(bytes);
 }
@@ -114,26 +114,26 @@ fn expect_cut(
 
 /// Blocks, and places in each: its length, its checksum, its first byte, and its last.
 const PLACES: &[(usize, usize)] = &[
-    (0, 9),
     (0, 12),
-    (0, 16),
-    (0, 21), //
-    (1, 23),
-    (1, 26),
-    (1, 30),
-    (1, 93), //
-    (2, 95),
-    (2, 98),
-    (2, 102),
-    (2, 421), //
-    (3, 423),
-    (3, 426),
-    (3, 430),
-    (3, 621), //
-    (4, 623),
-    (4, 626),
-    (4, 630),
-    (4, 709),
+    (0, 15),
+    (0, 19),
+    (0, 24), //
+    (1, 29),
+    (1, 32),
+    (1, 36),
+    (1, 99), //
+    (2, 104),
+    (2, 107),
+    (2, 111),
+    (2, 430), //
+    (3, 435),
+    (3, 438),
+    (3, 442),
+    (3, 633), //
+    (4, 638),
+    (4, 641),
+    (4, 645),
+    (4, 724),
 ];
 
 #[test]
@@ -146,10 +146,10 @@ fn what_is_before_a_changed_byte(rt: HostRuntime) {
 /// Two records behind a head, of which the second is none of the next entry: the first is taken.
 fn expect_first(rt: &impl Abort, alloc: Global, first: &[u8], second: &[u8], stop: StartFault) {
     let bytes = kept_bytes(rt, alloc);
-    let head = bytes.get(16..22).unwrap_or_default();
+    let head = bytes.get(19..25).unwrap_or_default();
     let two = bytes_with(rt, alloc, head, first, second);
     drop(bytes);
-    expect_cut(rt, alloc, &two, 1, 94, stop);
+    expect_cut(rt, alloc, &two, 1, 100, stop);
     drop(two);
 }
 
@@ -157,7 +157,7 @@ fn expect_first(rt: &impl Abort, alloc: Global, first: &[u8], second: &[u8], sto
 fn an_entry_that_may_not_come_next(rt: HostRuntime) {
     let alloc = rt.alloc();
     let bytes = kept_bytes(&rt, alloc);
-    let register = bytes.get(30..94).unwrap_or_default();
+    let register = bytes.get(36..100).unwrap_or_default();
     let again = StartFault::Entry(RestoreFault {
         place: 2,
         cause: Unfit::Commit,
@@ -183,7 +183,7 @@ fn nothing_is_made_of_what_is_no_ledger(rt: HostRuntime) {
     let none = StartFault::Journal(OpenFault::Refused(Refusal::NotAJournal));
     expect_none(&rt, alloc, &[], none);
     expect_none(&rt, alloc, b"TBSDUMP1", none);
-    expect_none(&rt, alloc, b"TBJRNL01\0", StartFault::Head);
+    expect_none(&rt, alloc, b"TBJRNL02\x5a\xc3\x96\x69", StartFault::Head);
 }
 
 #[test]
@@ -201,7 +201,7 @@ fn expect_torn(rt: &impl Abort, alloc: Global, count: usize, stop: Option<StartF
     let bytes = kept_bytes(rt, alloc);
     let mut torn = copy_of(rt, alloc, &bytes);
     sure(rt, torn.resize(bytes.len().saturating_add(count), 1));
-    expect_salvaged(rt, alloc, &torn, &[], Ok((4, 710, stop)), &bytes);
+    expect_salvaged(rt, alloc, &torn, &[], Ok((4, 725, stop)), &bytes);
     drop(torn);
     drop(bytes);
 }
@@ -210,7 +210,7 @@ fn expect_torn(rt: &impl Abort, alloc: Global, count: usize, stop: Option<StartF
 fn torn_bytes_are_not_taken(rt: HostRuntime) {
     expect_torn(&rt, rt.alloc(), 40, None);
     let many = StartFault::TornTooLong {
-        at: 710,
+        at: 725,
         bytes: 4194305,
     };
     expect_torn(
@@ -248,10 +248,10 @@ fn a_backup_is_the_same_file(rt: HostRuntime) {
 fn a_damaged_file_is_not_backed_up(rt: HostRuntime) {
     let alloc = rt.alloc();
     let mut bytes = kept_bytes(&rt, alloc);
-    change(&mut bytes, 650, 255);
+    change(&mut bytes, 665, 255);
     let (fault, new) = backed_up(&rt, alloc, &bytes);
-    expect_same(&rt, fault, Some(SalvageFault::Old(damaged(622))));
-    let cut = cut_to(&rt, alloc, &bytes, 622);
+    expect_same(&rt, fault, Some(SalvageFault::Old(damaged(634))));
+    let cut = cut_to(&rt, alloc, &bytes, 634);
     drop(bytes);
     expect_equal(&rt, new, cut);
 }

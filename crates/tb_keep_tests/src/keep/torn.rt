@@ -7,7 +7,7 @@ use std::process::Abort;
 use tb_keep::{BATCH_BYTES_MAX, Keeper, StartFault};
 
 /// Where the records of a file without entries end: 8 bytes, and the block of the head.
-const END: u64 = 22;
+const END: u64 = 25;
 
 /// The bytes of a file without entries, and so many of these behind its latch.
 fn torn(rt: &impl Abort, alloc: Global, count: usize, byte: u8) -> Vec<u8> {

@@ -68,33 +68,33 @@ macro_rules! both {
     };
 }
 
-/// The entries of the script end at byte 94, after the first, and at 182.
+/// The entries of the script end at byte 100, after the first, and at 191.
 const WHOLE: &str = "entries 2\nlast commit 2\nlast time 11\nbytes behind 0\n";
 
 const TORN: &str =
     "entries 2\nlast commit 2\nlast time 11\nbytes behind 5, not committed yet or torn\n";
 
 const TORN_LONG: &str =
-    "entries 2\nlast commit 2\nlast time 11\nbytes lost 4194305 behind byte 182: Damaged: 4194305 bytes behind byte 182, more than one batch can have\n";
+    "entries 2\nlast commit 2\nlast time 11\nbytes lost 4194305 behind byte 191: Damaged: 4194305 bytes behind byte 191, more than one batch can have\n";
 
 const SECOND_LOST: &str =
-    "entries 1\nlast commit 1\nlast time 10\nbytes lost 88 behind byte 94: Damaged: at byte 94\n";
+    "entries 1\nlast commit 1\nlast time 10\nbytes lost 91 behind byte 100: Damaged: at byte 100\n";
 
 const BOTH_LOST: &str =
-    "entries 0\nlast commit 0\nlast time 0\nbytes lost 160 behind byte 22: Damaged: at byte 22\n";
+    "entries 0\nlast commit 0\nlast time 0\nbytes lost 166 behind byte 25: Damaged: at byte 25\n";
 
 const NO_ENTRY: &str =
-    "entries 0\nlast commit 0\nlast time 0\nbytes lost 11 behind byte 22: Damaged: record 1: Short\n";
+    "entries 0\nlast commit 0\nlast time 0\nbytes lost 14 behind byte 25: Damaged: record 1: Short\n";
 
 const DONE: &[Row] = &[
-    done!(SALVAGE, Has::Entries, WHOLE, New::UpTo(182)),
-    done!(BACKUP, Has::Entries, WHOLE, New::UpTo(182)),
-    done!(SALVAGE, Has::Torn, TORN, New::UpTo(182)),
-    done!(BACKUP, Has::Torn, TORN, New::UpTo(182)),
-    done!(SALVAGE, Has::TornLong, TORN_LONG, New::UpTo(182)),
-    done!(SALVAGE, Has::Rot, SECOND_LOST, New::UpTo(94)),
-    done!(SALVAGE, Has::RotFirst, BOTH_LOST, New::UpTo(22)),
-    done!(SALVAGE, Has::NoEntry, NO_ENTRY, New::UpTo(22)),
+    done!(SALVAGE, Has::Entries, WHOLE, New::UpTo(191)),
+    done!(BACKUP, Has::Entries, WHOLE, New::UpTo(191)),
+    done!(SALVAGE, Has::Torn, TORN, New::UpTo(191)),
+    done!(BACKUP, Has::Torn, TORN, New::UpTo(191)),
+    done!(SALVAGE, Has::TornLong, TORN_LONG, New::UpTo(191)),
+    done!(SALVAGE, Has::Rot, SECOND_LOST, New::UpTo(100)),
+    done!(SALVAGE, Has::RotFirst, BOTH_LOST, New::UpTo(25)),
+    done!(SALVAGE, Has::NoEntry, NO_ENTRY, New::UpTo(25)),
 ];
 
 #[test]
@@ -111,7 +111,7 @@ const NO_HEAD: Line =
 const MISSING: Line = "tbd: Device: cannot find ledger\n";
 
 const TOO_TORN: Line =
-    "tbd: Damaged: 4194305 bytes behind byte 182, more than one batch can have\n";
+    "tbd: Damaged: 4194305 bytes behind byte 191, more than one batch can have\n";
 
 const REFUSED: &[Row] = &[
     refused!(SALVAGE, Has::Text, 5, A_TEXT, New::Unmade),
@@ -130,16 +130,16 @@ const REFUSED: &[Row] = &[
         BACKUP,
         Has::Rot,
         6,
-        "tbd: Damaged: at byte 94\n",
-        New::UpTo(94),
+        "tbd: Damaged: at byte 100\n",
+        New::UpTo(100),
     ),
-    refused!(BACKUP, Has::TornLong, 6, TOO_TORN, New::UpTo(182)),
+    refused!(BACKUP, Has::TornLong, 6, TOO_TORN, New::UpTo(191)),
     refused!(
         BACKUP,
         Has::NoEntry,
         6,
         "tbd: Damaged: record 1: Short\n",
-        New::UpTo(22),
+        New::UpTo(25),
     ),
 ];
 
@@ -169,7 +169,7 @@ const FAILED: Line = "tbd: Device: new\n";
 
 const SYNC: Line = "tbd: SyncFailed: restart the machine or copy the file before the next start\n";
 
-/// The calls on the new file: its length and a sync, a read, the first 9 bytes and a sync; then for the head, and for both entries, the
+/// The calls on the new file: its length and a sync, a read, the first 12 bytes and a sync; then for the head, and for both entries, the
 /// batch, a sync, its latch and a sync.
 const CALLS: &[Row] = both!(broken:
     (1, JournalFault::Failed, 1, FAILED, New::Empty),
@@ -177,9 +177,9 @@ const CALLS: &[Row] = both!(broken:
     (2, JournalFault::Failed, 9, SYNC, New::Empty),
     (4, JournalFault::Full, 8, FULL, New::Empty),
     (6, JournalFault::Full, 8, FULL, New::NoRecord),
-    (10, JournalFault::Full, 8, FULL, New::UpTo(22)),
-    (10, JournalFault::Failed, 1, FAILED, New::UpTo(22)),
-    (10, JournalFault::Memory, 1, "tbd: NoMemory\n", New::UpTo(22)),
+    (10, JournalFault::Full, 8, FULL, New::UpTo(25)),
+    (10, JournalFault::Failed, 1, FAILED, New::UpTo(25)),
+    (10, JournalFault::Memory, 1, "tbd: NoMemory\n", New::UpTo(25)),
 );
 
 #[test]
@@ -212,7 +212,7 @@ macro_rules! cut {
             status: 1,
             out: Out::Prefix(WHOLE),
             line: "tbd: Device: standard output\n",
-            new: New::UpTo(182),
+            new: New::UpTo(191),
             ..WELL
         }
     };

@@ -64,11 +64,12 @@ fn text_of(has: Has) -> &'static [u8] {
     match has {
         Has::Text => b"a text, and no journal",
         Has::Other => b"\x01\x02\x03\x04\x05\x06\x07\x08",
-        Has::NoRecord => b"TBJRNL01\0",
+        Has::NoRecord => b"TBJRNL02\x5a\xc3\x96\x69",
         Has::NoEntry => {
-            b"TBJRNL01\xff\x06\0\0\xfd\xd0\xcb\x4aTBK1\x01\x02\xff\x03\0\0\x34\xe6\xc2\xf2\x01\x02\x03\0"
+            b"TBJRNL02\xff\xff\xff\xff\x06\0\0\xfd\xd0\xcb\x4aTBK1\x01\x02\xff\xff\xff\xff\x03\0\0\x34\xe6\xc2\xf2\x01\x02\x03\x5a\xc3\x96\x69"
         }
-        Has::NoHead => b"TBJRNL01\xff\x03\0\0\x34\xe6\xc2\xf2\x01\x02\x03\0",
+        Has::NoHead =>
+            b"TBJRNL02\xff\xff\xff\xff\x03\0\0\x34\xe6\xc2\xf2\x01\x02\x03\x5a\xc3\x96\x69",
         _ => b"",
     }
 }
@@ -90,9 +91,9 @@ pub fn file_of(rt: &impl Abort, alloc: Global, has: Has) -> Vec<u8> {
     let mut bytes = bytes_of(rt, alloc, has);
     let len = bytes.len();
     match has {
-        Has::Rot => rot(&mut bytes, len.saturating_sub(2)),
-        Has::RotFirst => rot(&mut bytes, 40),
-        Has::RotHead => rot(&mut bytes, 20),
+        Has::Rot => rot(&mut bytes, len.saturating_sub(5)),
+        Has::RotFirst => rot(&mut bytes, 45),
+        Has::RotHead => rot(&mut bytes, 22),
         Has::Torn => sure(rt, bytes.extend_from_slice(b"\x01\x02\x03\x04\x05")),
         Has::TornLong => sure(rt, bytes.resize(len.saturating_add(TOO_LONG_BYTES), 7)),
         _ => {}

@@ -36,10 +36,10 @@ impl<G: Growing + Drop> Growing for Growth<G> {
     }
 }
 
-/// Where the head and the first entry of the script's ledger end: a block is 8 bytes and a record, of 6 bytes, then of 64.
-const HEAD_END: usize = 22;
+/// Where the head and the first entry of the script's ledger end: a block is 11 bytes and a record, of 6 bytes, then of 64.
+const HEAD_END: usize = 25;
 
-const FIRST_END: usize = 94;
+const FIRST_END: usize = 100;
 
 /// The ledger of the script, with its head at first, then an entry more, then all.
 fn growing_ledger(rt: &impl Abort, alloc: Global) -> Growth<Memory> {
@@ -172,11 +172,11 @@ fn a_dump_has_one_moment(rt: HostRuntime) {
     expect_written(&rt, alloc, words, 2, b"");
 }
 
-/// The first entry was committed while the file was read: it has 72 bytes.
+/// The first entry was committed while the file was read: it has 75 bytes.
 #[test]
 fn what_was_committed_meanwhile_is_behind(rt: HostRuntime) {
     let alloc = rt.alloc();
     let text =
-        "records 1\nentries 0\nprofile 1\nclients_max 2\nlast time 0\nbytes behind 72, not committed yet or torn\n";
+        "records 1\nentries 0\nprofile 1\nclients_max 2\nlast time 0\nbytes behind 75, not committed yet or torn\n";
     expect_written(&rt, alloc, &["check", "ledger"], 0, text.as_bytes());
 }

@@ -135,7 +135,7 @@ fn is_new(rt: &impl Abort, alloc: Global, row: Row, folder: &Folder) -> bool {
     let is_new = match row.new {
         New::Unmade => folder.new.count == 0,
         New::Empty => folder.new.count == 1 && bytes.is_empty(),
-        New::NoRecord => same(&bytes, b"TBJRNL01\0"),
+        New::NoRecord => same(&bytes, b"TBJRNL02\x5a\xc3\x96\x69"),
         New::UpTo(end) => is_cut(rt, alloc, row.has, end, &bytes),
     };
     drop(bytes);
@@ -154,7 +154,7 @@ fn is_cut(rt: &impl Abort, alloc: Global, has: Has, end: usize, bytes: &[u8]) ->
 pub fn cut_to(rt: &impl Abort, alloc: Global, has: Has, end: usize) -> Vec<u8> {
     let mut bytes = file_of(rt, alloc, has);
     bytes.truncate(end);
-    sure(rt, bytes.push(0));
+    sure(rt, bytes.extend_from_slice(&[90, 195, 150, 105]));
     bytes
 }
 

@@ -276,7 +276,7 @@ const OTHERS: &[Refusal] = &[
 
 const TEXTS: &[Refusal] = &[refusal!(FOLLOW, 5, NONE), refusal!(DUMP, 5, NONE)];
 
-const ROT: &str = "tbd: Damaged: at byte 734\n";
+const ROT: &str = "tbd: Damaged: at byte 740\n";
 
 const ROTTEN: &[Refusal] = &[refusal!(FOLLOW, 6, ROT), refusal!(DUMP, 6, ROT)];
 
@@ -287,7 +287,7 @@ fn logs_that_are_refused(rt: HostRuntime) {
     all_refused(&rt, alloc, &log, OTHERS);
     all_refused(&rt, alloc, b"a text, and no journal", TEXTS);
     // A byte of the last record.
-    let last = log.len().saturating_sub(2);
+    let last = log.len().saturating_sub(5);
     rot(&mut log, last);
     all_refused(&rt, alloc, &log, ROTTEN);
     drop(log);

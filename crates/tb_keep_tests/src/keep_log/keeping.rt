@@ -142,7 +142,7 @@ fn expect_refused(rt: &impl Abort, alloc: Global, record: &[u8], want: Option<Lo
 fn changed(rt: &impl Abort, alloc: Global, at: usize) -> Vec<u8> {
     let file = whole_file(rt, alloc);
     // Behind the journal's first bytes and the first block's latch, length and checksum.
-    let mut record = copy_of(rt, alloc, part(&file, 16, 16 + 79 + 368));
+    let mut record = copy_of(rt, alloc, part(&file, 19, 19 + 79 + 368));
     drop(file);
     rot(&mut record, at);
     record
