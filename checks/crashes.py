@@ -44,7 +44,8 @@ from tb_client import (  # noqa: E402
 CLIENTS = 24
 CASH, SALES = 1, 2
 SECONDS = 120 * tried.LONGER  # that a reply, an end and a check may take
-MAGIC, FIRST = b"TBJRNL01", b"TBJRNL01\0"
+MAGIC, CLOSED = b"TBJRNL02", b"\x5a\xc3\x96\x69"
+FIRST = MAGIC + CLOSED
 
 
 def case(name, wrong):
@@ -79,14 +80,14 @@ def records_of(data):
     if not data.startswith(MAGIC):
         return "NotAJournal"
     at, records = len(MAGIC), []
-    while at + 1 < len(data) and data[at]:
-        length = int.from_bytes(data[at + 1 : at + 4], "little")
-        end = at + 8 + length
-        if end > len(data) or checksum(
-            data[at + 1 : at + 4] + data[at + 8 : end]
-        ) != int.from_bytes(data[at + 4 : at + 8], "little"):
+    while data[at : at + 4] != CLOSED:
+        size, start = data[at + 4 : at + 7], at + 11
+        end = start + int.from_bytes(size, "little")
+        if start > len(data) or end > len(data):
             return f"Damaged at {at}"
-        records.append(data[at + 8 : end])
+        if checksum(size + data[start:end]) != int.from_bytes(data[at + 7 : start], "little"):
+            return f"Damaged at {at}"
+        records.append(data[start:end])
         at = end
     return records
 
@@ -301,7 +302,7 @@ class Images:
         self.judged += 1
         records = records_of(image)
         if isinstance(records, str):
-            if self.commit or records != "NotAJournal" or len(image) > len(FIRST):
+            if self.commit or len(image) > len(FIRST):
                 self.wrong.append(f"{records}, after {self.commit} entries were acknowledged")
         elif records != self.last[: len(records)]:
             self.wrong.append("records that are not those of the history")

@@ -54,6 +54,7 @@ STEP = tried.from_environment(
     "KEEP_STEP", "64", int
 )  # the megabytes of a file that are read between two reports
 EINTR, EIO, ENOSPC = 4, 5, 28
+CLOSED = b"\x5a\xc3\x96\x69"  # the latch that ends the records
 
 
 def case(name, well, said=""):
@@ -413,7 +414,7 @@ def logged(log):
     while at < len(data):
         letter, length = chr(data[at]), struct.unpack_from("<Q", data, at + 9)[0]
         at += 17
-        yield letter, letter == "W" and data[at : at + length] == b"\xff"
+        yield letter, letter == "W" and data[at : at + length] == b"\xff" * 4
         at += length if letter in "WO" else 0
 
 
@@ -431,7 +432,7 @@ def traced(log):
         if found:
             yield {"p": "W", "w": "O"}.get(
                 said[0], "T" if said.startswith("ft") else "S"
-            ), '"\\377", 1, ' in said
+            ), '"\\377\\377\\377\\377", 4, ' in said
 
 
 def told_early(calls):
@@ -550,6 +551,11 @@ def builds(tbd, folder):
         os.unlink(kept)
 
 
+def in_latch(at, latches):
+    """Whether a byte is one of a latch."""
+    return any(latch <= at < latch + 4 for latch in latches)
+
+
 def sample(tbd, folder):
     """A file of some rounds, and where its latches are."""
     ledger = Ledger(tbd, folder, "sample")
@@ -562,9 +568,9 @@ def sample(tbd, folder):
     with open(ledger.file, "rb") as file:
         data = file.read()
     latches, at = [], 8
-    while data[at]:
+    while data[at : at + 4] != CLOSED:
         latches.append(at)
-        at += 8 + int.from_bytes(data[at + 1 : at + 4], "little")
+        at += 11 + int.from_bytes(data[at + 4 : at + 7], "little")
     return data, latches + [at], check(tbd, ledger.file)["entries"]
 
 
@@ -1150,7 +1156,9 @@ def salvages(tbd, folder, data, latches, count, rng):
     dump = dumped(tbd, folder, whole)
     ends, wrong = entry_ends(dump), []
     for number in range(count):
-        at = rng.choice([it for it in range(latches[1], len(data) - 1) if it not in latches])
+        at = rng.choice(
+            [it for it in range(latches[1], len(data) - 4) if not in_latch(it, latches)]
+        )
         new = os.path.join(folder, f"new{number}.tbk")
         hurt = data[:at] + bytes([data[at] ^ 1 << rng.randrange(8)]) + data[at + 1 :]
         with open(path, "wb") as file:
@@ -1160,7 +1168,7 @@ def salvages(tbd, folder, data, latches, count, rng):
         with open(path, "rb") as file:
             same = file.read() == hurt
         report = f"entries {taken}\nlast commit {taken}\n".encode()
-        lost = f"\nbytes lost {len(data) - latches[taken + 1] - 1} behind byte {latches[taken + 1]}: Damaged: ".encode()
+        lost = f"\nbytes lost {len(data) - latches[taken + 1]} behind byte {latches[taken + 1]}: Damaged: ".encode()
         well = (status, line) == (0, "") and said.startswith(report) and lost in said and same
         if not well or kept != dump[: ends[taken]]:
             wrong.append((at, status, said, line))
@@ -1286,26 +1294,19 @@ def cuts(tbd, folder, data, latches, entries, count):
     path, wrong = os.path.join(folder, "cut.tbk"), []
     for length in range(len(data) - count, len(data)):
         told = look_at(tbd, path, data[:length])
-        # A latch at the end, or none, ends the records; any other cut leaves a block that is not whole.
-        whole = length in latches or length - 1 in latches
-        if (
-            not told["same"]
-            or told["status"] != (0 if whole else 6)
-            or whole
-            and told["entries"]
-            != sum(latch < length for latch in latches[:-1]) - 1 - (length - 1 in latches[:-1])
-        ):
+        # Records end at a closed latch and nowhere else.
+        if not told["same"] or told["status"] != 6:
             wrong.append((length, told))
     case(f"cut at each of the last {count} bytes", not wrong, wrong[:2])
 
 
 def flips(tbd, folder, data, latches, entries, count, rng):
-    """Bits that are turned, each reported as damage but for those of latches, which any bytes but 0 leave open."""
+    """Bits that are turned, each reported as damage but for those of open latches, which stay open."""
     path, wrong, damaged = os.path.join(folder, "flip.tbk"), [], 0
     for _ in range(count):
         at, bit = rng.randrange(len(data)), rng.randrange(8)
         told = look_at(tbd, path, data[:at] + bytes([data[at] ^ 1 << bit]) + data[at + 1 :])
-        if at in latches:
+        if in_latch(at, latches[:-1]):
             well = told["status"] == 0 and told["entries"] == entries
         else:
             well = told["status"] == (5 if at < 8 else 6)

@@ -128,15 +128,15 @@ class Counting(unittest.IsolatedAsyncioTestCase):
 
     READY = "os.write(2, b'ready\\n'); os.read(0, 1)\n"
     COMMITS = "".join(
-        f"os.pwrite(out, bytes({n}), os.fstat(out).st_size); os.pwrite(out, b'.', 0)\n"
+        f"os.pwrite(out, bytes({n}), os.fstat(out).st_size); os.pwrite(out, b'....', 0)\n"
         for n in (5, 70, 9)
     )
     ANSWER = "os.write(1, b'a' * 3)\nos.read(0, 1)\n"
 
-    async def test_each_commit_is_one_byte_more(self):
+    async def test_each_commit_is_a_latch_more(self):
         with test_listen.tempfile.TemporaryDirectory() as folder:
             file = os.path.join(folder, "it")
-            start = "os.write(out, bytes(33)); os.pwrite(out, b'.', 0)\n"
+            start = "os.write(out, bytes(33)); os.ftruncate(out, 20)\n"
             for script, wanted in (
                 (self.READY + self.COMMITS + self.ANSWER, (0, 3)),
                 (start + self.READY + self.COMMITS + self.ANSWER, (0, 3)),

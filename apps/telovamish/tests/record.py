@@ -258,8 +258,8 @@ def kinds() -> dict[str, bytes]:
     )
     return {
         "nothing": b"", "text": text, "script": script, "replies": replies, "dump": dump,
-        "audit": ran([TBT, "audit"], dump)[1], "ledger": b"TBJRNL01" + dump,
-        "follower": b"TBJRNL01" + b"TBF1" + dump, "cut text": text[:30], "cut script": script[:60],
+        "audit": ran([TBT, "audit"], dump)[1], "ledger": b"TBJRNL02" + dump,
+        "follower": b"TBJRNL02" + b"TBF1" + dump, "cut text": text[:30], "cut script": script[:60],
         "cut replies": replies[:50], "cut dump": dump[:99], "zeros": bytes(99),
         "gzip": b"\x1f\x8b" + bytes(50),
     }  # fmt: skip

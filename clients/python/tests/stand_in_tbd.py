@@ -270,7 +270,7 @@ def commit(file, entries, replies, ends_at):
     write(file, entries[:-1])
     ends_at("half")
     write(file, entries[-1:])
-    write_again(file, entries[-1:])
+    write_again(file, entries[-4:])
     os.fdatasync(file)
     ends_at("kept")
     write(1, replies[:-1])
@@ -279,11 +279,11 @@ def commit(file, entries, replies, ends_at):
     ends_at("told")
 
 
-def write_again(file, byte):
-    """Writes the last byte again: a commit of tbd writes one byte more than the file grows by."""
-    if byte:
+def write_again(file, last):
+    """Writes the last bytes again: a commit of tbd writes four more than the file grows by."""
+    if last:
         with open(f"/proc/self/fd/{file}", "r+b", buffering=0) as it:
-            os.pwrite(it.fileno(), byte, os.fstat(file).st_size - 1)
+            os.pwrite(it.fileno(), last, os.fstat(file).st_size - len(last))
 
 
 def tell(word, data):

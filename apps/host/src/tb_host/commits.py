@@ -1,9 +1,9 @@
 """How often a server has committed to its ledger's file, by what the system counts.
 
-A commit writes a batch behind the latch that ends the file, and then that latch: one byte more than
+A commit writes a batch behind the latch that ends the file, and then that latch: four bytes more than
 the file grows by. So what a process has written, without what it wrote into its pipes and what its
-file grew by, is the number of its commits. Each of the three is one look, however long the file
-is. While a write is under way its bytes may be in a pipe or in the file and not counted yet. Then
+file grew by, is four times the number of its commits. Each of the three is one look, however long the
+file is. While a write is under way its bytes may be in a pipe or in the file and not counted yet. Then
 the difference is too small, never too large, and the greatest one that was seen stays.
 """
 from __future__ import annotations
@@ -13,6 +13,8 @@ import re
 from typing import Optional
 
 from .pipes import Process
+
+LATCH = 4  # bytes of a latch
 
 
 def _bytes_written(process: int) -> Optional[int]:
@@ -77,5 +79,5 @@ class Commits:
         if self.process is not None and self.is_known:
             beyond = self._beyond()
             if beyond is not None:
-                self.now = max(self.now, beyond - self.first)
+                self.now = max(self.now, (beyond - self.first) // LATCH)
         return self.ended + self.now if self.is_known else None
