@@ -688,7 +688,7 @@ def told_of_ends(tbd, folder):
         == (
             0,
             b"",
-            f"tbd: cut 3 bytes of a batch that was not committed, behind byte {len(data) - 1}\n",
+            f"tbd: cut 3 bytes of a batch that was not committed, behind byte {len(data) - 4}\n",
         ),
         told,
     )
