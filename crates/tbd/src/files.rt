@@ -1,5 +1,6 @@
 //! The files of the system, by their paths.
 
+use crate::descriptors::HighFiles;
 use std::io::{BufWriter, Stderr};
 use std::thread;
 use std::time::Duration;
@@ -45,21 +46,21 @@ impl<'a> Opener for SystemFiles<'a> {
     ghost ended = { λ files. ⊥ };
 
     fn make(&mut self, name: &str) -> Result<Self::File, OpeningFault> {
-        match Real::make(self.rt, name) {
+        match Real::make(&HighFiles { rt: self.rt }, name) {
             Ok(real) => reported(self.rt, real, name, self.reports),
             Err(fault) => Err(opening_fault(&fault)),
         }
     }
 
     fn make_new(&mut self, name: &str) -> Result<Self::File, OpeningFault> {
-        match Real::make_new(self.rt, name) {
+        match Real::make_new(&HighFiles { rt: self.rt }, name) {
             Ok(real) => reported(self.rt, real, name, false),
             Err(fault) => Err(opening_fault(&fault)),
         }
     }
 
     fn open(&mut self, name: &str) -> Result<Snapshot<Real>, OpeningFault> {
-        match Real::look(self.rt, name) {
+        match Real::look(&HighFiles { rt: self.rt }, name) {
             Ok(real) => {
                 Snapshot::new(self.rt.alloc(), real).map_err(|fault| unread_fault(fault))
             }

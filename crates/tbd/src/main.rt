@@ -2,11 +2,13 @@
 //! sent when the entry that it rests on is durable; follows a log in the same way; writes the history of a file as a dump; and
 //! reports what is in a file. tb_keep_commands and tb_keep_follow have what it does, over any files, reader and writer.
 //!
-//! Module:
+//! Modules:
 //!
-//! - `files`: the files of the system.
+//! - `descriptors`: `HighFiles`, files that take none of the descriptors of the standard streams.
+//! - `files`: the files of the system, by their paths.
 #![tactic(auto)]
 
+mod descriptors;
 mod files;
 
 use files::{SystemFiles, lines};
