@@ -1498,6 +1498,8 @@ class Words(unittest.TestCase):
             ("tbd run run 64", 2),
             ("tbd run ledger 64 --progress", 2),
             ("tbd run ledger 64 2 --progress", 2),
+            ("tbd run ledger 64 --existing", 2),
+            ("tbd run ledger 64 2 --progress --existing", 2),
             ("tbd run ledger 64 --progress 2", None),
             ("tbd run ./64 64", 2),
             ("tbd run ledger 64 x", None),

@@ -1,7 +1,7 @@
 #!/usr/bin/env python3
 """A stand-in for `tbd`, for the tests of the listener where that program is not built.
 
-    stand_in_tbd.py run FILE CLIENTS_MAX [PROFILE] [--progress]
+    stand_in_tbd.py run FILE CLIENTS_MAX [PROFILE] [--existing] [--progress]
     stand_in_tbd.py dump FILE
     stand_in_tbd.py check FILE
 
@@ -314,16 +314,18 @@ def behind(count):
     return f"bytes behind {count}{', not committed yet or torn' if count else ''}\n"
 
 
-def run(path, clients_max, profile, reports):
+def run(path, clients_max, profile, options):
     file, ledger = begin(path, clients_max, profile)
-    if reports:
-        write(2, b"tbd: ready\n")
+    if "--progress" in options:
+        write(2, f"tbd: ready: commit {ledger.commit}, time {ledger.time}\n".encode())
     serve(file, ledger, Ending(os.environ.get("FAIL")))
 
 
 def main(words):
-    reports = words[:1] == ["run"] and words[-1] == "--progress"
-    words = words[:-1] if reports else words
+    options = [it for it in words[3:] if it in ("--progress", "--existing")]
+    words = words[: len(words) - len(options)]
+    if "--existing" in options and not os.path.exists(words[1]):
+        raise Fault(f"Device: cannot find {words[1]}", 1)
     if len(words) > 1 and (words[1].isdigit() or words[1].startswith("-")):
         line = f"Usage: {words[0]} {words[1]}: FILE is a number or begins with -; write ./FILE"
         raise Fault(line, 2)
@@ -333,7 +335,7 @@ def main(words):
         and all(it.isdigit() for it in words[2:])
         and 1 <= int(words[2]) <= 64
     ):
-        run(words[1], int(words[2]), int(words[3]) if len(words) == 4 else 1, reports)
+        run(words[1], int(words[2]), int(words[3]) if len(words) == 4 else 1, options)
     elif len(words) == 2 and words[0] in ("dump", "check"):
         tell(words[0], looked_at(words[1]))
     else:

@@ -24,6 +24,7 @@ from .process import ServerProcess, came, end_of, finished, first, kill, last_li
 
 EMPTY = 10  # bytes below which a journal's file has no entry
 PROGRESS = "--progress"  # the word that has `tbd run` tell when it serves
+EXISTING = "--existing"  # the word that has it make no file
 # what it tells besides faults
 NEWS = re.compile(r"[\w./-]+: (?:made |reading |cut |(ready)(?:: commit [0-9]+, time [0-9]+)?$)")
 PATIENCE = 1.0  # seconds for which a request waits for a server that is started again
@@ -31,9 +32,10 @@ PATIENCE = 1.0  # seconds for which a request waits for a server that is started
 
 def journal_at(words: Sequence[str], form: str = "run") -> Optional[int]:
     """Which word of a command is the file that it keeps its ledger in: FILE of `run FILE
-    CLIENTS_MAX [PROFILE] [--progress]` at its end, or of another form. None where there is no such
-    word, as in `tbs run CLIENTS_MAX [PROFILE]`."""
-    words = words[:-1] if words[-1:] == [PROGRESS] else words
+    CLIENTS_MAX [PROFILE] [--existing] [--progress]` at its end, or of another form. None where
+    there is no such word, as in `tbs run CLIENTS_MAX [PROFILE]`."""
+    for _ in range(2):
+        words = words[:-1] if words[-1:] in ([PROGRESS], [EXISTING]) else words
     for at in (len(words) - 2, len(words) - 3):
         if (
             at > 1
@@ -73,7 +75,7 @@ class Command(ServerProcess):
     def __init__(self, words: List[str], patience: float, ahead: float = 0.0) -> None:
         self.file_at = journal_at(words)
         keeps = self.file_at is not None
-        reported = [*words, PROGRESS] if keeps and words[-1] != PROGRESS else words
+        reported = [*words, PROGRESS] if keeps and PROGRESS not in words[-2:] else words
         super().__init__(reported, patience, keeps)
         self.ahead = ahead  # how far the ledger's last time may lie ahead of the clock, in seconds
         self.moments = Moments(0)
@@ -138,6 +140,8 @@ class Command(ServerProcess):
             await asyncio.sleep(0.001)
         if self.process is process:
             self.commits.begin(process)
+            if EXISTING not in self.words[-2:]:  # its next start makes no file
+                self.words = [*self.words, EXISTING]
             self.ready.set()
 
     def committed(self) -> Optional[int]:
