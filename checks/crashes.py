@@ -455,7 +455,7 @@ def full(tbd, folder, rng):
                 break
         with in_time(process):
             told = process.stderr.read()
-        lines = f"tbd: made {run.file}\ntbd: Full\n".encode()
+        lines = f"tbd: made {run.file}\ntbd: Full: {run.file}: the disk is full, or the file has its greatest length; free space, and start again\n".encode()
         case(
             "a full file system ends in Full and status 8",
             [] if (ended(process), told) == (8, lines) else [told],

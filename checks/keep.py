@@ -592,7 +592,7 @@ WORDS = [
     ("check", "check: FILE is missing"),
     (
         "run ledger.tbk 2 1 --reports",
-        "run ledger.tbk 2 1 --reports: only --progress may follow PROFILE",
+        "run ledger.tbk 2 1 --reports: PROFILE is 1 or 2, and only options may follow it, each once",
     ),
     ("check ledger.tbk 2", "check: too many words"),
     ("serve", "serve: unknown; tbd --help shows the forms"),
@@ -926,7 +926,7 @@ def reported(tbd, folder):
     told = told_of(tbd, folder, ["run", "reported.tbk", "3", "--progress"], pair_of_a_register())
     case(
         "a start that is reported",
-        (told[0], told[2]) == (0, "tbd: made reported.tbk\ntbd: ready\n"),
+        (told[0], told[2]) == (0, "tbd: made reported.tbk\ntbd: ready: commit 0, time 0\n"),
         told,
     )
     told = told_of(tbd, folder, ["run", "reported.tbk", "3"])
@@ -962,7 +962,7 @@ def long_starts(tbd, folder):
         told[0] == (0, "tbd: made long.tbk\n") and length > STEP * 10**6,
         (told[0], length),
     )
-    lines = rf"tbd: reading long.tbk, 0 of {size} MB\ntbd: reading long.tbk, ({STEP}|{STEP + 1}) of {size} MB\ntbd: ready\n"
+    lines = rf"tbd: reading long.tbk, 0 of {size} MB\ntbd: reading long.tbk, ({STEP}|{STEP + 1}) of {size} MB\ntbd: ready: commit [0-9]+, time [0-9]+\n"
     case(
         "a long start that is reported",
         told[1][0] == 0 and re.fullmatch(lines, told[1][1]),
@@ -1010,7 +1010,7 @@ def on_terminals(tbd, folder):
     shown = os.read(master, 4096) if select.select([master], [], [], SECONDS)[0] else b""
     case(
         "a start that is seen on a terminal",
-        (ran.returncode, shown) == (0, b"tbd: made seen.tbk\ntbd: ready\n"),
+        (ran.returncode, shown) == (0, b"tbd: made seen.tbk\ntbd: ready: commit 0, time 0\n"),
         ran,
     )
     os.close(slave)

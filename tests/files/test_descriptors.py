@@ -1,5 +1,5 @@
-"""Each form of tbd with each of the descriptors 0, 1 and 2 closed, alone and together: no file of it
-is ever open on one of them, so what is meant for a stream never reaches a file.
+"""Each form of tbd with the descriptors 0, 1 and 2 closed, alone and together: no file is ever open
+on one of them, so what is meant for a stream never reaches a file.
 
     python3 -m pytest tests/files/test_descriptors.py
 
@@ -21,8 +21,8 @@ LOG = ROOT / "crates/tb_follow/stdin"
 TORN = b"\xff" * 5  # no block: a write that a crash cut off
 SECONDS = 60
 CLOSED = [them for count in (0, 1, 2, 3) for them in itertools.combinations(range(3), count)]
-# each form: its words, its input, and whether it writes to standard output. Without an input it does
-# not read
+# each form: its words, its input, and whether it writes to standard output. Without an input it
+# does not read
 FORMS = {
     "run, a new file": (["run", "new", "4"], SCRIPT, True),
     "run": (["run", "ledger", "4"], SCRIPT, True),

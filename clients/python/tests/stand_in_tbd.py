@@ -155,7 +155,7 @@ def locked(path):
     try:
         fcntl.flock(it, fcntl.LOCK_EX | fcntl.LOCK_NB)
     except OSError:
-        raise Fault("Locked: another program has the file open", 4) from None
+        raise Fault(f"Locked: {path} is open in another program; end that one first", 4) from None
     return it, looked_at(path)
 
 

@@ -16,14 +16,15 @@ module _ {X : Type 0} (bytes : X → List ℕ) where
   three_said (a ∷ b ∷ c ∷ d ∷ rest) low high = absurd (omega (arith, high))
 
   -- too many words
-  pub six_no_form : (words : List X) → 6 ≤ length words → None ≡ form_by (map bytes words)
-  six_no_form [] many = absurd (omega (arith, many))
-  six_no_form (a ∷ []) many = absurd (omega (arith, many))
-  six_no_form (a ∷ b ∷ []) many = absurd (omega (arith, many))
-  six_no_form (a ∷ b ∷ c ∷ []) many = absurd (omega (arith, many))
-  six_no_form (a ∷ b ∷ c ∷ d ∷ []) many = absurd (omega (arith, many))
-  six_no_form (a ∷ b ∷ c ∷ d ∷ e ∷ []) many = absurd (omega (arith, many))
-  six_no_form (a ∷ b ∷ c ∷ d ∷ e ∷ f ∷ rest) many = refl
+  pub seven_no_form : (words : List X) → 7 ≤ length words → None ≡ form_by (map bytes words)
+  seven_no_form [] many = absurd (omega (arith, many))
+  seven_no_form (a ∷ []) many = absurd (omega (arith, many))
+  seven_no_form (a ∷ b ∷ []) many = absurd (omega (arith, many))
+  seven_no_form (a ∷ b ∷ c ∷ []) many = absurd (omega (arith, many))
+  seven_no_form (a ∷ b ∷ c ∷ d ∷ []) many = absurd (omega (arith, many))
+  seven_no_form (a ∷ b ∷ c ∷ d ∷ e ∷ []) many = absurd (omega (arith, many))
+  seven_no_form (a ∷ b ∷ c ∷ d ∷ e ∷ f ∷ []) many = absurd (omega (arith, many))
+  seven_no_form (a ∷ b ∷ c ∷ d ∷ e ∷ f ∷ g ∷ rest) many = refl
 
   -- no more words than up to the one that names the file
   pub few_said : (words : List X) → length words < 2 → map bytes words ≡ take 2 (map bytes words)

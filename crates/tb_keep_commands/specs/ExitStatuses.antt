@@ -38,7 +38,7 @@ use Rattle.tb_keep.specs.declared.recovering.Rules.{Rules}
 use Rattle.tb_keep_commands.specs.declared.faults.Damage.{Damage}
 use Rattle.tb_keep_commands.specs.declared.faults.Damage.TheVariants.{Block, Record, Entry, Torn}
 use Rattle.tb_keep_commands.specs.declared.faults.KeepCommandFault.{KeepCommandFault}
-use Rattle.tb_keep_commands.specs.declared.faults.KeepCommandFault.TheVariants.{Usage, Device, Opening, Making, NoMemory, Request, NotAJournal, NoHead, Damaged, OtherRules, Full, SyncFailed}
+use Rattle.tb_keep_commands.specs.declared.faults.KeepCommandFault.TheVariants.{Usage, Device, Opening, Making, NoMemory, Request, NotAJournal, NoHead, Damaged, OtherRules, Full, SyncFailed, Gone}
 use Rattle.tb_keep_commands.specs.declared.faults.Failed.{Failed}
 use Rattle.tb_keep_commands.specs.declared.faults.Failed.TheVariants.{Input, Output as OutputSide, File, New}
 use Rattle.tb_keep_commands.specs.declared.faults.Mismatch.{Mismatch}
@@ -121,6 +121,8 @@ dumped_fault (dump.Writer fault) = Device OutputSide
 abbrev pub new_fault : KeepCommandFault → KeepCommandFault
 new_fault (Device File) = Device New
 new_fault (NotAJournal kind) = Making opening.Exists
+new_fault Full = Making opening.Full
+new_fault SyncFailed = Making opening.SyncFailed
 new_fault fault = fault
 
 -- the path that a fault is printed with
@@ -153,6 +155,8 @@ abbrev pub opening_exit_status : OpeningFault → ℕ
 opening_exit_status opening.Locked = 4
 opening_exit_status opening.SyncFailed = 9
 opening_exit_status opening.Exists = 2
+opening_exit_status opening.Empty = 5
+opening_exit_status opening.Full = 8
 opening_exit_status fault = 1
 
 -- 1 a device or memory failed, 2 the arguments are wrong or a request is none, and from 4 on why the file is not served
@@ -169,10 +173,15 @@ fault_exit_status (Damaged damage) = 6
 fault_exit_status (OtherRules numbers) = 7
 fault_exit_status Full = 8
 fault_exit_status SyncFailed = 9
+fault_exit_status Gone = 10
 
 -- a number behind a text
 abbrev pub numbered : List ℕ → ℕ → List ℕ
 numbered text number = text ++ decimal number
+
+-- a number before a text
+abbrev pub counted : ℕ → List ℕ → List ℕ
+counted number text = decimal number ++ text
 
 -- a path between two texts, as it is shown
 abbrev pub named : List ℕ → List ℕ → List ℕ → List ℕ
@@ -192,28 +201,44 @@ damage_text (Record place fault) = codes "record " ++ decimal place ++ (codes ":
 damage_text (Entry fault) = codes "record " ++ decimal fault.place ++ (codes ": " ++ unfit_name fault.cause)
 damage_text (Torn at bytes) = (decimal bytes ++ codes " bytes behind byte ") ++ (decimal at ++ codes ", more than one batch can have")
 
-abbrev pub sync_text : List ℕ
-sync_text = codes "SyncFailed: restart the machine or copy the file before the next start"
+-- the same in a line of its own, of a file with this path: entry N is the record N behind the head
+abbrev pub harm_text : Damage → List ℕ
+harm_text (Block at) = codes "the block at byte " ++ (decimal at ++ codes " is not what was written")
+harm_text (Record place fault) = numbered (codes "entry ") place ++ (codes " is none: " ++ fault_name fault)
+harm_text (Entry fault) = numbered (codes "entry ") fault.place ++ (codes " may not come next: " ++ unfit_name fault.cause)
+harm_text (Torn at bytes) = counted bytes (codes " bytes are behind byte ") ++ counted at (codes ", more than one batch can have")
+
+abbrev pub damaged_text : Damage → List ℕ → List ℕ
+damaged_text damage path =
+    named (codes "Damaged: ") path (codes ": ") ++ (harm_text damage ++ codes "; tbd salvage makes a new file of the entries before it")
+
+abbrev pub sync_text : List ℕ → List ℕ
+sync_text path = named (codes "SyncFailed: ") path (codes ": restart the machine or copy the file before the next start")
+
+abbrev pub full_text : List ℕ → List ℕ
+full_text path = named (codes "Full: ") path (codes ": the disk is full, or the file has its greatest length; free space, and start again")
 
 -- why a file was not opened; where the words may be wrong they are reported
 abbrev pub opening_text : OpeningFault → List ℕ → List ℕ
-opening_text opening.Locked path = codes "Locked: another program has the file open"
+opening_text opening.Locked path = named (codes "Locked: ") path (codes " is open in another program; end that one first")
 opening_text opening.Missing path = codes "Device: cannot find " ++ printable path
 opening_text opening.Forbidden path = codes "Device: no permission to open " ++ printable path
 opening_text opening.NoMemory path = codes "NoMemory"
-opening_text opening.SyncFailed path = sync_text
+opening_text opening.SyncFailed path = sync_text path
 opening_text opening.Exists path = codes "Usage: " ++ (printable path ++ codes " exists")
 opening_text opening.NotAFile path = codes "Device: " ++ (printable path ++ codes " is no regular file")
 opening_text opening.Dangling path = codes "Device: " ++ (printable path ++ codes " is a link to nothing")
 opening_text opening.Unopened path = codes "Device: cannot open " ++ printable path
 opening_text opening.Unread path = codes "Device: " ++ printable path
+opening_text opening.Full path = full_text path
+opening_text opening.Empty path = codes "NotAJournal: " ++ (printable path ++ codes " is empty; tbd run without --existing makes a ledger in it")
 
 -- what failed
 abbrev pub failed_text : Failed → List ℕ → List ℕ
 failed_text Input path = codes "Device: standard input"
 failed_text OutputSide path = codes "Device: standard output"
-failed_text File path = codes "Device: " ++ printable path
-failed_text New path = codes "Device: " ++ printable path
+failed_text File path = named (codes "Device: ") path (codes ": a read or write failed; look at the disk, and start again")
+failed_text New path = named (codes "Device: ") path (codes ": a read or write failed; look at the disk, and start again")
 
 -- a file that is no ledger, and what it is; nothing more where it was not looked at
 abbrev pub kind_text : Kind → List ℕ → List ℕ
@@ -233,7 +258,7 @@ abbrev pub both_text : Mismatch → List ℕ → List ℕ
 both_text both between = numbers_text both.made ++ (between ++ numbers_text both.asked)
 
 abbrev pub mismatch_text : Option Mismatch → List ℕ → List ℕ
-mismatch_text None path = codes "OtherRules: tbd check shows those that the file was made with"
+mismatch_text None path = named (codes "OtherRules: ") path (codes " was made with others; tbd check shows them")
 mismatch_text (Some both) path = (codes "OtherRules: " ++ (printable path ++ codes " was made with ")) ++ both_text both (codes ", not with ")
 
 -- the fault's name, and words behind it where there is more to say, of a file with this path
@@ -245,11 +270,12 @@ fault_text (Making fault) path = opening_text fault path
 fault_text NoMemory path = codes "NoMemory"
 fault_text (Request fault) path = run_fault_name fault
 fault_text (NotAJournal kind) path = kind_text kind path
-fault_text NoHead path = codes "NotAJournal: the first record is no ledger's head; tbd follow serves a log"
-fault_text (Damaged damage) path = codes "Damaged: " ++ damage_text damage
+fault_text NoHead path = named (codes "NotAJournal: ") path (codes " has no ledger's head; tbd follow serves a log")
+fault_text (Damaged damage) path = damaged_text damage path
 fault_text (OtherRules numbers) path = mismatch_text numbers path
-fault_text Full path = codes "Full"
-fault_text SyncFailed path = sync_text
+fault_text Full path = full_text path
+fault_text SyncFailed path = sync_text path
+fault_text Gone path = codes "Gone: " ++ (printable path ++ codes " is not the file that was opened, or another program cut it; put that file back before the next start")
 
 -- a line went out, and is not held back; or a prefix of it did, where the writer failed or took nothing
 abbrev pub SaysLine : List ℕ → Output → Output → Type 0
@@ -310,12 +336,12 @@ Reports lines at before after =
     × TellsWhere (nat_le before.due at) (reading_line (string_bytes before.path) (at / 1000000) (before.len / 1000000))
     (lines.output before.lines) (lines.output after.lines)
 
--- of a start that is reported: that requests are served from here on
-abbrev pub ready_line : List ℕ
-ready_line = codes "tbd: ready\n"
+-- of a start that is reported: that requests are served from here on, and the last commit and its time; both are 0 before the first one
+abbrev pub ready_line : ℕ → ℕ → List ℕ
+ready_line commit time = numbered (codes "tbd: ready: commit ") commit ++ line_of (numbered (codes ", time ") time)
 
-abbrev pub TellsReady : Bool → Output → Output → Type 0
-TellsReady reports before after = TellsWhere reports ready_line before after
+abbrev pub TellsReady : Bool → ℕ → ℕ → Output → Output → Type 0
+TellsReady reports commit time before after = TellsWhere reports (ready_line commit time) before after
 
 -- of requests that would come from a terminal: where words are read
 abbrev pub frames_line : List ℕ
@@ -352,10 +378,6 @@ usage_lines (word ∷ rest) = wrong_line (wrong (word ∷ rest))
 
 -- what private functions alone cite
 
--- a number before a text
-abbrev pub counted : ℕ → List ℕ → List ℕ
-counted number text = decimal number ++ text
-
 -- words, and behind a text what is wrong with them
 abbrev pub said_with : List (List ℕ) → List ℕ → List ℕ → List ℕ
 said_with shown between what = shown_words shown ++ (between ++ line_of what)
@@ -370,8 +392,10 @@ read_line read all = line_of (read_text read all)
 
 -- rows
 
-pub line_of_a_block : fault_line (Damaged (Block 94)) [] ≡ codes "tbd: Damaged: at byte 94\n"
-unfolding digits
+pub line_of_a_block :
+    fault_line (Damaged (Block 94)) (codes "ledger")
+    ≡ codes "tbd: Damaged: ledger: the block at byte 94 is not what was written; tbd salvage makes a new file of the entries before it\n"
+unfolding digits printable chars lib.Utf8.encode
 line_of_a_block = refl
 
 pub line_of_a_name : fault_line (Opening opening.Missing) (codes "ledger") ≡ codes "tbd: Device: cannot find ledger\n"
@@ -385,6 +409,15 @@ line_of_a_new_name = refl
 pub line_of_a_cut : cut_line 5 182 ≡ codes "tbd: cut 5 bytes of a batch that was not committed, behind byte 182\n"
 unfolding digits
 line_of_a_cut = refl
+
+pub line_of_a_ready_start : ready_line 3 13 ≡ codes "tbd: ready: commit 3, time 13\n"
+unfolding digits
+line_of_a_ready_start = refl
+
+pub line_of_a_file_that_is_gone :
+    fault_line Gone (codes "ledger") ≡ codes "tbd: Gone: ledger is not the file that was opened, or another program cut it; put that file back before the next start\n"
+unfolding printable chars lib.Utf8.encode
+line_of_a_file_that_is_gone = refl
 
 pub line_of_a_pipe : fault_line (Device OutputSide) (codes "ledger") ≡ codes "tbd: Device: standard output\n"
 line_of_a_pipe = refl

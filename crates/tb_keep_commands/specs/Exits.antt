@@ -1,6 +1,6 @@
 -- How a command ends: its outcome, exit status and line.
 -- Cited by public contracts of: commands.
-use Rattle.std.specs.Prelude.{ℕ, true, false, ◌||◌, ◌≡◌, List, [], Option, Some, None, Ok, Err, map, string_bytes}
+use Rattle.std.specs.Prelude.{ℕ, Bool, true, false, ◌||◌, ◌≡◌, List, [], Option, Some, None, Result, Ok, Err, map, string_bytes}
 use Rattle.std.specs.declared.alloc.Global.{Global}
 use Rattle.std.specs.declared.string.String.{String}
 use Rattle.tb_records.specs.Transport.{Input, Output, Sent, CutOff}
@@ -11,6 +11,7 @@ use Rattle.tb_keep_commands.specs.declared.arguments.Form.TheVariants as form
 use Rattle.tb_keep_commands.specs.declared.commands.Terminals.{Terminals}
 use Rattle.tb_keep_commands.specs.declared.faults.KeepCommandFault.TheVariants.{Device}
 use Rattle.tb_keep_commands.specs.declared.faults.Failed.TheVariants as failed
+use Rattle.tb_keep_commands.specs.declared.openers.OpeningFault.{OpeningFault}
 use Rattle.tb_keep_commands.specs.declared.help.TheConstants.{USAGE, VERSION}
 use Rattle.tb_keep_commands.specs.Copies.{CopiesOver}
 use Rattle.tb_keep_commands.specs.Ends.{KnownEnds, KnownFiles, On}
@@ -37,13 +38,19 @@ Tells (Err fault) file new before after = SaysLine (fault_line fault (fault_path
 abbrev pub TellsUsage : {L : Type 0} → sinks.Ghosts L → List (String Global) → L → L → Type 0
 TellsUsage lines words quiet told = form_of (map string_bytes words) ≡ None → Says lines (usage_lines (map string_bytes words)) quiet told
 
+-- what opens the device of a name that is served: where one that is there is asked for none is made
+abbrev pub made_by : {O D E : Type 0} → KnownFiles O D E → Bool → O → List ℕ → Result D OpeningFault → O → Type 0
+made_by its true = its.opener.takes
+made_by its false = its.opener.makes
+
 module _ {O D E : Type 0} (its : KnownFiles O D E) (ends : Terminals) (before : O) (name new : List ℕ) (left : O) where
   -- what a form does over what opens devices: `run` has the device of a name made where there is none, `dump` and `check` open one that is
   -- there, `salvage` and `backup` open one and make another, and the other forms open none. What it reports while it goes on comes before
   -- the line of its outcome
   abbrev pub Performs : Form → Outcome → Input → Input → Output → Output → Output → Output → Type 0
-  Performs (form.Run clients_max profile reports) outcome first last start written quiet told =
-      RunsOver its.file (its.opener.makes before name) left outcome (rules_of profile clients_max) name (reports || ends.faults) ends.input
+  Performs (form.Run clients_max profile options) outcome first last start written quiet told =
+      RunsOver its.file (made_by its options.existing before name) (its.opener.gone left) left outcome (rules_of profile clients_max) name
+      (options.reports || ends.faults) ends.input
       first last start written quiet told
   Performs (form.Dump from follows) outcome first last start written quiet told =
       (last ≡ first) × (told ≡ quiet) × DumpsOver its name before left from follows outcome start written

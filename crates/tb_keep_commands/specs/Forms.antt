@@ -1,6 +1,6 @@
 -- What the words of the command line ask for, and what is wrong with words that ask for nothing.
 -- Cited by public contracts of: arguments, commands.
-use Rattle.std.specs.Prelude.{ℕ, Bool, true, false, ◌≡◌, ◌||◌, ◌&&◌, ◌==◌, nat_lt, nat_eq, List, [], ◌∷◌, length, take, Option, Some, None, if◌then◌else◌, codes, refl}
+use Rattle.std.specs.Prelude.{ℕ, Bool, true, false, ◌≡◌, ◌||◌, ◌&&◌, not, ◌==◌, nat_lt, nat_eq, List, [], ◌∷◌, length, take, Option, Some, None, if◌then◌else◌, codes, refl}
 use Rattle.std.specs.Char.{is_ascii_digit}
 use Rattle.std.specs.List.{list_all}
 use Rattle.std.specs.Cmp.Lexicographic.{pointwise}
@@ -8,6 +8,7 @@ use Rattle.tb_commands.specs.Forms.{clients_of, profile_of, commit_of}
 use Rattle.tb_records.specs.declared.limits.Profile.{Profile}
 use Rattle.tb_records.specs.declared.limits.Profile.TheVariants.{One}
 use Rattle.tb_keep_commands.specs.declared.arguments.Form.{Form}
+use Rattle.tb_keep_commands.specs.declared.arguments.Options.{Options}
 use Rattle.tb_keep_commands.specs.declared.arguments.Form.TheVariants as form
 use Rattle.tb_keep_commands.specs.declared.arguments.TheConstants.{CLIENTS_MISSING, CLIENTS_WRONG}
 
@@ -29,28 +30,63 @@ form_over word =
     else if pointwise nat_eq word (codes "check") then Some form.Check
     else None
 
-abbrev pub run_by : Option ℕ → Option Profile → Bool → Option Form
-run_by None profile reports = None
-run_by (Some clients_max) None reports = None
-run_by (Some clients_max) (Some profile) reports = Some (form.Run clients_max profile reports)
+abbrev pub run_by : Option ℕ → Option Profile → Option Options → Option Form
+run_by None profile options = None
+run_by (Some clients_max) None options = None
+run_by (Some clients_max) (Some profile) None = None
+run_by (Some clients_max) (Some profile) (Some options) = Some (form.Run clients_max profile options)
 
--- `run FILE CLIENTS_MAX` with a profile, its start reported or not
-abbrev pub run_form : List ℕ → List ℕ → Option Profile → Bool → Option Form
-run_form word clients profile reports = if pointwise nat_eq word (codes "run") then run_by (clients_of clients) profile reports else None
+-- `run FILE CLIENTS_MAX` with a profile and options
+abbrev pub run_form : List ℕ → List ℕ → Option Profile → Option Options → Option Form
+run_form word clients profile options = if pointwise nat_eq word (codes "run") then run_by (clients_of clients) profile options else None
 
 -- the word that has a start reported
 abbrev pub is_progress : List ℕ → Bool
 is_progress word = pointwise nat_eq word (codes "--progress")
 
+-- the word that has no file made
+abbrev pub is_existing : List ℕ → Bool
+is_existing word = pointwise nat_eq word (codes "--existing")
+
+abbrev pub no_options : Options
+no_options = record { reports = false; existing = false }
+
+-- one option more, which is not among them yet
+abbrev pub with_option : Options → List ℕ → Option Options
+with_option options word =
+    if is_progress word && not options.reports then Some (record options { reports = true })
+    else if is_existing word && not options.existing then Some (record options { existing = true })
+    else None
+
+abbrev pub with_another : Option Options → List ℕ → Option Options
+with_another None word = None
+with_another (Some options) word = with_option options word
+
+-- in any order
+abbrev pub two_options : List ℕ → List ℕ → Option Options
+two_options first second = with_another (with_option no_options first) second
+
+-- one word more is a profile or an option
+abbrev pub run_one : Option Profile → List ℕ → List ℕ → List ℕ → Option Form
+run_one (Some profile) word clients last = run_form word clients (Some profile) (Some no_options)
+run_one None word clients last = run_form word clients (Some One) (with_option no_options last)
+
+-- two are a profile and an option, or two options
+abbrev pub run_two : Option Profile → List ℕ → List ℕ → List ℕ → List ℕ → Option Form
+run_two (Some profile) word clients fourth last = run_form word clients (Some profile) (with_option no_options last)
+run_two None word clients fourth last = run_form word clients (Some One) (two_options fourth last)
+
 -- `run FILE CLIENTS_MAX PROFILE`, or `run FILE CLIENTS_MAX --progress`
 abbrev pub run_four : List ℕ → List ℕ → List ℕ → Option Form
-run_four word clients last =
-    if is_progress last then run_form word clients (Some One) true
-    else run_form word clients (profile_of last) false
+run_four word clients last = run_one (profile_of last) word clients last
 
--- `run FILE CLIENTS_MAX PROFILE --progress`
+-- `run FILE CLIENTS_MAX PROFILE --progress`, or `run FILE CLIENTS_MAX --existing --progress`
 abbrev pub run_five : List ℕ → List ℕ → List ℕ → List ℕ → Option Form
-run_five word clients profile last = if is_progress last then run_form word clients (profile_of profile) true else None
+run_five word clients fourth last = run_two (profile_of fourth) word clients fourth last
+
+-- `run FILE CLIENTS_MAX PROFILE --existing --progress`
+abbrev pub run_six : List ℕ → List ℕ → List ℕ → List ℕ → List ℕ → Option Form
+run_six word clients profile fifth last = run_form word clients (profile_of profile) (two_options fifth last)
 
 -- the word that has more entries waited for
 abbrev pub is_follow : List ℕ → Bool
@@ -79,7 +115,7 @@ form_three word third =
     if is_dump word then (if is_follow third then Some (form.Dump None true) else None)
     else if pointwise nat_eq word (codes "salvage") then copy_form form.Salvage third
     else if pointwise nat_eq word (codes "backup") then copy_form form.Backup third
-    else run_form word third (Some One) false
+    else run_form word third (Some One) (Some no_options)
 
 abbrev pub dump_by : Option ℕ → Bool → Option Form
 dump_by None follows = None
@@ -108,7 +144,8 @@ form_by (word ∷ file ∷ []) = form_over word
 form_by (word ∷ file ∷ third ∷ []) = form_three word third
 form_by (word ∷ file ∷ third ∷ fourth ∷ []) = form_four word third fourth
 form_by (word ∷ file ∷ third ∷ fourth ∷ fifth ∷ []) = form_five word third fourth fifth
-form_by (word ∷ file ∷ third ∷ fourth ∷ fifth ∷ more ∷ rest) = None
+form_by (word ∷ file ∷ third ∷ fourth ∷ fifth ∷ sixth ∷ []) = run_six word third fourth fifth sixth
+form_by (word ∷ file ∷ third ∷ fourth ∷ fifth ∷ sixth ∷ more ∷ rest) = None
 
 -- the word that names the file
 abbrev pub file_word : List (List ℕ) → List ℕ
@@ -139,9 +176,10 @@ abbrev pub wrong_last : Option ℕ → List ℕ
 wrong_last None = CLIENTS_WRONG.now
 wrong_last (Some clients_max) = codes "PROFILE is 1 or 2"
 
--- of five words the last is wrong where it does not have the start reported
-abbrev pub wrong_five : Option ℕ → List ℕ → List ℕ
-wrong_five clients last = if is_progress last then wrong_last clients else codes "only --progress may follow PROFILE"
+-- of more words the fourth or one behind it
+abbrev pub wrong_more : Option ℕ → List ℕ
+wrong_more None = CLIENTS_WRONG.now
+wrong_more (Some clients_max) = codes "PROFILE is 1 or 2, and only options may follow it, each once"
 
 -- words that are wrong in their second one, which names no file; else what is wrong with the others
 abbrev pub wrong_file : List (List ℕ) → Wrong → Wrong
@@ -155,8 +193,9 @@ wrong_clients (word ∷ []) = so_wrong (word ∷ []) (codes "FILE and CLIENTS_MA
 wrong_clients (word ∷ file ∷ []) = so_wrong (word ∷ file ∷ []) CLIENTS_MISSING.now
 wrong_clients (word ∷ file ∷ clients ∷ []) = so_wrong (word ∷ file ∷ clients ∷ []) CLIENTS_WRONG.now
 wrong_clients (word ∷ file ∷ clients ∷ profile ∷ []) = so_wrong (word ∷ file ∷ clients ∷ profile ∷ []) (wrong_last (clients_of clients))
-wrong_clients (word ∷ file ∷ clients ∷ profile ∷ last ∷ []) = so_wrong (word ∷ file ∷ clients ∷ profile ∷ last ∷ []) (wrong_five (clients_of clients) last)
-wrong_clients (word ∷ file ∷ clients ∷ profile ∷ last ∷ more ∷ rest) = so_wrong (word ∷ []) (codes "too many words")
+wrong_clients (word ∷ file ∷ clients ∷ profile ∷ last ∷ []) = so_wrong (word ∷ file ∷ clients ∷ profile ∷ last ∷ []) (wrong_more (clients_of clients))
+wrong_clients (word ∷ file ∷ clients ∷ profile ∷ fifth ∷ last ∷ []) = so_wrong (word ∷ file ∷ clients ∷ profile ∷ fifth ∷ last ∷ []) (wrong_more (clients_of clients))
+wrong_clients (word ∷ file ∷ clients ∷ profile ∷ fifth ∷ last ∷ more ∷ rest) = so_wrong (word ∷ []) (codes "too many words")
 
 -- words that begin with `run`
 abbrev pub wrong_run : List (List ℕ) → Wrong
@@ -164,7 +203,7 @@ wrong_run words = wrong_file words (wrong_clients words)
 
 -- words that begin with `follow`: tb_keep_follow has its forms
 unfoldable pub wrong_follow : List (List ℕ) → Wrong
-wrong_follow words = if nat_lt 4 (length words) then so_wrong (take 1 words) (codes "too many words") else wrong_run words
+wrong_follow words = if nat_lt 5 (length words) then so_wrong (take 1 words) (codes "too many words") else wrong_run words
 
 -- what is wrong behind a word and its file
 abbrev pub wrong_behind : List ℕ → List ℕ
@@ -213,11 +252,18 @@ wrong (word ∷ rest) =
 
 -- rows
 
-pub profile_one_is_the_default : form_of (codes "run" ∷ codes "ledger" ∷ codes "2" ∷ []) ≡ Some (form.Run 2 One false)
+pub profile_one_is_the_default : form_of (codes "run" ∷ codes "ledger" ∷ codes "2" ∷ []) ≡ Some (form.Run 2 One no_options)
 profile_one_is_the_default = refl
 
-pub a_start_is_reported : form_of (codes "run" ∷ codes "ledger" ∷ codes "2" ∷ codes "--progress" ∷ []) ≡ Some (form.Run 2 One true)
+pub a_start_is_reported : form_of (codes "run" ∷ codes "ledger" ∷ codes "2" ∷ codes "--progress" ∷ []) ≡ Some (form.Run 2 One (record { reports = true; existing = false }))
 a_start_is_reported = refl
+
+pub no_file_is_made : form_of (codes "run" ∷ codes "ledger" ∷ codes "2" ∷ codes "1" ∷ codes "--progress" ∷ codes "--existing" ∷ [])
+    ≡ Some (form.Run 2 One (record { reports = true; existing = true }))
+no_file_is_made = refl
+
+pub an_option_comes_once : form_of (codes "run" ∷ codes "ledger" ∷ codes "2" ∷ codes "--existing" ∷ codes "--existing" ∷ []) ≡ None
+an_option_comes_once = refl
 
 pub later_entries_are_followed : form_of (codes "dump" ∷ codes "ledger" ∷ codes "--after" ∷ codes "40" ∷ codes "--follow" ∷ []) ≡ Some (form.Dump (Some 40) true)
 later_entries_are_followed = refl

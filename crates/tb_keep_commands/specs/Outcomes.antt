@@ -16,7 +16,7 @@ use Rattle.tb_keep.specs.Reading.{Dumps, HasDumpCause}
 use Rattle.tb_keep.specs.Recovering.{HasStartCause}
 use Rattle.tb_keep.specs.Rounds.{Served}
 use Rattle.tb_keep_commands.specs.declared.faults.KeepCommandFault.{KeepCommandFault}
-use Rattle.tb_keep_commands.specs.declared.faults.KeepCommandFault.TheVariants.{Device, NoMemory, Opening}
+use Rattle.tb_keep_commands.specs.declared.faults.KeepCommandFault.TheVariants.{Device, NoMemory, Opening, Gone}
 use Rattle.tb_keep_commands.specs.declared.faults.Failed.{Failed}
 use Rattle.tb_keep_commands.specs.declared.faults.Failed.TheVariants as failed
 use Rattle.tb_keep_commands.specs.declared.openers.OpeningFault.{OpeningFault}
@@ -141,7 +141,7 @@ module _ {D : Type 0} (its : devices.Ghosts D) where
     pub made : TellsMade len path quiet noted
     pub started : Output
     pub cut : TellsCut keeper.cut (len - keeper.cut - 4) noted started
-    pub ready : TellsReady reports started told
+    pub ready : TellsReady reports keeper.state.commit keeper.state.books.time started told
     pub result : Result ℕ KeepFault
     pub after : Keeping D
     pub served : Served its.tells its.disk result keeper after first last start written
@@ -189,13 +189,29 @@ pub record Opens {D O : Type 0} (named : OpeningFault → KeepCommandFault) (may
   pub answered : may answer left
   pub done : MatchResult answer Does (λ fault. (outcome ≡ Err (named fault)) × Nothing)
 
-module _ {D : Type 0} (its : devices.Ghosts D) {O : Type 0} (may : Result D OpeningFault → O → Type 0) (left : O) where
-  -- where requests would come from a terminal it is reported first where words are read
+-- the outcome of serving, unless the file is gone, by which a fault is named
+abbrev pub unless_gone : Bool → Outcome → Outcome
+unless_gone true (Err fault) = Err Gone
+unless_gone gone outcome = outcome
+
+-- a ledger was served over what an opening answered
+abbrev pub ServesOpened : {D : Type 0} → devices.Ghosts D → {O : Type 0} → (Result D OpeningFault → O → Type 0) → O → Outcome → Rules → List ℕ → Bool
+    → Input → Input → Output → Output → Output → Output → Type 0
+ServesOpened its may left outcome rules path reports first last start written quiet told =
+    Opens Opening may left outcome ((last ≡ first) × (written ≡ start) × (told ≡ quiet))
+    (λ device. ServesFile its outcome rules path reports device first last start written quiet told)
+
+module _ {D : Type 0} (its : devices.Ghosts D) {O : Type 0} (may : Result D OpeningFault → O → Type 0) (may_be_gone : Bool → Type 0) (left : O) where
+  -- where requests would come from a terminal it is reported first where words are read; where a call on the file failed since it is gone,
+  -- that is the outcome
   pub record RunsOver (outcome : Outcome) (rules : Rules) (path : List ℕ) (reports talks : Bool) (first last : Input) (start written quiet told : Output) : Type 0 where
     pub noted : Output
     pub frames : TellsFrames talks quiet noted
-    pub runs : Opens Opening may left outcome ((last ≡ first) × (written ≡ start) × (told ≡ noted))
-        (λ device. ServesFile its outcome rules path reports device first last start written noted told)
+    pub served : Outcome
+    pub gone : Bool
+    pub asked : may_be_gone gone
+    pub outcome_is : outcome ≡ unless_gone gone served
+    pub runs : ServesOpened its may left served rules path reports first last start written noted told
 
 module _ {O D E : Type 0} (its : KnownFiles O D E) (name : List ℕ) (before left : O) where
   abbrev pub DumpsOver : Option ℕ → Bool → Outcome → Output → Output → Type 0

@@ -1,16 +1,25 @@
 //! What the words of the command line ask for, and what is wrong with words that ask for nothing.
 ghost use Rattle.std.specs.Prelude.{◌≡◌, map, take, string_bytes};
-ghost use Rattle.tb_keep_commands.specs.Forms.{form_alone, form_by, form_of, form_over, form_three, form_four, form_five, dump_from, dump_later, is_follow, run_form, run_four, run_five, file_word, new_word, copy_form, is_copy, wrong_new, wrong_copy, is_number, is_no_file, is_progress, wrong_last, wrong_five, wrong_clients, wrong_run, wrong_follow, wrong_behind, wrong_count, wrong_over, wrong};
+ghost use Rattle.tb_keep_commands.specs.Forms.{form_alone, form_by, form_of, form_over, form_three, form_four, form_five, dump_from, dump_later, is_follow, is_existing, no_options, with_option, two_options, run_form, run_four, run_five, run_six, file_word, new_word, copy_form, is_copy, wrong_new, wrong_copy, is_number, is_no_file, is_progress, wrong_last, wrong_more, wrong_clients, wrong_run, wrong_follow, wrong_behind, wrong_count, wrong_over, wrong};
 ghost use Rattle.tb_commands.specs.Forms.{clients_of};
 
 use tb_commands::{number, read_clients_max, read_profile, with_clients_range};
 use tb_records::{ClientsMax, Profile};
 
+/// What more `run` is asked.
+#[derive(Clone, Copy)]
+pub struct Options {
+    /// Its start is reported.
+    pub reports: bool,
+    /// The file is one that is there: none is made.
+    pub existing: bool,
+}
+
 /// What the program is asked to do.
 #[derive(Clone, Copy)]
 pub enum Form {
-    /// Serve requests over a file, which is made where there is none. The flag has its start reported.
-    Run(ClientsMax, Profile, bool),
+    /// Serve requests over a file, which is made where there is none, unless the options say otherwise.
+    Run(ClientsMax, Profile, Options),
     /// Write the history of a file as a dump: all of it, or the entries above a commit number, without a head. The flag has more waited
     /// for.
     Dump(Option<u64>, bool),
@@ -55,14 +64,57 @@ fn is_progress(word: &str) -> bool
     word == "--progress"
 }
 
-/// What a word with a file, the number of clients and a profile asks for, its start reported or not.
+/// Says that a word has no file made.
+pub fn is_existing(word: &str) -> bool
+    ensures { result ≡ is_existing word.now }
+{
+    word == "--existing"
+}
+
+/// No option.
+fn no_options() -> Options
+    ensures { result ≡ no_options }
+{
+    Options {
+        reports: false,
+        existing: false,
+    }
+}
+
+/// The options with one more, which may not be among them.
+fn with_option(options: Options, word: &str) -> Option<Options>
+    ensures { result ≡ with_option options word.now }
+{
+    if is_progress(word) && !options.reports {
+        return Some(Options {
+            reports: true,
+            ..options
+        });
+    }
+    if is_existing(word) && !options.existing {
+        return Some(Options {
+            existing: true,
+            ..options
+        });
+    }
+    None
+}
+
+/// Two options.
+fn two_options(first: &str, second: &str) -> Option<Options>
+    ensures { result ≡ two_options first.now second.now }
+{
+    with_option(with_option(no_options(), first)?, second)
+}
+
+/// What a word with a file, the number of clients, a profile and options asks for.
 fn run_form(
     word: &str,
     clients_max: &str,
     profile_given: Option<Profile>,
-    reports: bool,
+    options_given: Option<Options>,
 ) -> Option<Form>
-    ensures { result ≡ run_form word.now clients_max.now profile_given reports }
+    ensures { result ≡ run_form word.now clients_max.now profile_given options_given }
 {
     if word != "run" {
         return None;
@@ -70,28 +122,55 @@ fn run_form(
     Some(Form::Run(
         read_clients_max(clients_max.as_bytes())?,
         profile_given?,
-        reports,
+        options_given?,
     ))
 }
 
-/// What a word with a file, the number of clients and one more word asks for: a profile, or `--progress`.
+/// What a word with a file, the number of clients and one more word asks for: a profile, or an option.
 fn run_four(word: &str, clients_max: &str, last: &str) -> Option<Form>
     ensures { result ≡ run_four word.now clients_max.now last.now }
 {
-    if is_progress(last) {
-        return run_form(word, clients_max, Some(Profile::One), true);
+    match read_profile(last.as_bytes()) {
+        Some(profile) => run_form(word, clients_max, Some(profile), Some(no_options())),
+        None => run_form(
+            word,
+            clients_max,
+            Some(Profile::One),
+            with_option(no_options(), last),
+        ),
     }
-    run_form(word, clients_max, read_profile(last.as_bytes()), false)
 }
 
-/// What a word with a file, the number of clients, a profile and one more word asks for.
-fn run_five(word: &str, clients_max: &str, profile: &str, last: &str) -> Option<Form>
-    ensures { result ≡ run_five word.now clients_max.now profile.now last.now }
+/// What a word with a file, the number of clients and two more words asks for: a profile and an option, or two options.
+fn run_five(word: &str, clients_max: &str, fourth: &str, last: &str) -> Option<Form>
+    ensures { result ≡ run_five word.now clients_max.now fourth.now last.now }
 {
-    if !is_progress(last) {
-        return None;
+    match read_profile(fourth.as_bytes()) {
+        Some(profile) => run_form(
+            word,
+            clients_max,
+            Some(profile),
+            with_option(no_options(), last),
+        ),
+        None => run_form(
+            word,
+            clients_max,
+            Some(Profile::One),
+            two_options(fourth, last),
+        ),
     }
-    run_form(word, clients_max, read_profile(profile.as_bytes()), true)
+}
+
+/// What a word with a file, the number of clients, a profile and two options asks for.
+fn run_six(word: &str, clients_max: &str, profile: &str, fifth: &str, last: &str) -> Option<Form>
+    ensures { result ≡ run_six word.now clients_max.now profile.now fifth.now last.now }
+{
+    run_form(
+        word,
+        clients_max,
+        read_profile(profile.as_bytes()),
+        two_options(fifth, last),
+    )
 }
 
 /// Says that a word has more entries waited for.
@@ -115,7 +194,7 @@ fn form_three(word: &str, third: &str) -> Option<Form>
     match word {
         "salvage" => copy_form(Form::Salvage, third),
         "backup" => copy_form(Form::Backup, third),
-        _ => run_form(word, third, Some(Profile::One), false),
+        _ => run_form(word, third, Some(Profile::One), Some(no_options())),
     }
 }
 
@@ -173,7 +252,7 @@ fn form_five(word: &str, third: &str, fourth: &str, fifth: &str) -> Option<Form>
 }
 
 /// What the words ask for, whatever the word is that names the file.
-#[tactic(auto, using(crate::proofs::Lengths::six_no_form))]
+#[tactic(auto, using(crate::proofs::Lengths::seven_no_form))]
 fn form_by(words: &[String]) -> Option<Form>
     ensures { result ≡ form_by (map string_bytes words.now) }
 {
@@ -188,8 +267,15 @@ fn form_by(words: &[String]) -> Option<Form>
             fourth.as_str(),
             fifth.as_str(),
         ),
+        [word, _file, third, fourth, fifth, sixth] => run_six(
+            word.as_str(),
+            third.as_str(),
+            fourth.as_str(),
+            fifth.as_str(),
+            sixth.as_str(),
+        ),
         [] => None,
-        [_, _, _, _, _, _, ..] => None,
+        [_, _, _, _, _, _, _, ..] => None,
     }
 }
 
@@ -257,14 +343,14 @@ fn wrong_last(clients_max: &str) -> &'static str
     }
 }
 
-/// What is wrong with five words that begin with `run`, of which the last is to be `--progress`.
-fn wrong_five(clients_max: &str, last: &str) -> &'static str
-    ensures { result.now ≡ wrong_five (clients_of clients_max.now) last.now }
+/// What is wrong with more words that begin with `run`, of which the third is to be a number of clients.
+fn wrong_more(clients_max: &str) -> &'static str
+    ensures { result.now ≡ wrong_more (clients_of clients_max.now) }
 {
-    if is_progress(last) {
-        return wrong_last(clients_max);
+    match read_clients_max(clients_max.as_bytes()) {
+        None => CLIENTS_WRONG,
+        Some(_) => "PROFILE is 1 or 2, and only options may follow it, each once",
     }
-    "only --progress may follow PROFILE"
 }
 
 /// What is wrong with a word that names no new file.
@@ -295,7 +381,8 @@ fn wrong_clients(words: &[String]) -> (&[String], &'static str)
         [_, _] => (words, CLIENTS_MISSING),
         [_, _, _] => (words, CLIENTS_WRONG),
         [_, _, clients_max, _] => (words, wrong_last(clients_max.as_str())),
-        [_, _, clients_max, _, last] => (words, wrong_five(clients_max.as_str(), last.as_str())),
+        [_, _, clients_max, _, _] => (words, wrong_more(clients_max.as_str())),
+        [_, _, clients_max, _, _, _] => (words, wrong_more(clients_max.as_str())),
         [_, ..] => (&words[..1], "too many words"),
     }
 }
@@ -317,7 +404,7 @@ fn wrong_follow(words: &[String]) -> (&[String], &'static str)
     ensures shown { map string_bytes result.0.now ≡ (wrong_follow (map string_bytes words.now)).shown }
     ensures what { result.1.now ≡ (wrong_follow (map string_bytes words.now)).what }
 {
-    if words.len() > 4 {
+    if words.len() > 5 {
         return (&words[..1], "too many words");
     }
     wrong_run(words)

@@ -1,9 +1,9 @@
 //! The program's forms, over what opens devices, any reader and any writer, and the exit status of each outcome.
-ghost use Rattle.std.specs.Prelude.{◌≡◌, ◌||◌, None, map, string_bytes};
+ghost use Rattle.std.specs.Prelude.{◌≡◌, ◌||◌, true, None, IfOk, map, string_bytes};
 ghost use Rattle.tb_keep_commands.specs.Forms.{form_of};
-ghost use Rattle.tb_keep_commands.specs.Exits.{Does, Finishes, TellsUsage};
-ghost use Rattle.tb_keep_commands.specs.private.Stages.{ChecksOn, DumpsAsked, DumpsOn, ExitsOn, PerformsOn, Runs};
-ghost use Rattle.tb_keep_commands.specs.Outcomes.{Prints};
+ghost use Rattle.tb_keep_commands.specs.Exits.{Does, Finishes, TellsUsage, made_by};
+ghost use Rattle.tb_keep_commands.specs.private.Stages.{ChecksOn, DumpsAsked, DumpsOn, ExitsOn, PerformsOn, Runs, RunsOpened};
+ghost use Rattle.tb_keep_commands.specs.Outcomes.{Prints, unless_gone};
 
 use crate::arguments::{Form, file_word, new_word, read_form};
 use crate::copying::copy_over;
@@ -14,7 +14,7 @@ use crate::following::{Part, follow};
 use crate::help::{USAGE, VERSION};
 use crate::keeping::{Told, run};
 use crate::lines::{tell, tell_frames, tell_usage};
-use crate::openers::Opener;
+use crate::openers::{Opener, OpeningFault};
 use crate::outlets::Outlet;
 use std::alloc::Global;
 use tb_keep::Rules;
@@ -29,25 +29,68 @@ pub struct Terminals {
     pub faults: bool,
 }
 
-/// Serves a ledger over the device of a path, which is made where there is none. Where requests would come from a terminal it is
-/// reported first where words are read.
+/// Opens the device of a path that is served: one that is there, or else one that is made where there is none.
+pub fn made_by<O: Opener>(
+    opener: &mut O,
+    path: &str,
+    existing: bool,
+) -> Result<O::File, OpeningFault>
+    ensures made { made_by ⟦<O as Files>⟧.its existing opener.old path.now result opener.new }
+    ensures sound { O.File.tells → IfOk result (λ device. (O.File.disk device).sound ≡ true) }
+{
+    if existing {
+        return opener.take(path);
+    }
+    opener.make(path)
+}
+
+/// The outcome of serving, unless a call on the file failed since it is gone.
+fn unless_gone(gone: bool, served: Result<(), KeepCommandFault>) -> Result<(), KeepCommandFault>
+    ensures { result ≡ unless_gone gone served }
+{
+    match served {
+        Err(_) if gone => Err(KeepCommandFault::Gone),
+        served => served,
+    }
+}
+
+/// Serves a ledger over the device of a path, opened so.
+fn run_opened<O: Opener, R: Source, W: Outlet, E: Sink>(
+    alloc: Global,
+    opener: &mut O,
+    rules: Rules,
+    told: &Told,
+    existing: bool,
+    reader: &mut R,
+    writer: &mut W,
+    faults: &mut E,
+) -> Result<(), KeepCommandFault>
+    ensures { RunsOpened ⟦<O as Ends<R, W, E>>⟧.its rules told.now existing opener result reader writer faults }
+{
+    match made_by(opener, told.path, existing) {
+        Ok(device) => run(alloc, device, rules, told, reader, writer, faults),
+        Err(fault) => Err(KeepCommandFault::Opening(fault)),
+    }
+}
+
+/// Serves a ledger over the device of a path. Where requests would come from a terminal it is reported first where words are read.
 fn run_over<O: Opener, R: Source, W: Outlet, E: Sink>(
     alloc: Global,
     opener: &mut O,
     rules: Rules,
     told: &Told,
+    existing: bool,
     talks: bool,
     reader: &mut R,
     writer: &mut W,
     faults: &mut E,
 ) -> Result<(), KeepCommandFault>
-    ensures { Runs ⟦<O as Ends<R, W, E>>⟧.its rules told.now talks opener result reader writer faults }
+    ensures { Runs ⟦<O as Ends<R, W, E>>⟧.its rules told.now existing talks opener result reader writer faults }
 {
     tell_frames(talks, faults);
-    match opener.make(told.path) {
-        Ok(device) => run(alloc, device, rules, told, reader, writer, faults),
-        Err(fault) => Err(KeepCommandFault::Opening(fault)),
-    }
+    let served = run_opened(alloc, opener, rules, told, existing, reader, writer, faults);
+    let gone = opener.is_gone();
+    unless_gone(gone, served)
 }
 
 /// Writes a dump of a device, or the part of one that was asked for.
@@ -148,17 +191,27 @@ fn perform<O: Opener, R: Source, W: Outlet, E: Sink>(
 {
     let name = asked.file;
     match asked.form {
-        Form::Run(clients_max, profile, reports) => {
+        Form::Run(clients_max, profile, options) => {
             let rules = Rules {
                 profile,
                 clients_max,
             };
             let told = Told {
                 path: name,
-                reports: is_reported(reports, asked.ends),
+                reports: is_reported(options.reports, asked.ends),
             };
             let talks = asked.ends.input;
-            run_over(alloc, opener, rules, &told, talks, reader, writer, faults)
+            run_over(
+                alloc,
+                opener,
+                rules,
+                &told,
+                options.existing,
+                talks,
+                reader,
+                writer,
+                faults,
+            )
         }
         Form::Dump(after, follows) => {
             dump_over(alloc, opener, name, writer, Part { after, follows })

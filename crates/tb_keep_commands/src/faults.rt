@@ -91,6 +91,8 @@ pub enum KeepCommandFault {
     Full,
     /// A sync of the file failed: what was written may be lost, though reads still return it.
     SyncFailed,
+    /// The name no longer leads to the file that was opened, or another program has cut or lengthened it.
+    Gone,
 }
 
 /// The fault of a call on a journal or its file.
@@ -165,6 +167,8 @@ pub(crate) fn new_fault(fault: KeepCommandFault) -> KeepCommandFault
     match fault {
         KeepCommandFault::Device(Failed::File) => KeepCommandFault::Device(Failed::New),
         KeepCommandFault::NotAJournal(_) => KeepCommandFault::Making(OpeningFault::Exists),
+        KeepCommandFault::Full => KeepCommandFault::Making(OpeningFault::Full),
+        KeepCommandFault::SyncFailed => KeepCommandFault::Making(OpeningFault::SyncFailed),
         fault => fault,
     }
 }
@@ -211,6 +215,8 @@ impl OpeningFault {
             OpeningFault::Locked => 4,
             OpeningFault::SyncFailed => 9,
             OpeningFault::Exists => 2,
+            OpeningFault::Empty => 5,
+            OpeningFault::Full => 8,
             _ => 1,
         }
     }
@@ -242,6 +248,7 @@ impl KeepCommandFault {
             KeepCommandFault::Damaged(_) => 6,
             KeepCommandFault::OtherRules(_) => 7,
             KeepCommandFault::Full => 8,
+            KeepCommandFault::Gone => 10,
         }
     }
 }

@@ -76,7 +76,8 @@ fn serve<D: Device + Drop, A: Allocator + Clone, R: Source, W: Sink, E: Sink>(
     let at = (len as u64).saturating_sub(cut).saturating_sub(4);
     tell_made(len, told.path, faults);
     tell_cut(cut, at, faults);
-    tell_ready(told.reports, faults);
+    let machine = keeper.machine();
+    tell_ready(told.reports, machine.commit(), machine.time(), faults);
     let failures = reader.failures();
     let kept = keep(alloc, &mut keeper, reader, writer);
     drop(keeper);

@@ -8,6 +8,8 @@
 //! - `laws`: what holds of every dump of a file that grows.
 //! - `openers`: `Opener`, what opens the device of a name, and why it does not.
 //! - `outlets`: `Outlet`, a writer that says at its end whether all that was put went out.
+//! - `steady`: `Steady`, a writer whose calls are made again where a signal interrupts them.
+//! - `places`: `Named`, a file that is compared with what its name leads to.
 //! - `ends`: `Files` and `Ends`, what contracts know of what a command works with.
 //! - `kinds`: what a file is that holds no ledger, by its first bytes.
 //! - `faults`: why a command ends with an exit status other than 0.
@@ -46,12 +48,16 @@ mod live;
 mod naming;
 mod openers;
 mod outlets;
+mod places;
 mod printable;
 mod reports;
+mod steady;
 mod summaries;
 
-pub use arguments::{Form, file_word, is_no_file, new_word, read_form, wrong};
-pub use commands::{Terminals, command};
+pub use arguments::{
+    Form, Options, file_word, is_existing, is_no_file, new_word, read_form, wrong,
+};
+pub use commands::{Terminals, command, made_by};
 pub use copies::Copied;
 pub use ends::{Ends, Files};
 pub use faults::{
@@ -67,5 +73,7 @@ pub use lines::{
 pub use live::Live;
 pub use openers::{Opener, OpeningFault, opening_fault, unread_fault};
 pub use outlets::{Outgoing, Outlet};
+pub use places::{Named, Place, Silent};
 pub use reports::Reported;
+pub use steady::Steady;
 pub use summaries::Summary;

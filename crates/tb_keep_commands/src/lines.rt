@@ -1,6 +1,6 @@
 //! The lines of standard error.
 ghost use Rattle.std.specs.Prelude.{◌≡◌, ◌++◌, Some, map, string_bytes};
-ghost use Rattle.tb_keep_commands.specs.ExitStatuses.{damage_text, opening_text, failed_text, kind_text, numbers_text, both_text, mismatch_text, fault_text, fault_line, reading_line, shown_words, said_text, wrong_line, usage_lines, counted, line_of, named, numbered, place_line, read_line, rules_text, said_with, Passes, Says, TellsMade, TellsCut, TellsReading, TellsReady, TellsFrames};
+ghost use Rattle.tb_keep_commands.specs.ExitStatuses.{harm_text, damaged_text, opening_text, failed_text, kind_text, numbers_text, both_text, mismatch_text, fault_text, fault_line, reading_line, shown_words, said_text, wrong_line, usage_lines, counted, line_of, named, numbered, place_line, read_line, rules_text, said_with, Passes, Says, TellsMade, TellsCut, TellsReading, TellsReady, TellsFrames};
 ghost use Rattle.tb_keep_commands.specs.Forms.{wrong};
 ghost use Rattle.tb_keep_commands.specs.Printable.{printable};
 ghost use Rattle.tb_keep_commands.specs.private.Changes.{Puts};
@@ -102,51 +102,107 @@ fn put_torn<E: Sink>(
     }
 }
 
+/// Writes a number between two texts.
+fn put_between<E: Sink>(
+    faults: &mut E,
+    first: &str,
+    number: u64,
+    last: &str,
+) -> Result<(), FrameFault>
+    ensures { Puts E.Sink result (first.now ++ counted number last.now) faults }
+{
+    match put_all(faults, first.as_bytes()) {
+        Ok(()) => put_counted(faults, number, last),
+        Err(fault) => Err(fault),
+    }
+}
+
 /// Writes what is damaged.
-fn put_damage<E: Sink>(faults: &mut E, damage: Damage) -> Result<(), FrameFault>
-    ensures { Puts E.Sink result (damage_text damage) faults }
+fn put_harm<E: Sink>(faults: &mut E, damage: Damage) -> Result<(), FrameFault>
+    ensures { Puts E.Sink result (harm_text damage) faults }
 {
     match damage {
-        Damage::Block { at } => put_number(faults, "at byte ", at as u64),
-        Damage::Record { place, fault } => put_place(faults, "record ", place, ": ", fault.name()),
-        Damage::Entry(fault) => put_place(faults, "record ", fault.place, ": ", fault.cause.name()),
+        Damage::Block { at } => put_between(
+            faults,
+            "the block at byte ",
+            at as u64,
+            " is not what was written",
+        ),
+        Damage::Record { place, fault } => {
+            put_place(faults, "entry ", place, " is none: ", fault.name())
+        }
+        Damage::Entry(fault) => put_place(
+            faults,
+            "entry ",
+            fault.place,
+            " may not come next: ",
+            fault.cause.name(),
+        ),
         Damage::Torn { at, bytes } => put_torn(
             faults,
             bytes,
-            " bytes behind byte ",
+            " bytes are behind byte ",
             at,
             ", more than one batch can have",
         ),
     }
 }
 
+/// What is to be done where a sync failed.
+const SYNC: &str = ": restart the machine or copy the file before the next start";
+
+/// What is to be done where a read or a write failed.
+const DISK: &str = ": a read or write failed; look at the disk, and start again";
+
 /// Writes why a file of this path was not opened.
 fn put_opening<E: Sink>(faults: &mut E, fault: OpeningFault, path: &str) -> Result<(), FrameFault>
     ensures { Puts E.Sink result (opening_text fault path.now) faults }
 {
     match fault {
-        OpeningFault::Locked => put_all(faults, b"Locked: another program has the file open"),
+        OpeningFault::Locked => put_named(
+            faults,
+            "Locked: ",
+            path,
+            " is open in another program; end that one first",
+        ),
         OpeningFault::Missing => put_shown(faults, "Device: cannot find ", path),
         OpeningFault::Forbidden => put_shown(faults, "Device: no permission to open ", path),
         OpeningFault::NoMemory => put_all(faults, b"NoMemory"),
-        OpeningFault::SyncFailed => put_all(
-            faults,
-            b"SyncFailed: restart the machine or copy the file before the next start",
-        ),
+        OpeningFault::SyncFailed => put_named(faults, "SyncFailed: ", path, SYNC),
         OpeningFault::Exists => put_named(faults, "Usage: ", path, " exists"),
         OpeningFault::NotAFile => put_named(faults, "Device: ", path, " is no regular file"),
         OpeningFault::Dangling => put_named(faults, "Device: ", path, " is a link to nothing"),
         OpeningFault::Unopened => put_shown(faults, "Device: cannot open ", path),
         OpeningFault::Unread => put_shown(faults, "Device: ", path),
+        OpeningFault::Full => put_named(faults, "Full: ", path, FULL),
+        OpeningFault::Empty => put_named(
+            faults,
+            "NotAJournal: ",
+            path,
+            " is empty; tbd run without --existing makes a ledger in it",
+        ),
     }
 }
 
-/// Writes a text and what is damaged.
-fn put_damaged<E: Sink>(faults: &mut E, first: &str, damage: Damage) -> Result<(), FrameFault>
-    ensures { Puts E.Sink result (first.now ++ damage_text damage) faults }
+/// Writes what is damaged and a text behind it.
+fn put_harmed<E: Sink>(faults: &mut E, damage: Damage, last: &str) -> Result<(), FrameFault>
+    ensures { Puts E.Sink result (harm_text damage ++ last.now) faults }
 {
-    match put_all(faults, first.as_bytes()) {
-        Ok(()) => put_damage(faults, damage),
+    match put_harm(faults, damage) {
+        Ok(()) => put_all(faults, last.as_bytes()),
+        Err(fault) => Err(fault),
+    }
+}
+
+/// What is to be done about damage.
+const SALVAGE: &str = "; tbd salvage makes a new file of the entries before it";
+
+/// Writes what is damaged in a file of this path, and what is to be done.
+fn put_damaged<E: Sink>(faults: &mut E, damage: Damage, path: &str) -> Result<(), FrameFault>
+    ensures { Puts E.Sink result (damaged_text damage path.now) faults }
+{
+    match put_named(faults, "Damaged: ", path, ": ") {
+        Ok(()) => put_harmed(faults, damage, SALVAGE),
         Err(fault) => Err(fault),
     }
 }
@@ -158,7 +214,8 @@ fn put_failed<E: Sink>(faults: &mut E, which: Failed, path: &str) -> Result<(), 
     match which {
         Failed::Input => put_all(faults, b"Device: standard input"),
         Failed::Output => put_all(faults, b"Device: standard output"),
-        Failed::File | Failed::New => put_shown(faults, "Device: ", path),
+        Failed::File => put_named(faults, "Device: ", path, DISK),
+        Failed::New => put_named(faults, "Device: ", path, DISK),
     }
 }
 
@@ -289,12 +346,25 @@ fn put_mismatch<E: Sink>(
             both,
             ", not with ",
         ),
-        None => put_all(
+        None => put_named(
             faults,
-            b"OtherRules: tbd check shows those that the file was made with",
+            "OtherRules: ",
+            path,
+            " was made with others; tbd check shows them",
         ),
     }
 }
+
+/// What is reported of a file whose records have no head, behind its path.
+const NO_HEAD: &str = " has no ledger's head; tbd follow serves a log";
+
+/// What is to be done where no space is left.
+const FULL: &str =
+    ": the disk is full, or the file has its greatest length; free space, and start again";
+
+/// What is reported of a file that is gone, behind its path.
+const GONE: &str =
+    " is not the file that was opened, or another program cut it; put that file back before the next start";
 
 /// Writes a fault's name, and what there is to say of it, over a file of this path.
 fn put_fault<E: Sink>(faults: &mut E, fault: KeepCommandFault, path: &str) -> Result<(), FrameFault>
@@ -309,17 +379,12 @@ fn put_fault<E: Sink>(faults: &mut E, fault: KeepCommandFault, path: &str) -> Re
         KeepCommandFault::NoMemory => put_all(faults, b"NoMemory"),
         KeepCommandFault::Request(fault) => put_all(faults, fault.name().as_bytes()),
         KeepCommandFault::NotAJournal(kind) => put_kind(faults, kind, path),
-        KeepCommandFault::NoHead => put_all(
-            faults,
-            b"NotAJournal: the first record is no ledger's head; tbd follow serves a log",
-        ),
-        KeepCommandFault::Damaged(damage) => put_damaged(faults, "Damaged: ", damage),
+        KeepCommandFault::NoHead => put_named(faults, "NotAJournal: ", path, NO_HEAD),
+        KeepCommandFault::Damaged(damage) => put_damaged(faults, damage, path),
         KeepCommandFault::OtherRules(numbers) => put_mismatch(faults, numbers, path),
-        KeepCommandFault::Full => put_all(faults, b"Full"),
-        KeepCommandFault::SyncFailed => put_all(
-            faults,
-            b"SyncFailed: restart the machine or copy the file before the next start",
-        ),
+        KeepCommandFault::Full => put_named(faults, "Full: ", path, FULL),
+        KeepCommandFault::SyncFailed => put_named(faults, "SyncFailed: ", path, SYNC),
+        KeepCommandFault::Gone => put_named(faults, "Gone: ", path, GONE),
     }
 }
 
@@ -579,12 +644,16 @@ pub(crate) fn tell_reading<E: Sink>(reports: bool, path: &str, len: usize, fault
     }
 }
 
-/// Reports that a start is done, where starts are reported.
-pub(crate) fn tell_ready<E: Sink>(reports: bool, faults: &mut E)
-    ensures { TellsReady reports (E.output faults.old) (E.output faults.new) }
+/// Reports that a start is done, and the last commit and its time, where starts are reported.
+#[tactic(auto, using(crate::proofs::Passing::said))]
+pub(crate) fn tell_ready<E: Sink>(reports: bool, commit: u64, time: u64, faults: &mut E)
+    ensures { TellsReady reports commit time (E.output faults.old) (E.output faults.new) }
 {
     if reports {
-        pass(put_what(faults, "tbd: ready"), faults);
+        pass(
+            put_cut(faults, "tbd: ready: commit ", commit, ", time ", time),
+            faults,
+        );
     }
 }
 

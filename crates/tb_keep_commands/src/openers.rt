@@ -1,5 +1,5 @@
 //! What opens the device of a name.
-ghost use Rattle.std.specs.Prelude.{◌≡◌, false, true, ℕ, List, Result, IfOk};
+ghost use Rattle.std.specs.Prelude.{◌≡◌, Bool, false, true, ℕ, List, Result, IfOk};
 ghost use Rattle.tb_keep_commands.specs.declared.openers.OpeningFault.{OpeningFault};
 ghost use Rattle.tb_keep_commands.specs.ExitStatuses.{opening_fault, unread_fault};
 
@@ -30,6 +30,10 @@ pub enum OpeningFault {
     Unopened,
     /// It was opened, and a read of it failed.
     Unread,
+    /// It has no bytes, and one that has some was wanted.
+    Empty,
+    /// The disk is full.
+    Full,
 }
 
 /// The fault of a file of the system that is not opened.
@@ -74,6 +78,12 @@ pub trait Opener {
     /// An opening may answer this, where what is not there is made. Anything, where an opener does not say it.
     ghost makes: { Self → List ℕ → Result Self.File OpeningFault → Self → Type 0 } = { λ before name answer after. Unit {0} };
 
+    /// The same of one that is there, to be served.
+    ghost takes: { Self → List ℕ → Result Self.File OpeningFault → Self → Type 0 } = { λ before name answer after. Unit {0} };
+
+    /// It may be answered this, where it is asked whether a file is gone.
+    ghost gone: { Self → Bool → Type 0 } = { λ opener answer. Unit {0} };
+
     /// An opening may answer this, where nothing is made.
     ghost opens: { Self → List ℕ → Result Self.Reading OpeningFault → Self → Type 0 } = { λ before name answer after. Unit {0} };
 
@@ -87,6 +97,15 @@ pub trait Opener {
     fn make(&mut self, name: &str) -> Result<Self::File, OpeningFault>
         ensures made { makes self.old name.now result self.new }
         ensures sound { Self.File.tells → IfOk result (λ device. (Self.File.disk device).sound ≡ true) };
+
+    /// Opens the device of this name, which is there and has bytes. No sync has failed on it.
+    fn take(&mut self, name: &str) -> Result<Self::File, OpeningFault>
+        ensures taken { takes self.old name.now result self.new }
+        ensures sound { Self.File.tells → IfOk result (λ device. (Self.File.disk device).sound ≡ true) };
+
+    /// Says whether a call on a device that it made or took failed since the name no longer leads to what was opened.
+    fn is_gone(&self) -> bool
+        ensures { gone self.now result };
 
     /// Makes the device of this name, which is not there: where it is, the answer is Exists. No sync has failed on it.
     fn make_new(&mut self, name: &str) -> Result<Self::File, OpeningFault>

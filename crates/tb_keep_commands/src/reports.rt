@@ -4,6 +4,7 @@ ghost use Rattle.tb_journal.specs.Device.{IsOfCall, Looks, ReadsAt};
 ghost use Rattle.tb_keep_commands.specs.ExitStatuses.{first_due, IfHeld, IsMadeLooking, Reports};
 
 use crate::lines::{MEGABYTE, tell_read};
+use crate::places::Silent;
 use std::alloc::Global;
 use tb_journal::{Device, JournalFault};
 use tb_records::Sink;
@@ -63,6 +64,10 @@ impl<D: Device + Drop, E: Sink + Drop> Reported<D, E> {
             self.due = at.saturating_add(STEP_BYTES);
         }
     }
+}
+
+impl<D: Silent + Drop, E: Sink + Drop> Silent for Reported<D, E> {
+    ghost silent = { D.silent };
 }
 
 impl<D: Device + Drop, E: Sink + Drop> Device for Reported<D, E> {

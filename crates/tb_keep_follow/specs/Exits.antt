@@ -6,6 +6,7 @@ use Rattle.tb_keep.specs.Reading.{rules_of}
 use Rattle.tb_keep_commands.specs.declared.faults.Failed.TheVariants as failed
 use Rattle.tb_keep_commands.specs.declared.faults.KeepCommandFault.TheVariants.{Device}
 use Rattle.tb_keep_commands.specs.Ends.{KnownEnds, KnownFiles, On}
+use Rattle.tb_keep_commands.specs.Exits.{made_by}
 use Rattle.tb_keep_commands.specs.ExitStatuses.{SaysLine}
 use Rattle.tb_keep_follow.specs.declared.arguments.Form.{Form}
 use Rattle.tb_keep_follow.specs.declared.arguments.Form.TheVariants as form
@@ -31,8 +32,9 @@ Tells (Err fault) path before after = SaysLine (follow_line fault path) before a
 module _ {O D E : Type 0} (its : KnownFiles O D E) (before : O) (name : List ℕ) (left : O) where
   -- what a form does over what opens devices: `follow` has the device of a name made where there is none, `dump` opens one that is there
   abbrev pub Performs : Form → Outcome → Input → Input → Output → Output → Output → Output → Type 0
-  Performs (form.Follow clients_max profile) outcome first last start written quiet told =
-      FollowsOver its.file (its.opener.makes before name) left outcome (rules_of profile clients_max) name first last start written quiet told
+  Performs (form.Follow clients_max profile existing) outcome first last start written quiet told =
+      FollowsOver its.file (made_by its existing before name) (its.opener.gone left) left outcome (rules_of profile clients_max) name
+      first last start written quiet told
   Performs (form.Dump clients_max profile) outcome first last start written quiet told =
       (last ≡ first) × (told ≡ quiet) × DumpsOver its.reading (its.opener.opens before name) left outcome (rules_of profile clients_max) start written
 

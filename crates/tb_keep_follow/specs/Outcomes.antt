@@ -1,6 +1,6 @@
 -- What each form over a log does, and its outcome.
 -- Public contracts reach it through: Exits.
-use Rattle.std.specs.Prelude.{ℕ, true, ◌≡◌, ◌-◌, List, Result, Ok, Err, MatchResult}
+use Rattle.std.specs.Prelude.{ℕ, Bool, true, ◌≡◌, ◌-◌, List, Result, Ok, Err, MatchResult}
 use Rattle.tb_records.specs.Transport.{Input, Output}
 use Rattle.tb_journal.specs.declared.devices.Device as devices
 use Rattle.tb_journal.specs.declared.faults.JournalFault.{JournalFault}
@@ -19,9 +19,10 @@ use Rattle.tb_keep_log.specs.Beginning.{HasStartCause, IsStartRefused, IsStarted
 use Rattle.tb_keep_log.specs.Rereading.{HasLogCause, IsRestored, StopsReading}
 use Rattle.tb_keep_log.specs.Items.{Served, point}
 use Rattle.tb_keep_commands.specs.declared.faults.Failed.{Failed}
-use Rattle.tb_keep_commands.specs.declared.faults.KeepCommandFault.TheVariants.{Opening}
+use Rattle.tb_keep_commands.specs.declared.faults.KeepCommandFault.TheVariants.{Opening, Gone}
 use Rattle.tb_keep_commands.specs.declared.openers.OpeningFault.{OpeningFault}
 use Rattle.tb_keep_commands.specs.Ends.{KnownEnds, On}
+use Rattle.tb_keep_commands.specs.Exits.{made_by}
 use Rattle.tb_keep_commands.specs.Outcomes.{IsAsked}
 use Rattle.tb_keep_commands.specs.ExitStatuses.{SaysLine, TellsCut, TellsMade, disk_fault, failed_pipe}
 use Rattle.tb_keep_follow.specs.declared.faults.FollowFault.{FollowFault}
@@ -135,12 +136,27 @@ pub record Opens {D O : Type 0} (may : Result D OpeningFault → O → Type 0) (
   pub answered : may answer left
   pub done : MatchResult answer Does (λ fault. (outcome ≡ Err (Kept (Opening fault))) × Nothing)
 
+-- the outcome of following, unless the file is gone, by which a fault is named
+abbrev pub unless_gone : Bool → Outcome → Outcome
+unless_gone true (Err fault) = Err (Kept Gone)
+unless_gone gone outcome = outcome
+
 module _ {D : Type 0} (its : devices.Ghosts D) {O : Type 0} (may : Result D OpeningFault → O → Type 0) (left : O) where
-  abbrev pub FollowsOver : Outcome → Rules → List ℕ → Input → Input → Output → Output → Output → Output → Type 0
-  FollowsOver outcome rules path first last start written quiet told =
+  abbrev pub FollowsOpened : Outcome → Rules → List ℕ → Input → Input → Output → Output → Output → Output → Type 0
+  FollowsOpened outcome rules path first last start written quiet told =
       Opens may left outcome ((last ≡ first) × (written ≡ start) × (told ≡ quiet))
       (λ device. FollowsFile its outcome rules path device first last start written quiet told)
 
+module _ {D : Type 0} (its : devices.Ghosts D) {O : Type 0} (may : Result D OpeningFault → O → Type 0) (may_be_gone : Bool → Type 0) (left : O) where
+  -- a log was followed over what an opening answered; where a call on the file failed since it is gone, that is the outcome
+  pub record FollowsOver (outcome : Outcome) (rules : Rules) (path : List ℕ) (first last : Input) (start written quiet told : Output) : Type 0 where
+    pub followed : Outcome
+    pub gone : Bool
+    pub asked : may_be_gone gone
+    pub outcome_is : outcome ≡ unless_gone gone followed
+    pub follows : FollowsOpened its may left followed rules path first last start written quiet told
+
+module _ {D : Type 0} (its : devices.Ghosts D) {O : Type 0} (may : Result D OpeningFault → O → Type 0) (left : O) where
   abbrev pub DumpsOver : Outcome → Rules → Output → Output → Type 0
   DumpsOver outcome rules start written =
       Opens may left outcome (written ≡ start) (λ device. (after : D) × DumpsFile its outcome rules device after start written)
@@ -156,7 +172,13 @@ module _ {D : Type 0} (its : devices.Ghosts D) {W : Type 0} (output : W → Outp
   DumpsFileOn outcome rules device after writer later = DumpsFile its outcome rules device after (output writer) (output later)
 
 -- a log of these rules was followed over the file of a name, between the ends of a command
-abbrev pub FollowsOn : {O D E R W L : Type 0} → KnownEnds O D E R W L → Rules → List ℕ → O → O → Outcome → R → R → W → W → L → L → Type 0
-FollowsOn its rules name before left outcome first last start written quiet told =
-    On its.source its.sink its.lines (FollowsOver its.files.file (its.files.opener.makes before name) left outcome rules name)
+abbrev pub FollowsOn : {O D E R W L : Type 0} → KnownEnds O D E R W L → Bool → Rules → List ℕ → O → O → Outcome → R → R → W → W → L → L → Type 0
+FollowsOn its existing rules name before left outcome first last start written quiet told =
+    On its.source its.sink its.lines
+    (FollowsOver its.files.file (made_by its.files existing before name) (its.files.opener.gone left) left outcome rules name)
+    first last start written quiet told
+
+abbrev pub FollowsOpenedOn : {O D E R W L : Type 0} → KnownEnds O D E R W L → Bool → Rules → List ℕ → O → O → Outcome → R → R → W → W → L → L → Type 0
+FollowsOpenedOn its existing rules name before left outcome first last start written quiet told =
+    On its.source its.sink its.lines (FollowsOpened its.files.file (made_by its.files existing before name) left outcome rules name)
     first last start written quiet told

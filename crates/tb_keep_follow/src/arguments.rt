@@ -1,16 +1,16 @@
 //! What the words of the command line ask for.
 ghost use Rattle.std.specs.Prelude.{◌≡◌, map, string_bytes};
-ghost use Rattle.tb_keep_follow.specs.Forms.{form_by, form_of, form_with};
+ghost use Rattle.tb_keep_follow.specs.Forms.{form_by, form_existing, form_four, form_of, form_with};
 
 use tb_commands::{read_clients_max, read_profile};
-use tb_keep_commands::{file_word, is_no_file};
+use tb_keep_commands::{file_word, is_existing, is_no_file};
 use tb_records::{ClientsMax, Profile};
 
 /// What the program is asked to do over a log, in the file that the second word names, for so many clients and by a profile.
 #[derive(Clone, Copy)]
 pub enum Form {
-    /// Follow a log. The file is made where there is none.
-    Follow(ClientsMax, Profile),
+    /// Follow a log. The file is made where there is none, unless the flag wants one that is there.
+    Follow(ClientsMax, Profile, bool),
     /// Write the history of a log as a dump.
     Dump(ClientsMax, Profile),
 }
@@ -21,23 +21,61 @@ fn form_with(word: &str, clients_max: &str, profile: Profile) -> Option<Form>
 {
     let clients_max = read_clients_max(clients_max.as_bytes())?;
     match word {
-        "follow" => Some(Form::Follow(clients_max, profile)),
+        "follow" => Some(Form::Follow(clients_max, profile, false)),
         "dump" => Some(Form::Dump(clients_max, profile)),
         _ => None,
     }
 }
 
+/// What `follow` with the number of clients, a profile and one more word asks for.
+fn form_existing(
+    word: &str,
+    clients_max: &str,
+    profile_given: Option<Profile>,
+    last: &str,
+) -> Option<Form>
+    ensures { result ≡ form_existing word.now clients_max.now profile_given last.now }
+{
+    if word != "follow" || !is_existing(last) {
+        return None;
+    }
+    Some(Form::Follow(
+        read_clients_max(clients_max.as_bytes())?,
+        profile_given?,
+        true,
+    ))
+}
+
+/// What a word with the number of clients and one more word asks for: a profile, or of `follow` that no file is made.
+fn form_four(word: &str, clients_max: &str, last: &str) -> Option<Form>
+    ensures { result ≡ form_four word.now clients_max.now last.now }
+{
+    match read_profile(last.as_bytes()) {
+        Some(profile) => form_with(word, clients_max, profile),
+        None => form_existing(word, clients_max, Some(Profile::One), last),
+    }
+}
+
 /// What the words ask for, whatever the word is that names the file: the profile is 1 where it is left out.
+#[tactic(auto, using(crate::proofs::Lengths::six_no_form))]
 fn form_by(words: &[String]) -> Option<Form>
     ensures { result ≡ form_by (map string_bytes words.now) }
 {
     match words {
         [word, _, clients_max] => form_with(word.as_str(), clients_max.as_str(), Profile::One),
-        [word, _, clients_max, profile] => {
-            let profile = read_profile(profile.as_bytes())?;
-            form_with(word.as_str(), clients_max.as_str(), profile)
+        [word, _, clients_max, last] => {
+            form_four(word.as_str(), clients_max.as_str(), last.as_str())
         }
-        _ => None,
+        [word, _, clients_max, profile, last] => form_existing(
+            word.as_str(),
+            clients_max.as_str(),
+            read_profile(profile.as_bytes()),
+            last.as_str(),
+        ),
+        [] => None,
+        [_] => None,
+        [_, _] => None,
+        [_, _, _, _, _, _, ..] => None,
     }
 }
 

@@ -1,6 +1,7 @@
 //! The forms over a log, over what opens devices, any reader and any writer, and the exit status of each outcome.
+ghost use Rattle.std.specs.Prelude.{◌≡◌};
 ghost use Rattle.tb_keep_follow.specs.Exits.{ExitsOn, Finishes, PerformsOn};
-ghost use Rattle.tb_keep_follow.specs.Outcomes.{DumpsOver, FollowsOn};
+ghost use Rattle.tb_keep_follow.specs.Outcomes.{DumpsOver, FollowsOn, FollowsOpenedOn, unless_gone};
 
 use crate::arguments::Form;
 use crate::dumping::dump;
@@ -9,26 +10,56 @@ use crate::following::follow;
 use crate::lines::tell_fault;
 use std::alloc::Global;
 use tb_keep::Rules;
-use tb_keep_commands::{Ends, Failed, KeepCommandFault, Opener, Outlet};
+use tb_keep_commands::{Ends, Failed, KeepCommandFault, Opener, Outlet, made_by};
 use tb_records::{Sink, Source};
 
-/// Follows a log over the device of a path, which is made where there is none.
+/// The outcome of following, unless a call on the file failed since it is gone.
+fn unless_gone(gone: bool, followed: Result<(), FollowFault>) -> Result<(), FollowFault>
+    ensures { result ≡ unless_gone gone followed }
+{
+    match followed {
+        Err(_) if gone => Err(FollowFault::Kept(KeepCommandFault::Gone)),
+        followed => followed,
+    }
+}
+
+/// Follows a log over the device of a path, opened so.
+fn follow_opened<O: Opener, R: Source, W: Outlet, E: Sink>(
+    alloc: Global,
+    opener: &mut O,
+    rules: Rules,
+    path: &str,
+    existing: bool,
+    reader: &mut R,
+    writer: &mut W,
+    faults: &mut E,
+) -> Result<(), FollowFault>
+    ensures { FollowsOpenedOn ⟦<O as Ends<R, W, E>>⟧.its existing rules path.now opener.old opener.new result
+        reader.old reader.new writer.old writer.new faults.old faults.new }
+{
+    match made_by(opener, path, existing) {
+        Ok(device) => follow(alloc, rules, device, path, reader, writer, faults),
+        Err(fault) => Err(FollowFault::Kept(KeepCommandFault::Opening(fault))),
+    }
+}
+
+/// Follows a log over the device of a path. Where a call on the file failed since it is gone, that is the outcome.
 fn follow_over<O: Opener, R: Source, W: Outlet, E: Sink>(
     alloc: Global,
     opener: &mut O,
     rules: Rules,
     path: &str,
+    existing: bool,
     reader: &mut R,
     writer: &mut W,
     faults: &mut E,
 ) -> Result<(), FollowFault>
-    ensures { FollowsOn ⟦<O as Ends<R, W, E>>⟧.its rules path.now opener.old opener.new result
+    ensures { FollowsOn ⟦<O as Ends<R, W, E>>⟧.its existing rules path.now opener.old opener.new result
         reader.old reader.new writer.old writer.new faults.old faults.new }
 {
-    match opener.make(path) {
-        Ok(device) => follow(alloc, rules, device, path, reader, writer, faults),
-        Err(fault) => Err(FollowFault::Kept(KeepCommandFault::Opening(fault))),
-    }
+    let followed = follow_opened(alloc, opener, rules, path, existing, reader, writer, faults);
+    let gone = opener.is_gone();
+    unless_gone(gone, followed)
 }
 
 /// Writes the dump of the device of a path.
@@ -67,12 +98,12 @@ fn perform<O: Opener, R: Source, W: Outlet, E: Sink>(
         reader.old reader.new writer.old writer.new faults.old faults.new }
 {
     match form {
-        Form::Follow(clients_max, profile) => {
+        Form::Follow(clients_max, profile, existing) => {
             let rules = Rules {
                 profile,
                 clients_max,
             };
-            follow_over(alloc, opener, rules, path, reader, writer, faults)
+            follow_over(alloc, opener, rules, path, existing, reader, writer, faults)
         }
         Form::Dump(clients_max, profile) => {
             let rules = Rules {

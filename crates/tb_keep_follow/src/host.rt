@@ -21,7 +21,7 @@ fn capacities(form: &Form) -> (usize, usize)
     ensures output { result.1 ≡ output_size form.now }
 {
     match form {
-        Form::Follow(_, _) => (INPUT_BYTES, 0),
+        Form::Follow(_, _, _) => (INPUT_BYTES, 0),
         Form::Dump(_, _) => (0, OUTPUT_BYTES),
     }
 }

@@ -1,6 +1,8 @@
 //! Files that take none of the descriptors of the standard streams.
 
+use crate::names::Identity;
 use std::alloc::{Allocator, Global};
+use std::cell::Cell;
 use std::fs::{File, Files, Metadata, OpenOptions};
 use std::io;
 use std::path::PathBuf;
@@ -8,9 +10,26 @@ use std::path::PathBuf;
 /// The files of the system, none of which is open on descriptors 0 to 2: where a standard stream was closed before the program
 /// started, the system opens the next file on its descriptor, and what is meant for the stream would be written into the file. So
 /// each file that is opened is duplicated above them, and the first descriptor is closed. A stream that was closed stays closed.
-#[derive(Clone, Copy)]
+#[derive(Drop)]
 pub struct HighFiles<'a> {
-    pub rt: &'a HostRuntime,
+    rt: &'a HostRuntime,
+    // The regular file that was opened last.
+    opened: Cell<Option<Identity>>,
+}
+
+impl<'a> HighFiles<'a> {
+    /// The files of the system, of which none was opened yet.
+    pub fn new(rt: &'a HostRuntime) -> HighFiles<'a> {
+        HighFiles {
+            rt,
+            opened: Cell::new(None),
+        }
+    }
+
+    /// Which file the regular file is that was opened last.
+    pub fn opened(&self) -> Option<Identity> {
+        self.opened.get()
+    }
 }
 
 impl<'a> Alloc for HighFiles<'a> {
@@ -29,7 +48,11 @@ impl<'a> Files for HighFiles<'a> {
     // A duplicate has the lowest descriptor that is free from 3 on.
     fn open_file(&self, how: &OpenOptions, path: &str) -> io::Result<File> {
         let first = self.rt.open_file(how, path)?;
-        File::try_clone(&first)
+        let file = File::try_clone(&first)?;
+        if let Some(opened) = Identity::of_file(&file) {
+            self.opened.set(Some(opened));
+        }
+        Ok(file)
     }
 
     fn open_dir(&self, path: &str) -> io::Result<Self::Dir> {

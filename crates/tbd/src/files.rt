@@ -1,11 +1,13 @@
 //! The files of the system, by their paths.
 
 use crate::descriptors::HighFiles;
+use crate::names::{Identity, Name};
+use std::cell::Cell;
 use std::io::{BufWriter, Stderr};
 use std::thread;
 use std::time::Duration;
-use tb_journal::{Real, Snapshot};
-use tb_keep_commands::{Opener, OpeningFault, Reported, opening_fault, unread_fault};
+use tb_journal::{Device, Real, Snapshot};
+use tb_keep_commands::{Named, Opener, OpeningFault, Reported, opening_fault, unread_fault};
 use tb_records::Counting;
 
 /// The files of the system.
@@ -14,6 +16,8 @@ pub struct SystemFiles<'a> {
     pub rt: &'a HostRuntime,
     /// Whether it is reported how far a file was read that is served.
     pub reports: bool,
+    /// Whether a name was found to lead no more to the file that is served.
+    pub gone: &'a Cell<bool>,
 }
 
 /// The bytes of standard error that are held, so that a line goes out at once.
@@ -27,40 +31,82 @@ pub fn lines(rt: &HostRuntime) -> BufWriter<Stderr> {
     }
 }
 
-/// A file of this path that reports how far it was read, if that is wanted.
-fn reported(
-    rt: &HostRuntime,
-    real: Real,
-    path: &str,
-    reports: bool,
-) -> Result<Reported<Real, Counting<BufWriter<Stderr>>>, OpeningFault> {
-    let out = Counting::new(lines(rt));
-    Reported::new(rt.alloc(), real, path, out, reports).map_err(|fault| unread_fault(fault))
+/// A file that reports how far it was read, if that is wanted.
+type Served = Reported<Real, Counting<BufWriter<Stderr>>>;
+
+impl<'a> SystemFiles<'a> {
+    /// A file of this path that was opened by these files, which reports how far it was read, if that is wanted.
+    fn served(
+        self,
+        opened: Option<Identity>,
+        real: Real,
+        path: &str,
+        reports: bool,
+    ) -> Result<Named<Served, Name<'a>>, OpeningFault> {
+        let out = Counting::new(lines(self.rt));
+        let alloc = self.rt.alloc();
+        let reported = Reported::new(alloc, real, path, out, reports);
+        let reported = reported.map_err(|fault| unread_fault(fault))?;
+        let Ok(path) = String::from_str(alloc, path) else {
+            return Err(OpeningFault::NoMemory);
+        };
+        let name = Name {
+            rt: self.rt,
+            path,
+            opened,
+            gone: self.gone,
+        };
+        Named::new(reported, name).map_err(|fault| unread_fault(fault))
+    }
+}
+
+/// A file that has bytes.
+fn with_bytes(real: Real) -> Result<Real, OpeningFault> {
+    let mut real = real;
+    match Device::len(&mut real) {
+        Ok(0) => Err(OpeningFault::Empty),
+        Ok(_) => Ok(real),
+        Err(fault) => Err(unread_fault(fault)),
+    }
 }
 
 impl<'a> Opener for SystemFiles<'a> {
-    type File = Reported<Real, Counting<BufWriter<Stderr>>>;
+    type File = Named<Served, Name<'a>>;
 
     type Reading = Snapshot<Real>;
 
     ghost ended = { λ files. ⊥ };
 
     fn make(&mut self, name: &str) -> Result<Self::File, OpeningFault> {
-        match Real::make(&HighFiles { rt: self.rt }, name) {
-            Ok(real) => reported(self.rt, real, name, self.reports),
+        let files = HighFiles::new(self.rt);
+        match Real::make(&files, name) {
+            Ok(real) => self.served(files.opened(), real, name, self.reports),
             Err(fault) => Err(opening_fault(&fault)),
         }
     }
 
+    fn take(&mut self, name: &str) -> Result<Self::File, OpeningFault> {
+        let files = HighFiles::new(self.rt);
+        match Real::open(&files, name) {
+            Ok(real) => self.served(files.opened(), with_bytes(real)?, name, self.reports),
+            Err(fault) => Err(opening_fault(&fault)),
+        }
+    }
+
+    fn is_gone(&self) -> bool {
+        self.gone.get()
+    }
+
     fn make_new(&mut self, name: &str) -> Result<Self::File, OpeningFault> {
-        match Real::make_new(&HighFiles { rt: self.rt }, name) {
-            Ok(real) => reported(self.rt, real, name, false),
+        let files = HighFiles::new(self.rt);
+        match Real::make_new(&files, name) {
+            Ok(real) => self.served(files.opened(), real, name, false),
             Err(fault) => Err(opening_fault(&fault)),
         }
     }
 
     fn open(&mut self, name: &str) -> Result<Snapshot<Real>, OpeningFault> {
-        match Real::look(&HighFiles { rt: self.rt }, name) {
+        match Real::look(&HighFiles::new(self.rt), name) {
             Ok(real) => {
                 Snapshot::new(self.rt.alloc(), real).map_err(|fault| unread_fault(fault))
             }

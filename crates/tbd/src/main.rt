@@ -5,17 +5,20 @@
 //! Modules:
 //!
 //! - `descriptors`: `HighFiles`, files that take none of the descriptors of the standard streams.
+//! - `names`: `Name`, what the name of an open file leads to.
 //! - `files`: the files of the system, by their paths.
 #![tactic(auto)]
 
 mod descriptors;
 mod files;
+mod names;
 
 use files::{SystemFiles, lines};
+use std::cell::Cell;
 use std::io::{BufWriter, IsTerminal, Stderr};
 use std::process::ExitCode;
 use tb_commands::words;
-use tb_keep_commands::{Form, Terminals, read_form, refuse, words_fault};
+use tb_keep_commands::{Form, Steady, Terminals, read_form, refuse, words_fault};
 use tb_keep_follow::serve_words;
 use tb_records::Counting;
 
@@ -26,10 +29,15 @@ fn run(
     terminals: Terminals,
     faults: &mut Counting<BufWriter<Stderr>>,
 ) -> u8 {
-    let reports = matches!(read_form(words), Some(Form::Run(_, _, true)));
+    let asked = match read_form(words) {
+        Some(Form::Run(_, _, options)) => options.reports,
+        _ => false,
+    };
+    let gone = Cell::new(false);
     let mut files = SystemFiles {
         rt,
-        reports: reports || terminals.faults,
+        reports: asked || terminals.faults,
+        gone: &gone,
     };
     serve_words(
         rt.alloc(),
@@ -37,7 +45,7 @@ fn run(
         words,
         terminals,
         rt.stdin(),
-        rt.stdout(),
+        Steady::new(rt.stdout()),
         faults,
     )
 }

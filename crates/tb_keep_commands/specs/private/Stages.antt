@@ -13,10 +13,10 @@ use Rattle.tb_keep_commands.specs.declared.following.Part.{Part}
 use Rattle.tb_keep_commands.specs.declared.keeping.Told.{Told}
 use Rattle.tb_keep_commands.specs.Copies.{CopiesHeaded, CopiesOver, EndsCopy, MakesCopy, copied_of, refused_by}
 use Rattle.tb_keep_commands.specs.Ends.{KnownEnds, KnownFiles, On}
-use Rattle.tb_keep_commands.specs.Exits.{Exits, Performs}
+use Rattle.tb_keep_commands.specs.Exits.{Exits, Performs, made_by}
 use Rattle.tb_keep_commands.specs.Following.{EndsRounds, Grown, GrowsBy, HasPartCause, RoundCause, SendsRound, WritesPart}
 use Rattle.tb_keep_commands.specs.Live.{LooksAgain}
-use Rattle.tb_keep_commands.specs.Outcomes.{ChecksOver, DumpsOver, DumpsPart, FollowsFile, Outcome, RunsOver, ServesFile, ServesKept, ServesLong}
+use Rattle.tb_keep_commands.specs.Outcomes.{ChecksOver, DumpsOver, DumpsPart, FollowsFile, Outcome, RunsOver, ServesFile, ServesKept, ServesLong, ServesOpened}
 use Rattle.tb_keep_commands.specs.private.Changes.{Change, OnDevice, OnWriter, new, old}
 
 -- a start that is reported so
@@ -76,9 +76,15 @@ module _ {O D E R W L : Type 0} (its : KnownEnds O D E R W L) where
   PerformsOn asked opener outcome reader writer lines =
       OnEnds (Performs its.files asked.ends (old opener) asked.file.now asked.new.now (new opener) asked.form outcome) reader writer lines
 
-  abbrev pub Runs : Rules → Told → Bool → Change O → Outcome → Change R → Change W → Change L → Type 0
-  Runs rules told talks opener outcome reader writer lines =
-      OnEnds (RunsOver its.files.file (its.files.opener.makes (old opener) told.path.now) (new opener) outcome rules told.path.now told.reports talks)
+  abbrev pub RunsOpened : Rules → Told → Bool → Change O → Outcome → Change R → Change W → Change L → Type 0
+  RunsOpened rules told existing opener outcome reader writer lines =
+      OnEnds (ServesOpened its.files.file (made_by its.files existing (old opener) told.path.now) (new opener) outcome rules told.path.now told.reports)
+      reader writer lines
+
+  abbrev pub Runs : Rules → Told → Bool → Bool → Change O → Outcome → Change R → Change W → Change L → Type 0
+  Runs rules told existing talks opener outcome reader writer lines =
+      OnEnds (RunsOver its.files.file (made_by its.files existing (old opener) told.path.now) (its.files.opener.gone (new opener)) (new opener) outcome
+      rules told.path.now told.reports talks)
       reader writer lines
 
 -- of the entries above a commit number, of whatever file a device holds

@@ -105,13 +105,12 @@ fn what_is_whole_is_copied(rt: HostRuntime) {
 const A_TEXT: Line =
     "tbd: NotAJournal: ledger is a text; telovamish script makes request frames of statements\n";
 
-const NO_HEAD: Line =
-    "tbd: NotAJournal: the first record is no ledger's head; tbd follow serves a log\n";
+const NO_HEAD: Line = "tbd: NotAJournal: ledger has no ledger's head; tbd follow serves a log\n";
 
 const MISSING: Line = "tbd: Device: cannot find ledger\n";
 
 const TOO_TORN: Line =
-    "tbd: Damaged: 4194305 bytes behind byte 191, more than one batch can have\n";
+    "tbd: Damaged: ledger: 4194305 bytes are behind byte 191, more than one batch can have; tbd salvage makes a new file of the entries before it\n";
 
 const REFUSED: &[Row] = &[
     refused!(SALVAGE, Has::Text, 5, A_TEXT, New::Unmade),
@@ -123,14 +122,14 @@ const REFUSED: &[Row] = &[
         SALVAGE,
         Has::RotHead,
         6,
-        "tbd: Damaged: at byte 8\n",
+        "tbd: Damaged: ledger: the block at byte 8 is not what was written; tbd salvage makes a new file of the entries before it\n",
         New::Unmade,
     ),
     refused!(
         BACKUP,
         Has::Rot,
         6,
-        "tbd: Damaged: at byte 100\n",
+        "tbd: Damaged: ledger: the block at byte 100 is not what was written; tbd salvage makes a new file of the entries before it\n",
         New::UpTo(100),
     ),
     refused!(BACKUP, Has::TornLong, 6, TOO_TORN, New::UpTo(191)),
@@ -138,7 +137,7 @@ const REFUSED: &[Row] = &[
         BACKUP,
         Has::NoEntry,
         6,
-        "tbd: Damaged: record 1: Short\n",
+        "tbd: Damaged: ledger: entry 1 is none: Short; tbd salvage makes a new file of the entries before it\n",
         New::UpTo(25),
     ),
 ];
@@ -161,13 +160,16 @@ fn a_new_file_is_not_made(rt: HostRuntime) {
     run_all(&rt, rt.alloc(), UNMADE);
 }
 
-const LOCKED: Line = "tbd: Locked: another program has the file open\n";
+const LOCKED: Line = "tbd: Locked: new is open in another program; end that one first\n";
 
-const FULL: Line = "tbd: Full\n";
+const FULL: Line =
+    "tbd: Full: new: the disk is full, or the file has its greatest length; free space, and start again\n";
 
-const FAILED: Line = "tbd: Device: new\n";
+const FAILED: Line =
+    "tbd: Device: new: a read or write failed; look at the disk, and start again\n";
 
-const SYNC: Line = "tbd: SyncFailed: restart the machine or copy the file before the next start\n";
+const SYNC: Line =
+    "tbd: SyncFailed: new: restart the machine or copy the file before the next start\n";
 
 /// The calls on the new file: its length and a sync, a read, the first 12 bytes and a sync; then for the head, and for both entries, the
 /// batch, a sync, its latch and a sync.
@@ -187,7 +189,8 @@ fn a_call_on_the_new_file_fails(rt: HostRuntime) {
     run_all(&rt, rt.alloc(), CALLS);
 }
 
-const UNREAD: Line = "tbd: Device: ledger\n";
+const UNREAD: Line =
+    "tbd: Device: ledger: a read or write failed; look at the disk, and start again\n";
 
 /// The calls on the file: for its head a sync and a read; its length; and a sync and reads.
 const READS: &[Row] = both!(unread:

@@ -129,6 +129,8 @@ pub struct Folder {
     pauses: Cell<u32>,
     /// How often a file was made that was not there.
     pub made: u32,
+    /// Says whether the name no longer leads to the file that was opened.
+    pub gone: bool,
     /// The new file.
     pub new: NewFile,
 }
@@ -153,6 +155,7 @@ impl Folder {
             fails_at,
             pauses: Cell::new(2),
             made: 0,
+            gone: false,
             new: NewFile::new(rt, alloc, disk),
         }
     }
@@ -179,12 +182,31 @@ impl Opener for Folder {
 
     type Reading = Memory;
 
+    ghost gone = { λ folder answer. answer ≡ folder.gone };
+
     fn make(&mut self, name: &str) -> Result<Noted, OpeningFault> {
         if self.file.is_none() {
             self.made = self.made.saturating_add(1);
         }
         let memory = self.opened(name)?;
         self.new.noted(self.alloc, memory)
+    }
+
+    fn take(&mut self, name: &str) -> Result<Noted, OpeningFault> {
+        match &self.file {
+            None => return Err(OpeningFault::Missing),
+            Some(file) => {
+                if file.is_empty() {
+                    return Err(OpeningFault::Empty);
+                }
+            }
+        }
+        let memory = self.opened(name)?;
+        self.new.noted(self.alloc, memory)
+    }
+
+    fn is_gone(&self) -> bool {
+        self.gone
     }
 
     fn make_new(&mut self, name: &str) -> Result<Noted, OpeningFault> {

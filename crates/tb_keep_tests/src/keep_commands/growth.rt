@@ -76,6 +76,14 @@ impl Opener for Growths {
         Err(OpeningFault::Forbidden)
     }
 
+    fn take(&mut self, _name: &str) -> Result<Memory, OpeningFault> {
+        Err(OpeningFault::Forbidden)
+    }
+
+    fn is_gone(&self) -> bool {
+        false
+    }
+
     fn make_new(&mut self, _name: &str) -> Result<Memory, OpeningFault> {
         Err(OpeningFault::Forbidden)
     }

@@ -109,12 +109,13 @@ const A_SCRIPT: &str =
 
 const OTHERS: &str = "tbd: NotAJournal: ledger does not begin as a ledger's file\n";
 
-const NO_HEAD: &str =
-    "tbd: NotAJournal: the first record is no ledger's head; tbd follow serves a log\n";
+const NO_HEAD: &str = "tbd: NotAJournal: ledger has no ledger's head; tbd follow serves a log\n";
 
-const ROT: &str = "tbd: Damaged: at byte 100\n";
+const ROT: &str =
+    "tbd: Damaged: ledger: the block at byte 100 is not what was written; tbd salvage makes a new file of the entries before it\n";
 
-const TORN: &str = "tbd: Damaged: 4194305 bytes behind byte 191, more than one batch can have\n";
+const TORN: &str =
+    "tbd: Damaged: ledger: 4194305 bytes are behind byte 191, more than one batch can have; tbd salvage makes a new file of the entries before it\n";
 
 const THREE: &str =
     "tbd: OtherRules: ledger was made with CLIENTS_MAX 2 and PROFILE 1, not with CLIENTS_MAX 3 and PROFILE 1\n";
@@ -182,19 +183,19 @@ const OPENINGS: &[Row] = &[
         RUN,
         OpeningFault::SyncFailed,
         9,
-        "tbd: SyncFailed: restart the machine or copy the file before the next start\n",
+        "tbd: SyncFailed: ledger: restart the machine or copy the file before the next start\n",
     ),
     unopened!(
         RUN,
         OpeningFault::Locked,
         4,
-        "tbd: Locked: another program has the file open\n",
+        "tbd: Locked: ledger is open in another program; end that one first\n",
     ),
     unopened!(
         CHECK,
         OpeningFault::Locked,
         4,
-        "tbd: Locked: another program has the file open\n",
+        "tbd: Locked: ledger is open in another program; end that one first\n",
     ),
 ];
 
@@ -256,15 +257,15 @@ fn a_start_tells_nothing_of_a_file_that_is_there(rt: HostRuntime) {
     run_all(&rt, rt.alloc(), UNREPORTED);
 }
 
-const READY: &str = "tbd: ready\n";
+const READY: &str = "tbd: ready: commit 2, time 11\n";
 
-const MADE_AND_READY: &str = "tbd: made ledger\ntbd: ready\n";
+const MADE_AND_READY: &str = "tbd: made ledger\ntbd: ready: commit 0, time 0\n";
 
 const CUT_AND_READY: &str =
-    "tbd: cut 5 bytes of a batch that was not committed, behind byte 191\ntbd: ready\n";
+    "tbd: cut 5 bytes of a batch that was not committed, behind byte 191\ntbd: ready: commit 2, time 11\n";
 
 const READING_TORN: &str =
-    "tbd: reading ledger, 0 of 4 MB\ntbd: Damaged: 4194305 bytes behind byte 191, more than one batch can have\n";
+    "tbd: reading ledger, 0 of 4 MB\ntbd: Damaged: ledger: 4194305 bytes are behind byte 191, more than one batch can have; tbd salvage makes a new file of the entries before it\n";
 
 /// Starts that are reported, by a word or to a terminal.
 const REPORTED: &[Row] = &[
@@ -278,7 +279,38 @@ const REPORTED: &[Row] = &[
     reported!(RUN, true, Has::Entries, READY),
     reported!(PROGRESS, false, Has::Nothing, MADE_AND_READY),
     reported!(RUN, true, Has::Torn, CUT_AND_READY),
+    reported!(
+        &["run", "ledger", "2", "--existing", "--progress"],
+        false,
+        Has::Entries,
+        READY,
+    ),
+    reported!(
+        &["run", "ledger", "2", "1", "--progress", "--existing"],
+        false,
+        Has::Entries,
+        READY,
+    ),
 ];
+
+const EXISTING: &[&str] = &["run", "ledger", "2", "--existing"];
+
+const NOT_THERE: &str = "tbd: Device: cannot find ledger\n";
+
+const HAS_NONE: &str =
+    "tbd: NotAJournal: ledger is empty; tbd run without --existing makes a ledger in it\n";
+
+/// A file that is to be there is not made.
+const WANTED: &[Row] = &[
+    done!(EXISTING, Has::Entries, Out::Replies, ""),
+    refused!(EXISTING, Has::Nothing, 1, NOT_THERE),
+    refused!(EXISTING, Has::NoByte, 5, HAS_NONE),
+];
+
+#[test]
+fn no_file_is_made_where_one_is_wanted(rt: HostRuntime) {
+    run_all(&rt, rt.alloc(), WANTED);
+}
 
 const PROGRESS: &[&str] = &["run", "ledger", "2", "--progress"];
 

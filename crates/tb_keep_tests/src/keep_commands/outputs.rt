@@ -12,7 +12,8 @@ use tb_records::Counting;
 const LOST: &str = "tbd: Device: standard output\n";
 
 /// A call on the file that failed.
-const FAILED: &str = "tbd: Device: ledger\n";
+const FAILED: &str =
+    "tbd: Device: ledger: a read or write failed; look at the disk, and start again\n";
 
 /// That of a file which was made before.
 const MADE: &str = "tbd: made ledger\ntbd: Device: standard output\n";
@@ -84,11 +85,12 @@ fn an_output_fails_at_its_flush(rt: HostRuntime) {
     run_all(&rt, rt.alloc(), UNFLUSHED);
 }
 
-const SYNC: &str = "tbd: SyncFailed: restart the machine or copy the file before the next start\n";
+const SYNC: &str =
+    "tbd: SyncFailed: ledger: restart the machine or copy the file before the next start\n";
 
 /// That of a file which was made before.
 const MADE_SYNC: &str =
-    "tbd: made ledger\ntbd: SyncFailed: restart the machine or copy the file before the next start\n";
+    "tbd: made ledger\ntbd: SyncFailed: ledger: restart the machine or copy the file before the next start\n";
 
 /// The calls of a reading: a sync, and the file with its end. `run` and `check` ask for the length first, and `dump` reads twice.
 const BROKEN: &[Row] = &[

@@ -60,7 +60,7 @@ const WRONG: &[Row] = &[
     ),
     wrong!(
         &["run", "ledger", "2", "1", "x"],
-        "tbd: Usage: run ledger 2 1 x: only --progress may follow PROFILE\n",
+        "tbd: Usage: run ledger 2 1 x: PROFILE is 1 or 2, and only options may follow it, each once\n",
     ),
     wrong!(
         &["run", "ledger", "2", "1", "--progress", "x"],
@@ -72,11 +72,11 @@ const WRONG: &[Row] = &[
     ),
     wrong!(
         &["run", "ledger", "64", "3", "--progress"],
-        "tbd: Usage: run ledger 64 3 --progress: PROFILE is 1 or 2\n",
+        "tbd: Usage: run ledger 64 3 --progress: PROFILE is 1 or 2, and only options may follow it, each once\n",
     ),
     wrong!(
         &["run", "ledger", "64", "--progress", "2"],
-        "tbd: Usage: run ledger 64 --progress 2: only --progress may follow PROFILE\n",
+        "tbd: Usage: run ledger 64 --progress 2: PROFILE is 1 or 2, and only options may follow it, each once\n",
     ),
     wrong!(
         &["run", "ledger", "64", "--follow"],

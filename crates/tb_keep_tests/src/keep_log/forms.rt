@@ -83,6 +83,18 @@ impl Opener for OneFile {
         self.seen.noted(self.alloc, memory)
     }
 
+    fn take(&mut self, _name: &str) -> Result<Noted, OpeningFault> {
+        if self.bytes.is_none() {
+            return Err(OpeningFault::Missing);
+        }
+        let memory = self.opened()?;
+        self.seen.noted(self.alloc, memory)
+    }
+
+    fn is_gone(&self) -> bool {
+        false
+    }
+
     fn make_new(&mut self, _name: &str) -> Result<Noted, OpeningFault> {
         Err(OpeningFault::Exists)
     }
@@ -199,8 +211,7 @@ fn followed_and_started_again(rt: HostRuntime) {
 
 const PLAIN: &str = "tbd: Plain: ledger is a ledger without positions; tbd run serves it\n";
 
-const NO_HEAD: &str =
-    "tbd: NotAJournal: the first record is no ledger's head; tbd follow serves a log\n";
+const NO_HEAD: &str = "tbd: NotAJournal: ledger has no ledger's head; tbd follow serves a log\n";
 
 /// Expects that words are refused over a file, with nothing written to the output or to the file.
 fn refused(rt: &impl Abort, alloc: Global, bytes: &[u8], words: &[&str], ends: Ends) {
@@ -276,7 +287,8 @@ const OTHERS: &[Refusal] = &[
 
 const TEXTS: &[Refusal] = &[refusal!(FOLLOW, 5, NONE), refusal!(DUMP, 5, NONE)];
 
-const ROT: &str = "tbd: Damaged: at byte 740\n";
+const ROT: &str =
+    "tbd: Damaged: ledger: the block at byte 740 is not what was written; tbd salvage makes a new file of the entries before it\n";
 
 const ROTTEN: &[Refusal] = &[refusal!(FOLLOW, 6, ROT), refusal!(DUMP, 6, ROT)];
 
@@ -351,7 +363,7 @@ fn openings_and_outputs_that_fail(rt: HostRuntime) {
     let full = "tbd: Device: standard output\n";
     drop(ran(&rt, &mut file, DUMP, &[], 10, (1, full)));
     file.fault = Some(OpeningFault::Locked);
-    let locked = "tbd: Locked: another program has the file open\n";
+    let locked = "tbd: Locked: ledger is open in another program; end that one first\n";
     drop(ran(&rt, &mut file, FOLLOW, &[], ROOM, (4, locked)));
     drop(file);
 }

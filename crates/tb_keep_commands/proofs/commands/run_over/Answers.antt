@@ -1,16 +1,12 @@
-use Rattle.std.proofs.Common.{Ok, Err, refl}
 use Rattle.tb_keep_commands.proofs.commands.run_over.Goals as goal
 
-pub returns-in-Ok : goal.returns-in-Ok
-returns-in-Ok g c = record {
+pub returns : goal.returns
+returns g c = record {
   noted = _;
   frames = c.tell_frames.ensures;
-  runs = record { answer = Ok c.in-Ok.device; answered = c.in-Ok.ensures.made; done = c.run.ensures };
-}
-
-pub returns-in-Err : goal.returns-in-Err
-returns-in-Err g c = record {
-  noted = _;
-  frames = c.tell_frames.ensures;
-  runs = record { answer = Err c.in-Err.fault; answered = c.in-Err.ensures.made; done = (refl, (refl, refl, refl)) };
+  served = c.run_opened-served.result;
+  gone = c.is_gone-gone.result;
+  asked = c.is_gone-gone.ensures;
+  outcome_is = c.unless_gone.ensures;
+  runs = c.run_opened-served.ensures;
 }

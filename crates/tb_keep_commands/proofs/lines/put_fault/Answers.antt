@@ -7,10 +7,16 @@ pub returns-in-NotAJournal : goal.returns-in-NotAJournal
 returns-in-NotAJournal g c = rw c.in-NotAJournal.is c.put_kind.ensures
 
 pub returns-in-NoHead : goal.returns-in-NoHead
-returns-in-NoHead g c = rw c.in-NoHead.is c.put_all-in-NoHead.ensures
+returns-in-NoHead g c = rw c.in-NoHead.is c.put_named.ensures
 
 pub returns-in-OtherRules : goal.returns-in-OtherRules
 returns-in-OtherRules g c = rw c.in-OtherRules.is c.put_mismatch.ensures
 
+pub returns-in-Full : goal.returns-in-Full
+returns-in-Full g c = rw c.in-Full.is c.put_named-in-Full.ensures
+
 pub returns-in-SyncFailed : goal.returns-in-SyncFailed
-returns-in-SyncFailed g c = rw c.in-SyncFailed.is c.put_all-in-SyncFailed.ensures
+returns-in-SyncFailed g c = rw c.in-SyncFailed.is c.put_named-in-SyncFailed.ensures
+
+pub returns-in-Gone : goal.returns-in-Gone
+returns-in-Gone g c = rw c.in-Gone.is c.put_named-in-Gone.ensures

@@ -4,4 +4,4 @@ pub returns-in-Some : goal.returns-in-Some
 returns-in-Some g c = rw c.in-Some.is c.put_rules.ensures
 
 pub returns-in-None : goal.returns-in-None
-returns-in-None g c = rw c.in-None.is c.put_all.ensures
+returns-in-None g c = rw c.in-None.is c.put_named.ensures

@@ -1,7 +1,7 @@
 use Rattle.tb_keep_commands.proofs.lines.put_opening.Goals as goal
 
 pub returns-in-Locked : goal.returns-in-Locked
-returns-in-Locked g c = rw c.in-Locked.is c.put_all.ensures
+returns-in-Locked g c = rw c.in-Locked.is c.put_named.ensures
 
 pub returns-in-Missing : goal.returns-in-Missing
 returns-in-Missing g c = rw c.in-Missing.is c.put_shown.ensures
@@ -10,10 +10,10 @@ pub returns-in-Unopened : goal.returns-in-Unopened
 returns-in-Unopened g c = rw c.in-Unopened.is c.put_shown-in-Unopened.ensures
 
 pub returns-in-SyncFailed : goal.returns-in-SyncFailed
-returns-in-SyncFailed g c = rw c.in-SyncFailed.is c.put_all-in-SyncFailed.ensures
+returns-in-SyncFailed g c = rw c.in-SyncFailed.is c.put_named-in-SyncFailed.ensures
 
 pub returns-in-Exists : goal.returns-in-Exists
-returns-in-Exists g c = rw c.in-Exists.is c.put_named.ensures
+returns-in-Exists g c = rw c.in-Exists.is c.put_named-in-Exists.ensures
 
 pub returns-in-NotAFile : goal.returns-in-NotAFile
 returns-in-NotAFile g c = rw c.in-NotAFile.is c.put_named-in-NotAFile.ensures
@@ -23,3 +23,9 @@ returns-in-Dangling g c = rw c.in-Dangling.is c.put_named-in-Dangling.ensures
 
 pub returns-in-Unread : goal.returns-in-Unread
 returns-in-Unread g c = rw c.in-Unread.is c.put_shown-in-Unread.ensures
+
+pub returns-in-Empty : goal.returns-in-Empty
+returns-in-Empty g c = rw c.in-Empty.is c.put_named-in-Empty.ensures
+
+pub returns-in-Full : goal.returns-in-Full
+returns-in-Full g c = rw c.in-Full.is c.put_named-in-Full.ensures

@@ -3,4 +3,4 @@ use Rattle.tb_keep_commands.proofs.Passing.{said}
 use Rattle.tb_keep_commands.proofs.lines.tell_ready.Goals as goal
 
 pub returns-then-reports : goal.returns-then-reports
-returns-then-reports g c = rw c.if-reports.true (said _ _ c.put_what.result _ _ _ refl c.put_what.ensures c.pass.ensures)
+returns-then-reports g c = rw c.if-reports.true (said _ _ c.put_cut.result _ _ _ refl c.put_cut.ensures c.pass.ensures)

@@ -1,0 +1,139 @@
+//! A file that is compared with what its name leads to.
+ghost use Rattle.std.specs.Prelude.{◌≡◌, ◌+◌, ◌-◌, ◌≤◌, ◌^◌, Bool, true, false, ℕ, List, max, min, length, IfOk, IfErr, OnOk};
+ghost use Rattle.tb_journal.specs.Real.{untold};
+ghost use Rattle.tb_journal.specs.Device.{IsOfCall, IsOfSync};
+
+use tb_journal::{Device, JournalFault, Real};
+
+/// What a name leads to.
+pub trait Place {
+    /// It was asked meanwhile, and the name led to the file that was opened, which had so many bytes. Anything, where a place does not
+    /// say it.
+    ghost led: { Self → ℕ → Self → Type 0 } = { λ before len after. Unit {0} };
+
+    /// Says whether the name leads to the file that was opened, and that has so many bytes.
+    fn leads(&mut self, len: usize) -> bool
+        ensures { result ≡ true → led self.old len self.new };
+}
+
+/// A device that reports nothing of what its calls do: a file of the system, of which no proof knows anything.
+pub trait Silent: Device {
+    ghost silent: { Self.tells → ⊥ };
+}
+
+impl Silent for Real {
+    ghost silent = { λ told. told };
+}
+
+/// A file that is compared with what its name leads to, before each write and each cut, and behind each sync. Where they differ the
+/// call fails, and so does each later one: so nothing rests on a write or a sync of a file that is gone.
+#[derive(Drop)]
+pub struct Named<D, P> {
+    device: D,
+    place: P,
+    // The bytes that the file had when it was opened, or that the calls since have left.
+    len: usize,
+    gone: bool,
+}
+
+impl<D: Silent + Drop, P: Place + Drop> Named<D, P> {
+    /// An open file, and what its name leads to. Failed, or Memory, where its length cannot be asked for.
+    pub fn new(device: D, place: P) -> Result<Named<D, P>, JournalFault>
+        ensures names { IfErr result IsOfCall }
+        ensures place { IfOk result (λ named. named.place ≡ place) }
+        ensures there { IfOk result (λ named. named.gone ≡ false) }
+        ensures len { (file : List ℕ) → D.holds device file → IfOk result (λ named. named.len ≡ length file) }
+    {
+        let mut device = device;
+        let len = device.len()?;
+        Ok(Named {
+            device,
+            place,
+            len,
+            gone: false,
+        })
+    }
+
+    /// Says whether the name leads to the file still, as it did each time before.
+    fn look(&mut self) -> bool
+        ensures device { self.new.device ≡ self.old.device }
+        ensures len { self.new.len ≡ self.old.len }
+        ensures stays { self.old.gone ≡ true → self.new.gone ≡ true }
+        ensures led { result ≡ true → P.led self.old.place self.old.len self.new.place }
+        ensures there { result ≡ true → self.old.gone ≡ false }
+        ensures gone { result ≡ false → self.new.gone ≡ true }
+    {
+        if !self.gone {
+            self.gone = !self.place.leads(self.len);
+        }
+        !self.gone
+    }
+}
+
+impl<D: Silent + Drop, P: Place + Drop> Device for Named<D, P> {
+    ghost tells = { ⊥ };
+
+    ghost disk = { λ _. untold };
+
+    ghost holds = { λ named. D.holds named.device };
+
+    ghost holds_seen = { λ _ told. absurd told };
+
+    ghost stays = { λ _ told. absurd told };
+
+    ghost counts_now = { λ _ t c le now. now };
+
+    ghost only_now = { λ _ c left. left };
+
+    fn read_at(&mut self, at: usize, into: &mut [u8]) -> Result<usize, JournalFault> {
+        self.device.read_at(at, into)
+    }
+
+    fn len(&mut self) -> Result<usize, JournalFault> {
+        self.device.len()
+    }
+
+    fn write_at(&mut self, at: usize, bytes: &[u8]) -> Result<(), JournalFault>
+        ensures names { IfErr result IsOfCall }
+        ensures led { OnOk result (P.led self.old.place self.old.len self.new.place) }
+        ensures there { OnOk result (self.old.gone ≡ false) }
+        ensures stays { self.old.gone ≡ true → self.new.gone ≡ true }
+        ensures len { OnOk result (self.new.len ≡ max self.old.len (min (at + length bytes.now) (2 ^ 64 - 1))) }
+    {
+        if !self.look() {
+            return Err(JournalFault::Failed);
+        }
+        self.device.write_at(at, bytes)?;
+        self.len = self.len.max(at.saturating_add(bytes.len()));
+        Ok(())
+    }
+
+    fn cut(&mut self, len: usize) -> Result<(), JournalFault>
+        ensures names { IfErr result IsOfCall }
+        ensures led { OnOk result (P.led self.old.place self.old.len self.new.place) }
+        ensures there { OnOk result (self.old.gone ≡ false) }
+        ensures stays { self.old.gone ≡ true → self.new.gone ≡ true }
+        ensures len { OnOk result (self.new.len ≡ len) }
+    {
+        if !self.look() {
+            return Err(JournalFault::Failed);
+        }
+        self.device.cut(len)?;
+        self.len = len;
+        Ok(())
+    }
+
+    fn sync(&mut self) -> Result<(), JournalFault>
+        ensures same { (file : List ℕ) → D.holds self.old.device file → D.holds self.new.device file }
+        ensures names { IfErr result IsOfSync }
+        ensures led { OnOk result (P.led self.old.place self.old.len self.new.place) }
+        ensures there { OnOk result (self.old.gone ≡ false) }
+        ensures stays { self.old.gone ≡ true → self.new.gone ≡ true }
+    {
+        self.device.sync()?;
+        if !self.look() {
+            return Err(JournalFault::SyncFailed);
+        }
+        Ok(())
+    }
+}
