@@ -6,7 +6,7 @@ use Rattle.tb_records.specs.Messages.{Message, Answer, asked, is_register}
 use Rattle.tb_records.specs.Ordered.{Each}
 use Rattle.tb_records.proofs.ByKey.{each-map}
 use Rattle.tb_caller.specs.declared.callers.Heard.{Heard}
-use Rattle.tb_caller.specs.declared.callers.Heard.TheVariants as told
+use Rattle.tb_caller.specs.declared.callers.Heard.TheVariants as hearing
 use Rattle.tb_caller.specs.Clients.{Client, open_request, made, call_fault, heard}
 use Rattle.tb_caller.specs.Endpoints.{Endpoint, Act, MayAct, acted, started, IsAmong, returned_by, restarted}
 use Rattle.tb_caller.specs.Endpoints.Act.{Call, Send, Hear, Store, Restart}
@@ -98,9 +98,9 @@ module _ (id : ℕ) (d : Endpoint) (kept : IsKept id d) where
   -- a reply
 
   taken : (a : Answer) → IfSome (open_request d.live.phase) (λ r. IsAmong r d.sent) → (h : Heard) → heard d.live a ≡ h → Each (IsTaken d.sent) (returned_by h (open_request d.live.phase) a d.returned)
-  taken a there told.Returned is =
+  taken a there hearing.Returned is =
       let back = returns_of (open_request d.live.phase) a is in
-      subst (λ (o : Option Message). Each (IsTaken d.sent) (returned_by told.Returned o a d.returned)) (sym back.waits) (
+      subst (λ (o : Option Message). Each (IsTaken d.sent) (returned_by hearing.Returned o a d.returned)) (sym back.waits) (
         record {
           sent_it = subst (λ (o : Option Message). IfSome o (λ r. IsAmong r d.sent)) back.waits there;
           client = back.names_it.client;
@@ -109,9 +109,9 @@ module _ (id : ℕ) (d : Endpoint) (kept : IsKept id d) where
         },
         kept.sends.returned,
       )
-  taken a there told.Ended is = kept.sends.returned
-  taken a there told.Refused is = kept.sends.returned
-  taken a there told.Other is = kept.sends.returned
+  taken a there hearing.Ended is = kept.sends.returned
+  taken a there hearing.Refused is = kept.sends.returned
+  taken a there hearing.Other is = kept.sends.returned
 
   made_next : (body : Body) (b : Bool) → is_register body ≡ b → IsCall (cond b (asked d.live.id 0 0 body) (asked d.live.id d.live.session (d.live.last + 1) body))
       → (cond b (asked d.live.id 0 0 body) (asked d.live.id d.live.session (d.live.last + 1) body)).request ≡ d.live.last + 1

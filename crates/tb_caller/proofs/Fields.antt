@@ -1,5 +1,5 @@
 -- The fields of a client are right in each state that calls and replies lead to.
-use Rattle.std.proofs.Common.{◌≡◌, ◌==◌, ◌&&◌, ℕ, ◌+◌, Bool, true, false, cond, List, [], ◌∷◌, Option, Some, None, IfSome, refl, sym, ap, ◌∙◌, eqb, eq-eqb}
+use Rattle.std.proofs.Common.{◌≡◌, ◌==◌, ℕ, ◌+◌, Bool, true, false, cond, List, [], ◌∷◌, Option, Some, None, IfSome, refl, sym, eq-eqb}
 use Rattle.std.specs.Option.{option_map}
 use Rattle.tb_records.specs.declared.bodies.Body.{Body}
 use Rattle.tb_records.specs.Messages.{Message, Answer, asked, is_register, number_fault}
@@ -7,8 +7,8 @@ use Rattle.tb_caller.specs.declared.callers.Phase.{Phase}
 use Rattle.tb_caller.specs.declared.callers.Phase.TheVariants.{Unregistered, Open, Idle, Ended}
 use Rattle.tb_caller.specs.declared.faults.CallFault.TheVariants as fault
 use Rattle.tb_caller.specs.declared.callers.Heard.{Heard}
-use Rattle.tb_caller.specs.declared.callers.Heard.TheVariants as told
-use Rattle.tb_caller.specs.Clients.{Client, request_fault, field_fault_in, field_fault, made, refused_in, call_fault, called, heard, ended_in, moved, received}
+use Rattle.tb_caller.specs.declared.callers.Heard.TheVariants as hearing
+use Rattle.tb_caller.specs.Clients.{Client, request_fault, field_fault_in, made, refused_in, call_fault, called, heard, ended_in, moved}
 use Rattle.tb_caller.specs.Endpoints.{Endpoint, Act, MayAct, acted, started, restarted}
 use Rattle.tb_caller.specs.Endpoints.Act.{Call, Send, Hear, Store, Restart}
 use Rattle.tb_caller.specs.CallLaws.{Acts, after_acts, FieldsAreRight}
@@ -56,10 +56,10 @@ right_ended id session last Idle is = is
 right_ended id session last (Ended r) is = is
 
 right_moved : (h : Heard) (c : Client) (a : Answer) → AreRight c → AreRight (moved h c a)
-right_moved told.Returned c a are = tt
-right_moved told.Ended c a are = right_ended c.id c.session c.last c.phase are
-right_moved told.Refused c a are = are
-right_moved told.Other c a are = are
+right_moved hearing.Returned c a are = tt
+right_moved hearing.Ended c a are = right_ended c.id c.session c.last c.phase are
+right_moved hearing.Refused c a are = are
+right_moved hearing.Other c a are = are
 
 record AreRightIn (d : Endpoint) : Type 0 where
   pub live : AreRight d.live

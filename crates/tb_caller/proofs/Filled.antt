@@ -8,7 +8,7 @@ use Rattle.tb_caller.specs.declared.callers.Phase.{Phase}
 use Rattle.tb_caller.specs.declared.callers.Phase.TheVariants.{Unregistered, Open, Idle, Ended}
 use Rattle.tb_caller.specs.declared.faults.CallFault.TheVariants as fault
 use Rattle.tb_caller.specs.declared.callers.Heard.{Heard}
-use Rattle.tb_caller.specs.declared.callers.Heard.TheVariants as told
+use Rattle.tb_caller.specs.declared.callers.Heard.TheVariants as hearing
 use Rattle.tb_caller.specs.Clients.{Client, open_request, refused_in, heard, ended_in, moved, received}
 use Rattle.tb_caller.specs.Endpoints.{IsAmong, returned_by}
 use Rattle.tb_caller.specs.Calls.{IsCall}
@@ -30,11 +30,11 @@ IsFilled pairs session last Idle = (n : ℕ) → last ≡ n + 1 → HasReturned 
 IsFilled pairs session last (Ended r) = Unit {0}
 
 more_returned : (h : Heard) (o : Option Message) (a : Answer) (pairs : List (Message × Answer)) (session number : ℕ) → HasReturned pairs session number → HasReturned (returned_by h o a pairs) session number
-more_returned told.Returned (Some r) a pairs session number is = record { request = is.request; answer = is.answer; taken = inr is.taken; call = is.call; session_is = is.session_is; number_is = is.number_is }
-more_returned told.Returned None a pairs session number is = is
-more_returned told.Ended o a pairs session number is = is
-more_returned told.Refused o a pairs session number is = is
-more_returned told.Other o a pairs session number is = is
+more_returned hearing.Returned (Some r) a pairs session number is = record { request = is.request; answer = is.answer; taken = inr is.taken; call = is.call; session_is = is.session_is; number_is = is.number_is }
+more_returned hearing.Returned None a pairs session number is = is
+more_returned hearing.Ended o a pairs session number is = is
+more_returned hearing.Refused o a pairs session number is = is
+more_returned hearing.Other o a pairs session number is = is
 
 pub more_filled : (h : Heard) (o : Option Message) (a : Answer) (pairs : List (Message × Answer)) (session last : ℕ) (phase : Phase) → IsFilled pairs session last phase → IsFilled (returned_by h o a pairs) session last phase
 more_filled h o a pairs session last Unregistered is = tt
@@ -68,7 +68,7 @@ filled_open pairs session last (Ended s) r is waits call = absurd cc
 
 filled_moved : (id : ℕ) (sent : List Message) (pairs : List (Message × Answer)) (c : Client) (a : Answer) (h : Heard) → heard c a ≡ h → IsOwn id sent c → IsFilled pairs c.session c.last c.phase
     → IsFilled (returned_by h (open_request c.phase) a pairs) (moved h c a).session (moved h c a).last (moved h c a).phase
-filled_moved id sent pairs c a told.Returned is own filled = by (is_register back.request.body) refl
+filled_moved id sent pairs c a hearing.Returned is own filled = by (is_register back.request.body) refl
   where
     back : Returns (open_request c.phase) a
     back = returns_of (open_request c.phase) a is
@@ -79,15 +79,15 @@ filled_moved id sent pairs c a told.Returned is own filled = by (is_register bac
     kind : (a.operation == operation_code op.Register) ≡ is_register back.request.body
     kind = ap (λ (n : ℕ). n == operation_code op.Register) back.names_it.operation_is
 
-    by : (b : Bool) → is_register back.request.body ≡ b → IsFilled (returned_by told.Returned (open_request c.phase) a pairs) (cond (a.operation == operation_code op.Register) a.session c.session) c.last Idle
+    by : (b : Bool) → is_register back.request.body ≡ b → IsFilled (returned_by hearing.Returned (open_request c.phase) a pairs) (cond (a.operation == operation_code op.Register) a.session c.session) c.last Idle
     by true e n last = absurd (let none : c.last ≡ 0 = its.first e in omega (arith, last, none))
     by false e n last =
-        subst (λ (b : Bool). HasReturned (returned_by told.Returned (open_request c.phase) a pairs) (cond b a.session c.session) (n + 1)) (sym (kind ∙ e))
-        (subst (λ (o : Option Message). HasReturned (returned_by told.Returned o a pairs) c.session (n + 1)) (sym back.waits)
+        subst (λ (b : Bool). HasReturned (returned_by hearing.Returned (open_request c.phase) a pairs) (cond b a.session c.session) (n + 1)) (sym (kind ∙ e))
+        (subst (λ (o : Option Message). HasReturned (returned_by hearing.Returned o a pairs) c.session (n + 1)) (sym back.waits)
         (record { request = back.request; answer = a; taken = inl refl; call = e; session_is = (its.call e).0; number_is = (its.call e).1 ∙ last }))
-filled_moved id sent pairs c a told.Ended is own filled = filled_ended pairs c.session c.last c.phase filled
-filled_moved id sent pairs c a told.Refused is own filled = filled
-filled_moved id sent pairs c a told.Other is own filled = filled
+filled_moved id sent pairs c a hearing.Ended is own filled = filled_ended pairs c.session c.last c.phase filled
+filled_moved id sent pairs c a hearing.Refused is own filled = filled
+filled_moved id sent pairs c a hearing.Other is own filled = filled
 
 pub filled_received : (id : ℕ) (sent : List Message) (pairs : List (Message × Answer)) (c : Client) (a : Answer) → IsOwn id sent c → IsFilled pairs c.session c.last c.phase
     → IsFilled (returned_by (heard c a) (open_request c.phase) a pairs) (received c a).session (received c a).last (received c a).phase

@@ -7,11 +7,11 @@ use Rattle.tb_records.specs.declared.limits.Profile.{Profile}
 use Rattle.tb_records.specs.Frames.{request_bytes, IsRequest}
 use Rattle.tb_records.specs.Messages.{Message, Answer}
 use Rattle.tb_records.specs.Ordered.{Each}
-use Rattle.tb_records.specs.ReplyFrames.{reply_bytes, SpellsReply, IsReply}
+use Rattle.tb_records.specs.ReplyFrames.{SpellsReply, IsReply}
 use Rattle.tb_records.proofs.ReplyLaws.{one_reading}
 use Rattle.tb_records.proofs.Spellings.{spelled_once}
 use Rattle.tb_machine.specs.declared.entries.Entry.{Entry}
-use Rattle.tb_machine.specs.Histories.{State, start, answer_to, LegalFrom, IsLegal}
+use Rattle.tb_machine.specs.Histories.{answer_to, LegalFrom, IsLegal}
 use Rattle.tb_machine.specs.Dumps.{marked_after, IsLegalWith}
 use Rattle.tb_machine.specs.MarkedLaws.{met, next_in}
 use Rattle.tb_machine.specs.ReplyLaws.{HoldRequests}

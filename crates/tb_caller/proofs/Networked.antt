@@ -1,5 +1,5 @@
 -- Clients, a network and a server, over a whole schedule.
-use Rattle.std.proofs.Common.{◌≡◌, ℕ, inr, Bool, true, false, cond, List, [], ◌∷◌, ◌++◌, Option, Some, None, refl, sym, ap, ◌∙◌, subst, append_assoc, eqb, eqb-true}
+use Rattle.std.proofs.Common.{◌≡◌, ℕ, inr, Bool, true, false, cond, List, [], ◌∷◌, ◌++◌, Option, Some, None, refl, sym, ap, ◌∙◌, subst, eqb, eqb-true}
 use Rattle.tb_records.specs.declared.limits.Profile.{Profile}
 use Rattle.tb_records.specs.Frames.{request_bytes, IsRequest}
 use Rattle.tb_records.specs.Messages.{Message, Answer}
@@ -13,7 +13,7 @@ use Rattle.tb_machine.specs.MarkedLaws.{next_in}
 use Rattle.tb_machine.specs.ReplyLaws.{HoldRequests}
 use Rattle.tb_machine.proofs.Rows.{each_snoc}
 use Rattle.tb_caller.specs.declared.callers.Heard.{Heard}
-use Rattle.tb_caller.specs.declared.callers.Heard.TheVariants as told
+use Rattle.tb_caller.specs.declared.callers.Heard.TheVariants as hearing
 use Rattle.tb_caller.specs.Clients.{open_request, heard}
 use Rattle.tb_caller.specs.Endpoints.{Endpoint, Act, MayAct, acted, IsAmong, returned_by}
 use Rattle.tb_caller.specs.Endpoints.Act.{Call, Send, Hear, Store, Restart}
@@ -56,11 +56,11 @@ module _ (profile : Profile) (clients_max : ℕ) (mark : Option ℕ) where
 
   returned_on : (h : List Entry) (a : Answer) (heard : Heard) (o : Option Message) (pairs : List (Message × Answer)) → Answered h a
       → Each (λ (p : Message × Answer). Answered h p.1) pairs → Each (λ (p : Message × Answer). Answered h p.1) (returned_by heard o a pairs)
-  returned_on h a told.Returned (Some r) pairs is each = (is, each)
-  returned_on h a told.Returned None pairs is each = each
-  returned_on h a told.Ended o pairs is each = each
-  returned_on h a told.Refused o pairs is each = each
-  returned_on h a told.Other o pairs is each = each
+  returned_on h a hearing.Returned (Some r) pairs is each = (is, each)
+  returned_on h a hearing.Returned None pairs is each = each
+  returned_on h a hearing.Ended o pairs is each = each
+  returned_on h a hearing.Refused o pairs is each = each
+  returned_on h a hearing.Other o pairs is each = each
 
   beside_acted : (id : ℕ) (h : List Entry) (given : List (List ℕ)) (d : Endpoint) (act : Act) → Each (IsFrameIn h) given → IsBeside id h d → MayAct d act → WasGiven act given → IsBeside id h (acted d act)
   beside_acted id h given d (Call body) all on may was = record { kept = kept_acted id d on.kept (Call body) may; held = on.held; returned = on.returned }

@@ -18,7 +18,7 @@ use Rattle.tb_caller.specs.declared.callers.Phase.{Phase}
 use Rattle.tb_caller.specs.declared.callers.Phase.TheVariants.{Unregistered, Open, Idle, Ended}
 use Rattle.tb_caller.specs.declared.faults.CallFault.TheVariants as fault
 use Rattle.tb_caller.specs.declared.callers.Heard.{Heard}
-use Rattle.tb_caller.specs.declared.callers.Heard.TheVariants as told
+use Rattle.tb_caller.specs.declared.callers.Heard.TheVariants as hearing
 use Rattle.tb_caller.specs.Clients.{Client, fresh, open_request, made, refused_in, call_fault, called, names, heard_by, heard_of, heard, ended_in, moved, received}
 use Rattle.tb_caller.specs.Calls.{IsCall}
 
@@ -137,7 +137,7 @@ names_of r a e =
     let k = both_of (eqb a.client r.client) (eqb a.request r.request) g.0 in
     record { client = eqb-true a.client r.client k.0; number = eqb-true a.request r.request k.1; operation_is = eqb-true a.operation (operation r.body) g.1 }
 
-reply_only : (s : Status) → heard_by s ≡ told.Returned → s ≡ status.Reply
+reply_only : (s : Status) → heard_by s ≡ hearing.Returned → s ≡ status.Reply
 reply_only status.Reply e = refl
 reply_only s e = absurd cc
 
@@ -148,11 +148,11 @@ pub record Returns (o : Option Message) (a : Answer) : Type 0 where
   pub names_it : Names request a
   pub reply : a.status ≡ status.Reply
 
-pub returns_of : (o : Option Message) (a : Answer) → heard_of o a ≡ told.Returned → Returns o a
+pub returns_of : (o : Option Message) (a : Answer) → heard_of o a ≡ hearing.Returned → Returns o a
 returns_of None a e = absurd cc
 returns_of (Some r) a e = by (names r a) refl e
   where
-    by : (b : Bool) → names r a ≡ b → cond b (heard_by a.status) told.Other ≡ told.Returned → Returns (Some r) a
+    by : (b : Bool) → names r a ≡ b → cond b (heard_by a.status) hearing.Other ≡ hearing.Returned → Returns (Some r) a
     by true is e = record { request = r; waits = refl; names_it = names_of r a is; reply = reply_only a.status e }
     by false is e = absurd cc
 
@@ -173,7 +173,7 @@ idle_within : (session last : ℕ) (o : Option Message) (sent : List Message) �
 idle_within session last o sent within = each-map (IsWithin session last o) (IsWithin session last None) sent (λ m w call. let its = w call in (its.0, its.1, its.2, tt)) within
 
 own_moved : (id : ℕ) (sent : List Message) (c : Client) (a : Answer) (h : Heard) → heard c a ≡ h → IsOwn id sent c → IsOwn id sent (moved h c a)
-own_moved id sent c a told.Returned is own = record {
+own_moved id sent c a hearing.Returned is own = record {
   id_is = own.id_is;
   start = tt;
   open_is = tt;
@@ -193,14 +193,14 @@ own_moved id sent c a told.Returned is own = record {
     by true e = each-map (IsWithin c.session c.last (open_request c.phase)) (IsWithin a.session c.last None) sent
         (λ m w call. let w = w call in let none : c.last ≡ 0 = its.first (register_is e) in absurd (omega (arith, w.1, w.2, none))) own.within
     by false e = idle_within c.session c.last (open_request c.phase) sent own.within
-own_moved id sent c a told.Ended is own = record {
+own_moved id sent c a hearing.Ended is own = record {
   id_is = own.id_is;
   start = start_ended c.last c.phase own.start;
   open_is = subst (λ (o : Option Message). IfSome o (IsOf id c.session c.last)) (sym (open_ended c.phase)) tt;
   within = subst (λ (o : Option Message). Each (IsWithin c.session c.last o) sent) (sym (open_ended c.phase)) (idle_within c.session c.last (open_request c.phase) sent own.within);
 }
-own_moved id sent c a told.Refused is own = own
-own_moved id sent c a told.Other is own = own
+own_moved id sent c a hearing.Refused is own = own
+own_moved id sent c a hearing.Other is own = own
 
 pub own_received : (id : ℕ) (sent : List Message) (c : Client) (a : Answer) → IsOwn id sent c → IsOwn id sent (received c a)
 own_received id sent c a own = own_moved id sent c a (heard c a) refl own

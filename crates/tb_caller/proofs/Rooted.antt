@@ -8,7 +8,7 @@ use Rattle.tb_caller.specs.declared.callers.Phase.{Phase}
 use Rattle.tb_caller.specs.declared.callers.Phase.TheVariants.{Unregistered, Open, Idle, Ended}
 use Rattle.tb_caller.specs.declared.faults.CallFault.TheVariants as fault
 use Rattle.tb_caller.specs.declared.callers.Heard.{Heard}
-use Rattle.tb_caller.specs.declared.callers.Heard.TheVariants as told
+use Rattle.tb_caller.specs.declared.callers.Heard.TheVariants as hearing
 use Rattle.tb_caller.specs.Clients.{Client, open_request, refused_in, heard, ended_in, moved, received}
 use Rattle.tb_caller.specs.Endpoints.{returned_by}
 use Rattle.tb_caller.specs.Calls.{IsCall, IsRegistered}
@@ -21,11 +21,11 @@ IsRooted returned session Idle = IsRegistered returned session
 IsRooted returned session (Ended r) = Unit {0}
 
 pub more_registered : (h : Heard) (o : Option Message) (a : Answer) (pairs : List (Message × Answer)) (session : ℕ) → IsRegistered pairs session → IsRegistered (returned_by h o a pairs) session
-more_registered told.Returned (Some r) a pairs session is = record { request = is.request; answer = is.answer; taken = inr is.taken; register = is.register; session_is = is.session_is }
-more_registered told.Returned None a pairs session is = is
-more_registered told.Ended o a pairs session is = is
-more_registered told.Refused o a pairs session is = is
-more_registered told.Other o a pairs session is = is
+more_registered hearing.Returned (Some r) a pairs session is = record { request = is.request; answer = is.answer; taken = inr is.taken; register = is.register; session_is = is.session_is }
+more_registered hearing.Returned None a pairs session is = is
+more_registered hearing.Ended o a pairs session is = is
+more_registered hearing.Refused o a pairs session is = is
+more_registered hearing.Other o a pairs session is = is
 
 pub more_rooted : (h : Heard) (o : Option Message) (a : Answer) (pairs : List (Message × Answer)) (session : ℕ) (phase : Phase) → IsRooted pairs session phase → IsRooted (returned_by h o a pairs) session phase
 more_rooted h o a pairs session Unregistered is = tt
@@ -58,7 +58,7 @@ rooted_open pairs session (Ended s) r is waits call = absurd cc
 
 rooted_moved : (pairs : List (Message × Answer)) (c : Client) (a : Answer) (h : Heard) → heard c a ≡ h → IsRooted pairs c.session c.phase
     → IsRooted (returned_by h (open_request c.phase) a pairs) (moved h c a).session (moved h c a).phase
-rooted_moved pairs c a told.Returned is rooted = by (a.operation == operation_code op.Register) refl
+rooted_moved pairs c a hearing.Returned is rooted = by (a.operation == operation_code op.Register) refl
   where
     back : Returns (open_request c.phase) a
     back = returns_of (open_request c.phase) a is
@@ -66,13 +66,13 @@ rooted_moved pairs c a told.Returned is rooted = by (a.operation == operation_co
     kind : (a.operation == operation_code op.Register) ≡ is_register back.request.body
     kind = ap (λ (n : ℕ). n == operation_code op.Register) back.names_it.operation_is
 
-    by : (b : Bool) → (a.operation == operation_code op.Register) ≡ b → IsRegistered (returned_by told.Returned (open_request c.phase) a pairs) (cond b a.session c.session)
-    by true e = subst (λ (o : Option Message). IsRegistered (returned_by told.Returned o a pairs) a.session) (sym back.waits)
+    by : (b : Bool) → (a.operation == operation_code op.Register) ≡ b → IsRegistered (returned_by hearing.Returned (open_request c.phase) a pairs) (cond b a.session c.session)
+    by true e = subst (λ (o : Option Message). IsRegistered (returned_by hearing.Returned o a pairs) a.session) (sym back.waits)
         (record { request = back.request; answer = a; taken = inl refl; register = sym kind ∙ e; session_is = refl })
-    by false e = more_registered told.Returned (open_request c.phase) a pairs c.session (rooted_open pairs c.session c.phase back.request rooted back.waits (sym kind ∙ e))
-rooted_moved pairs c a told.Ended is rooted = rooted_ended pairs c.session c.phase rooted
-rooted_moved pairs c a told.Refused is rooted = rooted
-rooted_moved pairs c a told.Other is rooted = rooted
+    by false e = more_registered hearing.Returned (open_request c.phase) a pairs c.session (rooted_open pairs c.session c.phase back.request rooted back.waits (sym kind ∙ e))
+rooted_moved pairs c a hearing.Ended is rooted = rooted_ended pairs c.session c.phase rooted
+rooted_moved pairs c a hearing.Refused is rooted = rooted
+rooted_moved pairs c a hearing.Other is rooted = rooted
 
 pub rooted_received : (pairs : List (Message × Answer)) (c : Client) (a : Answer) → IsRooted pairs c.session c.phase
     → IsRooted (returned_by (heard c a) (open_request c.phase) a pairs) (received c a).session (received c a).phase

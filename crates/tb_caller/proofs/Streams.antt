@@ -1,5 +1,5 @@
 -- Replies that are read one after another are those that were sent.
-use Rattle.std.proofs.Common.{◌≡◌, ◌≢◌, ℕ, inl, inr, List, [], ◌∷◌, ◌++◌, length, refl, sym, ap, ◌∙◌, arith, length-append, append_assoc}
+use Rattle.std.proofs.Common.{◌≡◌, ℕ, inl, inr, List, [], ◌∷◌, ◌++◌, length, sym, ap, ◌∙◌, arith, length-append, append_assoc}
 use Rattle.std.specs.List.{flat_map}
 use Rattle.tb_records.specs.Messages.{Answer, status_code}
 use Rattle.tb_records.specs.Ordered.{Each}

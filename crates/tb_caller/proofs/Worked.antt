@@ -5,7 +5,7 @@ use mathlib.Core.List.{IsPrefix}
 use Rattle.tb_records.specs.declared.limits.Profile.TheVariants.{One}
 use Rattle.tb_records.specs.Frames.{IsId, IsRequest}
 use Rattle.tb_records.specs.Messages.{Message}
-use Rattle.tb_records.specs.ReplyFrames.{reply_bytes, SpellsReply}
+use Rattle.tb_records.specs.ReplyFrames.{reply_bytes}
 use Rattle.tb_machine.specs.declared.entries.Entry.{Entry}
 use Rattle.tb_machine.specs.Dumps.{IsLegalWith}
 use Rattle.tb_machine.specs.ReplyLaws.{HoldRequests}

@@ -12,7 +12,7 @@ use Rattle.tb_machine.specs.Dumps.{IsLegalWith}
 use Rattle.tb_machine.specs.MarkedLaws.{next_in}
 use Rattle.tb_machine.specs.Scripts.{Pair, accepted, replies_from}
 use Rattle.tb_machine.specs.ScriptLaws.{AreLawful}
-use Rattle.tb_caller.specs.declared.callers.Heard.TheVariants as told
+use Rattle.tb_caller.specs.declared.callers.Heard.TheVariants as hearing
 use Rattle.tb_caller.specs.Clients.{heard_by, field_fault}
 use Rattle.tb_caller.specs.Endpoints.{Endpoint, Act, MayAct, acted, started, IsAmong}
 use Rattle.tb_caller.specs.Calls.{IsCall, IsRegistered, AreOfOne, IsTaken, NoneInvented, IsAnswered, CallsHold}
@@ -97,5 +97,5 @@ OverForGood = (profile : Profile) (clients_max : ℕ) (mark : Option ℕ) (front
     → is_register register.request.body ≡ true
     → register.commit ≡ r.session
     → IsCall r
-    → heard_by (answer_to (next_in profile clients_max mark ((front ++ register ∷ []) ++ m)) r).status ≡ told.Ended
+    → heard_by (answer_to (next_in profile clients_max mark ((front ++ register ∷ []) ++ m)) r).status ≡ hearing.Ended
     → Each (λ (e : Entry). e.request.client ≡ r.client → IsCall e.request → e.request.session ≢ r.session) rest

@@ -18,7 +18,7 @@ use Rattle.tb_caller.specs.declared.faults.CallFault.TheVariants as fault
 use Rattle.tb_caller.specs.declared.faults.FieldFault.{FieldFault}
 use Rattle.tb_caller.specs.declared.faults.FieldFault.TheVariants as field
 use Rattle.tb_caller.specs.declared.callers.Heard.{Heard}
-use Rattle.tb_caller.specs.declared.callers.Heard.TheVariants as told
+use Rattle.tb_caller.specs.declared.callers.Heard.TheVariants as hearing
 
 pub record Client : Type 0 where
   pub id : ℕ
@@ -98,18 +98,18 @@ abbrev pub names : Message → Answer → Bool
 names r a = a.client == r.client && a.request == r.request && a.operation == operation r.body && (is_register r.body || a.session == r.session)
 
 abbrev pub heard_by : Status → Heard
-heard_by status.Reply = told.Returned
-heard_by status.NoSession = told.Ended
-heard_by status.SessionTooLow = told.Ended
-heard_by status.NewerSession = told.Ended
-heard_by status.Older = told.Refused
-heard_by status.Collision = told.Refused
-heard_by status.NewerRequest = told.Refused
-heard_by status.NotYet = told.Refused
+heard_by status.Reply = hearing.Returned
+heard_by status.NoSession = hearing.Ended
+heard_by status.SessionTooLow = hearing.Ended
+heard_by status.NewerSession = hearing.Ended
+heard_by status.Older = hearing.Refused
+heard_by status.Collision = hearing.Refused
+heard_by status.NewerRequest = hearing.Refused
+heard_by status.NotYet = hearing.Refused
 
 abbrev pub heard_of : Option Message → Answer → Heard
-heard_of None a = told.Other
-heard_of (Some r) a = if names r a then heard_by a.status else told.Other
+heard_of None a = hearing.Other
+heard_of (Some r) a = if names r a then heard_by a.status else hearing.Other
 
 abbrev pub heard : Client → Answer → Heard
 heard c a = heard_of (open_request c.phase) a
@@ -125,10 +125,10 @@ ended_in Idle = Idle
 ended_in (Ended r) = Ended r
 
 abbrev pub moved : Heard → Client → Answer → Client
-moved told.Returned c a = record { id = c.id; session = session_with c.session a; last = c.last; phase = Idle }
-moved told.Ended c a = record { id = c.id; session = c.session; last = c.last; phase = ended_in c.phase }
-moved told.Refused c a = c
-moved told.Other c a = c
+moved hearing.Returned c a = record { id = c.id; session = session_with c.session a; last = c.last; phase = Idle }
+moved hearing.Ended c a = record { id = c.id; session = c.session; last = c.last; phase = ended_in c.phase }
+moved hearing.Refused c a = c
+moved hearing.Other c a = c
 
 abbrev pub received : Client → Answer → Client
 received c a = moved (heard c a) c a

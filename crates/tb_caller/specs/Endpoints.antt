@@ -5,7 +5,7 @@ use Rattle.tb_records.specs.declared.bodies.Body.{Body}
 use Rattle.tb_records.specs.Frames.{IsRequest}
 use Rattle.tb_records.specs.Messages.{Message, Answer}
 use Rattle.tb_caller.specs.declared.callers.Heard.{Heard}
-use Rattle.tb_caller.specs.declared.callers.Heard.TheVariants as told
+use Rattle.tb_caller.specs.declared.callers.Heard.TheVariants as hearing
 use Rattle.tb_caller.specs.Clients.{Client, fresh, open_request, made, call_fault, called, heard, received}
 
 pub record Endpoint : Type 0 where
@@ -35,11 +35,11 @@ MayAct d Store = Unit {0}
 MayAct d Restart = Unit {0}
 
 abbrev pub returned_by : Heard → Option Message → Answer → List (Message × Answer) → List (Message × Answer)
-returned_by told.Returned (Some r) a pairs = (r, a) ∷ pairs
-returned_by told.Returned None a pairs = pairs
-returned_by told.Ended o a pairs = pairs
-returned_by told.Refused o a pairs = pairs
-returned_by told.Other o a pairs = pairs
+returned_by hearing.Returned (Some r) a pairs = (r, a) ∷ pairs
+returned_by hearing.Returned None a pairs = pairs
+returned_by hearing.Ended o a pairs = pairs
+returned_by hearing.Refused o a pairs = pairs
+returned_by hearing.Other o a pairs = pairs
 
 -- where nothing is stored there is no other process
 abbrev pub restarted : Option Client → Client → Client

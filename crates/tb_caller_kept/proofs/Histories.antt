@@ -1,7 +1,6 @@
 -- Entries and answers after a state are those after its history.
 use Rattle.std.proofs.Common.{◌≡◌, ℕ, Bool, true, false, cond, List, [], ◌∷◌, ◌++◌, refl, sym, ap, ◌∙◌, append_assoc, append-nil}
 use Rattle.tb_records.specs.declared.limits.Profile.{Profile}
-use Rattle.tb_records.specs.Messages.{Answer}
 use Rattle.tb_machine.specs.declared.entries.Entry.{Entry}
 use Rattle.tb_machine.specs.Histories.{State, after, answer_to}
 use Rattle.tb_machine.specs.Scripts.{Pair, entry_of, is_entered, after_pair, with_pair, accepted, replies_from}

@@ -1,7 +1,7 @@
 -- What ports offered is all that a run enters.
-use Rattle.std.proofs.Common.{◌≡◌, ℕ, zero, suc, ◌<◌, List, [], ◌∷◌, ◌++◌, length, sym, subst, arith}
+use Rattle.std.proofs.Common.{◌≡◌, ℕ, suc, List, [], ◌∷◌, ◌++◌, sym, subst, arith}
 use Rattle.std.specs.List.{All}
-use Rattle.tb_records.specs.Messages.{Message, Answer}
+use Rattle.tb_records.specs.Messages.{Message}
 use Rattle.tb_records.specs.Ordered.{Each}
 use Rattle.tb_machine.specs.declared.entries.Entry.{Entry}
 use Rattle.tb_service.specs.OfferedLaws.{HasOwner, GrowsByOffers}
