@@ -353,6 +353,64 @@ uint32_t tb_embed_transfer(tb_server *server, uint64_t id_low, uint64_t id_high,
 /* Closes the handle and frees its server. A closed handle stays closed. */
 void tb_embed_close(tb_server *server);
 
+/* A client's session, which its owner keeps and stores, with the frame of the request that waits or was left in doubt next to it.
+ * {.id = ID} is a client that has not registered; make one once for each id. */
+typedef struct tb_caller {
+    tb_u128 id;
+    uint64_t session; /* 0 before there is one */
+    uint32_t last;    /* the number of the last request that was made, 0 before */
+    uint32_t phase;   /* tb_caller_phase */
+} tb_caller;
+
+TB_ASSERT(sizeof(tb_caller) == 32 && offsetof(tb_caller, phase) == 28, "tb_caller");
+
+enum tb_caller_phase {
+    TB_CALLER_UNREGISTERED = 0,
+    TB_CALLER_OPEN = 1, /* a request waits for its reply: its frame may be sent, again and again */
+    TB_CALLER_IDLE = 2,
+    TB_CALLER_OVER = 3 /* the session is over, and the last request was executed once or not at all */
+};
+
+/* What a reply is for the request that waits. */
+enum tb_heard {
+    TB_HEARD_RETURNED = 0, /* its reply: it was executed, once */
+    TB_HEARD_ENDED = 1,    /* the session is over */
+    TB_HEARD_REFUSED = 2,  /* it was refused now, which says nothing of an earlier sending */
+    TB_HEARD_OTHER = 3     /* for no request that waits */
+};
+
+/* What a call over a client's session answers. After any but DONE the client is as it was. */
+enum tb_caller_status {
+    TB_CALLER_DONE = 0,
+    TB_CALLER_NOT_REGISTERED = 1, /* a client registers before any other call */
+    TB_CALLER_REGISTERED = 2,     /* a client registers once */
+    TB_CALLER_UNANSWERED = 3,     /* the last request has no reply yet */
+    TB_CALLER_ENDED = 4,          /* the session is over: a new id has to register */
+    TB_CALLER_NO_NUMBER = 5,      /* all numbers are used: a new id has to register */
+    TB_CALLER_MALFORMED = 6,      /* the bytes are no frame, or the client's id is 0 */
+    TB_CALLER_TOO_SMALL = 7,      /* the room is too small: written bytes are needed */
+    TB_CALLER_NO_MEMORY = 8,
+    TB_CALLER_REGISTER_NUMBERS = 9, /* a client that has not registered has session 0 and number 0 */
+    TB_CALLER_OTHER_CLIENT = 10,    /* the frame that is kept is another client's */
+    TB_CALLER_OTHER_SESSION = 11,   /* it is of another session */
+    TB_CALLER_OTHER_NUMBER = 12,    /* its number is not the last one */
+    TB_CALLER_NO_CLIENT = 13        /* no phase has this number, or the frame that is kept is malformed */
+};
+
+/* Makes the next request, the register first, and writes its frame, which is kept from then on: store it with the client before it
+ * is sent. What is asked for is the body of the frame `request`, whose client, session and number do not count (but none is
+ * 0 where a frame may not have 0). written is the number of bytes at DONE, those needed at TOO_SMALL, and else 0. */
+uint32_t tb_caller_call(tb_caller *caller, const uint8_t *request, size_t request_length, uint8_t *frame, size_t frame_room,
+                        size_t *written);
+
+/* Takes the reply that the bytes begin with, where frame is the one that is kept. heard says what it is for this request, and read
+ * how many bytes it has. At any status but DONE heard is TB_HEARD_OTHER, and read is 0. */
+uint32_t tb_caller_received(tb_caller *caller, const uint8_t *frame, size_t frame_length, const uint8_t *reply, size_t reply_length,
+                            uint32_t *heard, size_t *read);
+
+/* Says whether a client and a frame that were stored go together: DONE, NO_MEMORY, or what is wrong with them. */
+uint32_t tb_caller_check(const tb_caller *caller, const uint8_t *frame, size_t frame_length);
+
 /* Numbers of 128 bits. */
 
 static inline tb_u128 tb_u128_of(uint64_t low) {

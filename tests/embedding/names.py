@@ -10,6 +10,8 @@ import sys
 TOP = os.path.dirname(os.path.dirname(os.path.dirname(os.path.abspath(__file__))))
 sys.path[:0] = [f"{TOP}/clients/embed/python", f"{TOP}/clients/python/src"]
 
+import tb_caller  # noqa: E402
+
 # Each kind: the file of its definitions with the words for the number and the text, the enum and
 # the prefix in C, the name in Rust and in Python.
 KINDS = [
@@ -85,7 +87,7 @@ def upper(variant):
 def numbers(text, word):
     """The numbers of variants: those of `word Variant = 5`, with or without what the variant
     holds."""
-    rows = re.findall(rf"^{word} \(?(\w+)[^=\n]*\)? = (\d+)$", text, re.M)
+    rows = re.findall(rf"^{word} \(?(?:\w+\.)?(\w+)[^=\n]*\)? = (\d+)$", text, re.M)
     assert rows, word
     return {variant: int(number) for variant, number in rows}
 
@@ -252,6 +254,7 @@ def comparisons():
     yield from in_rust(rust)
     yield from in_python()
     yield from in_pages(read("docs/use/FORMATS.md"))
+    yield from of_callers(enums_in_c(header), rust)
 
 
 def statuses_of_outcomes():
@@ -263,9 +266,43 @@ def statuses_of_outcomes():
     return {name: number for number, name in first.items()}
 
 
+CALLERS = ("tb_caller_phase", "tb_heard", "tb_caller_status")  # of a client's session
+
+
+def of_callers(in_c, rust):
+    """The numbers of a client's session: phases, what a reply is, and the statuses of its calls. In
+    C the end of a session has another name than the call that it refuses."""
+    text = spec("Callers", "tb_embed")
+    phases, heard = numbers(text, "phase_number"), numbers(text, "heard_code")
+    calls = {it: n for it, n in numbers(text, "call_code").items() if it != "Frame"}
+    statuses = {**numbers(text, "step_code"), **calls, **numbers(text, "field_code")}
+    phase, hears, status = (in_c[it] for it in CALLERS)
+    over = {("OVER" if it == "Ended" else upper(it)): number for it, number in phases.items()}
+    yield same("tb_caller_phase in C", {f"CALLER_{it}": n for it, n in over.items()}, phase)
+    yield same("tb_heard in C", {f"HEARD_{upper(it)}": n for it, n in heard.items()}, hears)
+    yield same(
+        "tb_caller_status in C", {f"CALLER_{upper(it)}": n for it, n in statuses.items()}, status
+    )
+    faults = {n: it for it, n in statuses.items() if n}
+    yield same("a client's faults in Python", faults, tb_caller.FAULTS)
+    for kind, wanted in ((tb_caller.Phase, phases), (tb_caller.Heard, heard)):
+        named = {it.name: it.value for it in kind}
+        yield same(
+            f"a client's {kind.__name__} in Python", {upper(i): n for i, n in wanted.items()}, named
+        )
+    found = {int(n): it for n, it in re.findall(r"(\d+) => CallerFault::(\w+)", rust)}
+    yield same(
+        "a client's faults in Rust", {n: it for n, it in faults.items() if it != "TooSmall"}, found
+    )
+    found = {it: int(n) for n, it in re.findall(r"(\d+) => Heard::(\w+)", rust)}
+    yield same(
+        "what a reply is in Rust", {it: n for it, n in heard.items() if it != "Other"}, found
+    )
+
+
 def in_c(header):
     enums, named = enums_in_c(header), texts_in_c(header)
-    kinds = {"tb_fault", "tb_status", *(it[3] for it in KINDS)}
+    kinds = {"tb_fault", "tb_status", *CALLERS, *(it[3] for it in KINDS)}
     yield "the header's enums are those that are compared", enums.keys() == kinds, ", ".join(
         enums.keys() ^ kinds
     )

@@ -245,6 +245,7 @@ def programs(folder):
             for what, name in (
                 ("servers in threads, in Rust", "threads"),
                 ("what goes wrong, in Rust", "errors"),
+                ("a client's session, in Rust", "callers"),
             ):
                 built(what, *words, f"{HERE}/{name}.rs", *linked, "-o", f"{folder}/{name}")
     whole = [
@@ -257,7 +258,8 @@ def programs(folder):
     ]
     if built("the shared object", "cc", "-shared", *whole, "-o", shared):
         shown = run("nm", "-D", "--defined-only", shared).stdout.decode().split()[2::3]
-        calls = [f"tb_embed_{it}" for it in ("account", "close", "open", "serve", "transfer")]
+        calls = [f"tb_caller_{it}" for it in ("call", "check", "received")]
+        calls += [f"tb_embed_{it}" for it in ("account", "close", "open", "serve", "transfer")]
         case("the shared object shows the calls alone", sorted(shown) == calls, " ".join(shown))
         found["Python"] = [sys.executable, f"{EMBED}/python/script.py", shared]
     careful = [
@@ -391,6 +393,14 @@ def test_threads(folder, built_programs, mixed):
             (ran.returncode, ran.stdout) == (0, b"credits_posted of account 2: 800\n"),
             (ran.stdout + ran.stderr).decode(errors="replace")[-500:].strip(),
         )
+
+
+def test_callers(folder, built_programs):
+    """The session of a client, over a server in the same program."""
+    if os.path.exists(f"{folder}/callers"):
+        ran = run(f"{folder}/callers")
+        holds = (ran.returncode, ran.stdout, ran.stderr) == (0, b"", b"")
+        case("a client's session, in Rust", holds, ran.stderr.decode(errors="replace")[-1000:])
 
 
 def test_errors(folder, built_programs):

@@ -1033,3 +1033,194 @@ impl Drop for Server {
         unsafe { tb_embed_close(&mut self.handle) }
     }
 }
+
+// A client's session
+
+/// All that a client's session is. Store it with the frame of the request that waits, before this is sent.
+#[repr(C)]
+#[derive(Clone, Copy, Debug, PartialEq, Eq)]
+pub struct Numbers {
+    pub id_low: u64,
+    pub id_high: u64,
+    /// 0 before there is one.
+    pub session: u64,
+    /// The number of the last request that was made, 0 before.
+    pub last: u32,
+    /// 0 not registered, 1 a request waits, 2 none waits, 3 the session is over.
+    pub phase: u32,
+}
+
+const _: () = assert!(size_of::<Numbers>() == 32);
+
+unsafe extern "C" {
+    fn tb_caller_call(
+        caller: *mut Numbers,
+        request: *const u8,
+        request_length: usize,
+        frame: *mut u8,
+        frame_room: usize,
+        written: *mut usize,
+    ) -> u32;
+    fn tb_caller_received(
+        caller: *mut Numbers,
+        frame: *const u8,
+        frame_length: usize,
+        reply: *const u8,
+        reply_length: usize,
+        heard: *mut u32,
+        read: *mut usize,
+    ) -> u32;
+    fn tb_caller_check(caller: *const Numbers, frame: *const u8, frame_length: usize) -> u32;
+}
+
+/// What a reply is for the request that waits.
+#[derive(Clone, Copy, Debug, PartialEq, Eq)]
+pub enum Heard {
+    /// Its reply: it was executed, once.
+    Returned,
+    /// The session is over, and the request was executed once or not at all.
+    Ended,
+    /// It was refused now, which says nothing of an earlier sending.
+    Refused,
+    /// For no request that waits.
+    Other,
+}
+
+/// Why a call over a client's session did nothing. The client is as it was.
+#[derive(Clone, Copy, Debug, PartialEq, Eq)]
+pub enum CallerFault {
+    NotRegistered,
+    Registered,
+    Unanswered,
+    Ended,
+    NoNumber,
+    Malformed,
+    NoMemory,
+    RegisterNumbers,
+    OtherClient,
+    OtherSession,
+    OtherNumber,
+    NoClient,
+    /// The call answered a status that it does not have: another library is linked.
+    Unknown(u32),
+}
+
+impl CallerFault {
+    fn of(status: u32) -> Result<(), CallerFault> {
+        Err(match status {
+            0 => return Ok(()),
+            1 => CallerFault::NotRegistered,
+            2 => CallerFault::Registered,
+            3 => CallerFault::Unanswered,
+            4 => CallerFault::Ended,
+            5 => CallerFault::NoNumber,
+            6 => CallerFault::Malformed,
+            8 => CallerFault::NoMemory,
+            9 => CallerFault::RegisterNumbers,
+            10 => CallerFault::OtherClient,
+            11 => CallerFault::OtherSession,
+            12 => CallerFault::OtherNumber,
+            13 => CallerFault::NoClient,
+            _ => CallerFault::Unknown(status),
+        })
+    }
+}
+
+impl fmt::Display for CallerFault {
+    fn fmt(&self, f: &mut fmt::Formatter<'_>) -> fmt::Result {
+        fmt::Debug::fmt(self, f)
+    }
+}
+
+impl std::error::Error for CallerFault {}
+
+/// The proved session of one client: what it may send, and what it takes for a reply.
+pub struct Caller {
+    numbers: Numbers,
+    frame: Vec<u8>,
+}
+
+impl Caller {
+    /// A client that has not registered. Once for each id.
+    pub fn new(id: u128) -> Caller {
+        let numbers = Numbers {
+            id_low: id as u64,
+            id_high: (id >> 64) as u64,
+            session: 0,
+            last: 0,
+            phase: 0,
+        };
+        Caller {
+            numbers,
+            frame: Vec::new(),
+        }
+    }
+
+    /// The client that goes on from what was stored, which is checked.
+    pub fn from_stored(numbers: Numbers, frame: Vec<u8>) -> Result<Caller, CallerFault> {
+        let status = unsafe { tb_caller_check(&numbers, frame.as_ptr(), frame.len()) };
+        CallerFault::of(status).map(|()| Caller { numbers, frame })
+    }
+
+    /// What is to be stored, with `frame`.
+    pub fn numbers(&self) -> Numbers {
+        self.numbers
+    }
+
+    /// The frame of the request that waits, or was left in doubt; empty without one.
+    pub fn frame(&self) -> &[u8] {
+        &self.frame
+    }
+
+    /// Makes the next request, the register first, and returns its frame: store the client before it is sent. The request has
+    /// the body of the frame `request`, whose client, session and number do not count.
+    pub fn call(&mut self, request: &[u8]) -> Result<&[u8], CallerFault> {
+        let (mut room, mut written) = (vec![0; request.len()], 0);
+        let status = unsafe {
+            tb_caller_call(
+                &mut self.numbers,
+                request.as_ptr(),
+                request.len(),
+                room.as_mut_ptr(),
+                room.len(),
+                &mut written,
+            )
+        };
+        CallerFault::of(status)?;
+        room.truncate(written);
+        self.frame = room;
+        Ok(&self.frame)
+    }
+
+    /// The frame of the request that waits, the same bytes each time.
+    pub fn again(&self) -> Option<&[u8]> {
+        (self.numbers.phase == 1).then_some(self.frame.as_slice())
+    }
+
+    /// Takes the reply that the bytes begin with: what it is for the request that waits, and the length of its frame.
+    pub fn received(&mut self, bytes: &[u8]) -> Result<(Heard, usize), CallerFault> {
+        let (mut heard, mut read) = (3, 0);
+        let status = unsafe {
+            tb_caller_received(
+                &mut self.numbers,
+                self.frame.as_ptr(),
+                self.frame.len(),
+                bytes.as_ptr(),
+                bytes.len(),
+                &mut heard,
+                &mut read,
+            )
+        };
+        CallerFault::of(status)?;
+        if self.numbers.phase == 2 {
+            self.frame.clear();
+        }
+        let heard = match heard {
+            0 => Heard::Returned,
+            1 => Heard::Ended,
+            2 => Heard::Refused,
+            _ => Heard::Other,
+        };
+        Ok((heard, read))
+    }
+}

@@ -5,3 +5,4 @@ pub mod Following
 pub mod Frames
 pub mod Lengths
 pub mod Values
+pub mod Clients

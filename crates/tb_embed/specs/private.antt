@@ -1,2 +1,3 @@
 -- what private contracts alone cite
 pub mod Filling
+pub mod Calling

@@ -83,7 +83,7 @@ pub extern "C" fn tb_embed_close(alloc: Global, server: &mut TbServer)
 }
 
 /// An id of its two halves.
-fn id(low: u64, high: u64) -> u128
+pub(crate) fn id(low: u64, high: u64) -> u128
     ensures { result ≡ id_of low high }
 {
     u128::from(low) + u128::from(high) * 18_446_744_073_709_551_616

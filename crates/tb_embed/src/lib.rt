@@ -12,12 +12,17 @@
 //! - `handles`: a handle opened.
 //! - `asking`: one frame read, served and answered.
 //! - `showing`: accounts and transfers shown outside sessions.
-//! - `calls`: what C calls.
+//! - `calls`: what C calls over a server.
+//! - `steps`: a client's session as C keeps it, and how a call over it fared.
+//! - `calling`: what the calls over a client's session do.
+//! - `callers`: what C calls over a client's session.
 //! - `laws`: laws of the calls: functions that do nothing.
 //! - `tests`: the calls, made as C makes them.
 #![tactic(auto)]
 
 mod asking;
+pub mod callers;
+mod calling;
 pub mod calls;
 mod handles;
 pub mod held;
@@ -28,7 +33,9 @@ mod replies;
 mod rooms;
 pub mod servers;
 mod showing;
+pub mod steps;
 #[cfg(test)]
 mod tests;
 
 pub use servers::TbServer;
+pub use steps::TbCaller;

@@ -1,8 +1,10 @@
 //! The calls, made as C makes them. The frame of a register and its reply are those of examples/first.script.
+use crate::callers::{tb_caller_call, tb_caller_check, tb_caller_received};
 use crate::calls::{
     tb_embed_account, tb_embed_close, tb_embed_open, tb_embed_serve, tb_embed_transfer,
 };
 use crate::servers::TbServer;
+use crate::steps::TbCaller;
 use std::alloc::Global;
 use std::process::Abort;
 use std::test::Fail;
@@ -175,5 +177,92 @@ fn account_of_two_halves(rt: HostRuntime) -> Result<(), Fail> {
     let mut server = TbServer::closed(rt.alloc());
     expect_account(&rt, rt.alloc(), &mut server, frame.as_slice());
     tb_embed_close(rt.alloc(), &mut server);
+    Ok(())
+}
+
+/// A new client of id 7.
+fn client() -> TbCaller {
+    TbCaller {
+        id_low: 7,
+        id_high: 0,
+        session: 0,
+        last: 0,
+        phase: 0,
+    }
+}
+
+/// What a reply was for the request that waits.
+#[derive(Clone, Copy, Debug, PartialEq, Eq)]
+struct Taken {
+    status: u32,
+    heard: u32,
+    read: usize,
+}
+
+fn received(alloc: Global, caller: &mut TbCaller, frame: &[u8], reply: &[u8]) -> Taken {
+    let mut heard = 9;
+    let mut read = 9;
+    let status = tb_caller_received(alloc, caller, frame, reply, &mut heard, &mut read);
+    Taken {
+        status,
+        heard,
+        read,
+    }
+}
+
+/// The register is made once, in a room that holds it.
+fn expect_called(rt: &impl Abort, alloc: Global, caller: &mut TbCaller, frame: &mut [u8]) {
+    let mut written = 9;
+    let status = tb_caller_call(alloc, caller, &REGISTER[..47], frame, &mut written);
+    assert_eq!(rt; (status, written), (6, 0));
+    let mut short = [0; 47];
+    let status = tb_caller_call(alloc, caller, &REGISTER, &mut short, &mut written);
+    assert_eq!(rt; (status, written), (7, 48));
+    assert_eq!(rt; *caller, client());
+    let status = tb_caller_call(alloc, caller, &REGISTER, frame, &mut written);
+    assert_eq!(rt; (status, written), (0, 48));
+    assert_eq!(rt; caller.phase, 1);
+    let status = tb_caller_call(alloc, caller, &REGISTER, &mut short, &mut written);
+    assert_eq!(rt; (status, written), (3, 0));
+}
+
+/// A frame with a fault changes nothing, and the reply is taken once.
+fn expect_received(rt: &impl Abort, alloc: Global, caller: &mut TbCaller, frame: &[u8]) {
+    let open = *caller;
+    let cut = Taken {
+        status: 6,
+        heard: 3,
+        read: 0,
+    };
+    let reply = registered();
+    let short = reply.get(..47).unwrap_or(&[]);
+    assert_eq!(rt; received(alloc, caller, frame, short), cut);
+    let part = frame.get(..47).unwrap_or(&[]);
+    assert_eq!(rt; received(alloc, caller, part, &reply).status, 13);
+    assert_eq!(rt; *caller, open);
+    let returned = Taken {
+        status: 0,
+        heard: 0,
+        read: 48,
+    };
+    assert_eq!(rt; received(alloc, caller, frame, &reply), returned);
+    assert_eq!(rt; (caller.session, caller.last, caller.phase), (1, 0, 2));
+    assert_eq!(rt; received(alloc, caller, frame, &reply).heard, 3);
+}
+
+#[test]
+fn client_of_numbers_and_a_frame(rt: HostRuntime) -> Result<(), Fail> {
+    let mut caller = client();
+    let mut frame = REGISTER;
+    frame[0] = 9;
+    expect_called(&rt, rt.alloc(), &mut caller, &mut frame);
+    assert_eq!(rt; frame.as_slice(), REGISTER.as_slice());
+    assert_eq!(rt; tb_caller_check(rt.alloc(), &caller, &frame), 0);
+    let mut other = caller;
+    other.id_high = 1;
+    assert_eq!(rt; tb_caller_check(rt.alloc(), &other, &frame), 10);
+    other.phase = 4;
+    assert_eq!(rt; tb_caller_check(rt.alloc(), &other, &frame), 13);
+    expect_received(&rt, rt.alloc(), &mut caller, &frame);
     Ok(())
 }
