@@ -54,6 +54,8 @@ def ran(words, given=b"", seconds=120, **how):
 
 def pytest_addoption(parser):
     parser.addoption("--storms", type=int, default=3, help="how often each storm is run")
+    parser.addoption("--drawn", type=int, default=200, help="schedules for each client")
+    parser.addoption("--seed", type=int, default=1, help="of the first schedule")
     parser.addoption("--every", type=int, default=1, help="refuse the first call, each N-th")
     parser.addoption("--seeds", type=int, default=10_000, help="how many the simulator runs")
     parser.addoption("--first-seed", type=int, default=0, help="the first of them")

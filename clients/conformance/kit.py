@@ -5,10 +5,14 @@
     clients/conformance/kit.py --only 'reply-late*' -- COMMAND [WORD ..]
     clients/conformance/kit.py --list
     clients/conformance/kit.py --drawn 200 --seed 1 -- COMMAND [WORD ..]
+    clients/conformance/kit.py --drawn 1 --seed 7 --steps 2,5 -- COMMAND [WORD ..]
 
 With --drawn it runs so many scenarios that are drawn, each by a seed of its own, in place of those
-of scenarios/ (made/sequences.py): what callers do, and what a server does at each sending. A seed
-draws the same scenario again.
+of scenarios/ (made/sequences.py): what callers do, and what a server does at each sending. What the
+client has to send and to report is what the proved session does (made/oracle.py), by the library
+that `rt lib` makes in crates/tb_embed, or by the shared object that TB_EMBED_SO names. A seed draws
+the same scenario again. The first one that fails is shortened, without --first: as long as it fails
+without one of its steps this is left out, for a minute at most.
 
 Prints a line for each scenario that fails, what was passed over, and 'N passed, M failed, K passed
 over'. Status 0 where none failed, 1 where one did, 2 where the runner does not start or the words
@@ -19,10 +23,13 @@ it fails: on a busy computer a right client may miss it, and a wrong one misses 
 """
 import argparse
 import fnmatch
+import functools
 import glob
 import json
 import os
 import queue
+import re
+import subprocess
 import sys
 import tempfile
 import threading
@@ -30,12 +37,14 @@ import time
 
 sys.dont_write_bytecode = True
 HERE = os.path.dirname(os.path.abspath(__file__))
+SHORTENING = 60.0  # seconds
+STEPS = r"none|\d+(,\d+)*"
 FACTORS = (1, 5, 25)  # how many times as long the times of a timed scenario are at each try
 sys.path.insert(0, HERE)
 
 import certificates  # noqa: E402
 from driver import CALL, Run, Skipped  # noqa: E402
-from made import sequences  # noqa: E402
+from made import oracle, sequences  # noqa: E402
 from runner import Ended, Runner  # noqa: E402
 from server import Failed  # noqa: E402
 
@@ -90,11 +99,15 @@ class Kit:
     def begun(self, runner):
         return runner.start()["ok"]
 
-    def one(self, scenario, runner, hello):
-        """Runs a scenario. Whether the runner may go on."""
+    def run_of(self, scenario, runner, hello):
         features = set(hello["features"]) - ({"tls"} if not self.paths else set())
         over = self.given.over or ("unix" if "unix" in features else "tcp")
-        run = Run(scenario, self.begins, runner, features, over, self.paths)
+        return Run(scenario, self.begins, runner, features, over, self.paths)
+
+    def one(self, row, runner, hello):
+        """Runs a scenario. Whether the runner may go on."""
+        scenario = row["make"]() if "make" in row else row
+        run = self.run_of(scenario, runner, hello)
         factors = FACTORS if run.is_timed else FACTORS[:1]
         try:
             count = self.tried(run, runner, factors)
@@ -108,12 +121,30 @@ class Kit:
                 f"{why}\n    {scenario['says']}",
                 "" if isinstance(why, Ended) else runner.said(),
             )
+            if "make" in row and self.failed == [scenario["name"]] and not self.given.first:
+                self.shorten(scenario, runner, hello)
             return False
         with self.lock:
             self.passed, self.unrepresentable = self.passed + 1, self.unrepresentable + count
             if self.given.verbose:
                 print(f"ok: {scenario['name']}", flush=True)
         return True
+
+    def shorten(self, scenario, runner, hello):
+        """Prints the least part of a drawn scenario's steps that was found to fail too."""
+        deadline, least, why = time.monotonic() + SHORTENING, scenario["places"], ""
+        for place in reversed(scenario["places"]):
+            steps = [it for it in least if it != place]
+            fewer = sequences.drawn(scenario["seed"], steps)
+            if time.monotonic() > deadline or self.is_over:
+                break
+            try:
+                runner.start()
+                self.run_of(fewer, runner, hello).run()
+            except (Failed, Ended) as fault:
+                least, why = fewer["places"], f"{fault}\n    {fewer['says']}"
+        if why:
+            print(f"    with fewer steps: {why}", flush=True)
 
     def tried(self, run, runner, factors):
         """Runs a scenario by one factor after another, until it passes. The last one's failure
@@ -177,6 +208,7 @@ def words():
     )
     parser.add_argument("--drawn", metavar="N", type=int, help="run so many that are drawn")
     parser.add_argument("--seed", metavar="N", type=int, default=1, help="of the first of them (1)")
+    parser.add_argument("--steps", metavar="LIST", help="only these steps of one that is drawn")
     parser.add_argument("--jobs", metavar="N", type=int, default=4, help="runners at once (4)")
     parser.add_argument(
         "--over",
@@ -195,14 +227,28 @@ def words():
         parser.error("--jobs is 1 or more: with none no scenario would run")
     if given.seed < 0 or given.drawn is not None and given.drawn < 1:
         parser.error("--drawn is 1 or more, and --seed is 0 or more")
+    if given.steps is not None and (given.drawn != 1 or not re.fullmatch(STEPS, given.steps)):
+        parser.error("--steps is none, or places like 2,5, with --drawn 1")
     return parser, given
+
+
+def drawn(given):
+    """A row for each scenario that is to be drawn. Each is made when its turn comes."""
+    steps = None if given.steps is None else [int(it) for it in re.findall(r"\d+", given.steps)]
+    for seed in range(given.seed, given.seed + given.drawn):
+        make = functools.partial(sequences.drawn, seed, steps)
+        yield {"name": f"drawn-{seed}", "group": "drawn", "says": f"--seed {seed}", "make": make}
 
 
 def main():
     parser, given = words()
     found, begins = scenarios()
     if given.drawn:
-        found = list(map(sequences.drawn, range(given.seed, given.seed + given.drawn)))
+        try:
+            oracle.library()
+        except (OSError, AttributeError, subprocess.SubprocessError) as why:
+            parser.error(f"there is no library to compare with: {why}")
+        found = list(drawn(given))
     chosen = [
         it
         for it in found

@@ -148,6 +148,19 @@ class Drawn(unittest.TestCase):
                     known = [it for it in action if hasattr(Connections, f"do_{it}")]
                     self.assertEqual(len(known), 1, (seed, action))
 
+    def test_a_scenario_without_some_steps(self):
+        whole = sequences.drawn(3)
+        fewer = sequences.drawn(3, whole["places"][:-1])
+        self.assertEqual(fewer["places"], whole["places"][:-1])
+        self.assertEqual(sequences.drawn(3, whole["places"])["steps"], whole["steps"])
+        self.assertTrue(sequences.drawn(3, [])["says"].endswith("--seed 3 --steps none"))
+
+    def test_no_steps(self):
+        for words in (["--steps", "1"], ["--drawn", "2", "--steps", "1"], ["--steps", "1,"]):
+            status, said, faults = ran("kit.py", *words, *RUNNER)
+            self.assertEqual((status, said), (2, ""), words)
+            self.assertIn("--steps is none, or places like 2,5, with --drawn 1", faults)
+
     def test_no_seed_and_no_scenario(self):
         for words in (["--drawn", "0"], ["--drawn", "-1"], ["--drawn", "1", "--seed", "-1"]):
             status, said, faults = ran("kit.py", *words, *RUNNER)

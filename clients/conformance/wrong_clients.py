@@ -2,10 +2,12 @@
 """Sees that the kit catches wrong clients: the client in Python with one thing wrong, each in turn.
 
     clients/conformance/wrong_clients.py [--only PATTERN] [--from N] [--list] [--jobs N] [--texts]
+    clients/conformance/wrong_clients.py --drawn N [--seed N] [--only PATTERN] [--jobs N]
 
-Each wrong client is an edit of clients/python/src/tb_client in a copy of its own. The kit has to fail
-for it; the client as it is has to pass. Prints which scenario caught it, and 'N of M wrong clients
-are caught'. Status 1 where one is not.
+Each wrong client is an edit of clients/python/src/tb_client in a copy of its own. The kit has to
+fail for it; the client as it is has to pass. Prints which scenario caught it, and 'N of M wrong
+clients are caught'. Status 1 where one is not. With --drawn those of sessions (wrong_sessions.py)
+have to fail among so many scenarios that are drawn, without the stored ones.
 """
 import argparse
 import concurrent.futures
@@ -21,6 +23,7 @@ HERE = os.path.dirname(os.path.abspath(__file__))
 PYTHON = os.path.join(os.path.dirname(HERE), "python")
 sys.path.insert(0, HERE)
 
+import wrong_sessions  # noqa: E402
 from choice import add_words, chosen  # noqa: E402
 
 SECONDS = 1800  # that the kit may take for one wrong client
@@ -246,6 +249,9 @@ WRONG = {
     ),
 }
 
+SESSIONS = {**wrong_sessions.WRONG, **{name: WRONG[name] for name in wrong_sessions.OTHERS}}
+WRONG.update(wrong_sessions.WRONG)
+
 
 def edited(folder, edits):
     """A copy of the client with texts in place of others."""
@@ -257,15 +263,15 @@ def edited(folder, edits):
     shutil.copy(f"{PYTHON}/conformance_runner.py", folder)
     for at in range(0, len(edits), 3):
         path, old, new = edits[at : at + 3]
-        with open(f"{folder}/tb_client/{path}", encoding="utf-8") as it:
+        with open(f"{folder}/src/tb_client/{path}", encoding="utf-8") as it:
             text = it.read()
         if text.count(old) != 1:
             raise LookupError(f"{path} has {text.count(old)} times: {old.strip().splitlines()[0]}")
-        with open(f"{folder}/tb_client/{path}", "w", encoding="utf-8") as it:
+        with open(f"{folder}/src/tb_client/{path}", "w", encoding="utf-8") as it:
             it.write(text.replace(old, new))
 
 
-def caught(edits, jobs):
+def caught(edits, jobs, drawn=()):
     """The kit's status for an edited client, and the scenario that failed first."""
     with tempfile.TemporaryDirectory() as folder:
         edited(folder, edits)
@@ -277,6 +283,7 @@ def caught(edits, jobs):
             "--first",
             "--jobs",
             str(jobs),
+            *drawn,
             "--",
             *runner,
         ]
@@ -297,9 +304,11 @@ def words():
         "--texts", action="store_true", help="see that each text is there, and run nothing"
     )
     parser.add_argument("--jobs", metavar="N", type=int, default=4, help="kits at once (4)")
+    parser.add_argument("--drawn", metavar="N", type=int, help="over so many drawn scenarios")
+    parser.add_argument("--seed", metavar="N", type=int, default=1, help="of the first one (1)")
     given = parser.parse_args()
-    if given.jobs < 1:
-        parser.error("--jobs is 1 or more")
+    if given.jobs < 1 or given.drawn is not None and given.drawn < 1 or given.seed < 0:
+        parser.error("--jobs and --drawn are 1 or more, and --seed is 0 or more")
     return given
 
 
@@ -319,16 +328,17 @@ def texts(tried):
 
 def main():
     given = words()
-    tried = chosen(WRONG, given)
+    tried = chosen(SESSIONS if given.drawn else WRONG, given)
     if given.texts:
         return texts(tried)
-    status, said = caught((), 4)
+    drawn = ["--drawn", str(given.drawn), "--seed", str(given.seed)] if given.drawn else []
+    status, said = caught((), 4, drawn)
     if status:
         print(f"FAILED: the client as it is: {said}")
         return 1
     missed = 0
     with concurrent.futures.ThreadPoolExecutor(given.jobs) as pool:
-        runs = {name: pool.submit(caught, edits, 1) for name, edits in tried.items()}
+        runs = {name: pool.submit(caught, edits, 1, drawn) for name, edits in tried.items()}
         for name, run in runs.items():
             try:
                 status, said = run.result()

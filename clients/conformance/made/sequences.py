@@ -1,8 +1,9 @@
 """Scenarios that are drawn by a seed: what callers do, and what a server does at each sending.
 
-`Drawn` has a client by the rules of PROTOCOL.md, and sessions of a ledger by docs/use/RULES.md. It
-draws one step after another, and what the rules leave open it does not draw."""
-import copy
+What a client may send, and what it makes of the bytes that a server sends, the proved session says
+(oracle.py); what a connection does is by the rules of PROTOCOL.md, and the sessions of a ledger are
+by docs/use/RULES.md. `Drawn` draws one step after another, each by the seed and its place, so that
+a scenario without some of its steps is one too."""
 import dataclasses
 import random
 import struct
@@ -15,7 +16,6 @@ from .frames import (
     FIND_ACCOUNTS,
     FIND_TRANSFERS,
     LONG,
-    NAMES,
     REGISTER,
     SHORT,
     TABLE,
@@ -40,17 +40,15 @@ from .frames import (
     results,
     retry,
     save,
-    saved,
     send,
     told,
     transfer_bytes,
-    u128,
     whole_account,
     whole_transfer,
 )
+from .oracle import STATUSES, Asked, Fields, Held, Phase  # noqa: F401
 
 HEADER = 48
-STATUSES = {row["number"]: row["name"] for row in TABLE["statuses"]}
 NOT_YET = 7
 TOLD = {row["name"]: row["executed"] for row in TABLE["told"]}
 NAMED = [name for name in TOLD if name not in ("Busy", "Starting")]
@@ -61,35 +59,6 @@ CREATES = {
 FOUND = {FIND_ACCOUNTS: ACCOUNTS, FIND_TRANSFERS: TRANSFERS}
 SERVERS = ("a", "b", "c")
 UNREAD_MAX = 10_000  # bytes that a socket takes while nobody reads them
-
-
-@dataclasses.dataclass
-class Asked:
-    """A request in doubt."""
-
-    number: int
-    operation: int
-    items: list
-    frame: bytes
-
-
-@dataclasses.dataclass
-class Held:
-    """What a session is, as its object has it and as a file keeps it."""
-
-    client: int
-    session: int = 0
-    number: int = 0
-    asked: Asked = None
-
-    @property
-    def pending(self):
-        return self.asked.frame if self.asked else b""
-
-    @property
-    def shown(self):
-        numbers = {"client": self.client, "session": self.session, "number": self.number}
-        return {**{name: str(it) for name, it in numbers.items()}, "pending": self.pending.hex()}
 
 
 @dataclasses.dataclass
@@ -198,12 +167,13 @@ def record(draw, kind, id):
 class Drawn:
     """One scenario."""
 
-    def __init__(self, seed):
-        self.seed, self.draw = seed, random.Random(seed)
+    def __init__(self, seed, only=None):
+        """The scenario of a seed; or what `only` some of its steps, by their places, make."""
+        self.seed, self.only, self.draw = seed, only, random.Random(seed)
         self.ledger = Ledger(self.draw)
         self.steps, self.server = [], []
         self.lines, self.held, self.on, self.attempts, self.files = {}, {}, {}, {}, {}
-        self.names = iter(range(10**6))
+        self.names, self.places = iter(range(10**6)), []
         self.ids = iter(range(1000 * (seed % 10**9 + 1), 10**18))
         kind = self.draw.random()
         self.is_hurried, self.is_cancelling = kind < 0.12, 0.12 <= kind < 0.2
@@ -244,8 +214,11 @@ class Drawn:
     def scenario(self):
         self.connects("t")
         self.registers("s")
-        for _ in range(self.draw.randrange(4, 24)):
-            self.one_step()
+        for place in range(self.draw.randrange(4, 24)):
+            if self.only is None or place in self.only:
+                self.draw.seed(f"{self.seed} {place}")
+                self.one_step()
+                self.places.append(place)
         for name in list(self.held):
             self.tests(name)
         kind = {"tls": {"cert": "server"}} if self.over == "tls" else {}
@@ -256,13 +229,18 @@ class Drawn:
         }
         return {
             "name": f"drawn-{self.seed}",
-            "says": f"The same again: --drawn 1 --seed {self.seed}",
+            "says": f"The same again: --drawn 1 --seed {self.seed}{self.chosen()}",
             "group": "drawn",
+            "seed": self.seed,
+            "places": self.places,
             **({"over": "tcp"} if self.over else {}),
             "servers": {name: kind for name in self.servers},
             "needs": [name for name, holds in needs.items() if holds],
             "steps": self.steps,
         }
+
+    def chosen(self):
+        return "" if self.only is None else f" --steps {','.join(map(str, self.places)) or 'none'}"
 
     def one_step(self):
         usual = {
@@ -325,19 +303,27 @@ class Drawn:
             "attempts": attempts,
             "pause": 0.01,
         }
-        held = Held(client)
-        held.asked = Asked(0, REGISTER, [], registers(client))
+        held = Held.new(client)
         self.held[name], self.on[name], self.attempts[name] = held, line, attempts
         if self.draw.random() < 0.5:
-            self.steps.append(
-                {"call": {**call, "do": "open"}, "wants": {"ok": {"client": str(client)}}}
-            )
+            self.opens(name, call, client)
+            held.call([], registers(client))
             self.steps.append(prepare(REGISTER, session=name))
             self.calls(name, lambda server, wants: retry(server, wants, name))
             return
+        held.call([], registers(client))
         self.calls(name, lambda server, wants: self.registering(call, server, wants))
-        if not held.session:
+        if not self.held[name].session:
             del self.held[name]
+
+    def opens(self, name, call, client):
+        """A session that is not registered, and perhaps a request that it cannot make yet."""
+        wants = {"ok": {"client": str(client)}}
+        self.steps.append({"call": {**call, "do": "open"}, "wants": wants})
+        if self.draw.random() < 0.2:
+            operation = self.draw.choice((*CREATES, *FOUND))
+            items = self.drawn_items(operation)
+            self.steps.append(ask(operation, items, (), self.make(name, operation, items), name))
 
     @staticmethod
     def registering(call, server, wants):
@@ -351,15 +337,18 @@ class Drawn:
     def resumes(self):
         """A session whose numbers are nearly used up."""
         name, line, client = f"s{next(self.names)}", self.open_line(), next(self.ids)
-        held = Held(client, self.ledger.commit or 1, U32 - self.draw.randrange(4))
+        last = U32 - self.draw.randrange(4)
+        held = Held(Fields(client, self.ledger.commit or 1, last, Phase.IDLE))
         self.ledger.commit = held.session
-        self.ledger.rows[client] = Row(held.session, held.number, b"", b"", {})
+        self.ledger.rows[client] = Row(held.session, last, b"", b"", {})
         self.held[name], self.on[name], self.attempts[name] = held, line, 2
         call = {"do": "resume", "session": name, "transport": line, "saved": held.shown}
         call = {**call, "attempts": 2, "pause": 0.01}
         self.steps.append({"call": call, "wants": {"ok": held.shown}})
 
     def drawn_items(self, operation):
+        if operation == REGISTER:
+            return []
         count = self.draw.choice((0, 1, 1, 2, 3, 8))
         if self.draw.random() < 0.02:
             count = 2000  # more than a socket holds
@@ -369,18 +358,10 @@ class Drawn:
         return [str(it) for it in ids]
 
     def make(self, name, operation, items):
-        """The next request of a session, or why there is none."""
-        held = self.held[name]
-        if held.asked:
-            return error("InDoubt", sent=False)
-        if not held.session:
-            return error("InvalidValue", sent=False, field="session")
-        if held.number == U32:
-            return error("InvalidValue", sent=False, field="number")
-        number = held.number + 1
-        frame = request(number, operation, BODIES[operation](items), held.session, held.client)
-        held.asked = Asked(number, operation, items, frame)
-        return None
+        """Makes the next request of a session. None, or what a client says if there is none."""
+        if operation == REGISTER:
+            return self.held[name].call(items, registers())
+        return self.held[name].call(items, request(1, operation, BODIES[operation](items)))
 
     def asks(self):
         free = [name for name, it in self.held.items() if it.session and not it.asked]
@@ -388,20 +369,20 @@ class Drawn:
         if name is None or not free and self.draw.random() < 0.7:
             return self.registers_another()
         operation = self.draw.choice((*CREATES, *FOUND))
-        items = self.drawn_items(operation)
+        items, before = self.drawn_items(operation), self.held[name].copy()
         fault = self.make(name, operation, items)
         if fault:
             self.steps.append(ask(operation, items, (), fault, name))
             return None
         return self.calls(
-            name, lambda server, wants: ask(operation, items, server, wants, name), is_ask=True
+            name, lambda server, wants: ask(operation, items, server, wants, name), before
         )
 
     def prepares(self):
         name = self.any_session()
         if name is None:
             return
-        operation = self.draw.choice((*CREATES, *FOUND))
+        operation = self.draw.choice((*CREATES, *FOUND) * 5 + (REGISTER,))
         items = self.drawn_items(operation)
         self.steps.append(prepare(operation, items, self.make(name, operation, items), name))
         if self.draw.random() < 0.5:
@@ -425,7 +406,8 @@ class Drawn:
 
     def tests(self, name):
         held = self.held[name]
-        self.steps.append(saved(held.number, held.pending, held.session, held.client, name))
+        call = {"do": "saved", "session": name}
+        self.steps.append({"call": call, "wants": {"ok": held.shown}})
 
     def tells_doubt(self):
         name = self.any_session()
@@ -438,21 +420,14 @@ class Drawn:
         asked, shown = held.asked, held.asked.items
         if asked.operation in CREATES:
             shown = [CREATES[asked.operation][3](it) for it in shown]
-        numbers = {
-            "client": str(held.client),
-            "session": str(held.session),
-            "number": str(asked.number),
-        }
-        self.steps.append(
-            in_doubt({**numbers, "operation": NAMES[asked.operation], "items": shown}, name)
-        )
+        self.steps.append(in_doubt({**held.shown_doubt, "items": shown}, name))
 
     def saves(self, name=None):
         name = name or self.any_session()
         if name is None:
             return
         path = f"{self.draw.choice('xyz')}.json"
-        self.files[path] = copy.copy(self.held[name])
+        self.files[path] = self.held[name].copy()
         self.steps.append(save(path, name))
 
     def loads(self):
@@ -460,7 +435,7 @@ class Drawn:
         path = self.draw.choice(list(self.files))
         name = self.draw.choice((*self.held, f"s{next(self.names)}"))
         line = self.open_line()
-        self.held[name], self.on[name] = copy.copy(self.files[path]), line
+        self.held[name], self.on[name] = self.files[path].copy(), line
         self.attempts[name] = 2
         self.steps.append(load({"ok": self.held[name].shown}, path, name, line))
         if self.held[name].asked and self.draw.random() < 0.7:
@@ -552,15 +527,17 @@ class Drawn:
 
     # A call, and its sendings
 
-    def calls(self, name, step, is_ask=False):
+    def calls(self, name, step, before=None):
         """A call of a session that sends its request. `step` is given what the server does, and
-        what the call answers."""
+        what the call returns. A call that made its request itself, and could not send it, is as if
+        it had not been: the session is as `before`."""
+        self.held[name] = self.held[name].copy()  # after its end a session goes on as from a file
         line, held = self.line_of(name), self.held[name]
         self.server = []
         self.cancels = self.is_cancelling and self.draw.random() < 0.3
         wants, was_sent = self.outcome(line, held, self.attempts[name])
-        if is_ask and not was_sent:  # it is as if it had not been asked for
-            held.asked = None
+        if before and not was_sent:
+            self.held[name] = before
         made = step(self.server, wants)
         if self.cancels:
             made["call"]["within"] = 0.4 if wants.get("error") == "Cancelled" else 30.0
@@ -634,16 +611,6 @@ class Drawn:
     def executed(self, held):
         return self.ledger.reply_to(held.client, held.asked, held.session)
 
-    def taken(self, held, says):
-        """What a caller is told of a reply to its request."""
-        if isinstance(says, str):
-            return says == STATUSES[NOT_YET], error(says, sent=True)
-        asked = held.asked
-        held.number, held.asked = asked.number, None
-        if asked.operation == REGISTER:
-            held.session = int(says["session"])
-        return False, {"ok": says}
-
     @staticmethod
     def lost(name=""):
         return True, error("ReplyLost", sent=True, told=name)
@@ -653,17 +620,17 @@ class Drawn:
         frame, says = self.executed(held)
         cuts = sorted(self.draw.sample(range(1, len(frame)), self.draw.choice((0, 0, 1, 3))))
         self.server.append(send(frame, line.connection, **({"cuts": cuts} if cuts else {})))
-        return self.taken(held, says)
+        return held.hears(frame, says)
 
     def answers_twice(self, line, held):
         self.reads(line, held)
         frame, says = self.executed(held)
         if len(frame) > UNREAD_MAX:
             self.server.append(send(frame, line.connection))
-            return self.taken(held, says)
+            return held.hears(frame, says)
         self.server.append(send(frame + frame, line.connection))
         line.is_left, line.is_read = True, False
-        return self.taken(held, says)
+        return held.hears(frame, says)
 
     def closes_early(self, line, held):
         place = self.draw.randrange(1, len(held.asked.frame))
@@ -746,7 +713,7 @@ class Drawn:
         asked = held.asked
         frame = refusal(asked.number, asked.operation, status, held.session, held.client)
         self.server.append(send(frame, line.connection))
-        return self.taken(held, STATUSES[status])
+        return held.hears(frame)
 
     def evicts(self, line, held):
         self.ledger.rows.pop(held.client, None)
@@ -758,41 +725,48 @@ class Drawn:
         return self.draw.choice(short or [registers()])
 
     def answers_another(self, line, held):
-        """The reply to a request of before, or one that differs in one field of its header."""
+        """The reply to a request of before, or one that differs in what names its request."""
         self.reads(line, held)
         frame, says = self.executed(held)
-        if isinstance(says, str) or self.draw.random() < 0.5:
+        if isinstance(says, str) or self.draw.random() < 0.3:
             wrong = self.stale()
         else:
-            places = [0, 15, 24, 27, *((16, 23) if held.session else ())]
-            place = self.draw.choice(places)
-            wrong = frame[:place] + bytes([frame[place] ^ 0x40]) + frame[place + 1 :]
-        if self.is_of(wrong, held):
+            wrong = self.renamed(frame)
+        if held.is_for(wrong):
             wrong = bytes([0xFF]) * HEADER
-        return self.bad(line, wrong)
+        return self.bad(line, held, wrong)
 
-    @staticmethod
-    def is_of(frame, held):
-        """Whether the header of a reply is of the request in doubt."""
-        client, rest = frame[:16], struct.unpack_from("<QIB", frame, 16)
-        asked = held.asked
-        is_same = (rest[1], rest[2]) == (asked.number, asked.operation)
-        is_session = asked.operation == REGISTER or rest[0] == held.session
-        return client == u128(held.client) and is_same and is_session
+    def renamed(self, frame):
+        """A reply of another client, session, number or operation, which differs in one bit if it
+        can; with the greatest commit, so that every session may have one."""
+        client, session, number, operation = struct.unpack_from("<16sQIB", frame)
+        bit = self.draw.randrange(128)
+        kind = self.draw.randrange(4)
+        if kind == 0:
+            client = (int.from_bytes(client, "little") ^ 1 << bit).to_bytes(16, "little")
+        elif kind == 1:
+            session ^= 1 << bit % 64
+        elif kind == 2:
+            number ^= 1 << bit % 32
+        else:
+            operation = {ACCOUNTS: TRANSFERS, TRANSFERS: ACCOUNTS}.get(operation, operation ^ 7)
+        header = client + struct.pack("<QIB", session, number, operation) + frame[29:36]
+        return header + b"\xff" * 8 + frame[44:]
 
     def says_what_is_none(self, line, held):
         self.reads(line, held)
         if self.draw.random() < 0.5:
             self.executed(held)
         junk = bytes([0xFF, *(self.draw.randrange(256) for _ in range(self.draw.choice((47, 99))))])
-        return self.bad(line, junk[:29] + b"\xff" + junk[30:])
+        return self.bad(line, held, junk[:29] + b"\xff" + junk[30:])
 
-    def bad(self, line, wrong):
+    def bad(self, line, held, wrong):
         self.lose(line, send(wrong, line.connection), {"ended": line.connection})
-        return False, error("BadReply", sent=True)
+        return held.hears(wrong)
 
     def answers_wrongly(self, line, held):
-        """A header that is right, and a body that no reply to this request has."""
+        """A header that is right, and a body that no reply to this request has: such a frame the
+        client takes for none, as docs/use/CLIENTS.md says."""
         asked = held.asked
         if asked.operation == REGISTER:
             return self.answers_another(line, held)
@@ -829,5 +803,5 @@ class Drawn:
         return False, error("Cancelled", sent=True)
 
 
-def drawn(seed):
-    return Drawn(seed).scenario()
+def drawn(seed, only=None):
+    return Drawn(seed, only).scenario()
