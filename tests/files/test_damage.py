@@ -1,0 +1,211 @@
+"""A ledger's file of twenty batches, damaged at every place that matters, and each form over it.
+
+    python3 -m pytest -m quick tests/files/test_damage.py    a sample
+    python3 -m pytest -m slow -s tests/files/test_damage.py  all of it
+
+Every byte of the magic, of latches, lengths and checksums, and a sample of the records, is set to
+0, to 255 and to one flipped bit; runs of 4, 16 and 512 bytes are set to zeros; the file is cut at
+each length. At no place is an entry absent after a start that ends with 0, no form disagrees with
+`run`, and none shows anything but the history that was served, from its beginning on.
+"""
+
+import collections
+import contextlib
+import os
+import random
+import shutil
+import struct
+import subprocess
+import tempfile
+from dataclasses import dataclass
+from pathlib import Path
+
+import pytest
+from tb_client import HEADER, Account, Operation, Transfer, reply_length, request_frame
+
+MAGIC = b"TBJRNL02"
+LATCH, LENGTH, CHECKSUM = 4, 3, 4  # bytes of each in a block, before its record
+BATCHES, SEED, SECONDS = 20, 7, 60
+FORMS = ("check", "dump", "backup")  # that only read FILE
+REFUSED = (5, 6)  # exit statuses: NotAJournal, Damaged
+
+
+def pair(number, operation, body=b"", session=1):
+    """A moment and the frame of a request of client 7."""
+    frame = request_frame(7, session, number, operation, body)
+    return struct.pack("<Q", 10 + number) + frame
+
+
+def batches():
+    """The requests of each batch: one transfer, many, or some requests at once."""
+    accounts = b"".join(Account(id=it, ledger=700, code=10).to_bytes() for it in (1, 2))
+    yield [pair(0, Operation.register, session=0)]
+    yield [pair(1, Operation.create_accounts, accounts)]
+    number, ids = 1, iter(range(100, 100000))
+    for batch in range(BATCHES - 2):
+        requests, events = (3, 1) if batch % 3 == 2 else (1, 60 if batch % 3 else 1)
+        made = []
+        for _ in range(requests):
+            number += 1
+            moved = (Transfer(next(ids), 1, 2, 1, ledger=700, code=10) for _ in range(events))
+            body = b"".join(it.to_bytes() for it in moved)
+            made.append(pair(number, Operation.create_transfers, body))
+        yield made
+
+
+def serve(tbd, path):
+    """Makes the file: each batch is sent when the one before it was answered."""
+    process = subprocess.Popen(
+        [tbd, "run", path, "8"],
+        stdin=subprocess.PIPE,
+        stdout=subprocess.PIPE,
+        stderr=subprocess.DEVNULL,
+    )
+    for batch in batches():
+        process.stdin.write(b"".join(batch))
+        process.stdin.flush()
+        for _ in batch:
+            head = process.stdout.read(HEADER)
+            process.stdout.read(reply_length(head) - HEADER)
+    process.stdin.close()
+    assert process.wait(SECONDS) == 0
+
+
+def places(data):
+    """The offsets of the bytes of magic, latches, lengths and checksums, and those of records."""
+    numbers, records, at = list(range(len(MAGIC))), [], len(MAGIC)
+    while at + LATCH < len(data):
+        head = at + LATCH + LENGTH + CHECKSUM
+        length = int.from_bytes(data[at + LATCH : at + LATCH + LENGTH], "little")
+        numbers += range(at, head)
+        records += range(head, head + length)
+        at = head + length
+    assert at + LATCH == len(data)
+    return numbers + list(range(at, len(data))), records
+
+
+@dataclass
+class Made:
+    """A folder for damaged files, the bytes of a whole one, and its history as a dump."""
+
+    tbd: str
+    folder: Path
+    data: bytes
+    dump: bytes
+    counts: collections.Counter
+
+    def ran(self, *words):
+        done = subprocess.run(
+            [self.tbd, *words],
+            cwd=self.folder,
+            stdin=subprocess.DEVNULL,
+            capture_output=True,
+            timeout=SECONDS,
+            check=False,
+        )
+        return done.returncode, done.stdout, done.stderr
+
+    def begins(self, dump):
+        """Whether a dump is the whole history, or a part that it begins with."""
+        return self.dump.startswith(dump)
+
+    def tries(self, name, data):
+        """Runs each form over such a file."""
+        for it in self.folder.iterdir():
+            it.unlink()
+        (self.folder / "ledger").write_bytes(data)
+        seen = {form: self.ran(form, "ledger", *["new"][: form == "backup"]) for form in FORMS}
+        status, _, said = self.ran("run", "ledger", "8", "--existing")
+        self.counts[status] += 1
+        assert status in (0, *REFUSED), (name, said)
+        for form, (it, out, line) in seen.items():
+            assert it == status, (name, form, it, status, said, line)
+            assert not status or line == said, (name, form, said, line)
+            assert form != "dump" or self.begins(out), (name, form)
+        if status == 0:
+            assert self.ran("dump", "ledger")[1] == self.dump, name
+        else:
+            assert (self.folder / "ledger").read_bytes() == data, name
+            self.salvages(name)
+
+    def salvages(self, name):
+        """What is salvaged is a history that the whole one begins with."""
+        (self.folder / "new").unlink(missing_ok=True)
+        status, _, said = self.ran("salvage", "ledger", "new")
+        assert status in (0, *REFUSED), (name, said)
+        if status == 0:
+            assert self.begins(self.ran("dump", "new")[1]), name
+
+
+@pytest.fixture(scope="module", name="made")
+def fixture_made(program):
+    """In memory, where that is possible: a start syncs the file."""
+    memory = "/dev/shm" if os.path.isdir("/dev/shm") else None
+    tbd = str(program("tbd").resolve())
+    with contextlib.ExitStack() as stack:
+        room = Path(stack.enter_context(tempfile.TemporaryDirectory(dir=memory)))
+        serve(tbd, str(room / "whole"))
+        dump = subprocess.run([tbd, "dump", room / "whole"], capture_output=True, check=True)
+        (room / "damaged").mkdir()
+        data = (room / "whole").read_bytes()
+        assert data.startswith(MAGIC), "the file has another format"
+        yield Made(tbd, room / "damaged", data, dump.stdout, collections.Counter())
+        shutil.rmtree(room / "damaged")
+
+
+def flipped(data, at, value):
+    """The data with one byte changed; None where that changes nothing."""
+    changed = bytearray(data)
+    changed[at] = value
+    return None if changed == data else bytes(changed)
+
+
+def bytes_of(data, offsets, rng):
+    """Each of these bytes set to 0, to 255 and to one flipped bit."""
+    for at in offsets:
+        for value in (0, 255, data[at] ^ 1 << rng.randrange(8)):
+            changed = flipped(data, at, value)
+            if changed is not None:
+                yield f"byte {at} is {value}", changed
+
+
+def runs_of(data, offsets):
+    """Runs of zeros that begin at these bytes."""
+    for at in offsets:
+        for count in (4, 16, 512):
+            end = min(at + count, len(data))
+            yield f"{count} zeros from {at} on", data[:at] + bytes(end - at) + data[end:]
+
+
+def cuts_of(data, lengths):
+    for length in lengths:
+        yield f"cut to {length} bytes", data[:length]
+
+
+def all_damages(made, records, runs, rng):
+    numbers, others = places(made.data)
+    yield from bytes_of(made.data, numbers, rng)
+    yield from bytes_of(made.data, rng.sample(others, records), rng)
+    yield from runs_of(made.data, [*numbers, *rng.sample(others, runs)])
+    yield from cuts_of(made.data, range(1, len(made.data)))
+
+
+def tried(made, damages):
+    """Tries them, and prints what became of them."""
+    made.counts.clear()
+    for name, data in damages:
+        made.tries(name, data)
+    counts = dict(made.counts)
+    print(f"{sum(counts.values())} damages: {counts.get(0, 0)} served whole, {counts} by status")
+
+
+@pytest.mark.quick
+def test_a_sample_of_damages(made):
+    rng = random.Random(SEED)
+    every = list(all_damages(made, 100, 20, rng))
+    tried(made, rng.sample(every, 60))
+
+
+@pytest.mark.slow
+def test_every_damage(made):
+    tried(made, all_damages(made, 2000, 200, random.Random(SEED)))
