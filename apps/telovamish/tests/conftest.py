@@ -1,21 +1,24 @@
-"""What the tests share: the command, and the programs that it stands on."""
+"""What the tests share: the command, and the programs that it runs."""
 from __future__ import annotations
 
 import os
 import pathlib
 import subprocess
-from typing import Optional
+from typing import TYPE_CHECKING, Iterator, Optional
 
 import pytest
 
 from telovamish.programs import found
+
+if TYPE_CHECKING:
+    from terminals import Terminal
 
 APP = pathlib.Path(__file__).resolve().parent.parent
 COMMAND = APP / "telovamish"
 
 
 def ran(*words: str, given: bytes = b"", env: Optional[dict[str, str]] = None):
-    """The command's exit status, what it wrote, and what it told."""
+    """The command's exit status, what it wrote, and what it printed on standard error."""
     it = subprocess.run(
         [str(COMMAND), *words],
         input=given,
@@ -41,3 +44,24 @@ def tbs() -> str:
 @pytest.fixture(scope="session")
 def tbd() -> str:
     return needed("tbd")
+
+
+@pytest.fixture
+def env(tbs: str, tbd: str) -> dict[str, str]:
+    return {"TBS": tbs, "TBD": tbd}
+
+
+@pytest.fixture
+def state(tmp_path: pathlib.Path) -> str:
+    return str(tmp_path / "state")
+
+
+@pytest.fixture
+def terminal(state: str, tbs: str) -> "Iterator[Terminal]":
+    """The command at a terminal, at its first prompt."""
+    from terminals import Terminal  # which needs COMMAND
+
+    it = Terminal(state=state, env={"TBS": tbs})
+    it.wait("> ")
+    yield it
+    it.close()

@@ -27,7 +27,8 @@ KINDS |= {"lookup_accounts": {"id": 128}, "lookup_transfers": {"id": 128}}
 NUMBERS = dict(zip(("register", "create_accounts", "create_transfers"), (2, 129, 130)))
 NUMBERS |= {"lookup_accounts": 131, "lookup_transfers": 132}
 FLAGS = {
-    "create_accounts": "linked debits_must_not_exceed_credits credits_must_not_exceed_debits history"
+    "create_accounts": "linked debits_must_not_exceed_credits"
+    " credits_must_not_exceed_debits history"
     " imported closed",
     "create_transfers": "linked pending post_pending_transfer void_pending_transfer balancing_debit"
     " balancing_credit closing_debit closing_credit imported",

@@ -9,6 +9,7 @@ from typing import Iterator
 
 from conftest import APP
 
+UPPER = 1 << 64  # a client id's upper half
 LISTENER = APP.parent / "host" / "tb-listen"
 sys.path.append(str(APP.parent.parent / "clients" / "conformance"))
 

@@ -3,6 +3,7 @@ within the test."""
 from __future__ import annotations
 
 import contextlib
+import functools
 import io
 import json
 import lzma
@@ -10,7 +11,7 @@ import os
 import pathlib
 import sys
 import tempfile
-from typing import IO, Any, Iterator, NamedTuple, Sequence
+from typing import IO, Any, Iterator, NamedTuple
 from unittest import mock
 
 from telovamish import commands
@@ -30,20 +31,20 @@ class Answer(NamedTuple):
 
     status: int
     out: str
-    told: str
+    errors: str
 
 
 def called(*words: str, given: bytes = b"") -> Answer:
-    """The command's exit status, what it wrote, and what it told, without a process of its own."""
-    out, told = io.TextIOWrapper(io.BytesIO(), write_through=True), io.StringIO()
+    """What the command does, without a process of its own."""
+    out, errors = io.TextIOWrapper(io.BytesIO(), write_through=True), io.StringIO()
     with tempfile.TemporaryFile() as file, standard_input(file) as stdin:
         file.write(given)
         file.seek(0)
         argv = ["telovamish", *words]
-        with mock.patch.multiple(sys, stdin=stdin, stdout=out, stderr=told, argv=argv):
+        with mock.patch.multiple(sys, stdin=stdin, stdout=out, stderr=errors, argv=argv):
             status = commands.ran()
     out.seek(0)
-    return Answer(status, out.buffer.read().decode("latin-1"), told.getvalue())
+    return Answer(status, out.buffer.read().decode("latin-1"), errors.getvalue())
 
 
 @contextlib.contextmanager
@@ -59,12 +60,19 @@ def standard_input(file: IO[bytes]) -> Iterator[IO[str]]:
         os.close(kept)
 
 
-def as_now(told: str, differences: Sequence[tuple[str, str, str]] = ()) -> str:
-    """What the old command told, as this one is to tell it."""
-    told = told.replace("tbt", "telovamish")
-    for old, new, _ in differences:
-        told = told.replace(old, new)
-    return told
+# words of the old command's messages, and those of this one
+WORDS = [
+    ("tbt", "telovamish"),
+    (" tells where it ends", " finds where it ends"),
+    (" tells what is in it", " shows what is in it"),
+    ("; where its request is new, ", "; if its request is new, "),
+    (", where ", ", and "),
+]
+
+
+def as_now(errors: str) -> str:
+    """A message of the old command, as this one is to print it."""
+    return functools.reduce(lambda text, words: text.replace(*words), WORDS, errors)
 
 
 Found = Iterator[tuple[Row, Answer, Answer]]
@@ -80,7 +88,7 @@ def compare(found: Found) -> None:
 
 
 def at_difference(wanted: Answer, got: Answer) -> str:
-    """Where two answers part."""
+    """Where two answers differ."""
     name = next(it for it in Answer._fields if getattr(wanted, it) != getattr(got, it))
     a, b = str(getattr(wanted, name)), str(getattr(got, name))
     place = next((at for at, (x, y) in enumerate(zip(a, b)) if x != y), min(len(a), len(b)))

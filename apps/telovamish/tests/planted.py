@@ -60,7 +60,7 @@ BUGS = [
     ("sending", "history.is_repeat(pair, reply)", "False", SENDS),
     ("sending", "raise Late()", "pass", SENDS),
     ("explain", "end_of(data, at, PAIR)", "end_of(data, at, ENTRY)", TOLD),
-    ("explain", 'told("pair", number, at, SAYS', 'told("pair", number - 1, at, SAYS', TOLD),
+    ("explain", 'errors("pair", number, at, SAYS', 'errors("pair", number - 1, at, SAYS', TOLD),
     ("explain", "at, may_be_marked = at + ENTRY, False", "at += ENTRY", TOLD),
     ("audit", "after < item.commit", "after <= item.commit", AUDITS),
     ("audit", "first <= item.time <= last", "first <= item.time < last", AUDITS),

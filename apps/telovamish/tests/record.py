@@ -7,7 +7,7 @@ It was run over commit 6a0631bb, the last with that command (`tbt`). TBT and TBS
 builds with checks at run time (`rt try` in crates/tbt and crates/tbs). The command is gone, so this
 says how the files of recorded/ were made, and what they keep of each answer. A file has a JSON
 object a line, compressed by xz. Texts are bytes decoded as latin-1; frames and dumps are in
-hexadecimal digits. The drawing modules had fewer kinds of histories then.
+hexadecimal digits.
 """
 from __future__ import annotations
 
@@ -44,8 +44,12 @@ def ran(words: list[str], data: bytes) -> tuple[int, bytes, str]:
 
 def answers(form: list[str], data: bytes, is_text: bool = True) -> Row:
     """What the command makes of its input."""
-    status, out, told = ran([TBT, *form], data)
-    return {"status": status, "out": out.decode("latin-1") if is_text else out.hex(), "told": told}
+    status, out, errors = ran([TBT, *form], data)
+    return {
+        "status": status,
+        "out": out.decode("latin-1") if is_text else out.hex(),
+        "errors": errors,
+    }
 
 
 def keep(name: str, rows: Iterable[Row]) -> None:
@@ -124,8 +128,8 @@ def drawn() -> list[Row]:
 
 
 def wrong() -> list[Row]:
-    """Texts of one or two statements that were damaged, half of them after a right one. 16,486 of
-    20,000 were kept, with the length of what was right before the fault."""
+    """Texts of one or two statements that were damaged, half of them after a right one. Of what was
+    right before the fault the length is kept."""
     seed, texts = random.Random(102), []
     for turn in range(20000):
         before = statement(seed, is_whole=True).encode() if turn % 2 else b""
@@ -218,7 +222,7 @@ OPTIONS += [["--account", "99"], ["--follow"]]
 
 
 def audits() -> list[Row]:
-    """The audits of drawn histories, and by options those of two. 121 of 200 were kept."""
+    """The audits of 200 drawn histories, of each tenth of them by options too."""
     seed, items = random.Random(104), []
     for turn in range(200):
         dump = dump_of(seed, 150 if turn % 40 == 0 else seed.choice([10, 20, 40]))[1]

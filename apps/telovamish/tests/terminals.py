@@ -24,11 +24,17 @@ def cleaned(text: str) -> str:
 class Terminal:
     """Types, and reads what is shown."""
 
-    def __init__(self, *words: str, state: str, env: Optional[dict[str, str]] = None) -> None:
+    def __init__(
+        self,
+        *words: str,
+        state: str,
+        env: Optional[dict[str, str]] = None,
+        program: str = str(COMMAND),
+    ) -> None:
         known = {"XDG_STATE_HOME": state, "TERM": "xterm", "NO_COLOR": "1", "PAGER": "cat"}
         self.began = time.monotonic()
         self.child = pexpect.spawn(
-            str(COMMAND),
+            program,
             [*words],
             env={**os.environ, **known, **(env or {})},
             dimensions=(50, 160),
@@ -63,11 +69,18 @@ class Terminal:
         self.child.send(text)
 
     def enter(self, line: str, until: str) -> str:
-        """Types a line and Enter; what is shown up to a text behind it."""
+        """Types a line and Enter; what is shown up to a text after it."""
         self.type(line)
         self.wait(line[-10:])
         self.type("\r")
         return self.wait(until)
+
+    def rest(self) -> str:
+        """What is shown up to its end."""
+        with contextlib.suppress(pexpect.EOF):
+            while True:
+                self.raw += self.child.read_nonblocking(65536, 30)
+        return self.shown[self.seen :]
 
     def ended(self) -> int:
         """The exit status."""

@@ -1,4 +1,4 @@
-"""Ledgers in files and behind connections."""
+"""Ledgers in files and over connections."""
 from __future__ import annotations
 
 import shutil
@@ -7,18 +7,12 @@ import time
 
 import pytest
 from conftest import COMMAND, ran
-from listeners import certificates_in, listening
-from terminals import Terminal
+from listeners import UPPER, certificates_in, listening
 
-from telovamish.ledgers import address_of, head_of
+from telovamish.faults import Fault
+from telovamish.ledgers import head_of, over
 
-UPPER = 1 << 64
 ACCOUNT = "create_accounts id=1 ledger=7 code=1;"
-
-
-@pytest.fixture
-def env(tbs, tbd):
-    return {"TBS": tbs, "TBD": tbd}
 
 
 @pytest.fixture(scope="module")
@@ -46,9 +40,9 @@ def test_another_client_each_time(env, tmp_path):
 def test_a_client_whose_session_is_not_known(env, tmp_path):
     words = ["run", "--file", str(tmp_path / "a.tbk"), "--client", "7", "--command", ACCOUNT]
     ran(*words, env=env)
-    status, out, told = ran(*words, env=env)
+    status, out, errors = ran(*words, env=env)
     assert (status, out[:14]) == (0, b"refused: older")
-    assert told.startswith("telovamish: client 7 has a session that is not known here")
+    assert errors.startswith("telovamish: client 7 has a session that is not known here")
 
 
 def test_a_file_has_its_own_numbers(env, tmp_path):
@@ -58,24 +52,10 @@ def test_a_file_has_its_own_numbers(env, tmp_path):
     )
     assert head_of(file) == (3, 2)
     assert ran("run", "--file", file, "--command", "register;", env=env)[0] == 0
-    status, _, told = ran(
+    status, _, errors = ran(
         "run", "--file", file, "--clients-max", "4", "--command", ACCOUNT, env=env
     )
-    assert (status, "OtherRules" in told, "CLIENTS_MAX 3" in told) == (1, True, True)
-
-
-def test_who_has_a_file_that_is_locked(env, tmp_path):
-    file = str(tmp_path / "a.tbk")
-    with subprocess.Popen(
-        [env["TBD"], "run", file, "64"], stdin=subprocess.PIPE, stderr=subprocess.PIPE
-    ) as holder:
-        while b"made" not in holder.stderr.readline():
-            pass
-        status, _, told = ran("run", "--file", file, "--command", ACCOUNT, env=env)
-        holder.stdin.close()
-    assert status == 1
-    assert "Locked: " in told and file in told
-    assert f"process {holder.pid} ({env['TBD']} run {file} 64) has it" in told
+    assert (status, "OtherRules" in errors, "CLIENTS_MAX 3" in errors) == (1, True, True)
 
 
 @pytest.mark.parametrize(
@@ -84,81 +64,49 @@ def test_who_has_a_file_that_is_locked(env, tmp_path):
 def test_a_file_of_another_kind(env, tmp_path, data, said):
     file = tmp_path / "a.tbk"
     file.write_bytes(data)
-    status, _, told = ran("run", "--file", str(file), "--command", ACCOUNT, env=env)
-    assert (status, said in told) == (1, True)
+    status, _, errors = ran("run", "--file", str(file), "--command", ACCOUNT, env=env)
+    assert (status, said in errors) == (1, True)
     assert file.read_bytes() == data
-
-
-READY = """#!/bin/bash
-exec {tbd} "$@" 2> >(sed -u 's/^tbd: ready$/tbd: ready: commit 2, time 5/' >&2)
-"""
-
-
-def test_a_repeat_of_a_file_is_known_by_the_commit_that_tbd_tells(env, tmp_path):
-    """A tbd that tells no commit when it is ready gets one here: the second is its last."""
-    ready = tmp_path / "tbd"
-    ready.write_text(READY.format(tbd=env["TBD"]))
-    ready.chmod(0o755)
-    words = ["run", "--file", str(tmp_path / "a.tbk"), "--client", "7", "--command"]
-    ran(*words, ACCOUNT, env=env)
-    again = f"client=7 session=1 request=1 {ACCOUNT}"
-    _, out, _ = ran(*words, again, env={**env, "TBD": str(ready)})
-    assert out == b"first reply again (commit 2): nothing was executed\n"
-
-
-SLOW = """#!/bin/sh
-echo "tbd: reading $2, 128 of 900 MB" >&2
-sleep 1.5
-exec {tbd} "$@"
-"""
-
-
-def test_progress_while_a_file_is_read(env, tmp_path):
-    """A tbd that takes its time stands in for a large file."""
-    slow = tmp_path / "tbd"
-    slow.write_text(SLOW.format(tbd=env["TBD"]))
-    slow.chmod(0o755)
-    it = Terminal("--file", str(tmp_path / "a.tbk"), state=str(tmp_path), env={"TBD": str(slow)})
-    it.wait("reading")
-    it.wait("a.tbk, 128 of 900 MB")
-    it.wait("\n> ")
-    it.enter(ACCOUNT, "1 of 1 account created")
-    it.type("\rexit\r")  # its entries stay: it does not ask
-    assert it.ended() == 0
 
 
 # connections
 
 
 def test_addresses():
-    assert address_of("3999") == ("localhost", 3999)
-    assert address_of("ledger.example:3999") == ("ledger.example", 3999)
-    assert address_of("[::1]:3999") == ("::1", 3999)
-    assert address_of(":3999") == ("localhost", 3999)
-    assert address_of("run/ledger.sock") == "run/ledger.sock"
-    assert address_of("a/b:7") == "a/b:7"
-    assert address_of("70000") == "70000"
+    def places(text):
+        return [*over(text, None).places]
+
+    assert places("3999") == [("127.0.0.1", 3999)]
+    assert places("ledger.example:3999, :4000") == [("ledger.example", 3999), ("127.0.0.1", 4000)]
+    assert places("[::1]:3999") == [("::1", 3999)]
+    assert places("run/ledger.sock") == ["run/ledger.sock"]
+    assert places("a/b:7") == ["a/b:7"]
+    for wrong in ("70000", "ledger.sock"):
+        with pytest.raises(Fault, match="^--connect: "):
+            over(wrong, None)
 
 
 def test_a_port_is_an_address(env, tmp_path):
     with listening(env["TBD"], tmp_path) as port:
-        status, out, told = ran("run", "--connect", port, "--client", "7", "--command", ACCOUNT)
-        assert (status, out, told) == (0, b"client 7 has session 1\n1 of 1 account created\n", "")
+        status, out, errors = ran("run", "--connect", port, "--client", "7", "--command", ACCOUNT)
+        assert (status, out, errors) == (0, b"client 7 has session 1\n1 of 1 account created\n", "")
         text = f"client=7 session=1 request=1 {ACCOUNT} client=7 session=1 request=1 {ACCOUNT}"
-        _, out, told = ran("run", "--connect", port, "--client", "7", "--command", text)
+        _, out, errors = ran("run", "--connect", port, "--client", "7", "--command", text)
         # of the first one nothing is known, and nothing is claimed
         assert out.splitlines() == [
             b"1 of 1 account created",
             b"first reply again (commit 2): nothing was executed",
         ]
-        _, out, told = ran("run", "--connect", port, "--command", "at=5 lookup_accounts id=1;")
-        assert told == "telovamish: at= has no effect over a connection: moments are the server's\n"
+        _, out, errors = ran("run", "--connect", port, "--command", "at=5 lookup_accounts id=1;")
+        assert (
+            errors == "telovamish: at= has no effect over a connection: moments are the server's\n"
+        )
 
 
 def test_nobody_listens(tmp_path):
-    status, out, told = ran("run", "--connect", str(tmp_path / "none.sock"), "--command", ACCOUNT)
+    status, out, errors = ran("run", "--connect", str(tmp_path / "none.sock"), "--command", ACCOUNT)
     assert (status, out) == (1, b"")
-    assert told == f"telovamish: {tmp_path}/none.sock: No such file or directory\n"
+    assert errors == f"telovamish: {tmp_path}/none.sock: No such file or directory\n"
 
 
 def over_tls(paths):
@@ -168,12 +116,12 @@ def over_tls(paths):
 def test_a_plain_connection_to_a_port_of_tls(env, tmp_path, paths):
     with listening(env["TBD"], tmp_path, *over_tls(paths)) as port:
         began = time.monotonic()
-        status, _, told = ran("run", "--connect", port, "--command", ACCOUNT)
+        status, _, errors = ran("run", "--connect", port, "--command", ACCOUNT)
         assert (status, time.monotonic() - began < 20) == (1, True)
-        assert told == (
-            "telovamish: the server speaks TLS: give --ca FILE. Nothing was executed, and it is not "
-            "sent again\n"
+        wanted = (
+            "the server speaks TLS: give --ca FILE. Nothing was executed, and it is not sent again"
         )
+        assert errors == f"telovamish: {wanted}\n"
         words = ["--connect", f"localhost:{port}", "--ca", paths["ca"]]
         assert ran("run", *words, "--command", ACCOUNT)[0] == 0
 
@@ -181,12 +129,12 @@ def test_a_plain_connection_to_a_port_of_tls(env, tmp_path, paths):
 def test_tls_to_a_plain_port(env, tmp_path, paths):
     with listening(env["TBD"], tmp_path) as port:
         words = ["--connect", port, "--ca", paths["ca"]]
-        status, _, told = ran("run", *words, "--command", ACCOUNT)
+        status, _, errors = ran("run", *words, "--command", ACCOUNT)
         assert status == 1
-        assert "the server does not speak TLS: leave out --ca" in told
+        assert "the server does not speak TLS: leave out --ca" in errors
 
 
-def test_a_client_of_another_peer_is_told_once(env, tmp_path, paths):
+def test_a_client_of_another_peer_is_refused_once(env, tmp_path, paths):
     clients = tmp_path / "clients"
     clients.write_text("certificate payments 1\ncertificate billing 2\n")
     options = [*over_tls(paths), "--client-ca", paths["ca"], "--clients", str(clients)]
@@ -194,9 +142,9 @@ def test_a_client_of_another_peer_is_told_once(env, tmp_path, paths):
         words = ["run", "--connect", port, "--ca", paths["ca"]]
         words += ["--certificate", paths["payments"], "--key", paths["payments_key"]]
         began = time.monotonic()
-        status, out, told = ran(*words, "--client", str(2 * UPPER + 7), "--command", ACCOUNT)
+        status, out, errors = ran(*words, "--client", str(2 * UPPER + 7), "--command", ACCOUNT)
         assert (status, out, time.monotonic() - began < 10) == (1, b"", True)
-        assert told == (
+        assert errors == (
             "telovamish: ClientNotAllowed: the client id is another peer's. Nothing was executed, "
             "and it is not sent again\n"
         )

@@ -12,11 +12,13 @@ import pytest
 import rules
 from drawn_histories import Drawer
 
+from tb_client import Reply
+
 from telovamish.checking import Check
 from telovamish.live import Replay, facts
 from telovamish.model import Disagrees, Event, Evicted, Ledger
 from telovamish.reader import Pair
-from telovamish.streams import Entry, Mark, Reply, read_dump, read_replies
+from telovamish.streams import Entry, Mark, read_dump, read_replies
 from telovamish.words import RESULTS, STATUSES
 
 EVENTS = int(os.environ.get("EVENTS", 10_000))
@@ -96,8 +98,8 @@ def test_a_new_seed(tbs: str) -> None:
         compare_history(seed, tbs, counts)
 
 
-def test_what_cannot_follow_is_told() -> None:
+def test_what_cannot_follow_is_reported() -> None:
     ledger = Ledger(2)
-    reply = Reply(7, 1, 1, "lookup_accounts", 0, 1, b"")
+    reply = Reply(7, 1, 1, 131, 0, 1, b"")
     with pytest.raises(Disagrees, match="entry 1: client 7 has no session"):
         list(ledger.enter(Entry(1, 1, Pair(1, 7, 1, 1, "lookup_accounts", b"")), reply))

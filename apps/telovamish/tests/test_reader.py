@@ -9,10 +9,12 @@ from hypothesis import given, settings, strategies as st
 
 import grammar
 from drawn import damaged, pairs, statements
-from telovamish.filling import Live, Told
+from telovamish.filling import Live, Known
+from telovamish.messages import nearest
 from telovamish.printing import statement_text
 from telovamish.reader import Goes, Scan, awaited, scanned
 from telovamish.texts import Text, Wrong
+from telovamish.words import KINDS
 
 # EXAMPLES=10 draws ten times as many texts
 TIMES = int(os.environ.get("EXAMPLES", "1"))
@@ -20,16 +22,16 @@ SOME = settings(deadline=None, max_examples=50 * TIMES, print_blob=True)
 MANY = settings(SOME, max_examples=100 * TIMES)
 
 
-class Nothing(Told):
+class Nothing(Known):
     """Nothing is filled in."""
 
     def fill(self, given, word):
         return {}
 
 
-def place_of(text: str, told: Told):
+def place_of(text: str, errors: Known):
     """The place where a text goes wrong, if it does, and the requests before it."""
-    scan, at, found = Scan(told.fill), 0, []
+    scan, at, found = Scan(errors.fill), 0, []
     try:
         while True:
             at = scan.read(text, at, is_last=True)
@@ -41,7 +43,7 @@ def place_of(text: str, told: Told):
 
 
 def read(text: str):
-    return place_of(text, Told())
+    return place_of(text, Known())
 
 
 @SOME
@@ -80,7 +82,7 @@ def test_a_text_may_be_cut_anywhere(text, cuts):
     place, found = read(text)
     data = text.encode("latin-1")
     ends = sorted({0, len(data), *(it for it in cuts if it < len(data))})
-    reading, got, fault = Text(Told()), [], None
+    reading, got, fault = Text(Known()), [], None
     try:
         for start, end in zip(ends, ends[1:]):
             reading.feed(data[start:end])
@@ -89,7 +91,7 @@ def test_a_text_may_be_cut_anywhere(text, cuts):
         reading.end()
     except Wrong as why:
         fault = str(why).split(": ")[1]  # the line and the column
-    whole = Text(Told())
+    whole = Text(Known())
     whole.feed(data)
     try:
         while whole.next():
@@ -105,16 +107,16 @@ def test_a_text_may_be_cut_anywhere(text, cuts):
 @given(damaged(st.lists(statements(), min_size=1, max_size=2).map("".join)), st.booleans())
 def test_a_place_is_the_first_wrong_byte(text, is_live):
     """What is before it goes on, nothing with the byte there, and each listed word does."""
-    told = Live(1) if is_live else Told(7)
-    place, _ = place_of(text, told)
+    errors = Live(1) if is_live else Known(7)
+    place, _ = place_of(text, errors)
     if place is None:
         return
-    before, _ = place_of(text[:place], told)
+    before, _ = place_of(text[:place], errors)
     assert before in (None, place)
     if place < len(text):
-        assert place_of(text[: place + 1], told)[0] == place
+        assert place_of(text[: place + 1], errors)[0] == place
     start = re.search(r"[^\s,;=|#]*\Z", text[:place]).start()
-    scan = Scan(told.fill)
+    scan = Scan(errors.fill)
     try:
         at = 0
         while at < start and (at := scan.read(text[:start] + "\n", at)) and scan.statement:
@@ -123,13 +125,13 @@ def test_a_place_is_the_first_wrong_byte(text, is_live):
         return
     for word in awaited(scan).words:
         again = text[:start] + "\n" + word
-        assert place_of(again, told)[0] == len(again), (word, text)
+        assert place_of(again, errors)[0] == len(again), (word, text)
 
 
 def test_a_listed_word_is_found_by_hand():
-    scan = scanned("client=7 request=1 create_transfers id=1 flags=")
+    scan = scanned("client=7 request=1 create_transfers id=1 flags=", Known().fill)
     assert scan is not None
-    assert awaited(scan).words[:3] == ["linked", "imported", "pending"]
+    assert awaited(scan).words[:3] == ["linked", "pending", "post_pending_transfer"]
     assert awaited(scan).number == "flags"
 
 
@@ -186,3 +188,19 @@ def test_the_bytes_of_a_statement_by_hand():
     wanted = bytes([12, *bytes(7), 7, *bytes(15), 1, *bytes(7), 3, 0, 0, 0])
     wanted += bytes([131, 0, 0, 0, 16, 0, 0, 0, *bytes(12), 2, 1, *bytes(14)])
     assert read(text)[1][0].to_bytes() == wanted
+
+
+@pytest.mark.parametrize(
+    "written, meant",
+    [
+        ("regsiter", "register"),
+        ("lookup_acounts", "lookup_accounts"),
+        ("create_acc", "create_accounts"),
+        ("ledgre", "ledger"),
+        ("cod", "code"),
+        ("pendin", "pending"),
+        ("zzzz", ""),
+    ],
+)
+def test_the_word_that_may_be_meant(written, meant):
+    assert nearest(written, [*KINDS]) == meant

@@ -10,12 +10,13 @@ from typing import Callable, NamedTuple, Optional
 import pytest
 from oracle import Answer, rows
 
-from telovamish.filling import Live, Told
+from telovamish.filling import Live, Known
 from telovamish.texts import Text, Wrong, pairs
 from telovamish.words import OPERATIONS
 
 FILLED = {"client", "session", "request", *OPERATIONS}
 WORD = re.compile("[a-zA-Z0-9_]+")
+MEANT = re.compile(r"unknown \w+ ('.*')(?:; did you mean \w+\?)?")
 FIRST = re.compile(r"telovamish: line (\d+), column (\d+): (.*)")
 
 
@@ -30,9 +31,16 @@ class Fault(NamedTuple):
     expected: list[str]
 
 
-def fault_of(told: str) -> Optional[Fault]:
-    """The parts of what is told; None if there is no such fault."""
-    first, *lines = told.split("\n")
+def now(errors: str) -> str:
+    """A message of the old command in the words of this one."""
+    first, end, lines = errors.partition("\n")
+    first = re.sub("^tbt", "telovamish", first)
+    return first.replace("' cannot stand here", "' is not allowed here") + end + lines
+
+
+def fault_of(errors: str) -> Optional[Fault]:
+    """The parts of a message; None if there is no such fault."""
+    first, *lines = errors.split("\n")
     found = FIRST.fullmatch(first)
     if not found:
         return None
@@ -53,6 +61,13 @@ def line_goes_on(old: Fault, new: Fault) -> Fault:
     return old._replace(line=new.line) if new.line.startswith(old.line) else old
 
 
+def cut_line(old: Fault, new: Fault) -> Fault:
+    cut = old.line.strip().removeprefix("...").removesuffix("...")
+    far = new.line.find(cut) - old.line.find(cut)
+    is_moved = "..." in old.line and cut in new.line and far == new.under - old.under
+    return old._replace(line=new.line, under=new.under) if is_moved else old
+
+
 def date(old: Fault, new: Fault) -> Fault:
     number = f"a number up to {2**64 - 1}" if "a date" in new.expected else ""
     names = [it for name in old.expected for it in ([name, "a date"] if name == number else [name])]
@@ -60,20 +75,30 @@ def date(old: Fault, new: Fault) -> Fault:
 
 
 def given_before(old: Fault, new: Fault) -> Fault:
-    is_twice = old.what.endswith("cannot stand here") and " was given before in this " in new.what
+    is_twice = old.what.endswith("is not allowed here") and " was given before in this " in new.what
     return old._replace(what=new.what) if is_twice else old
 
 
 def flag_of_the_other(old: Fault, new: Fault) -> Fault:
-    is_told = re.fullmatch(r"\w+ is a flag of \w+ alone", new.what)
-    is_flag = old.what.endswith("cannot stand here")
-    return old._replace(what=new.what) if is_told and is_flag else old
+    is_named = re.fullmatch(r"\w+ is a flag of \w+ only", new.what)
+    is_flag = old.what.endswith("is not allowed here")
+    return old._replace(what=new.what) if is_named and is_flag else old
+
+
+def order(old: Fault, new: Fault) -> Fault:
+    is_same = sorted(old.expected) == sorted(new.expected)
+    return old._replace(expected=new.expected) if is_same else old
+
+
+def meant(old: Fault, new: Fault) -> Fault:
+    a, b = MEANT.fullmatch(old.what), MEANT.fullmatch(new.what)
+    return old._replace(what=new.what) if a and b and a[1] == b[1] else old
 
 
 def session_is_missing(old: Fault, new: Fault) -> Fault:
-    is_operation = old.what.removesuffix(" cannot stand here").strip("'") in OPERATIONS
-    is_told = is_operation and re.search(" has no session here: write session=N", new.what)
-    return old._replace(what=new.what) if is_told else old
+    is_operation = old.what.removesuffix(" is not allowed here").strip("'") in OPERATIONS
+    is_named = is_operation and re.search(" has no session here: write session=N", new.what)
+    return old._replace(what=new.what) if is_named else old
 
 
 def filled_in(old: Fault, new: Fault) -> Fault:
@@ -93,21 +118,24 @@ def place_in_word(old: Fault, new: Fault) -> Fault:
 
 def register_with_a_request(old: Fault, new: Fault) -> Fault:
     is_client = old.what == "a client comes first: write client=N before register"
-    is_told = new.what == "a register has no session and no request"
-    return old._replace(what=new.what) if is_client and is_told else old
+    is_named = new.what == "a register has no session and no request"
+    return old._replace(what=new.what) if is_client and is_named else old
 
 
 def operation_with_a_mark(old: Fault, new: Fault) -> Fault:
-    is_told = new.what == "found '='" and re.search(" comes first: write ", old.what)
-    return new if is_told and (old.row, old.column) < (new.row, new.column) else old
+    is_named = new.what == "found '='" and re.search(" comes first: write ", old.what)
+    return new if is_named and (old.row, old.column) < (new.row, new.column) else old
 
 
 DIFFERENCES = [
     Difference("line", line_goes_on, "the line is shown as far as it was read, not up to its `;`"),
+    Difference("cut", cut_line, "a long line is cut by characters, not by bytes"),
     Difference("date", date, "a moment may be written as a date"),
-    Difference("twice", given_before, "a field that is given twice is told as that"),
-    Difference("flag", flag_of_the_other, "a flag of the other kind of record is told as that"),
-    Difference("session", session_is_missing, "what is missing is told before an operation"),
+    Difference("twice", given_before, "a field that is given twice is errors as that"),
+    Difference("flag", flag_of_the_other, "a flag of the other kind of record is errors as that"),
+    Difference("order", order, "flags are listed in the order of their bits"),
+    Difference("meant", meant, "which word may be meant is difflib's judgement"),
+    Difference("session", session_is_missing, "what is missing is errors before an operation"),
     Difference(
         "filled in",
         filled_in,
@@ -123,7 +151,7 @@ DIFFERENCES = [
     Difference(
         "register",
         register_with_a_request,
-        "a client alone does not make a register with a request right",
+        "only a client does not make a register with a request right",
     ),
     Difference(
         "operation=",
@@ -137,7 +165,7 @@ def scripted(text: str) -> Answer:
     """What `script` makes of a text."""
     out = b""
     try:
-        for pair in pairs(iter([text.encode("latin-1")]), Told()):
+        for pair in pairs(iter([text.encode("latin-1")]), Known()):
             out += pair.to_bytes()
     except Wrong as why:
         return Answer(2, out.hex(), str(why).rstrip("\n") + "\n")
@@ -148,8 +176,8 @@ def differences(old: Answer, new: Answer) -> list[str]:
     """The names of the intended differences of two answers, which explain all of it."""
     if old == new:
         return []
-    a, b = fault_of(old.told), fault_of(new.told)
-    assert a and b and old._replace(told="") == new._replace(told=""), f"{old}\n{new}"
+    a, b = fault_of(old.errors), fault_of(new.errors)
+    assert a and b and old._replace(errors="") == new._replace(errors=""), f"{old}\n{new}"
     found = []
     for it in DIFFERENCES:
         changed = it.applied(a, b)
@@ -157,7 +185,7 @@ def differences(old: Answer, new: Answer) -> list[str]:
             a = changed
             found.append(it.name)
     if a != b:
-        raise AssertionError(f"not intended:\n{old.told}\n{new.told}")
+        raise AssertionError(f"not intended:\n{old.errors}\n{new.errors}")
     return found
 
 
@@ -174,9 +202,9 @@ def compared(name: str) -> tuple[Counter[str], list[str]]:
         new, out = scripted(row["text"]), row["out"]
         if name == "wrong":  # what was right before the fault is recorded by its length
             new, out = new._replace(out=str(len(new.out) // 2)), str(out)
-        told = re.sub("^tbt", "telovamish", row["told"].encode("latin-1").decode())
+        errors = now(row["errors"].encode("latin-1").decode())
         try:
-            counts.update(differences(Answer(row["status"], out, told), new))
+            counts.update(differences(Answer(row["status"], out, errors), new))
         except AssertionError as why:
             failures.append(f"{row['text']!r}\n{why}")
     return counts, failures
@@ -194,7 +222,7 @@ def test_each_listed_difference_is_met() -> None:
 
 
 def typed(text: str) -> Answer:
-    """What is told of a line that is typed into an empty ledger."""
+    """The message for a line that is typed into an empty ledger."""
     read = Text(Live(1))
     read.feed(text.encode("latin-1") + b"\n")
     try:
@@ -209,9 +237,9 @@ def test_lines_that_are_typed() -> None:
     """The lists are the same: at a terminal the old command listed all that may be written."""
     counts, failures = Counter[str](), []
     for row in rows("terminal"):
-        told = re.sub("^tbt", "telovamish", row["shown"].removesuffix("> "))
+        errors = now(row["shown"].removesuffix("> "))
         try:
-            counts.update(differences(Answer(2, "", told), typed(row["text"])))
+            counts.update(differences(Answer(2, "", errors), typed(row["text"])))
         except AssertionError as why:
             failures.append(f"{row['text']!r}\n{why}")
     assert not failures, f"{len(failures)} differ:\n" + "\n".join(failures[:10])

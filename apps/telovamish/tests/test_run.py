@@ -10,12 +10,13 @@ from conftest import APP, COMMAND, ran
 
 EXAMPLES = APP.parent.parent / "examples"
 HEAD = b"at=10 client=7 register;\n"
+MARK = bytes(8) + bytes([2, *bytes(7)])
 NEEDS = "telovamish: line 1, column 1: "
 
 
 def script(text: bytes) -> bytes:
-    status, out, told = ran("script", given=text)
-    assert (status, told) == (0, "")
+    status, out, errors = ran("script", given=text)
+    assert (status, errors) == (0, "")
     return out
 
 
@@ -26,9 +27,9 @@ def test_a_script_is_that_of_the_example():
 
 
 def test_replies_are_those_of_the_example():
-    status, out, told = ran("replies", given=(EXAMPLES / "first.replies").read_bytes())
+    status, out, errors = ran("replies", given=(EXAMPLES / "first.replies").read_bytes())
     lines = [json.loads(line) for line in out.splitlines()]
-    assert (status, told, len(lines)) == (0, "", 3)
+    assert (status, errors, len(lines)) == (0, "", 3)
     assert lines[0] == {
         "client": "7", "session": "1", "request": 0, "operation": "register", "status": "reply",
         "commit": "1", "results": [],
@@ -71,11 +72,11 @@ WHAT = {
     [("requests", "no frames"), ("replies", "no frames"), ("dump", "Head"), ("pairs", "Head")],
 )
 @pytest.mark.parametrize("kind", [*WHAT])
-def test_an_input_of_another_kind_is_told_as_what_it_is(form, blame, kind):
+def test_an_input_of_another_kind_is_reported_as_what_it_is(form, blame, kind):
     given, words = WHAT[kind]
-    status, out, told = ran(form, given=given)
+    status, out, errors = ran(form, given=given)
     assert (status, out) == (2, b"")
-    assert told.startswith(f"telovamish: {blame}: {words}")
+    assert errors.startswith(f"telovamish: {blame}: {words}")
 
 
 @pytest.mark.parametrize(
@@ -92,17 +93,19 @@ def test_an_input_of_another_kind_is_told_as_what_it_is(form, blame, kind):
             "Mark",
         ),
         ("dump", b"TBSDUMP1" + bytes([1, 0, 0, 0, 1, 0, 0, 0]) + bytes(5), "Short"),
+        ("dump", b"TBSDUMP1" + bytes([1, 0, 0, 0, 1, 0, 0, 0]) + 2 * MARK, "Mark"),
+        ("dump", b"TBSDUMP1" + bytes([2, 0, 0, 0, 1, 0, 0, 0]) + MARK, "Mark"),
     ],
 )
 def test_faults_of_frames_and_dumps_have_their_names(form, given, fault):
-    status, _, told = ran(form, given=given)
-    assert (status, told) == (2, f"telovamish: {fault}\n")
+    status, _, errors = ran(form, given=given)
+    assert (status, errors) == (2, f"telovamish: {fault}\n")
 
 
 def test_what_was_right_before_is_written():
-    status, out, told = ran("script", given=HEAD + b"wrong")
+    status, out, errors = ran("script", given=HEAD + b"wrong")
     assert (status, len(out)) == (2, 56)
-    assert told.startswith("telovamish: line 2, column 1: unknown word 'wrong'")
+    assert errors.startswith("telovamish: line 2, column 1: unknown word 'wrong'")
 
 
 def test_output_that_is_lost():
@@ -124,9 +127,9 @@ def test_files_that_are_closed():
 
 
 def served(text: str, *words: str, tbs: str, status: int = 0):
-    found, out, told = ran("run", *words, given=text.encode(), env={"TBS": tbs})
-    assert found == status, told
-    return out.decode(), told
+    found, out, errors = ran("run", *words, given=text.encode(), env={"TBS": tbs})
+    assert found == status, errors
+    return out.decode(), errors
 
 
 def test_run_fills_in_and_shows_tables(tbs):
@@ -180,22 +183,22 @@ def test_run_of_files_names_the_file(tbs, tmp_path):
     first, second = tmp_path / "first", tmp_path / "second"
     first.write_text("create_accounts id=1 ledger=7 code=1;")
     second.write_text("\nlookup_accounts id=1;\nlookup_acounts id=1;")
-    status, out, told = ran("run", str(first), str(second), env={"TBS": tbs})
+    status, out, errors = ran("run", str(first), str(second), env={"TBS": tbs})
     assert (status, out.count(b"\n")) == (2, 5)
-    assert told.startswith(f"telovamish: {second}: line 3, column 10: unknown operation")
+    assert errors.startswith(f"telovamish: {second}: line 3, column 10: unknown operation")
 
 
 def test_a_late_moment_is_refused_with_its_place(tbs):
-    _, told = served(
+    _, errors = served(
         f"lookup_accounts id=1;\n # x\n  at={2**63} lookup_accounts id=1;", tbs=tbs, status=2
     )
-    assert told == "telovamish: TimeExhausted: line 3, column 3\n"
+    assert errors == "telovamish: TimeExhausted: line 3, column 3\n"
 
 
 def test_no_session_was_written(tbs):
-    out, told = served("register; client=1 request=1 lookup_accounts id=1;", tbs=tbs)
+    out, errors = served("register; client=1 request=1 lookup_accounts id=1;", tbs=tbs)
     assert out.splitlines()[1].startswith("refused: session_too_low")
-    assert told.startswith("telovamish: no session was written, and 0 was sent")
+    assert errors.startswith("telovamish: no session was written, and 0 was sent")
 
 
 def test_a_command_and_the_bare_command(tbs):
@@ -218,7 +221,10 @@ def test_version_and_wrong_words(tmp_path):
         == "telovamish: 65: No such file or directory; --clients-max 65 sets the number of clients\n"
     )
     for words, fault in (
-        (["--clients-max", "65"], "Invalid value for '--clients-max': 65 is not in the range 1<=x<=64."),
+        (
+            ["--clients-max", "65"],
+            "Invalid value for '--clients-max': 65 is not in the range 1<=x<=64.",
+        ),
         (["--profile", "0"], "Invalid value for '--profile': 0 is not in the range 1<=x<=2."),
         (["--client", "x"], "Invalid value for '--client': 'x' is not a valid integer range."),
         (["--file", ""], "--file is empty"),
@@ -231,8 +237,8 @@ def test_version_and_wrong_words(tmp_path):
     ):
         assert ran(*words) == (2, b"", f"telovamish: {fault}\n"), words
     nothing = {"TBS": str(tmp_path / "none")}
-    status, _, told = ran("run", env=nothing)
-    assert (status, told.split(":")[1]) == (1, f" {tmp_path}/none is no program")
+    status, _, errors = ran("run", env=nothing)
+    assert (status, errors.split(":")[1]) == (1, f" {tmp_path}/none is no program")
 
 
 # what people met
@@ -248,28 +254,28 @@ def test_version_and_wrong_words(tmp_path):
         ("create_transfers id=1 flags=linked,pending amount=1;", "line 1, column 43: flags are joined by '|': flags=..|pending"),
         ("create_accounts id=1 id=2;", "line 1, column 22: id was given before in this event; ',' comes between events"),
         ("client=1 client=2 register;", "line 1, column 11: client was given before in this statement"),
-        ("create_transfers id=1 flags=history;", "line 1, column 29: history is a flag of accounts alone"),
-        ("create_accounts id=1 flags=pending;", "line 1, column 28: pending is a flag of transfers alone"),
+        ("create_transfers id=1 flags=history;", "line 1, column 29: history is a flag of accounts only"),
+        ("create_accounts id=1 flags=pending;", "line 1, column 28: pending is a flag of transfers only"),
         ("at=2026-02-30 register;", "line 1, column 12: '2026-02-30' is no date from 1970-01-01 to 2262-04-11"),
         ("lookup_accounts id=1", "line 1, column 21: the text ends within a statement"),
     ],
 )  # fmt: skip
 def test_a_fault_in_words(tbs, text, said):
-    _, told = served(text, tbs=tbs, status=2)
-    assert told.startswith(f"telovamish: {said}"), told
-    assert "\n  expected " in told
+    _, errors = served(text, tbs=tbs, status=2)
+    assert errors.startswith(f"telovamish: {said}"), errors
+    assert "\n  expected " in errors
 
 
 def test_8191_events(tbs):
     events = ", ".join(f"id={it}" for it in range(1, 8192))
-    _, told = served(f"lookup_accounts {events};", tbs=tbs, status=2)
-    assert "a statement has at most 8190 ids" in told
-    _, told = served(f"create_accounts {events};", tbs=tbs, status=2)
-    assert "a statement has at most 8190 events" in told
+    _, errors = served(f"lookup_accounts {events};", tbs=tbs, status=2)
+    assert "a statement has at most 8190 ids" in errors
+    _, errors = served(f"create_accounts {events};", tbs=tbs, status=2)
+    assert "a statement has at most 8190 events" in errors
 
 
 def test_json_lists_the_operations(tbs):
-    _, told = served('{"id":1}', tbs=tbs, status=2)
+    _, errors = served('{"id":1}', tbs=tbs, status=2)
     for name in (
         "register",
         "create_accounts",
@@ -277,4 +283,4 @@ def test_json_lists_the_operations(tbs):
         "lookup_accounts",
         "lookup_transfers",
     ):
-        assert name in told.splitlines()[-1]
+        assert name in errors.splitlines()[-1]

@@ -1,4 +1,4 @@
-"""Sessions, numbers, lost replies and repeats, over a server that stands in for the proved one."""
+"""Sessions, numbers, lost replies and repeats, over a server that is in place of the proved one."""
 from __future__ import annotations
 
 import struct
@@ -15,7 +15,7 @@ from telovamish.texts import Text, Wrong
 
 
 class Server:
-    """Answers each request with the status that is next, 0 if there is none; loses what it is told;
+    """Replies to each request with the status that is next, 0 without one; loses those of `lost`;
     gives a repeat the commit of the first time."""
 
     def __init__(self, statuses=(), lost=()):
@@ -44,15 +44,17 @@ class Server:
 
 
 @pytest.fixture(autouse=True)
-def no_pauses():
-    with mock.patch.object(sending.time, "sleep"):
-        yield
+def errors():
+    """What is reported, without pauses."""
+    found: list[str] = []
+    with mock.patch.object(sending.time, "sleep"), mock.patch.object(
+        sending, "report", found.append
+    ):
+        yield found
 
 
 def desk_of(server, history=None):
-    told: list[str] = []
-    desk = Desk(Ledger(Direct(server.serve), history or History()), 5, told.append)
-    return desk, told
+    return Desk(Ledger(Direct(server.serve), history or History()), 5)
 
 
 def serve(desk, text):
@@ -66,7 +68,7 @@ def serve(desk, text):
 
 def test_registers_and_numbers():
     server = Server()
-    desk, _ = desk_of(server)
+    desk = desk_of(server)
     for text in (
         "lookup_accounts;",
         "lookup_accounts;",
@@ -86,13 +88,13 @@ def test_registers_and_numbers():
 
 def test_registers_at_the_moment_of_the_statement():
     server = Server()
-    serve(desk_of(server)[0], "at=7 lookup_accounts;")
+    serve(desk_of(server), "at=7 lookup_accounts;")
     assert server.moments == [7, 7]
 
 
-def test_a_request_alone_registers_and_another_session_begins_with_1():
+def test_only_a_request_registers_and_another_session_begins_with_1():
     server = Server(statuses=[0, 0, 0, 0, 3, 1])
-    desk, _ = desk_of(server)
+    desk = desk_of(server)
     for text in ("request=1", "request=2", "session=1", "session=9", "client=6 session=2"):
         serve(desk, f"{text} lookup_accounts;")
     assert [it[:3] for it in server.asked()] == [
@@ -100,60 +102,60 @@ def test_a_request_alone_registers_and_another_session_begins_with_1():
     ]  # fmt: skip
 
 
-def test_client_and_request_fill_in_nothing_and_the_session_is_0():
+def test_client_and_request_fill_in_nothing_and_the_session_is_0(errors):
     server = Server(statuses=[2])
-    desk, told = desk_of(server)
+    desk = desk_of(server)
     serve(desk, "client=5 request=1 lookup_accounts;")
     assert server.asked() == [(5, 0, 1, "lookup_accounts")]
-    assert "no session was written" in told[0]
+    assert "no session was written" in errors[0]
 
 
 def test_a_wrong_statement_sends_nothing():
     server = Server()
     with pytest.raises(Wrong):
-        serve(desk_of(server)[0], "lookup_accounts wrong;")
+        serve(desk_of(server), "lookup_accounts wrong;")
     assert server.frames == []
 
 
-def test_a_lost_reply_sends_the_same_bytes_again():
+def test_a_lost_reply_sends_the_same_bytes_again(errors):
     server = Server(lost=[2, 3])
-    desk, told = desk_of(server)
+    desk = desk_of(server)
     serve(desk, "lookup_accounts;")
     assert len(server.frames) == 4 and len(set(server.frames[1:])) == 1
-    assert "the same bytes go out again, try 2 of 8" in told[0]
+    assert "the same bytes are sent again, try 2 of 8" in errors[0]
 
 
-def test_the_last_try_is_told():
+def test_the_last_try_is_reported(errors):
     server = Server(lost=range(2, 100))
-    desk, told = desk_of(server)
+    desk = desk_of(server)
     with pytest.raises(NotServed, match="may have been executed"):
         serve(desk, "lookup_accounts;")
-    assert (len(server.frames), len(told)) == (1 + 8, 7)
+    assert (len(server.frames), len(errors)) == (1 + 8, 7)
 
 
-def test_a_server_that_was_never_there_is_told_at_once():
-    desk, told = desk_of(Server())
+def test_a_server_that_was_never_there_is_reported_at_once(errors):
+    desk = desk_of(Server())
     away = mock.Mock(side_effect=CannotConnect("it: No such file"))
     with mock.patch.object(desk.ledger.transport, "exchange", away):
         with pytest.raises(NotServed, match="^it: No such file$"):
             serve(desk, "lookup_accounts;")
-    assert (away.call_count, told) == (1, [])
+    assert (away.call_count, errors) == (1, [])
 
 
-def test_a_server_that_was_there_is_called_again():
-    desk, told = desk_of(Server())
+def test_a_server_that_was_there_is_called_again(errors):
+    desk = desk_of(Server())
     serve(desk, "lookup_accounts;")
     away = mock.Mock(side_effect=CannotConnect("it: refused"))
     with mock.patch.object(desk.ledger.transport, "exchange", away):
         with pytest.raises(NotServed):
             serve(desk, "lookup_accounts;")
-    assert (away.call_count, len(told)) == (8, 7)
+    assert (away.call_count, len(errors)) == (8, 7)
 
 
 @pytest.mark.parametrize("lost", [1, 2])
 def test_lost_and_then_not_there(lost):
     """It may have been executed: that no connection can be made does not say so."""
-    desk, _ = desk_of(Server(lost=[lost]))
+    desk = desk_of(Server(lost=[lost]))
     exchange = desk.ledger.transport.exchange
     faults = [None] * lost + [CannotConnect("it: refused")] * 8
 
@@ -169,20 +171,20 @@ def test_lost_and_then_not_there(lost):
 
 
 @pytest.mark.parametrize("name", ["ClientNotAllowed", "NotAllowed", "BadLength"])
-def test_a_final_refusal_is_told_as_final(name):
+def test_a_final_refusal_is_reported_as_final(name, errors):
     server = Server()
-    desk, told = desk_of(server)
+    desk = desk_of(server)
     refused = mock.Mock(side_effect=ReplyLost(f"the server closed the connection: {name}", name))
     with mock.patch.object(desk.ledger.transport, "exchange", refused):
         with pytest.raises(
             NotServed, match=f"^{name}: .*. Nothing was executed, and it is not sent"
         ):
             serve(desk, "lookup_accounts;")
-    assert (refused.call_count, told) == (1, [])
+    assert (refused.call_count, errors) == (1, [])
 
 
 def test_a_final_refusal_after_a_lost_reply_is_in_doubt():
-    desk, _ = desk_of(Server())
+    desk = desk_of(Server())
     faults = [ReplyLost("lost"), ReplyLost("closed: ClientNotAllowed", "ClientNotAllowed")]
     with mock.patch.object(desk.ledger.transport, "exchange", mock.Mock(side_effect=faults)):
         with pytest.raises(NotServed, match="An earlier sending of it may have been executed"):
@@ -190,7 +192,7 @@ def test_a_final_refusal_after_a_lost_reply_is_in_doubt():
 
 
 def test_a_ledger_in_memory_ends_with_its_program():
-    desk, _ = desk_of(Server())
+    desk = desk_of(Server())
     desk.ledger = desk.ledger._replace(is_memory=True)
     ended = mock.Mock(side_effect=ProgramEnded("TimeExhausted", 2))
     with mock.patch.object(desk.ledger.transport, "exchange", ended):
@@ -200,13 +202,13 @@ def test_a_ledger_in_memory_ends_with_its_program():
             serve(desk, "lookup_accounts;")
 
 
-def test_a_collision_is_told_and_the_next_number_follows():
+def test_a_collision_is_reported_and_the_next_number_follows(errors):
     server = Server(statuses=[0, 0, 5])
-    desk, told = desk_of(server)
+    desk = desk_of(server)
     for _ in range(3):
         serve(desk, "lookup_accounts;")
     assert [asked[2] for asked in server.asked()] == [0, 1, 2, 3]
-    assert "request 2 was executed before, with other content" in told[0]
+    assert "request 2 was executed before, with other content" in errors[0]
 
 
 @pytest.mark.parametrize(
@@ -215,7 +217,7 @@ def test_a_collision_is_told_and_the_next_number_follows():
 )
 def test_a_reply_that_says_what_none_says_is_not_shown(operation, body):
     server = Server()
-    desk, _ = desk_of(server)
+    desk = desk_of(server)
     serve(desk, "lookup_accounts;")
     server.body = body
     with pytest.raises(NotServed):
@@ -225,9 +227,9 @@ def test_a_reply_that_says_what_none_says_is_not_shown(operation, body):
     assert [asked[2] for asked in server.asked()] == [0, 1, 2, 2]
 
 
-def test_an_eviction_registers_again():
+def test_an_eviction_registers_again(errors):
     server = Server(statuses=[0, 0, 2])
-    desk, told = desk_of(server)
+    desk = desk_of(server)
     for _ in range(3):
         serve(desk, "lookup_accounts;")
     names = [asked[3] for asked in server.asked()]
@@ -238,12 +240,20 @@ def test_an_eviction_registers_again():
         "register",
         "lookup_accounts",
     ]
-    assert "no session any more" in told[0]
+    assert "no session any more" in errors[0]
+
+
+def test_a_refusal_of_another_session_says_that_the_client_has_none():
+    server = Server(statuses=[0, 0, 1])
+    desk = desk_of(server)
+    for text in ("", "session=9 request=1 ", ""):
+        serve(desk, f"{text}lookup_accounts;")
+    assert [asked[3] for asked in server.asked()][-2:] == ["register", "lookup_accounts"]
 
 
 def test_the_client_named_last_may_be_one_that_was_refused():
     server = Server(statuses=[0, 0, 1])
-    desk, _ = desk_of(server)
+    desk = desk_of(server)
     for text in ("", "client=9 request=1 ", ""):
         serve(desk, f"{text}lookup_accounts;")
     assert [asked[0] for asked in server.asked()] == [5, 5, 9, 9, 9]
@@ -251,14 +261,14 @@ def test_the_client_named_last_may_be_one_that_was_refused():
 
 def test_a_refused_number_is_not_kept():
     server = Server(statuses=[0, 0, 6])
-    desk, _ = desk_of(server)
+    desk = desk_of(server)
     for text in ("", "request=9 ", ""):
         serve(desk, f"{text}lookup_accounts;")
     assert [asked[2] for asked in server.asked()] == [0, 1, 9, 2]
 
 
 def test_a_repeat_is_known_by_its_commit():
-    desk, _ = desk_of(Server())
+    desk = desk_of(Server())
     assert [it.is_repeat for it in serve(desk, "lookup_accounts id=1;")] == [False, False]
     assert [it.is_repeat for it in serve(desk, "request=1 lookup_accounts id=1;")] == [True]
     assert [it.is_repeat for it in serve(desk, "lookup_accounts id=1;")] == [False]
@@ -267,17 +277,17 @@ def test_a_repeat_is_known_by_its_commit():
 def test_a_repeat_of_before_is_not_claimed_unless_its_commit_was_seen():
     """The first reply of a ledger that others used: its commit is above what was seen."""
     server = Server()
-    other, _ = desk_of(server)
+    other = desk_of(server)
     serve(other, "lookup_accounts id=1;")
     for history, is_known in ((History(), False), (History(seen=2), True)):
-        desk, _ = desk_of(server, history)
+        desk = desk_of(server, history)
         served = serve(desk, "client=5 session=1 request=1 lookup_accounts id=1;")
         assert [it.is_repeat for it in served] == [is_known]
 
 
 def test_a_moment_that_cannot_be_entered_is_refused_before_it_is_sent():
     server = Server()
-    desk, _ = desk_of(server)
+    desk = desk_of(server)
     last = 2**63 - 1
     for at in (last + 1, 2**64 - 1):
         with pytest.raises(Late, match="TimeExhausted"):

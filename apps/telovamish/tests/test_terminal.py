@@ -13,75 +13,11 @@ from terminals import Terminal
 ACCOUNTS = "create_accounts id=1 ledger=700 code=10, id=2 ledger=700 code=10;"
 
 
-@pytest.fixture
-def state(tmp_path):
-    return str(tmp_path / "state")
-
-
-@pytest.fixture
-def terminal(state, tbs):
-    it = Terminal(state=state, env={"TBS": tbs})
-    it.wait("> ")
-    yield it
-    it.close()
-
-
 def test_a_first_transfer(terminal):
     assert "2 of 2 accounts created" in terminal.enter(ACCOUNTS, "created\n") + "created\n"
     terminal.enter("create_transfers id=11 debit_account_id=1", ". ")
     terminal.enter("credit_account_id=2 amount=100 ledger=700 code=10;", "1 of 1 transfer created")
     terminal.enter("lookup_accounts id=2;", " 2              0             100     700    10")
-
-
-def test_a_repeat_is_told(terminal):
-    terminal.enter("at=5 " + ACCOUNTS, "2 of 2 accounts created")
-    terminal.enter("request=1 " + ACCOUNTS, "first reply again (commit 2): nothing was executed")
-    terminal.enter("json", "\n> ")
-    terminal.enter("request=1 " + ACCOUNTS, '"commit":"2","results":[],"repeat":true}')
-    terminal.enter("lookup_accounts id=3;", '"commit":"3","results":[]}')
-
-
-def test_a_wrong_word_is_told_at_the_end_of_its_line(terminal):
-    terminal.enter("create_accounts id=1", ". ")
-    terminal.enter(
-        "ledgre=700", "telovamish: line 2, column 5: unknown field 'ledgre'; did you mean ledger?"
-    )
-    terminal.wait("\n> ")
-    terminal.enter(ACCOUNTS, "2 of 2 accounts created")
-
-
-def test_help_at_the_continuation_prompt(terminal):
-    terminal.enter("create_accounts id=1", ". ")
-    terminal.enter("help ledger", "ledger: field of create_accounts: 32 bits\n")
-    terminal.wait("> create_accounts id=1")
-    terminal.enter("ledger=1 code=1;", "1 of 1 account created")
-    terminal.enter("create_accounts id=2", ". ")
-    terminal.enter("help", "help WORD tells")
-
-
-@pytest.mark.parametrize("word", ["exit", "quit", "exit;"])
-def test_exit_at_the_continuation_prompt(terminal, word):
-    terminal.enter("create_accounts id=1", ". ")
-    terminal.enter(word, "the last statement has no `;`, and is not sent")
-    assert terminal.ended() == 0
-
-
-def test_ctrl_c_at_the_continuation_prompt(terminal):
-    terminal.enter("create_accounts id=1", ". ")
-    terminal.type("\x03")
-    terminal.wait("\n> ")
-    terminal.enter(ACCOUNTS, "2 of 2 accounts created")
-
-
-@pytest.mark.parametrize("leave", ["exit\r", "quit\r", "\x04"])
-def test_leaving_a_ledger_in_memory_asks_once(terminal, leave):
-    terminal.enter(ACCOUNTS, "2 of 2 accounts created")
-    terminal.wait("> ")
-    terminal.type(leave)
-    terminal.wait("its 2 entries end with it: exit again to leave")
-    terminal.wait("\n> ")
-    terminal.type(leave)
-    assert terminal.ended() == 0
 
 
 def test_leaving_an_empty_ledger_does_not_ask(terminal):
@@ -122,7 +58,7 @@ def test_a_history_of_whole_statements(terminal, state, tbs):
     assert stat.S_IMODE(os.stat(path).st_mode) == 0o600
     again = Terminal(state=state, env={"TBS": tbs})
     again.wait("> ")
-    again.type("\x1b[A\x1b[A\x1b[A\r")  # behind two `exit`
+    again.type("\x1b[A\x1b[A\x1b[A\r")  # after two `exit`
     again.wait("1 of 1 account created")
     again.close()
 
@@ -182,7 +118,7 @@ def test_it_stops_and_goes_on(terminal):
     terminal.wait("1 of 1 not found")
 
 
-def test_a_server_that_ends_is_told(terminal):
+def test_a_server_that_ends_is_reported(terminal):
     terminal.enter("lookup_accounts id=1;", "1 of 1 not found")
     (server,) = subprocess.run(
         ["pgrep", "-P", str(terminal.child.pid)], capture_output=True, text=True

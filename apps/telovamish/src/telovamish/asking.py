@@ -2,16 +2,16 @@
 from __future__ import annotations
 
 import contextlib
-import secrets
 import sys
-from typing import TYPE_CHECKING, Any, Callable, Iterator, TypeVar
+from typing import Any, Callable, Iterator, TypeVar
 
 import click
+from tb_client.ids import new_client
 
+from . import ledgers
+from .running import Printer, run_files, run_text
+from .sending import Desk
 from .words import CLIENTS_MAX, U64, U128
-
-if TYPE_CHECKING:
-    from .ledgers import Ledger
 
 F = TypeVar("F", bound=Callable[..., Any])
 CLIENTS, PROFILES = click.IntRange(1, CLIENTS_MAX), click.IntRange(1, 2)
@@ -19,12 +19,7 @@ IDS, RANGES = click.IntRange(1, U128), click.IntRange(0, U64)
 # each option with what it takes, which is nothing or a text or a number
 OPTIONS: tuple[tuple[str, str, Any, str], ...] = (
     ("--file", "LEDGER", str, "A ledger in a file: starts tbd."),
-    (
-        "--connect",
-        "ADDRESS",
-        str,
-        "A listener's ledger: a port, HOST:PORT or a Unix socket's path.",
-    ),
+    ("--connect", "ADDRESS", str, "A listener's ledger: a port, HOST:PORT or a Unix socket."),
     ("--ca", "FILE", str, "Over TLS: who signs the server's certificate."),
     ("--certificate", "FILE", str, "Over TLS: this client's certificate."),
     ("--key", "FILE", str, "Over TLS: its key."),
@@ -34,9 +29,10 @@ OPTIONS: tuple[tuple[str, str, Any, str], ...] = (
     ("--client", "ID", IDS, "The client's id (1 in memory, else drawn)."),
     ("--client-range", "N", RANGES, "The upper 64 bits of a drawn client's id."),
     ("--json", "", None, "Replies as JSON, a line each."),
-    ("--quiet", "", None, "Shows refusals and events that failed, alone."),
+    ("--quiet", "", None, "Shows only refusals and events that failed."),
     ("--command", "TEXT", str, "Serves these statements, and ends."),
 )
+Given = dict[str, Any]
 
 
 def with_options(form: F) -> F:
@@ -46,8 +42,8 @@ def with_options(form: F) -> F:
     return form
 
 
-def test_options(given: dict[str, Any]) -> None:
-    """What the options say together."""
+def check_options(given: Given) -> None:
+    """Refuses options that do not go together."""
     for name, value in given.items():
         if value == "":
             raise click.UsageError(f"--{name.replace('_', '-')} is empty")
@@ -59,32 +55,28 @@ def test_options(given: dict[str, Any]) -> None:
         raise click.UsageError("--file and --connect are two ledgers: give one of them")
 
 
-def client_of(given: dict[str, Any]) -> int:
-    """The client's id: the one that is given, 1 in memory, or a random one of the range: a ledger
-    that stays may know a client 1, whose session nobody knows here."""
-    if given["client"]:
-        return int(given["client"])
-    if given["client_range"] is not None:
-        return int(given["client_range"]) << 64 | (secrets.randbits(64) or 1)
-    return secrets.randbits(127) + 1 if given["connect"] or given["file"] else 1
+def client_of(given: Given) -> int:
+    """The client's id: the one that is given, 1 in memory, or a drawn one: a ledger that stays may
+    know a client 1, whose session is not known here."""
+    is_drawn = given["connect"] or given["file"] or given["client_range"] is not None
+    return given["client"] or (new_client(given["client_range"]) if is_drawn else 1)
 
 
 @contextlib.contextmanager
-def ledger_of(given: dict[str, Any]) -> "Iterator[Ledger]":
-    """The ledger that the options name."""
-    from . import ledgers
-
+def desk_of(given: Given) -> Iterator[tuple[Desk, Printer]]:
+    """A desk and a printer over the ledger that the options name."""
+    check_options(given)
     program, numbers = given["program"], (given["clients_max"], given["profile"])
     if given["connect"]:
         context = ledgers.context_of(given["ca"], given["certificate"], given["key"])
         ledger = ledgers.over(given["connect"], context)
     elif given["file"]:
-        with progress(given["file"]) as told:
-            ledger = ledgers.of_file(given["file"], program, numbers, told)
+        with progress(given["file"]) as show:
+            ledger = ledgers.of_file(given["file"], program, numbers, show)
     else:
         ledger = ledgers.in_memory(program, numbers)
     try:
-        yield ledger
+        yield Desk(ledger, client_of(given)), Printer(given["json"], given["quiet"])
     finally:
         ledger.close()
 
@@ -103,15 +95,9 @@ def progress(file: str) -> Iterator[Callable[[str], None]]:
         yield lambda text: status.update(Text(text))
 
 
-def run_given(given: dict[str, Any], files: tuple[str, ...]) -> None:
+def run_given(given: Given, files: tuple[str, ...]) -> None:
     """Serves the statements of files, of standard input or of --command."""
-    test_options(given)
-    with ledger_of(given) as ledger:
-        from .running import Printer, run_files, run_text, tell
-        from .sending import Desk
-
-        desk = Desk(ledger, client_of(given), tell)
-        printer = Printer(given["json"], given["quiet"])
+    with desk_of(given) as (desk, printer):
         if given["command"]:
             text = given["command"].encode("utf-8", "surrogateescape")
             run_text(desk, printer, iter([text + b"\n"]))
@@ -125,7 +111,7 @@ def run_given(given: dict[str, Any], files: tuple[str, ...]) -> None:
 def run(files: tuple[str, ...], **given: Any) -> None:
     """Statements of files or of standard input in, each reply as soon as it is there.
 
-    The ledger is in memory and ends with the command, or in a file, or behind a connection."""
+    The ledger is in memory and ends with the command, or in a file, or over a connection."""
     if given["command"] and files:
         raise click.UsageError("--command and FILE are two texts: give one of them")
     run_given(given, files)
@@ -140,14 +126,8 @@ def repl(**given: Any) -> None:
     if given["command"] or not (sys.stdin.isatty() and sys.stdout.isatty()):
         run_given(given, ())
         return
-    test_options(given)
-    with ledger_of(given) as ledger:
-        from .repl import COMMAND, Repl
-        from .running import Printer, tell
-        from .sending import Desk
-        from .terminal import Terminal
+    with desk_of(given) as (desk, printer):
+        from .repl import Repl
 
-        desk = Desk(ledger, client_of(given), tell)
-        printer = Printer(given["json"], given["quiet"], has_pager=True)
         print("A statement ends with `;`; `help` shows some, `exit` ends.")
-        Repl(desk, printer, Terminal(desk.live, COMMAND.match)).run()
+        Repl(desk, printer).run()

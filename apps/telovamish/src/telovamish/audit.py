@@ -1,26 +1,24 @@
-"""A dump with what its replay gives, as JSON: who asked, what became of each event, expiries, and
-the balances of an account."""
+"""A dump with what its replay gives, as JSON: the request of each entry, what became of each event,
+expiries, and the balances of an account."""
 from __future__ import annotations
 
-import datetime
 import re
 from typing import Any, Iterator, NamedTuple, Optional
 
 import click
 
 from .checking import Check
-from .dates import EPOCH, moment_of
+from .dates import date_of, moment_of
 from .faults import Fault
 from .forms import read, written
 from .live import Replay, facts
 from .model import RESOLVES, Event, Evicted, Expired, Fact, Ledger
 from .objects import item_shown, line, record_shown
 from .programs import program
-from .records import RECORD, Account, Transfer
+from .records import Account, Transfer
 from .streams import Entry, Item, read_dump
-from .words import RESULTS, SECOND, TIME_MAX, U128
+from .words import RESULTS, TIME_MAX, U128
 
-DIGITS = re.compile("0*([0-9]{1,39})")
 OUTCOMES = {operation: {0: "created", **names} for operation, names in RESULTS.items()}
 Shown = dict[str, Any]
 
@@ -33,13 +31,6 @@ class Wanted(NamedTuple):
     first: int = 0
     last: int = TIME_MAX
     is_utc: bool = False
-
-
-def utc(time: int) -> str:
-    """A time as a date; zeros at the end of the second are left out."""
-    seconds, rest = divmod(time, SECOND)
-    date = (EPOCH + datetime.timedelta(seconds=seconds)).isoformat()
-    return f"{date}.{rest:09}".rstrip("0") + "Z" if rest else f"{date}Z"
 
 
 class Audit:
@@ -58,13 +49,13 @@ class Audit:
         if account is None:
             return self._lines(item, found) if is_wanted else []
         of_account = self._of_account(account, found)
-        is_changed = self._is_changed(ledger.accounts.get(account))
+        now = ledger.accounts.get(account)
+        before, self._account = self._account, now.to_bytes() if now else b""
         if not is_wanted:
             return []
         shown = self._lines(item, of_account)
-        if is_changed:
-            now = record_shown(ledger.accounts[account])
-            shown.append({**self._begun(item), "account": now})
+        if now and before != self._account:
+            shown.append({**self._begun(item), "account": record_shown(now)})
         return shown
 
     def _lines(self, entry: Entry, found: list[Fact]) -> list[Shown]:
@@ -75,7 +66,7 @@ class Audit:
                 shown.append({**self._timed(it.time), "expired": record_shown(it.transfer)})
         begun, outcomes = self._begun(entry), OUTCOMES.get(entry.request.operation, {})
         if self.wanted.account is None:
-            shown.append({**begun, **asked(entry)})
+            shown.append({**begun, **request_shown(entry)})
         for it in found:
             if isinstance(it, Event):
                 outcome, event = outcomes.get(it.result, str(it.result)), record_shown(it.record)
@@ -86,63 +77,48 @@ class Audit:
         return {"commit": str(entry.commit), **self._timed(entry.time)}
 
     def _timed(self, time: int) -> Shown:
-        return {"time": str(time), "utc": utc(time)} if self.wanted.is_utc else {"time": str(time)}
+        if not self.wanted.is_utc:
+            return {"time": str(time)}
+        # zeros at the end of the second are left out
+        return {"time": str(time), "utc": re.sub(r"\.?0*Z", "Z", date_of(time))}
 
     def _of_account(self, id: int, found: list[Fact]) -> list[Fact]:
         """The facts that name an account, and the posts and voids whose pending transfer does."""
         created = [it.record for it in found if isinstance(it, Event) and not it.result]
-        self._ids.update(it.id for it in created if isinstance(it, Transfer) and of(id, it))
-        return [it for it in found if self._names(id, it)]
+        self._ids.update(it.id for it in created if isinstance(it, Transfer) and names(id, it))
+        return [it for it in found if self._is_of(id, it)]
 
-    def _names(self, id: int, fact: Fact) -> bool:
+    def _is_of(self, id: int, fact: Fact) -> bool:
         if isinstance(fact, Evicted):
             return False
         it = fact.transfer if isinstance(fact, Expired) else fact.record
         if isinstance(it, Account):
             return it.id == id
-        return of(id, it) or bool(it.flags & RESOLVES) and it.pending_id in self._ids
-
-    def _is_changed(self, it: Optional[Account]) -> bool:
-        before, self._account = self._account, it.to_bytes() if it else b""
-        return before != self._account
+        return names(id, it) or bool(it.flags & RESOLVES) and it.pending_id in self._ids
 
 
-def of(account: int, it: Transfer) -> bool:
+def names(account: int, it: Transfer) -> bool:
     return account in (it.debit_account_id, it.credit_account_id)
 
 
-def asked(entry: Entry) -> Shown:
-    """Who asked, and for what: of a batch the number of its events."""
+def request_shown(entry: Entry) -> Shown:
+    """The request of an entry: of a batch the number of its events."""
     request = entry.request
-    if request.operation not in RESULTS:
-        shown = item_shown(entry)
-    else:
-        shown = item_shown(entry._replace(request=request._replace(body=b"")))
+    is_batch = request.operation in RESULTS
+    shown = item_shown(entry._replace(request=request._replace(body=b"")) if is_batch else entry)
+    if is_batch:
         del shown["events"]
-        shown["count"] = len(request.body) // RECORD
+        shown["count"] = request.length
     del shown["commit"], shown["time"]
     return shown
 
 
-def number(word: str, greatest: int, says: str) -> int:
-    found = DIGITS.fullmatch(word)
-    if not found or int(found[1]) > greatest:
-        raise click.BadParameter(f"{word}: {says}")
-    return int(found[1])
-
-
-def account_of(word: str) -> int:
-    return number(word, U128, "an account's id is 0 to 2^128 - 1, in decimal digits")
-
-
-def commit_of(word: str) -> int:
-    return number(word, TIME_MAX, "a commit number is 0 to 2^63 - 1, in decimal digits")
-
-
 def time_of(word: str) -> int:
-    says = "a time is as 2026-11-26T10:00:00Z, or nanoseconds since 1970"
     moment = moment_of(word)
-    return number(word, TIME_MAX, says) if moment is None else moment
+    if moment is None and not re.fullmatch("[0-9]{1,19}", word):
+        says = "a time is as 2026-11-26T10:00:00Z, or nanoseconds since 1970"
+        raise click.BadParameter(f"{word}: {says}")
+    return int(word) if moment is None else moment
 
 
 def audited(wanted: Wanted, replay: Replay, check: Optional[Check]) -> Iterator[bytes]:
@@ -157,10 +133,12 @@ def audited(wanted: Wanted, replay: Replay, check: Optional[Check]) -> Iterator[
 
 
 @click.command()
-@click.option("--account", type=account_of, metavar="ID", help="The lines of this account alone.")
-@click.option("--after", type=commit_of, metavar="COMMIT", help="Those of entries after this one.")
-@click.option("--from", "first", type=time_of, metavar="TIME", help="Those from this time on.")
-@click.option("--to", "last", type=time_of, metavar="TIME", help="Those up to this time.")
+@click.option("--account", type=click.IntRange(0, U128), metavar="ID", help="Only its lines.")
+@click.option("--after", type=int, default=0, metavar="COMMIT", help="Entries after this one.")
+@click.option("--from", "first", type=time_of, default="0", metavar="TIME", help="From then on.")
+@click.option(
+    "--to", "last", type=time_of, default=str(TIME_MAX), metavar="TIME", help="Until then."
+)
 @click.option("--utc", "is_utc", is_flag=True, help="Each time as a date too.")
 @click.option("--follow", is_flag=True, help="Says that the input may stay open.")
 @click.option("--check", "is_check", is_flag=True, help="Compares all with tbs at the end.")
@@ -173,7 +151,6 @@ def command(tbs: Optional[str], is_check: bool, follow: bool, **wanted: Any) -> 
     path = program("tbs", tbs, "--tbs")
     with Replay(path) as replay:
         check = Check(path, replay) if is_check else None
-        given = {name: value for name, value in wanted.items() if value is not None}
-        written(audited(Wanted(**given), replay, check))
+        written(audited(Wanted(**wanted), replay, check))
         if check:
             click.echo(f"telovamish: as in tbs: {check.compare()}", err=True)

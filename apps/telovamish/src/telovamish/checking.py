@@ -3,19 +3,23 @@ each pending transfer by a post of it, and who has a session by requests that ar
 from __future__ import annotations
 
 import itertools
-from typing import Iterator, Mapping, Optional
+from typing import Iterable, Iterator, Mapping, Optional
+
+from tb_client import Program, Reply
 
 from .faults import Fault
-from .live import Program, Replay
+from .live import Replay
 from .model import PENDING, POST, RESOLVES, Event, Expired, Fact, Ledger
+from .objects import record_shown
 from .reader import Pair
-from .records import RECORD, Account, Transfer
-from .streams import Entry, Head, Item, Reply
+from .records import RECORD, Account, Transfer, ids_of, records
+from .streams import Entry, Head, Item
 from .words import ITEMS_MAX, TIME_MAX, U32, U128
 
 NO_SESSION, NEWER_REQUEST = 1, 6
 # the result of a post of a pending transfer that is resolved, by its state
 ENDED = {33: "posted", 34: "voided", 35: "expired"}
+PATIENCE = 600.0  # seconds for a reply
 
 
 class Differs(Fault):
@@ -26,7 +30,7 @@ class Differs(Fault):
 
 class Check:
     """What a history made, until it is compared. `tbs run` gets the same history. The requests that
-    compare come after it, to the replay alone, and the model enters them too."""
+    compare come after it, to the replay only, and the model enters them too."""
 
     def __init__(self, tbs: str, replay: Replay) -> None:
         self.transfers: dict[int, Transfer] = {}
@@ -41,9 +45,9 @@ class Check:
         """Takes the next item of the history, and compares the records that it looks up."""
         self._ledger = ledger
         if isinstance(item, Head):
-            self._run = Program(self._tbs, "run", str(item.clients_max))
+            self._run = Program(self._tbs, item.clients_max, timeout=PATIENCE)
         if isinstance(item, Entry) and reply and self._run:
-            self._run.reply(item.request._replace(at=item.time).to_bytes())
+            self._run.exchange(item.time, item.request.frame())
             self._last[item.request.client] = item.request
             self._note_entry(item, reply, facts)
 
@@ -52,9 +56,9 @@ class Check:
         for fact in facts:
             self._note_fact(fact)
         if entry.request.operation == "lookup_accounts":
-            compare_records(self._ledger.accounts, entry.request.body, reply.body)
+            compare_records(Account, self._ledger.accounts, entry.request.body, reply.body)
         elif entry.request.operation == "lookup_transfers":
-            compare_records(self.transfers, entry.request.body, reply.body)
+            compare_records(Transfer, self.transfers, entry.request.body, reply.body)
 
     def _note_fact(self, fact: Fact) -> None:
         if isinstance(fact, Expired):
@@ -77,13 +81,16 @@ class Check:
         if self._run:
             with self._run:
                 self._compare_sessions(self._run)
-        if self._entry.commit:
-            client = next(it for it in itertools.count(1) if it not in ledger.sessions)
-            self._entry = self._entry._replace(request=Pair(0, client, 0, -1, "register", b""))
-            self._send("register", b"")
-            self._look_up("lookup_accounts", [*ledger.accounts])
-            self._look_up("lookup_transfers", [*self.transfers])
-            self._post([*self.states])
+        client = next(it for it in itertools.count(1) if it not in ledger.sessions)
+        free = (it for it in range(U128 - 1, 0, -1) if it not in self._ids)
+        self._enter(Pair(0, client, 0, 0, "register", b""))
+        session = self._entry.commit
+        requests = [("lookup_accounts", ids_body(it)) for it in batches(ledger.accounts)]
+        requests += [("lookup_transfers", ids_body(it)) for it in batches(self.transfers)]
+        posts = (b"".join(map(post_of, it, free)) for it in batches(self.states))
+        requests += [("create_transfers", it) for it in posts]
+        for number, (operation, body) in enumerate(requests, 1):
+            self._enter(Pair(0, client, session, number, operation, body))
         return "%d accounts, %d transfers, %d pending transfers, %d sessions" % counts
 
     def _compare_sessions(self, run: Program) -> None:
@@ -94,66 +101,51 @@ class Check:
                 continue  # the request would be the next one, or the last one again
             number = session.number if session else 1
             pair = Pair(0, client, number, U32, "lookup_accounts", b"")
-            status = run.reply(pair.to_bytes()).status
+            status = Reply.from_bytes(run.exchange(0, pair.frame())).status
             if status != (NEWER_REQUEST if session else NO_SESSION):
                 known = f"session {session.number}" if session else "no session"
                 raise Differs(f"client {client} has {known} in the model, and status {status}")
 
-    def _send(self, operation: str, body: bytes) -> list[Fact]:
-        """Sends the next request after the history."""
-        before = self._entry
-        time = before.time + max(1, len(body) // RECORD if operation == "create_transfers" else 0)
-        if time > TIME_MAX:
+    def _enter(self, pair: Pair) -> None:
+        """Sends the next request after the history, which the model enters too."""
+        entry = Entry(self._entry.commit + 1, self._entry.time + max(1, pair.length), pair)
+        if entry.time > TIME_MAX:
             raise Fault("audit --check: no time is left for lookups after the last entry")
-        _, client, session, number, asked, _ = before.request
-        session = before.commit if asked == "register" and number == 0 else session
-        pair = Pair(time, client, session, number + 1, operation, body)
-        entry = Entry(before.commit + 1, time, pair)
         reply = self._replay.answer(entry)
         assert reply
-        facts = list(self._ledger.enter(entry, reply))
+        facts = [*self._ledger.enter(entry, reply)]
         self._note_entry(entry, reply, [it for it in facts if isinstance(it, Expired)])
-        return facts
-
-    def _look_up(self, operation: str, ids: list[int]) -> None:
-        for some in batches(ids):
-            self._send(operation, b"".join(it.to_bytes(16, "little") for it in some))
-
-    def _post(self, ids: list[int]) -> None:
-        """Posts nothing of each pending transfer: those that are open take it."""
-        free = (it for it in range(U128 - 1, 0, -1) if it not in self._ids)
-        for some in batches(ids):
-            for fact in self._send("create_transfers", b"".join(map(post_of, some, free))):
-                if isinstance(fact, Event) and isinstance(fact.record, Transfer):
-                    id = fact.record.pending_id
-                    state = ENDED.get(fact.result, "pending")
-                    if state != self.states[id]:
-                        raise Differs(f"transfer {id} is {self.states[id]}, and {state} in tbs")
+        for fact in facts:
+            if isinstance(fact, Event) and isinstance(fact.record, Transfer):
+                id, state = fact.record.pending_id, ENDED.get(fact.result, "pending")
+                if state != self.states[id]:
+                    raise Differs(f"transfer {id} is {self.states[id]}, and {state} in tbs")
 
 
-def batches(ids: list[int]) -> Iterator[list[int]]:
+def batches(of: Iterable[int]) -> Iterator[list[int]]:
+    ids = [*of]
     return (ids[at : at + ITEMS_MAX] for at in range(0, len(ids), ITEMS_MAX))
 
 
+def ids_body(ids: list[int]) -> bytes:
+    return b"".join(it.to_bytes(16, "little") for it in ids)
+
+
 def post_of(pending: int, id: int) -> bytes:
-    """The bytes of a post of nothing of a pending transfer."""
+    """The bytes of a post of nothing of a pending transfer: one that is open takes it."""
     it = Transfer.read(bytes(RECORD))
     it.id, it.pending_id, it.flags = id, pending, POST
     return it.to_bytes()
 
 
 def compare_records(
-    known: Mapping[int, Account] | Mapping[int, Transfer], ids: bytes, found: bytes
+    kind: type[Account] | type[Transfer],
+    known: Mapping[int, Account] | Mapping[int, Transfer],
+    ids: bytes,
+    found: bytes,
 ) -> None:
     """Compares the records of a lookup with what the model has of them."""
-    numbers = (int.from_bytes(ids[at : at + 16], "little") for at in range(0, len(ids), 16))
-    wanted = [known[it] for it in numbers if it in known]
-    for at, it in enumerate(wanted):
-        there = type(it).read(found[RECORD * at : RECORD * (at + 1)].ljust(RECORD, b"\0"))
-        for name in it.__slots__:
-            mine, other = getattr(it, name), getattr(there, name)
-            if mine != other:
-                kind = type(it).__name__.lower()
-                raise Differs(f"{kind} {it.id}: {name} is {mine}, and {other} in tbs")
-    if len(found) != RECORD * len(wanted):
-        raise Differs(f"{len(wanted)} records are looked up, and {len(found) // RECORD} in tbs")
+    wanted = (record_shown(known[it]) for it in ids_of(ids) if it in known)
+    for mine, other in itertools.zip_longest(wanted, map(record_shown, records(kind, found))):
+        if mine != other:
+            raise Differs(f"{kind.__name__.lower()} {mine}, and {other} in tbs")

@@ -10,9 +10,9 @@ from typing import Optional, cast
 import click
 
 from . import __version__
-from .faults import Fault
+from .faults import Fault, report
 
-# the forms, of which only the one that is asked for is loaded: a module and a command in it
+# the forms, of which only the one that is named is loaded: a module and a command in it
 FORMS = {it: f"forms:{it}" for it in ("script", "requests", "replies", "dump", "pairs")}
 FORMS = {"repl": "asking:repl", "run": "asking:run", **FORMS}
 FORMS |= {"audit": "audit:command", "explain": "explain:command"}
@@ -37,8 +37,8 @@ class Forms(click.Group):
         if name not in FORMS:
             return None
         module, attribute = FORMS[name].split(":")
-        found = getattr(importlib.import_module(f"telovamish.{module}"), attribute)
-        return cast(click.Command, found)
+        loaded = importlib.import_module(f"telovamish.{module}")
+        return cast(click.Command, getattr(loaded, attribute))
 
     def resolve_command(
         self, context: click.Context, args: list[str]
@@ -56,24 +56,19 @@ def telovamish() -> None:
     """A proved ledger in words that people read and type. Without a form it is `repl`."""
 
 
-def told(text: str) -> None:
-    shown = text if text.startswith("telovamish: ") else f"telovamish: {text}"
-    print(shown.rstrip("\n"), file=sys.stderr)
-
-
 def ran() -> int:
     """Runs the command, and gives its exit status."""
     try:
         telovamish(prog_name="telovamish", standalone_mode=False)
         return 0
     except click.ClickException as why:
-        told(why.format_message())
+        report(why.format_message())
         return 2
     except Fault as why:
-        told(str(why))
+        report(str(why))
         return why.status
     except MemoryError:
-        told("NoMemory")
+        report("NoMemory")
         return 1
     except (KeyboardInterrupt, click.Abort):
         print(file=sys.stderr)
@@ -84,12 +79,12 @@ def main() -> None:
     if sys.stderr is None:  # else faults would go to standard output, amid the replies
         sys.stderr = open(os.devnull, "w", encoding="utf-8")
     if sys.stdin is None or sys.stdout is None:
-        told("Device: standard input or output is closed")
+        report("Device: standard input or output is closed")
         sys.exit(1)
     status = ran()
     try:
         sys.stdout.flush()
     except OSError:
-        # else it is tried again at the end to write what is left
+        # or Python writes again what is left, at its end
         os.dup2(os.open(os.devnull, os.O_WRONLY), sys.stdout.fileno())
     sys.exit(status)

@@ -32,13 +32,9 @@ def moment_of(date: str) -> Optional[int]:
 
 
 def date_of(nanoseconds: int) -> str:
-    """A time of the ledger as a date in UTC, exactly; one after the year 9999 stays a number."""
+    """A time of the ledger as a date in UTC, exactly."""
     seconds, rest = divmod(nanoseconds, SECOND)
-    try:
-        whole = EPOCH + datetime.timedelta(seconds=seconds)
-    except OverflowError:
-        return str(nanoseconds)
-    return f"{whole.isoformat()}.{rest:09}Z"
+    return f"{(EPOCH + datetime.timedelta(seconds=seconds)).isoformat()}.{rest:09}Z"
 
 
 def may_go_on(begun: str) -> bool:

@@ -2,30 +2,33 @@
 from __future__ import annotations
 
 import contextlib
+import sys
 from typing import Iterator
 
 
 class Fault(Exception):
-    """The input or the arguments are wrong. Its text is told on standard error; what does not begin
-    with the command's name gets it."""
+    """The input or the arguments are wrong. Its text is printed on standard error."""
 
     status = 2
 
 
 class Device(Fault):
-    """Reading or writing failed, or a program is not there."""
+    """Reading or writing failed, or there is no program."""
 
     status = 1
-
-    @classmethod
-    def of(cls, what: str, why: OSError) -> Device:
-        return cls(f"Device: {what}: {why.strerror or why}")
 
 
 @contextlib.contextmanager
 def devices(what: str) -> Iterator[None]:
-    """A fault of the system within is told as one of this device."""
+    """A fault of the system within is reported as one of this device."""
     try:
         yield
     except OSError as why:
-        raise Device.of(what, why) from None
+        raise Device(f"Device: {what}: {why.strerror or why}") from None
+
+
+def report(text: str) -> None:
+    """Prints a message on standard error. What does not begin with the command's name gets it."""
+    shown = text if text.startswith("telovamish: ") else f"telovamish: {text}"
+    with contextlib.suppress(OSError):
+        print(shown.rstrip("\n"), file=sys.stderr, flush=True)

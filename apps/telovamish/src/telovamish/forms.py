@@ -2,12 +2,12 @@
 from __future__ import annotations
 
 import sys
-from typing import BinaryIO, Callable, Iterable, Iterator, TypeVar
+from typing import IO, Callable, Iterable, Iterator, TypeVar
 
 import click
 
 from .faults import Fault, devices
-from .filling import Told
+from .filling import Known
 from .kinds import FIRST_BYTES, WORDS, kind_of
 from .texts import pairs as pairs_of, pieces
 
@@ -15,33 +15,28 @@ T = TypeVar("T")
 
 
 def written(lines: Iterable[bytes]) -> None:
-    """Writes each of these to standard output as soon as it is there."""
+    """Writes each of these to standard output at once."""
     for line in lines:
         with devices("standard output"):
             sys.stdout.buffer.write(line)
             sys.stdout.buffer.flush()
 
 
-def read(kind: str, blame: str, reader: Callable[[BinaryIO], Iterator[T]]) -> Iterator[T]:
-    """The items of standard input. One of another kind is told as what it is."""
+def read(kind: str, blame: str, reader: Callable[[IO[bytes]], Iterator[T]]) -> Iterator[T]:
+    """The items of standard input. Of another kind the fault says what it is."""
     source = sys.stdin.buffer
     with devices("standard input"):
         found = kind_of(source.peek(FIRST_BYTES)[:FIRST_BYTES])  # type: ignore[attr-defined]
     if found not in ("", kind):
         raise Fault(f"{blame}: {WORDS[found]}")
-    items = reader(source)
-    while True:
-        with devices("standard input"):
-            item = next(items, None)
-        if item is None:
-            return
-        yield item
+    with devices("standard input"):
+        yield from reader(source)
 
 
 @click.command()
 def script() -> None:
     """Statements in, a script for `tbs run` and `tbs dump` out."""
-    written(it.to_bytes() for it in pairs_of(pieces(0), Told()))
+    written(it.to_bytes() for it in pairs_of(pieces(0), Known()))
 
 
 @click.command()

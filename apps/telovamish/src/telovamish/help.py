@@ -18,7 +18,7 @@ HELP = """Statements end with `;`. What comes before the operation may be left o
 A moment is nanoseconds since 1970, or a date: at=2026-11-26T10:00:00Z. Flags are joined by `|`:
 flags=linked|pending. docs/use/TELOVAMISH.md has all of it; the tab key completes words.
 
-    help       this page; help WORD tells what an operation, a field, a flag, a result, a status
+    help       this page; help WORD says what an operation, a field, a flag, a result, a status
                or a fault is
     sessions   the clients of this terminal, their sessions and last requests
     json       replies as JSON, a line each; `table` goes back

@@ -3,16 +3,16 @@ from __future__ import annotations
 
 from .words import OPERATIONS
 
-DUMP, LEDGER = b"TBSDUMP1", b"TBJRNL0"  # a ledger's file has the number of its format behind that
+DUMP, LEDGER = b"TBSDUMP1", b"TBJRNL0"  # the number of its format follows in a ledger's file
 FIRST_BYTES = 56  # a moment and the header of a request
 # what the header of a request to register has after its client
 REGISTER = bytes(12) + OPERATIONS["register"].to_bytes(4, "little") + bytes(16)
 WORDS = {
-    "ledger": "a ledger's file of tbd: tbd check FILE tells where it ends, "
+    "ledger": "a ledger's file of tbd: tbd check FILE finds where it ends, "
     "tbd dump FILE makes a dump of it",
     "remnant": "the remnant of a ledger's file of tbd, of which a crash left less than its first "
     "8 bytes: tbd run begins a ledger in it",
-    "dump": "a dump: telovamish audit tells what is in it, telovamish pairs makes a script of it",
+    "dump": "a dump: telovamish audit shows what is in it, telovamish pairs makes a script of it",
     "script": "a script: tbs run serves it, tbs dump makes a dump of it, telovamish requests "
     "makes statements of it",
     "replies": "the replies of tbs: telovamish replies shows them",

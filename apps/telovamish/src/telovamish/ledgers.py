@@ -1,15 +1,15 @@
-"""The three kinds of ledger: in memory, in a file, and behind a connection."""
+"""The three kinds of ledger: in memory, in a file, and over a connection."""
 from __future__ import annotations
 
 import contextlib
 import os
 import pathlib
 import re
-import socket
 import ssl
-from typing import Callable, Iterator, NamedTuple, Optional, Union
+from typing import Any, Callable, Iterator, NamedTuple, Optional, Union
 
 from tb_client import ClientError, Direct, Program, ProgramEnded, Socket
+from tb_client.clients import addresses_of
 
 from .faults import Device, Fault
 from .programs import found, program
@@ -17,20 +17,19 @@ from .repeats import History
 from .words import CLIENTS_MAX
 
 READY = re.compile(r"tbd: ready: commit (\d+), time (\d+)")
-# of a ledger's file: its first record, behind which its profile and its clients are
+# of a ledger's file: its first record, after which its profile and its clients are
 HEAD, HEAD_END = b"TBK1", 32
 PATIENCE = 0.2  # seconds between two looks at a program that reads its ledger
-Address = Union[str, tuple[str, int]]
 Numbers = tuple[Optional[int], Optional[int]]  # CLIENTS_MAX and PROFILE, as far as they are given
 
 
 class Ledger(NamedTuple):
-    """A ledger that can be asked."""
+    """A ledger that takes requests."""
 
     transport: Union[Program, Socket, Direct]
     history: History
     is_memory: bool = False
-    places: tuple[Address, ...] = ()  # to which plain connections go
+    places: tuple[Any, ...] = ()  # to which plain connections go
 
     @property
     def has_moments(self) -> bool:
@@ -80,17 +79,16 @@ def started(what: str) -> Iterator[None]:
 
 
 def of_file(
-    file: str, option: Optional[str], numbers: Numbers, told: Callable[[str], None]
+    file: str, option: Optional[str], numbers: Numbers, show: Callable[[str], None]
 ) -> Ledger:
-    """A ledger in a file, which a `tbd` of its own serves. What is told while it is read goes out
-    as it comes."""
+    """A ledger in a file, which a `tbd` of its own serves. While it is read, how far is shown."""
     path, (clients_max, profile) = program("tbd", option), head_of(file)
     with started(file):
         it = Program(
             path, numbers[0] or clients_max, numbers[1] or profile, file=file, restarts=True
         )
         while not it.wait(PATIENCE):
-            told(it.told[-1].removeprefix("tbd: ") if it.told else f"starting {path}")
+            show(it.told[-1].removeprefix("tbd: ") if it.told else f"starting {path}")
     ready = next(filter(None, map(READY.match, it.told)), None)
     return Ledger(it, History(*map(int, ready.groups())) if ready else History())
 
@@ -105,38 +103,22 @@ def head_of(file: str) -> tuple[int, int]:
 
 
 def held_by(file: str, fault: str) -> str:
-    """Who has a file that is locked, as far as the system tells it."""
-    if not fault.startswith("Locked"):
-        return ""
+    """Who has a file that is locked, as far as the system knows."""
     holders = []
     with contextlib.suppress(OSError):
-        wanted = f":{os.stat(file).st_ino}"
+        place = f":{os.stat(file).st_ino}"
         for line in pathlib.Path("/proc/locks").read_text().splitlines():
             words = line.split()
-            if "->" not in words and len(words) > 5 and words[5].endswith(wanted):
-                holders.append(shown_process(words[4]))
+            if fault.startswith("Locked") and "->" not in words and words[5].endswith(place):
+                path = pathlib.Path(f"/proc/{words[4]}/cmdline")
+                command = path.read_bytes().replace(b"\0", b" ") if path.exists() else b""
+                holders.append(
+                    f"process {words[4]} ({command.decode(errors='replace').strip():.200})"
+                )
     return f": {', '.join(holders)} has it" if holders else ""
 
 
-def shown_process(number: str) -> str:
-    with contextlib.suppress(OSError):
-        words = pathlib.Path(f"/proc/{number}/cmdline").read_bytes().split(b"\0")
-        shown = b" ".join(words).decode(errors="replace").strip()
-        return f"process {number} ({shown:.200})"
-    return f"process {number}"
-
-
 # Connections
-
-
-def address_of(text: str) -> Address:
-    """A port of this machine, a host and a port, or a Unix socket's path."""
-    if text.isascii() and text.isdigit() and 0 < int(text) < 65536:
-        return "localhost", int(text)
-    host, colon, port = text.rpartition(":")
-    if colon and "/" not in text and port.isascii() and port.isdigit() and len(port) < 10:
-        return host.strip("[]") or "localhost", int(port)
-    return text
 
 
 def context_of(
@@ -157,24 +139,18 @@ def context_of(
 
 
 def over(addresses: str, tls: Optional[ssl.SSLContext]) -> Ledger:
-    """A ledger behind a connection, to one of several addresses."""
-    places = [address_of(it.strip()) for it in addresses.split(",")]
+    """A ledger over a connection, to one of several addresses: a port of this machine, a host and a
+    port, or a Unix socket's path, which has a slash."""
     try:
-        return Ledger(Socket([*places], tls=tls), History(), places=() if tls else (*places,))
+        places: Any = addresses_of(addresses)
+        return Ledger(Socket(places, tls=tls), History(), places=() if tls else (*places,))
     except ClientError as why:
         raise Fault(f"--connect: {why}") from None
 
 
-def speaks_tls(place: Address) -> bool:
+def speaks_tls(place: Any) -> bool:
     """Whether a server that closed a plain connection wants TLS."""
-    if isinstance(place, str):
-        return False
-    context = ssl.create_default_context()
-    context.check_hostname, context.verify_mode = False, ssl.CERT_NONE
     try:
-        with socket.create_connection(place, 2) as plain, context.wrap_socket(plain):
-            return True
-    except ssl.SSLError as why:  # it may refuse a client without a certificate
-        return "ALERT" in (why.reason or "")
-    except OSError:
-        return False
+        return not isinstance(place, str) and bool(ssl.get_server_certificate(place, timeout=2))
+    except OSError as why:  # an alert, if it refuses a client without a certificate
+        return "ALERT" in (getattr(why, "reason", None) or "")

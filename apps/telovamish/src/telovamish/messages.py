@@ -1,14 +1,15 @@
-"""What is wrong with a text, in four lines: the place, the word there, its line, and what may stand
+"""What is wrong with a text, in four lines: the place, the word there, its line, and what may be
 there."""
 from __future__ import annotations
 
+import difflib
 import re
 from typing import Optional
 
-from .filling import Told
+from .filling import Known
 from .reader import GIVEN, PARTED, Awaited, Scan, awaited, scanned
-from .words import ALL, FLAGS, HEADER, ITEMS_MAX, KINDS, MAXIMA
-from .words import OPERATIONS, ORDER, POSITIVE, U16, U32, U64, U128
+from .words import FLAGS, HEADER, ITEMS_MAX, KINDS, MAXIMA
+from .words import OPERATIONS, POSITIVE, U16, U32, U64, U128
 
 SHOWN_MAX, SHOWN_BEFORE = 100, 60
 ENDING = re.compile(r"[^\x00-\x20,;=|#\x7f]*\Z")
@@ -17,45 +18,24 @@ IS_NUMBER = re.compile(r"0x[0-9a-fA-F]+|[0-9]+")
 MARKS = {"=": "'='", "|": "'|'", ",": "','", ";": "';'"}
 LARGEST = {U16: "65535", U32: "4294967295", U64: "18446744073709551615", U128: "2^128 - 1"}
 BYTES = {" ": "a space", "\t": "a tab", "\n": "the end of the line", "\r": "the end of the line"}
-# operations that a ledger of this kind has elsewhere
+# operations of other ledgers of this kind, and what has their results here
 AUDIT = "tbd dump FILE | telovamish audit --account ID shows them (docs/use/READING.md)"
 BOOKS = "the books have them as tables of SQL (docs/use/READING.md)"
 ELSEWHERE = {"get_account_transfers": AUDIT, "get_account_balances": AUDIT}
 ELSEWHERE |= {"query_accounts": BOOKS, "query_transfers": BOOKS, "get_change_events": BOOKS}
 
 
-def edits(a: str, b: str) -> int:
-    """The number of bytes to leave out, put in or change."""
-    row = list(range(len(b) + 1))
-    for i, x in enumerate(a, 1):
-        before, row = row, [i]
-        for j, y in enumerate(b, 1):
-            row.append(min(before[j] + 1, row[-1] + 1, before[j - 1] + (x != y)))
-    return row[-1]
-
-
 def nearest(written: str, names: list[str]) -> str:
-    """The name that may be meant by a misspelled one, or nothing."""
-    least = 2 if len(written) <= 3 else 3 if len(written) <= 64 else 0
-    found = ""
-    for name in names:
-        if least == 0:
-            break
-        far = edits(written, name)
-        if name.startswith(written):
-            far = min(far, 2)
-        if far < least:
-            least, found = far, name
-    return found
+    """The name that may be meant by a misspelled or cut one, or nothing."""
+    begun = [it for it in names if len(written) > 3 and it.startswith(written)]
+    return (begun or difflib.get_close_matches(written, names, 1) or [""])[0]
 
 
 def expected(it: Awaited) -> str:
-    """The list of what may stand at a place."""
+    """The list of what may be at a place."""
     names = [*it.words]
     if it.number:
-        largest = HEADER.get(it.number) or max(
-            map(lambda of: of.get(it.number, 0), MAXIMA.values())
-        )
+        largest = max(fields.get(it.number, 0) for fields in (HEADER, *MAXIMA.values()))
         first = "from 1 to" if it.number in POSITIVE else "up to"
         names.append(f"a number {first} {LARGEST[largest]}")
         if it.number == "at":
@@ -80,13 +60,12 @@ def wrong_word(word: str, scan: Scan) -> str:
     may = awaited(scan)
     if word in ELSEWHERE:
         return f"{word} is no operation here: {ELSEWHERE[word]}"
-    if word in ORDER:
+    if word in KINDS:
         return misplaced(word, scan, may)
     if word[0].isascii() and word[0].isalpha() and may.words:
-        near = nearest(word, [*may.words, *ALL])
-        return f"unknown {KINDS[near] if near else 'word'} '{word}'" + (
-            near and f"; did you mean {near}?"
-        )
+        near = nearest(word, [*may.words, *KINDS])
+        meant = f"; did you mean {near}?" if near else ""
+        return f"unknown {KINDS[near] if near else 'word'} '{word}'{meant}"
     if not may.number:
         return f"found '{word}'"
     if may.number == "at" and "-" in word:
@@ -108,12 +87,12 @@ def misplaced(word: str, scan: Scan, may: Awaited) -> str:
         return f"flags are joined by '|': flags=..|{word}"
     if may.number == "flags" and KINDS[word] == "flag":
         others = next(it for it, flags in FLAGS.items() if word in flags)
-        return f"{word} is a flag of {others.removeprefix('create_')} alone"
+        return f"{word} is a flag of {others.removeprefix('create_')} only"
     if word in OPERATIONS and not may.number and not ends:
         return early(word, may)
     if (word in OPERATIONS or word in HEADER) and ends:
         return f"';' is missing before '{word}'"
-    return f"'{word}' cannot stand here"
+    return f"'{word}' is not allowed here"
 
 
 def early(word: str, may: Awaited) -> str:
@@ -124,53 +103,30 @@ def early(word: str, may: Awaited) -> str:
         return "a register has no session and no request"
     if "request" in may.words:
         return f"a request's number comes first: write request=N before {word}"
-    return f"'{word}' cannot stand here"
+    return f"'{word}' is not allowed here"
 
 
 def shown_line(before: str, rest: str) -> str:
     """A line, cut around a place, and a mark under the place."""
-    is_long = len(before) + len(rest) > SHOWN_MAX
-    start = len(before) - SHOWN_BEFORE if is_long and len(before) > SHOWN_BEFORE else 0
-    shown = before[start:]
-    if start:
-        shown = re.sub("^[\x80-\xbf]+", "", shown)
-    behind = whole_signs(rest[: max(0, SHOWN_MAX - len(shown))], rest)
-    dots = "..." if start else ""
-    indent = "".join("\t" if it == "\t" else " " for it in dots + plain(shown))
-    return f"\n  {dots}{shown}{behind}{'...' if len(behind) < len(rest) else ''}\n  {indent}^"
-
-
-def whole_signs(cut: str, rest: str) -> str:
-    """The beginning of a line without a sign of UTF-8 that is cut."""
-    if len(cut) < len(rest):
-        try:
-            cut.encode("latin-1").decode()
-        except UnicodeDecodeError as error:
-            if error.reason == "unexpected end of data":
-                return cut[: error.start]
-    return cut
+    before, rest = plain(before), plain(rest)
+    start = max(0, len(before) - SHOWN_BEFORE) if len(before + rest) > SHOWN_MAX else 0
+    shown = f"{'...' if start else ''}{before[start:]}"
+    end = max(0, SHOWN_MAX - len(before) + start)
+    indent = "".join("\t" if it == "\t" else " " for it in shown)
+    return f"\n  {shown}{rest[:end]}{'...' if end < len(rest) else ''}\n  {indent}^"
 
 
 def plain(text: str) -> str:
-    """Bytes as UTF-8."""
-    return text.encode("latin-1", "replace").decode("utf-8", "replace")
+    """Bytes as UTF-8, with no control character except tabs and line ends."""
+    shown = text.encode("latin-1", "replace").decode("utf-8", "replace")
+    return re.sub("[\x00-\x08\x0b-\x1f\x7f-\x9f]", "?", shown)
 
 
-def as_shown(text: str) -> str:
-    """What a terminal is shown: no control character except tabs and line ends."""
-    return "".join(
-        "?" if ord(it) < 32 and it not in "\t\n" or 127 <= ord(it) < 160 else it
-        for it in plain(text)
-    )
-
-
-def said(text: str, place: int, scan: Scan) -> tuple[str, str]:
-    """What is wrong at a place where a reader stopped, and the lines behind that."""
+def described(text: str, place: int, scan: Scan) -> tuple[str, str]:
+    """What is wrong at a place where a reader stopped, and the lines after that."""
     before, rest = text[:place], text[place:]
     head, tail = ENDING.search(before)[0], LEADING.match(rest)[0]  # type: ignore[index]
-    at_word, word = None, ""
-    if not head or not tail:
-        at_word, word = scanned(before, scan.fill), tail
+    at_word, word = None if tail else scanned(before, scan.fill), ""
     if at_word is None:
         at_word, word = scanned(before[: len(before) - len(head)], scan.fill), head + tail
     if at_word is None:
@@ -180,17 +136,17 @@ def said(text: str, place: int, scan: Scan) -> tuple[str, str]:
     return what, f"{line}\n  expected {expected(awaited(at_word))}"
 
 
-def told_fault(
-    text: str, place: int, scan: Scan, first: tuple[int, int], told: Told, name: str = ""
+def fault_text(
+    text: str, place: int, scan: Scan, first: tuple[int, int], known: Known, name: str = ""
 ) -> str:
     """The lines of a fault in a statement whose first byte is at a line and a column of a file."""
-    what, lines = said(text, place, scan)
+    what, lines = described(text, place, scan)
     row = text.count("\n", 0, place)
     column = place - text.rfind("\n", 0, place) if row else place + first[1]
     word = re.search(r"[a-zA-Z0-9_]*\Z", text[:place])[0]  # type: ignore[index]
     word += re.match(r"[a-zA-Z0-9_]*", text[place:])[0]  # type: ignore[index]
-    client = None if scan.operation else told.has_no_session(scan.given, word)
+    client = None if scan.operation else known.has_no_session(scan.given, word)
     if client is not None:
         what = f"client {client} has no session here: write session=N before {word}"
     file = f"{name}: " if name else ""
-    return as_shown(f"telovamish: {file}line {first[0] + row}, column {column}: {what}{lines}\n")
+    return f"telovamish: {file}line {first[0] + row}, column {column}: {plain(what)}{lines}\n"

@@ -13,11 +13,13 @@ program.
 from __future__ import annotations
 
 import heapq
-from typing import Callable, Iterator, MutableMapping, NamedTuple, Optional, TypeVar, Union
+from typing import Callable, Iterator, NamedTuple, TypeVar, Union
+
+from tb_client import Reply
 
 from .faults import Fault
 from .records import RECORD, Account, Transfer
-from .streams import Entry, Reply
+from .streams import Entry, results_of
 from .words import ACCOUNT_FLAGS, AMOUNT_MAX, SECOND, TRANSFER_FLAGS
 
 PENDING = TRANSFER_FLAGS["pending"]
@@ -66,31 +68,22 @@ class Disagrees(Fault):
     status = 1
 
 
-class Session:
+class Session(NamedTuple):
     """A client's session, and the commit number of its last reply."""
 
-    __slots__ = ("number", "last_commit")
-
-    def __init__(self, number: int) -> None:
-        self.number = self.last_commit = number
+    number: int
+    last_commit: int
 
 
 class Ledger:
-    """Accounts, pending transfers that are open, and sessions, after the entries so far. Mappings
-    of another kind, as over a database, may be given instead of empty ones."""
+    """Accounts, pending transfers that are open, and sessions, after the entries so far."""
 
-    def __init__(
-        self,
-        clients_max: int,
-        accounts: Optional[MutableMapping[int, Account]] = None,
-        pending: Optional[MutableMapping[int, Transfer]] = None,
-        sessions: Optional[MutableMapping[int, Session]] = None,
-    ) -> None:
-        self.accounts = {} if accounts is None else accounts
-        self.pending = {} if pending is None else pending
-        self.sessions = {} if sessions is None else sessions
+    def __init__(self, clients_max: int) -> None:
+        self.accounts: dict[int, Account] = {}
+        self.pending: dict[int, Transfer] = {}
+        self.sessions: dict[int, Session] = {}
         self.clients_max = clients_max
-        self._due = self._ends()
+        self._due: list[tuple[int, int]] = []  # when pending transfers expire, and their ids
 
     def enter(self, entry: Entry, reply: Reply) -> Iterator[Fact]:
         """Enters the next entry, as its facts are taken: all of them have to be."""
@@ -105,7 +98,7 @@ class Ledger:
     def _enter_events(
         self, entry: Entry, reply: Reply, kind: type[Known], create: Callable[[Known], None]
     ) -> Iterator[Event]:
-        body, results = entry.request.body, reply.results
+        body, results = entry.request.body, results_of(reply)
         begin = entry.time - len(body) // RECORD + 1  # the timestamp of the first event
         for place in range(len(body) // RECORD):
             record = kind.read(body[RECORD * place : RECORD * (place + 1)])
@@ -115,7 +108,7 @@ class Ledger:
                 try:
                     create(record)
                 except KeyError as id:
-                    raise Disagrees(f"entry {entry.commit}: {id} is not there") from None
+                    raise Disagrees(f"entry {entry.commit}: there is no {id}") from None
             yield Event(place, result, record)
 
     def _expire(self, now: int) -> Iterator[Expired]:
@@ -134,13 +127,11 @@ class Ledger:
         if is_register == (client in sessions):
             known = "a session" if is_register else "no session"
             raise Disagrees(f"entry {entry.commit}: client {client} has {known}")
-        if not is_register:
-            sessions[client].last_commit = entry.commit
-            return
-        if len(sessions) >= self.clients_max:
+        if is_register and len(sessions) >= self.clients_max:
             evicted = min(sessions, key=lambda it: sessions[it].last_commit)
             yield Evicted(evicted, sessions.pop(evicted).number)
-        sessions[client] = Session(entry.commit)
+        number = entry.commit if is_register else sessions[client].number
+        sessions[client] = Session(number, entry.commit)
 
     def _create_account(self, account: Account) -> None:
         self.accounts[account.id] = account
@@ -180,7 +171,7 @@ class Ledger:
         if it.timeout:
             heapq.heappush(self._due, (it.timestamp + it.timeout * SECOND, it.id))
             if len(self._due) > 2 * len(self.pending) + 1000:  # most of them are resolved
-                self._due = self._ends()
+                self._due = sorted(due for due in self._due if due[1] in self.pending)
 
     def _release(self, it: Transfer, is_posted: bool) -> None:
         """Takes a pending transfer off both pending sums; unless posted, what it closed opens."""
@@ -192,14 +183,6 @@ class Ledger:
             debit.flags &= ~CLOSED
         if it.flags & CLOSES_CREDIT and not is_posted:
             credit.flags &= ~CLOSED
-
-    def _ends(self) -> list[tuple[int, int]]:
-        """When each open pending transfer expires, and its id: the earliest one is first."""
-        return sorted(
-            (it.timestamp + it.timeout * SECOND, it.id)
-            for it in self.pending.values()
-            if it.timeout
-        )
 
 
 def balanced_amount(it: Transfer, debit: Account, credit: Account) -> int:

@@ -4,9 +4,11 @@ from __future__ import annotations
 import json
 from typing import Any
 
-from .records import Account, Record, Transfer, records
-from .streams import Head, Item, Mark, Reply
-from .words import ACCOUNT_FLAGS, KIND, RESULTS, STATUSES, TRANSFER_FLAGS
+from tb_client import Reply
+
+from .records import Account, Record, Transfer, ids_of, records
+from .streams import Head, Item, Mark, results_of
+from .words import ACCOUNT_FLAGS, KIND, NAMES, RESULTS, STATUSES, TRANSFER_FLAGS
 
 # numbers of at most 32 bits are numbers, wider ones are strings
 NARROW = {"user_data_32", "reserved", "timeout", "ledger", "code"}
@@ -17,7 +19,7 @@ def line(shown: dict[str, Any]) -> str:
     return json.dumps(shown, separators=(",", ":")) + "\n"
 
 
-def flags_shown(names: dict[str, int], number: int) -> list[Any]:
+def flags_shown(names: dict[str, int], number: int) -> list[str]:
     """The names of flags; bits that are no flag follow as one number."""
     rest = number & ~sum(names.values())
     return [name for name, bit in names.items() if number & bit] + ([str(rest)] if rest else [])
@@ -33,27 +35,25 @@ def record_shown(it: Record) -> dict[str, Any]:
     return shown
 
 
-def items_shown(operation: str, body: bytes, is_ids: bool) -> list[dict[str, Any]]:
-    """Ids, or records of the kind that an operation has."""
-    if is_ids:
-        ids = (int.from_bytes(body[at : at + 16], "little") for at in range(0, len(body), 16))
-        return [{"id": str(it)} for it in ids]
+def records_shown(operation: str, body: bytes) -> list[dict[str, Any]]:
+    """The accounts or transfers of a batch, or those that a lookup found."""
     return [record_shown(it) for it in records(TYPES[KIND[operation]], body)] if body else []
 
 
 def reply_shown(it: Reply) -> dict[str, Any]:
-    if it.operation in RESULTS:
-        names = RESULTS[it.operation]
+    operation = NAMES[it.operation]
+    if operation in RESULTS:
         results: list[dict[str, Any]] = [
-            {"index": at, "result": names.get(code, str(code))} for at, code in it.results.items()
+            {"index": at, "result": RESULTS[operation].get(code, str(code))}
+            for at, code in results_of(it).items()
         ]
     else:
-        results = items_shown(it.operation, it.body, False)
+        results = records_shown(operation, it.body)
     return {
         "client": str(it.client),
         "session": str(it.session),
-        "request": it.request,
-        "operation": it.operation,
+        "request": it.number,
+        "operation": operation,
         "status": STATUSES[it.status],
         "commit": str(it.commit),
         "results": results,
@@ -64,8 +64,9 @@ def item_shown(it: Item) -> dict[str, Any]:
     """A head, an entry or a mark of a dump."""
     if isinstance(it, (Head, Mark)):
         return it._asdict()
-    request = it.request
-    is_ids = request.operation.startswith("lookup_")
+    request, body = it.request, it.request.body
+    is_lookup = request.operation.startswith("lookup_")
+    ids = [{"id": str(id)} for id in ids_of(body)] if is_lookup else []
     return {
         "commit": str(it.commit),
         "time": str(it.time),
@@ -73,5 +74,5 @@ def item_shown(it: Item) -> dict[str, Any]:
         "session": str(request.session),
         "request": request.request,
         "operation": request.operation,
-        "events": items_shown(request.operation, request.body, is_ids),
+        "events": ids or records_shown(request.operation, body),
     }

@@ -1,15 +1,9 @@
 """Requests as statements, one a line."""
 from __future__ import annotations
 
+from .objects import flags_shown
 from .reader import Pair
 from .words import FIELDS, FLAGS, HEADER
-
-
-def flags_text(operation: str, number: int) -> str:
-    """Flags by name, from the lowest bit on; bits that have no name follow as one number."""
-    names = [name for name, bit in FLAGS[operation].items() if number & bit]
-    rest = number & ~sum(FLAGS[operation].values())
-    return "|".join(names + ([str(rest)] if rest or not names else []))
 
 
 def event_text(operation: str, record: bytes) -> str:
@@ -18,8 +12,8 @@ def event_text(operation: str, record: bytes) -> str:
     for name, (at, size) in FIELDS[operation].items():
         number = int.from_bytes(record[at : at + size], "little")
         if number or name == "id":
-            text = flags_text(operation, number) if name == "flags" else str(number)
-            shown.append(f"{name}={text}")
+            flags = flags_shown(FLAGS[operation], number) if name == "flags" else []
+            shown.append(f"{name}={'|'.join(flags) or number}")
     return " ".join(shown)
 
 

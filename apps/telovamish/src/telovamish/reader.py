@@ -1,5 +1,5 @@
 """Reads statements: one reader of six states. It gives requests, or the place where a text goes
-wrong and what may stand there. A text is bytes decoded as latin-1, so that a place counts bytes."""
+wrong and what may be there. A text is bytes decoded as latin-1, so that a place counts bytes."""
 from __future__ import annotations
 
 import re
@@ -9,7 +9,7 @@ from typing import Callable, NamedTuple, Optional
 
 from .dates import moment_of, right_part
 from .words import AMOUNT_MAX, FIELDS, FLAGS, HEADER, ITEMS_MAX
-from .words import MAXIMA, OPERATIONS, ORDER, POSITIVE
+from .words import MAXIMA, OPERATIONS, POSITIVE
 
 TOKEN = re.compile(
     r"(?:[ \t\r\n]+|\#[^\n]*(?:\n|\Z))*"
@@ -18,8 +18,7 @@ TOKEN = re.compile(
 )
 WORD, NUMBER, MARK, OTHER = 1, 2, 3, 4
 DIGITS_MAX = 40  # more are read slowly
-# what comes next: the first field or operation, `=`, a value, what follows a value, the first event,
-# the next event
+# what is next: a field or an operation, `=`, a value, what follows a value, an event, another event
 HEAD, NAMED, WANTED, GIVEN, OPENED, PARTED = range(6)
 FIELD_STARTS = (HEAD, GIVEN, OPENED, PARTED)
 REQUEST = struct.Struct("<QIB3xI12x")  # what follows the client in the header of a request
@@ -72,12 +71,8 @@ class Goes(Exception):
 Fill = Callable[[Numbers, str], Numbers]
 
 
-def nothing(given: Numbers, word: str) -> Numbers:
-    return {}
-
-
 def suits(operation: str, header: Numbers) -> bool:
-    """An operation may stand after these fields."""
+    """An operation may follow these fields."""
     client, request = header.get("client", 0), header.get("request", 0)
     if operation == "register":
         return client != 0 and request == 0 and header.get("session", 0) == 0
@@ -87,7 +82,7 @@ def suits(operation: str, header: Numbers) -> bool:
 class Scan:
     """How far a text of statements is read."""
 
-    def __init__(self, fill: Fill = nothing) -> None:
+    def __init__(self, fill: Fill) -> None:
         self.fill = fill
         self.statement: Optional[Statement] = None  # the one that was read last
         self._takes = {WORD: self._take_word, NUMBER: self._take_number, MARK: self._take_mark}
@@ -149,7 +144,7 @@ class Scan:
 
     def _take(self, token: re.Match[str], end: int, is_last: bool) -> bool:
         """Takes a token. False if it is the last of the text, and may go on. Raises Goes if it
-        cannot stand there."""
+        is not allowed there."""
         kind = token.lastindex or OTHER
         self.is_within = kind in (WORD, NUMBER) and token.end() == end
         if self.is_within:
@@ -235,7 +230,7 @@ class Scan:
         self.clear()
 
     def words(self) -> list[str]:
-        """The words that may stand here."""
+        """The words that may be here."""
         part, operation = self.part, self.operation
         found: list[str] = []
         if part in FIELD_STARTS:
@@ -248,10 +243,10 @@ class Scan:
             found += FLAGS[operation]
         if part == WANTED and self.field == "amount":
             found.append("amount_max")
-        return sorted(found, key=ORDER.__getitem__)
+        return found
 
     def _right_end(self, token: re.Match[str]) -> int:
-        """The end of what is right of a token that cannot stand here, or may go on."""
+        """The end of what is right of a token that is not allowed here, or may go on."""
         kind = token.lastindex or OTHER
         text, start = token[kind], token.start(kind)
         if kind == WORD:
@@ -296,22 +291,15 @@ class Awaited(NamedTuple):
 
 
 def awaited(scan: Scan) -> Awaited:
-    given = bool(scan.operation) and scan.part == GIVEN
-    marks = "".join(
-        mark
-        for mark, stands in (
-            ("=", scan.part == NAMED),
-            ("|", scan.part == GIVEN and scan.field == "flags"),
-            (",", given and len(scan.events) < ITEMS_MAX - 1),
-            (";", given or scan.part == OPENED and bool(scan.operation)),
-        )
-        if stands
-    )
-    return Awaited(scan.words(), scan.field if scan.part == WANTED else "", marks)
+    part, is_event = scan.part, bool(scan.operation) and scan.part == GIVEN
+    marks = "=" * (part == NAMED) + "|" * (part == GIVEN and scan.field == "flags")
+    marks += "," * (is_event and len(scan.events) < ITEMS_MAX - 1)
+    marks += ";" * (is_event or part == OPENED)
+    return Awaited(scan.words(), scan.field if part == WANTED else "", marks)
 
 
-def scanned(before: str, fill: Fill = nothing) -> Optional[Scan]:
-    """The reader behind these bytes of a statement and a line end; None if none begins so."""
+def scanned(before: str, fill: Fill) -> Optional[Scan]:
+    """The reader after these bytes of a statement and a line end; None if none begins so."""
     scan = Scan(fill)
     try:
         scan.read(before + "\n")

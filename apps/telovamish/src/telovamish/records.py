@@ -59,5 +59,9 @@ class Transfer(Record):
     timeout: int
 
 
+def ids_of(body: bytes) -> list[int]:
+    return [int.from_bytes(body[at : at + 16], "little") for at in range(0, len(body), 16)]
+
+
 def records(kind: type[Self], body: bytes) -> list[Self]:
     return [kind.read(body[at : at + RECORD]) for at in range(0, len(body), RECORD)]

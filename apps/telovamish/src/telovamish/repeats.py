@@ -1,8 +1,9 @@
 """Two things that no reply says: which are those of repeats, and the last entry's time."""
 from __future__ import annotations
 
+from tb_client import Reply
+
 from .reader import Pair
-from .streams import Reply
 from .words import TIME_MAX
 
 
@@ -31,5 +32,5 @@ class History:
         return is_known
 
     def forget(self) -> None:
-        """Another ledger may be asked from now on, or the same one as it was before."""
+        """Another ledger may reply from now on, or the same one as it was before."""
         self.seen = self.time = 0

@@ -2,12 +2,11 @@
 from __future__ import annotations
 
 import re
-import sys
 from typing import Optional
 
-from .faults import Fault
+from .faults import Fault, report
 from .help import HELP, help_on
-from .running import Printer, tell
+from .running import Printer
 from .sending import IN_DOUBT, Desk, Late
 from .terminal import Terminal
 from .texts import Text, Wrong
@@ -19,12 +18,14 @@ NO_CLIENT = "no client is registered yet; the first statement registers one"
 class Repl:
     """Reads what is typed, serves it, shows the replies."""
 
-    def __init__(self, desk: Desk, printer: Printer, terminal: Terminal) -> None:
-        self.desk, self.printer, self.terminal = desk, printer, terminal
+    def __init__(self, desk: Desk, printer: Printer) -> None:
+        self.desk, self.printer = desk, printer
+        self.printer.has_pager = True
+        self.terminal = Terminal(desk.live, COMMAND.match)
         self.was_asked = False
 
     def run(self) -> None:
-        """Goes on until it ends. What is wrong is told, and dropped."""
+        """Goes on until it ends. What is wrong is reported, and dropped."""
         kept: Optional[str] = ""
         while kept is not None:
             try:
@@ -43,20 +44,20 @@ class Repl:
             return ""
         if command[1] in ("exit", "quit"):
             if before.strip():
-                tell("the last statement has no `;`, and is not sent")
+                report("the last statement has no `;`, and is not sent")
             return None if self._may_leave() else ""
         self._do(command[1], command[2])
         return before + "\n" if before.strip() else ""
 
     def _may_leave(self) -> bool:
-        """A ledger in memory ends with this command: that is asked once."""
+        """A ledger in memory ends with this command: the first exit only says so."""
         count = self.desk.entries
         if self.was_asked or not (self.desk.ledger.is_memory and count):
             return True
         self.was_asked = True
         entries = f"its {count} entries end" if count > 1 else "its entry ends"
-        tell(f"the ledger is in memory, and {entries} with it: exit again to leave.")
-        tell("A ledger stays in a file by: telovamish --file LEDGER")
+        report(f"the ledger is in memory, and {entries} with it: exit again to leave.")
+        report("A ledger stays in a file by: telovamish --file LEDGER")
         return False
 
     def _do(self, word: str, about: Optional[str]) -> None:
@@ -65,12 +66,9 @@ class Repl:
         elif word in ("json", "table"):
             self.printer.as_json = word == "json"
         else:
-            standings = self.desk.live.standings
-            for client, it in standings.items():
-                print(f"client {client}: session {it.session}, last request {it.next - 1}")
-            if not standings:
-                print(NO_CLIENT)
-            sys.stdout.flush()
+            for client, it in self.desk.live.sessions.items():
+                print(f"client {client}: session {it.number}, last request {it.next - 1}")
+            print("" if self.desk.live.sessions else f"{NO_CLIENT}\n", end="", flush=True)
 
     def _serve(self, text: str) -> None:
         """Serves the statements that were typed, until one is not served."""
@@ -85,11 +83,11 @@ class Repl:
             read.end()
             return
         except Late as why:
-            told = f"{why}: no entry has a later time than 2262-04-11, and nothing was sent"
+            report(f"{why}: no entry has a later time than 2262-04-11, and nothing was sent")
         except Fault as why:
-            told, is_wrong = str(why), isinstance(why, Wrong)
+            report(str(why))
+            is_wrong = isinstance(why, Wrong)
         except KeyboardInterrupt:
-            told = "the rest of the reply is not shown" if is_shown else IN_DOUBT
-        tell(told.removeprefix("telovamish: ").rstrip("\n"))
+            report("the rest of the reply is not shown" if is_shown else IN_DOUBT)
         if read.has_more(is_wrong):
-            tell("what follows it is not sent")
+            report("what follows it is not sent")

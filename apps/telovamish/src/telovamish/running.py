@@ -4,34 +4,16 @@ from __future__ import annotations
 import contextlib
 import os
 import shutil
-import signal
-import subprocess
 import sys
 from typing import Iterable, Iterator
+
+import click
 
 from .faults import Device, devices
 from .objects import line, reply_shown
 from .sending import Desk, Late, Served
-from .tables import answer_shown
+from .tables import reply_lines
 from .texts import Text, pieces, statements
-
-NOT_RUN = (126, 127)  # what a shell ends with if it cannot run a command
-
-
-def tell(text: str) -> None:
-    """Tells a person something beside the replies."""
-    with contextlib.suppress(OSError):
-        print(f"telovamish: {text}", file=sys.stderr, flush=True)
-
-
-@contextlib.contextmanager
-def left_to_others() -> Iterator[None]:
-    """Ctrl-C does nothing here meanwhile: it is for who has the terminal."""
-    before = signal.signal(signal.SIGINT, lambda *_: None)
-    try:
-        yield
-    finally:
-        signal.signal(signal.SIGINT, before or signal.SIG_DFL)
 
 
 class Printer:
@@ -39,33 +21,25 @@ class Printer:
 
     def __init__(self, as_json: bool, is_quiet: bool = False, has_pager: bool = False) -> None:
         self.as_json, self.is_quiet, self.has_pager = as_json, is_quiet, has_pager
+        if shutil.which("less"):
+            os.environ.setdefault("PAGER", "less -FRSX")
 
     def show(self, served: Served) -> None:
+        size = shutil.get_terminal_size((100, 24))
         if self.as_json:
             mark = {"repeat": True} if served.is_repeat else {}
             lines = [line({**reply_shown(served.reply), **mark}).rstrip("\n")]
             lines = [] if self.is_quiet and served.reply.status == 0 else lines
         else:
-            width = shutil.get_terminal_size((100, 24)).columns
-            lines = list(answer_shown(served, width, self.is_quiet))
+            lines = list(reply_lines(served, size.columns, self.is_quiet))
+        text = "".join(f"{it}\n" for it in lines)
         with devices("standard output"):
-            if not self._paged(lines):
-                self._print(lines)
-
-    @staticmethod
-    def _print(lines: Iterable[str]) -> None:
-        sys.stdout.writelines(f"{it}\n" for it in lines)
-        sys.stdout.flush()
-
-    def _paged(self, lines: list[str]) -> bool:
-        """Whether a pager showed them: they are more than the terminal shows."""
-        pager = os.environ.get("PAGER") or ("less -FRSX" if shutil.which("less") else "")
-        if not (self.has_pager and pager) or len(lines) <= shutil.get_terminal_size().lines - 2:
-            return False
-        with contextlib.suppress(BrokenPipeError), left_to_others():
-            ran = subprocess.run(pager, shell=True, input="\n".join(lines) + "\n", text=True)
-            return ran.returncode not in NOT_RUN
-        return True
+            if self.has_pager and len(lines) > size.lines - 2:
+                with contextlib.suppress(BrokenPipeError):  # it was left before its end
+                    click.echo_via_pager(text.removesuffix("\n"))
+            else:
+                sys.stdout.write(text)
+                sys.stdout.flush()
 
 
 def run_text(desk: Desk, printer: Printer, parts: Iterator[bytes], name: str = "") -> None:
@@ -76,7 +50,7 @@ def run_text(desk: Desk, printer: Printer, parts: Iterator[bytes], name: str = "
             for served in desk.serve(statement):
                 printer.show(served)
         except Late as why:
-            raise type(why)(text.last_place) from None
+            raise Late(f"{why}: {text.last_place}") from None
 
 
 def run_files(desk: Desk, printer: Printer, names: Iterable[str]) -> None:
@@ -89,8 +63,5 @@ def run_files(desk: Desk, printer: Printer, names: Iterable[str]) -> None:
             with open(name, "rb", buffering=0) as file:
                 run_text(desk, printer, pieces(file.fileno(), what=name), name)
         except OSError as why:
-            raise Device(f"{name}: {why.strerror}{meant(name)}") from None
-
-
-def meant(name: str) -> str:
-    return f"; --clients-max {name} sets the number of clients" if name.isdigit() else ""
+            meant = f"; --clients-max {name} sets the number of clients" if name.isdigit() else ""
+            raise Device(f"{name}: {why.strerror}{meant}") from None

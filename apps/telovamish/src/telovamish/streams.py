@@ -2,17 +2,17 @@
 from __future__ import annotations
 
 import struct
-from typing import BinaryIO, Iterator, NamedTuple, Optional, Union
+from typing import IO, Iterator, NamedTuple, Optional, Union
 
-from tb_client.frames import reply_fault, request_fault
+from tb_client import Reply
+from tb_client.frames import reply_fault, reply_length, request_fault
+from tb_client.layout import RESULT_FORMAT
 
 from .faults import Fault
 from .reader import REQUEST, Pair
 from .words import NAMES, TIME_MAX
 
 FRAME = 48  # bytes of a header
-REPLY = struct.Struct("<QIBB2xIQ4x")
-RESULT = struct.Struct("<II")
 MAGIC = b"TBSDUMP1"
 
 
@@ -34,22 +34,7 @@ class Entry(NamedTuple):
 Item = Union[Head, Entry, Mark]
 
 
-class Reply(NamedTuple):
-    client: int
-    session: int
-    request: int
-    operation: str
-    status: int
-    commit: int
-    body: bytes
-
-    @property
-    def results(self) -> dict[int, int]:
-        """The results of the events that failed."""
-        return {index: result for index, result in RESULT.iter_unpack(self.body)}
-
-
-def exactly(source: BinaryIO, length: int, may_end: bool = False) -> bytes:
+def exactly(source: IO[bytes], length: int, may_end: bool = False) -> bytes:
     """So many bytes of a buffered stream; none if it ends and may end here."""
     data = source.read(length)
     if len(data) < length and (data or not may_end):
@@ -57,7 +42,7 @@ def exactly(source: BinaryIO, length: int, may_end: bool = False) -> bytes:
     return data
 
 
-def read_request(source: BinaryIO, at: int) -> Pair:
+def read_request(source: IO[bytes], at: int) -> Pair:
     header = exactly(source, FRAME)
     fault = request_fault(header)
     if fault:
@@ -68,12 +53,12 @@ def read_request(source: BinaryIO, at: int) -> Pair:
     return Pair(at, client, session, number, NAMES[operation], body)
 
 
-def read_script(source: BinaryIO) -> Iterator[Pair]:
+def read_script(source: IO[bytes]) -> Iterator[Pair]:
     while moment := exactly(source, 8, may_end=True):
         yield read_request(source, int.from_bytes(moment, "little"))
 
 
-def read_dump(source: BinaryIO) -> Iterator[Item]:
+def read_dump(source: IO[bytes]) -> Iterator[Item]:
     head = source.read(16)
     profile, clients_max = struct.unpack("<II", head[8:].ljust(8, b"\0"))
     if head[:8] != MAGIC or profile not in (1, 2) or not 1 <= clients_max <= 64:
@@ -91,22 +76,24 @@ def read_dump(source: BinaryIO) -> Iterator[Item]:
         yield Mark(time)
 
 
-def read_reply(source: BinaryIO) -> Optional[Reply]:
+def read_reply(source: IO[bytes]) -> Optional[Reply]:
     header = exactly(source, FRAME, may_end=True)
     if not header:
         return None
     fault = reply_fault(header)
     if fault:
         raise Fault(fault)
-    session, number, operation, status, length, commit = REPLY.unpack_from(header, 16)
-    client = int.from_bytes(header[:16], "little")
-    body = exactly(source, length)
-    return Reply(client, session, number, NAMES[operation], status, commit, body)
+    return Reply.from_bytes(header + exactly(source, reply_length(header) - FRAME))
 
 
-def read_replies(source: BinaryIO) -> Iterator[Reply]:
+def read_replies(source: IO[bytes]) -> Iterator[Reply]:
     while reply := read_reply(source):
         yield reply
+
+
+def results_of(reply: Reply) -> dict[int, int]:
+    """The results of the events that failed."""
+    return {index: result for index, result in RESULT_FORMAT.iter_unpack(reply.body)}
 
 
 def item_bytes(item: Item) -> bytes:

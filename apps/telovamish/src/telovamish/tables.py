@@ -18,7 +18,7 @@ ADVICE = {
     "no_session": "the client has no session: register",
     "session_too_low": "the client has a later session, or was evicted: register",
     "newer_session": "the client has no such session yet",
-    "older": "this number was answered long ago, and its reply is not kept",
+    "older": "this number was executed long ago, and its reply is not kept",
     "collision": "this number was used for another request",
     "newer_request": "send the requests before this one first",
 }
@@ -39,7 +39,7 @@ def columns_of(records: Sequence[Row]) -> list[str]:
 
 
 def aligned(head: Sequence[str], rows: Sequence[Sequence[str]]) -> list[str]:
-    """A table with a line under its head; numbers stand to the right."""
+    """A table with a line under its head; numbers are at the right."""
     widths = [max(map(len, column)) for column in zip(head, *rows)]
     right = [all(it.isdigit() for it in column) for column in zip(*rows)]
 
@@ -68,56 +68,37 @@ def records_shown(records: Sequence[Row], width: int) -> Iterator[str]:
         yield from (f"{name.ljust(longest)}  {cell}" for name, cell in zip(columns, row))
 
 
-def id_of(pair: Pair, place: int) -> str:
-    """The id of an event."""
-    return str(int.from_bytes(pair.body[128 * place : 128 * place + 16], "little"))
-
-
-def failed_shown(pair: Pair, results: Sequence[Row]) -> Iterator[str]:
+def results_shown(pair: Pair, results: Sequence[Row]) -> Iterator[str]:
     """The events of a batch that were not accepted, each with its id."""
     if results:
-        rows = [[str(it["index"]), id_of(pair, it["index"]), it["result"]] for it in results]
-        yield from aligned(("index", "id", "result"), rows)
+        places = [it["index"] for it in results]
+        ids = [int.from_bytes(pair.body[128 * it : 128 * it + 16], "little") for it in places]
+        names = [it["result"] for it in results]
+        cells = [*zip(map(str, places), map(str, ids), names)]
+        yield from aligned(("index", "id", "result"), cells)
 
 
-def created_shown(pair: Pair, failed: int) -> str:
-    name = pair.operation.removeprefix("create_").removesuffix("s")
-    return (
-        f"{pair.length - failed} of {pair.length} {name}{'' if pair.length == 1 else 's'} created"
-    )
-
-
-def found_shown(pair: Pair, found: Sequence[Row], width: int) -> Iterator[str]:
-    """The records that a lookup found, and how many ids it did not find."""
-    if found:
-        yield from records_shown(found, width)
-    missing = pair.length - len(found)
-    if missing:
-        yield f"{missing} of {pair.length} not found"
-
-
-def refusal_shown(status: int) -> str:
-    name = STATUSES[status]
-    return f"refused: {name}{': ' + ADVICE[name] if name in ADVICE else ''}"
-
-
-def answer_shown(served: Served, width: int, is_quiet: bool = False) -> Iterator[str]:
-    """The lines that tell the reply to a request; a quiet one tells failures alone."""
+def reply_lines(served: Served, width: int, is_quiet: bool = False) -> Iterator[str]:
+    """The lines that show the reply to a request; of a quiet one only failures."""
     pair, reply, is_repeat = served
     if reply.status:
-        yield refusal_shown(reply.status)
+        name = STATUSES[reply.status]
+        yield f"refused: {name}{': ' + ADVICE[name] if name in ADVICE else ''}"
         return
-    results = reply_shown(reply)["results"]
+    results, count = reply_shown(reply)["results"], pair.length
     is_create = pair.operation.startswith("create_")
     if is_create:
-        yield from failed_shown(pair, results)
-    elif not is_quiet and pair.operation != "register":
-        yield from found_shown(pair, results, width)
+        yield from results_shown(pair, results)
     if is_quiet:
         return
     if pair.operation == "register":
         yield f"client {reply.client} has session {reply.session}"
+    elif not is_create:
+        yield from records_shown(results, width) if results else ()
+        if count > len(results):
+            yield f"{count - len(results)} of {count} not found"
     if is_repeat:
         yield f"first reply again (commit {reply.commit}): nothing was executed"
     elif is_create:
-        yield created_shown(pair, len(results))
+        name = pair.operation.removeprefix("create_").removesuffix("s")
+        yield f"{count - len(results)} of {count} {name}{'' if count == 1 else 's'} created"

@@ -8,7 +8,7 @@ import re
 import select
 import signal
 import sys
-from typing import Any, Callable, Iterable, Iterator
+from typing import Any, Callable, Iterable
 
 from prompt_toolkit import PromptSession
 from prompt_toolkit.completion import CompleteEvent, Completer, Completion
@@ -23,7 +23,7 @@ from prompt_toolkit.output import create_output
 from prompt_toolkit.shortcuts import CompleteStyle
 from prompt_toolkit.styles import Style
 
-from .filling import Told
+from .filling import Known
 from .texts import Wrong, typed
 from .words import KINDS
 
@@ -37,36 +37,28 @@ STYLE = Style.from_dict({**STYLES, "comment": "ansibrightblack"})
 SIGNALS = (signal.SIGHUP, signal.SIGQUIT, signal.SIGTERM)
 
 
-def history_path() -> pathlib.Path:
-    """Where typed statements are kept, in the place that the system gives programs for their
-    state."""
-    state = os.environ.get("XDG_STATE_HOME", "")
-    if not os.path.isabs(state):
-        state = os.path.expanduser("~/.local/state")
-    if not os.path.isabs(state):  # `~` stays if nobody knows this user's folder
-        raise FileNotFoundError("this user has no folder")
-    return pathlib.Path(state) / "telovamish" / "history"
-
-
 def history() -> History:
-    """The statements that were typed before, which nobody else can read."""
+    """The statements that were typed before, which nobody else can read, in the place that the
+    system gives programs for their state."""
+    state = os.environ.get("XDG_STATE_HOME", "")
     try:
-        path = history_path()
+        top = pathlib.Path(state) if os.path.isabs(state) else pathlib.Path.home() / ".local/state"
+        path = top / "telovamish" / "history"
         path.parent.mkdir(mode=0o700, parents=True, exist_ok=True)
         os.close(os.open(path, os.O_CREAT | os.O_APPEND | os.O_WRONLY, 0o600))
         data = path.read_bytes()
         if len(data) > HISTORY_MAX:
             path.write_bytes(data[data.find(b"\n\n", len(data) // 2) + 1 :])
         return FileHistory(str(path))
-    except OSError:
+    except (OSError, RuntimeError):  # this user has no folder
         return InMemoryHistory()
 
 
 class Words(Completer):
-    """Completes the words that may stand at the cursor, as the reader has them."""
+    """Completes the words that may be at the cursor, as the reader has them."""
 
-    def __init__(self, told: Told) -> None:
-        self.told = told
+    def __init__(self, known: Known) -> None:
+        self.known = known
 
     def get_completions(self, document: Document, event: CompleteEvent) -> Iterable[Completion]:
         before = document.text_before_cursor
@@ -76,9 +68,9 @@ class Words(Completer):
                 yield Completion(name, -len(word))
 
     def words_at(self, before: str) -> list[str]:
-        """The words that may follow, with the mark behind them."""
+        """The words that may follow, with the mark after them."""
         with contextlib.suppress(Wrong):
-            words = typed(before, self.told).scan.words()
+            words = typed(before, self.known).scan.words()
             names = [f"{it}=" if KINDS[it] == "field" else it for it in words]
             return names + (list(COMMANDS) if not before.strip() else [])
         return []
@@ -88,19 +80,16 @@ class Colours(Lexer):
     """Shows what a word is."""
 
     def lex_document(self, document: Document) -> Callable[[int], StyleAndTextTuples]:
-        lines = document.lines
-
         def parts(number: int) -> StyleAndTextTuples:
-            found = WORD.findall(lines[number]) if number < len(lines) else []
-            return [(self.style_of(it), it) for it in found]
+            lines = document.lines[number : number + 1]
+            return [(style_of(it), it) for line in lines for it in WORD.findall(line)]
 
         return parts
 
-    @staticmethod
-    def style_of(word: str) -> str:
-        if word.startswith("#"):
-            return "class:comment"
-        return f"class:{KINDS[word]}" if word in KINDS else ""
+
+def style_of(word: str) -> str:
+    kind = "comment" if word.startswith("#") else KINDS.get(word, "")
+    return f"class:{kind}" if kind else ""
 
 
 class Quick(Vt100Input):
@@ -126,17 +115,17 @@ class Quick(Vt100Input):
 class Terminal:
     """Reads statements, of several lines each."""
 
-    def __init__(self, told: Told, is_command: Callable[[str], Any]) -> None:
-        self.told, self.is_command = told, is_command
+    def __init__(self, known: Known, is_command: Callable[[str], Any]) -> None:
+        self.known, self.is_command = known, is_command
         output = create_output()
-        output.enable_cpr = False  # type: ignore[attr-defined]  # it is not asked where its cursor is
+        output.enable_cpr = False  # type: ignore[attr-defined]  # nor asks for the cursor
         has_colours = os.environ.get("TERM") != "dumb" and not os.environ.get("NO_COLOR")
         self.session: PromptSession[str] = PromptSession(
             "> ",
             multiline=True,
             prompt_continuation=". ",
             history=history(),
-            completer=Words(told),
+            completer=Words(known),
             complete_style=CompleteStyle.READLINE_LIKE,
             complete_while_typing=False,
             lexer=Colours() if has_colours else None,
@@ -146,6 +135,9 @@ class Terminal:
             input=Quick(sys.stdin),
             output=output,
         )
+        for it in SIGNALS:
+            if signal.getsignal(it) == signal.SIG_DFL:
+                signal.signal(it, self._end)
 
     def _bindings(self) -> KeyBindings:
         bindings = KeyBindings()
@@ -165,28 +157,17 @@ class Terminal:
         line is a command."""
         try:
             is_command = bool(self.is_command(text.rpartition("\n")[2]))
-            return is_command or typed(text, self.told).scan.is_at_rest
+            return is_command or typed(text, self.known).scan.is_at_rest
         except Wrong:
             return True
 
     def read(self, begun: str = "") -> str:
         """What is typed up to the Enter that ends it. Raises KeyboardInterrupt and EOFError."""
-        with ended_by_signals(self.session):
-            return self.session.prompt(default=begun)
+        return self.session.prompt(default=begun)
 
-
-@contextlib.contextmanager
-def ended_by_signals(session: PromptSession[str]) -> Iterator[None]:
-    """A signal that ends the command gives the terminal back as it was before."""
-
-    def end(number: int, _: object) -> None:
-        session.app.exit(exception=SystemExit(128 + number))
-
-    before = {
-        it: signal.signal(it, end) for it in SIGNALS if signal.getsignal(it) == signal.SIG_DFL
-    }
-    try:
-        yield
-    finally:
-        for number, handler in before.items():
-            signal.signal(number, handler)
+    def _end(self, number: int, _: object) -> None:
+        """A signal that ends the command gives the terminal back as it was before."""
+        end = SystemExit(128 + number)
+        if not self.session.app.is_running:
+            raise end
+        self.session.app.exit(exception=end)

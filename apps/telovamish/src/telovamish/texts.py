@@ -6,8 +6,8 @@ import re
 from typing import Iterator, Optional
 
 from .faults import Fault, devices
-from .filling import Told
-from .messages import told_fault
+from .filling import Known
+from .messages import fault_text
 from .reader import Goes, Pair, Scan, Statement
 
 
@@ -22,9 +22,9 @@ class Wrong(Fault):
 class Text:
     """A text of statements, of which pieces come, and the place up to which it is read."""
 
-    def __init__(self, told: Told, name: str = "") -> None:
-        self.told, self.name = told, name
-        self.scan = Scan(told.fill)
+    def __init__(self, known: Known, name: str = "") -> None:
+        self.known, self.name = known, name
+        self.scan = Scan(known.fill)
         self.text, self.start, self.at = "", 0, 0
         self.row = self.column = 1  # of the statement's first byte
         self.last_place = ""  # of the statement that was read last
@@ -53,7 +53,7 @@ class Text:
     def wrong(self, place: int) -> Wrong:
         first = self.row, self.column
         text = self.text[self.start :]
-        return Wrong(told_fault(text, place - self.start, self.scan, first, self.told, self.name))
+        return Wrong(fault_text(text, place - self.start, self.scan, first, self.known, self.name))
 
     def has_more(self, is_wrong: bool) -> bool:
         """Something follows the statement that was read last, or the wrong one."""
@@ -67,7 +67,7 @@ class Text:
             raise self.wrong(len(self.text))
 
     def _place_of(self, place: int) -> tuple[int, int]:
-        """The line and the column of a place behind the statement's first byte."""
+        """The line and the column of a place after the statement's first byte."""
         lines = self.text.count("\n", self.start, place)
         if not lines:
             return self.row, self.column + place - self.start
@@ -84,9 +84,9 @@ def pieces(number: int, size: int = 65536, what: str = "standard input") -> Iter
             yield piece
 
 
-def typed(text: str, told: Told) -> Text:
+def typed(text: str, known: Known) -> Text:
     """What was typed, read as far as it goes. Raises Wrong."""
-    read = Text(told)
+    read = Text(known)
     read.feed(text.encode("utf-8", "surrogateescape") + b"\n")
     while read.next():
         pass
@@ -102,8 +102,8 @@ def statements(parts: Iterator[bytes], text: Text) -> Iterator[Statement]:
     text.end()
 
 
-def pairs(parts: Iterator[bytes], told: Told) -> Iterator[Pair]:
-    """The requests of a text that stands alone."""
-    for statement in statements(parts, Text(told)):
-        told.note(statement.pair)
+def pairs(parts: Iterator[bytes], known: Known) -> Iterator[Pair]:
+    """The requests of a whole text."""
+    for statement in statements(parts, Text(known)):
+        known.note(statement.pair)
         yield statement.pair

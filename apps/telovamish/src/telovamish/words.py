@@ -47,19 +47,8 @@ RESULTS: dict[str, dict[int, str]] = {
     for name in FLAGS
 }
 STATUSES: list[str] = TABLE["statuses"]
-TOLD: dict[str, str] = TABLE["told"]  # what a listener tells before it closes a connection
+CLOSINGS: dict[str, str] = TABLE["told"]  # why a listener closes a connection
 
-# all words, in the order in which they are listed
-_SHARED = list(ACCOUNT)[5:9]
-_RECORDS = [*list(ACCOUNT)[:5], *list(TRANSFER)[1:5], *_SHARED, "timeout", *list(ACCOUNT)[9:]]
-ALL = [
-    *HEADER,
-    *_RECORDS,
-    *OPERATIONS,
-    *dict.fromkeys([*ACCOUNT_FLAGS, *TRANSFER_FLAGS]),
-    "amount_max",
-]
-ORDER = {word: place for place, word in enumerate(ALL)}
 KINDS = {
     **{word: "flag" for word in [*ACCOUNT_FLAGS, *TRANSFER_FLAGS]},
     **{word: "field" for word in [*HEADER, *ACCOUNT, *TRANSFER]},
