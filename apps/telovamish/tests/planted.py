@@ -1,9 +1,10 @@
 #!/usr/bin/python3
 """Plants one bug at a time in a copy of the command, and says which tests find it.
 
-    planted.py [FILE..]    only the bugs of these files
+    planted.py [FILE..]    only the bugs of these files; SAMPLE=5 tries a fifth of the oracle's rows
 
-Prints a line for each bug, and how many were found. It ends with exit status 1 unless all were.
+Prints a line for each bug, and how many were found. It ends with exit status 1 unless all were, or
+if a test fails without a bug. Some of the tests need `tbs`.
 """
 from __future__ import annotations
 
@@ -22,10 +23,12 @@ sys.dont_write_bytecode = True
 
 HERE = pathlib.Path(__file__).resolve().parent
 APP = HERE.parent
-STORED, READER = "test_recorded_texts.py::test_texts[stored]", "test_reader.py"
-WRONG = "test_recorded_texts.py::test_texts[wrong]"
+STORED, READER = "test_recorded_texts.py::test_texts[stored]", "test_reader.py -k meant"
+WRONG, RUN = "test_recorded_texts.py::test_texts[wrong]", "test_run.py -k frames"
 WORDS, AUDITS = "test_recorded_dumps.py::test_forms_in_words", "test_recorded_dumps.py -k results"
-TOLD, SENDS, MODEL = "test_recorded_dumps.py -k stops", "test_sending.py", "test_model.py"
+STOPS, SENDS = "test_recorded_dumps.py -k stops", "test_sending.py"
+TABLES, LINES = "test_run.py -k tables", "test_audit.py"
+MODEL = "test_model.py -k hand"
 # file, what is there, the bug instead, and the tests that are to find it
 BUGS = [
     ("reader", "self.client.to_bytes(16", "(self.client >> 1).to_bytes(16", STORED),
@@ -33,7 +36,7 @@ BUGS = [
     ("reader", "given[field] = given.get(field, 0) | number", "given[field] = number", STORED),
     ("reader", "self.given.get(self.field, 0) | number", "number", STORED),
     ("reader", "and (number or field not in POSITIVE)", "", STORED),
-    ("reader", "len(self.events) < ITEMS_MAX - 1:", "len(self.events) < ITEMS_MAX:", READER),
+    ("reader", "len(self.events) < ITEMS_MAX - 1:", "len(self.events) < ITEMS_MAX:", "test_reader.py -k 8190"),
     ("reader", "int(digits[2:], 16)", "int(digits[2:], 16) // 2", STORED),
     ("reader", "number = AMOUNT_MAX", "number = AMOUNT_MAX - 1", STORED),
     ("reader", "            if part == GIVEN:\n                self._push()\n", "", STORED),
@@ -43,9 +46,10 @@ BUGS = [
     ("texts", 'count("\\n", self.start, place)', 'count("\\n", self.start, place) + 1', STORED),
     ("filling", "pair.request + 1", "pair.request", STORED),
     ("filling", "self.last = pair.client\n", "self.last = self.last or pair.client\n", STORED),
-    ("messages", "2 if len(written) <= 3", "1 if len(written) <= 3", STORED),
+    ("messages", "(begun or difflib", "(difflib", READER),
+    ("messages", "start = max(0, len(before) - SHOWN_BEFORE)", "start = max(0, len(before) - 1)", WRONG),
     ("printing", 'if number or name == "id":', "if number:", WORDS),
-    ("printing", "if number & bit]", "if number & bit][:1]", WORDS),
+    ("printing", "'|'.join(flags)", "'|'.join(flags[:1])", WORDS),
     ("printing", '", ".join(event_text', '" ".join(event_text', WORDS),
     ("objects", "items() if number & bit]", "items() if number & bit & ~1]", WORDS),
     ("objects", "+ ([str(rest)] if rest else [])", "", WORDS),
@@ -53,28 +57,32 @@ BUGS = [
     ("objects", 'STATUSES[it.status],\n        "commit": str(it.commit)', 'STATUSES[it.status],\n        "commit": str(it.commit + 1)', WORDS),
     ("words", 'TABLE["transfer_fields"]', '{**TABLE["transfer_fields"], "debit_account_id": (32, 16)}', STORED),
     ("words", 'TABLE["transfer_flags"]', '{**TABLE["transfer_flags"], "pending": 512}', STORED),
-    ("streams", "RESULT.iter_unpack(self.body)}", "[*RESULT.iter_unpack(self.body)][1:]}", WORDS),
-    ("streams", "        may_be_marked = False\n", "", WORDS),
+    ("streams", "RESULT_FORMAT.iter_unpack(reply.body)}", "[*RESULT_FORMAT.iter_unpack(reply.body)][1:]}", WORDS),
+    ("streams", "        may_be_marked = False\n", "", RUN),
     ("repeats", "reply.commit <= self.seen", "reply.commit < self.seen", SENDS),
     ("repeats", "self.seen = max(self.seen, reply.commit)", "self.seen = reply.commit and 0", SENDS),
     ("sending", "history.is_repeat(pair, reply)", "False", SENDS),
-    ("sending", "raise Late()", "pass", SENDS),
-    ("explain", "end_of(data, at, PAIR)", "end_of(data, at, ENTRY)", TOLD),
-    ("explain", 'errors("pair", number, at, SAYS', 'errors("pair", number - 1, at, SAYS', TOLD),
-    ("explain", "at, may_be_marked = at + ENTRY, False", "at += ENTRY", TOLD),
-    ("audit", "after < item.commit", "after <= item.commit", AUDITS),
-    ("audit", "first <= item.time <= last", "first <= item.time < last", AUDITS),
+    ("sending", 'raise Late("TimeExhausted")', "pass", SENDS),
+    ("sending", 'status == "no_session" or', "", SENDS),
+    ("tables", "{count - len(results)} of {count} {name}", "{count} of {count} {name}", TABLES),
+    ("tables", "pair.body[128 * it : 128 * it + 16]", "pair.body[128 * it + 16 : 128 * it + 32]", TABLES),
+    ("explain", "number, at = number + 1, source.tell()", "number, at = number + 1, source.tell() - 8", STOPS),
+    ("explain", 'stop_line("pair", number, at, SAYS', 'stop_line("pair", number - 1, at, SAYS', STOPS),
+    ("explain", "                entries.append(item)\n            at =", "                entries.append(item)\n                at =", STOPS),
+    ("audit", "after < item.commit", "after <= item.commit", LINES),
+    ("audit", "first <= item.time <= last", "first <= item.time < last", LINES),
+    ("audit", "first <= item.time <= last", "first < item.time <= last", LINES),
     ("audit", "it.debit_account_id, it.credit_account_id", "it.debit_account_id,", AUDITS),
     ("audit", "            if isinstance(it, Expired):\n                shown", "            if isinstance(it, Expired) and not shown:\n                shown", AUDITS),
-    ("audit", 'rstrip("0") + "Z"', 'rstrip("0")[:-1] + "Z"', AUDITS),
-    ("audit", "return before != self._account", "return True", AUDITS),
-    ("audit", '"count"] = len(request.body) // RECORD', '"count"] = len(request.body) // RECORD + 1', AUDITS),
+    ("audit", 'r"\\.?0*Z"', 'r"\\.?0?Z"', LINES),
+    ("audit", "now and before != self._account", "now", AUDITS),
+    ("audit", '"count"] = request.length', '"count"] = request.length + 1', AUDITS),
     ("live", "for item in items:\n", "for item in [*items][:-1]:\n", AUDITS),
     ("model", "RECORD + 1  # the", "RECORD  # the", AUDITS),
     ("model", "self._due[0][0] <= now", "self._due[0][0] < now", MODEL),
     ("model", "it.timeout * SECOND, it.id))\n", "it.timeout * SECOND, -it.id))\n", AUDITS),
     ("model", "sessions[it].last_commit)", "sessions[it].number)", MODEL),
-    ("model", "            sessions[client].last_commit = entry.commit\n", "", MODEL),
+    ("model", "Session(number, entry.commit)", "Session(number, number)", MODEL),
     ("model", " or it.amount == AMOUNT_MAX", "", AUDITS),
     ("model", "it.flags & VOID or it.amount", "it.amount", AUDITS),
     ("model", "user_data_128 user_data_64", "user_data_128", AUDITS),
@@ -132,6 +140,9 @@ def tested(app: pathlib.Path, words: list[str], said: pathlib.Path) -> int:
 
 def main() -> int:
     chosen = [it for it in BUGS if not sys.argv[1:] or it[0] in sys.argv[1:]]
+    for tests in sorted({it[3] for it in chosen}):
+        if by := found_by("words", "import json\n", "import json  # no bug\n", tests):
+            sys.exit(f"without a bug {by} fails")
     found = 0
     for bug in chosen:
         began, by = time.monotonic(), found_by(*bug)

@@ -196,6 +196,7 @@ def test_the_bytes_of_a_statement_by_hand():
         ("regsiter", "register"),
         ("lookup_acounts", "lookup_accounts"),
         ("create_acc", "create_accounts"),
+        ("credits_m", "credits_must_not_exceed_debits"),
         ("ledgre", "ledger"),
         ("cod", "code"),
         ("pendin", "pending"),

@@ -61,7 +61,7 @@ class Recorded:
     def __exit__(self, *error: object) -> None:
         pass
 
-    def answer(self, item: Item) -> Optional[Reply]:
+    def reply_to(self, item: Item) -> Optional[Reply]:
         if not isinstance(item, Entry):
             return None
         codes = {name: code for code, name in RESULTS.get(item.request.operation, {}).items()}

@@ -111,7 +111,7 @@ class Check:
         entry = Entry(self._entry.commit + 1, self._entry.time + max(1, pair.length), pair)
         if entry.time > TIME_MAX:
             raise Fault("audit --check: no time is left for lookups after the last entry")
-        reply = self._replay.answer(entry)
+        reply = self._replay.reply_to(entry)
         assert reply
         facts = [*self._ledger.enter(entry, reply)]
         self._note_entry(entry, reply, [it for it in facts if isinstance(it, Expired)])

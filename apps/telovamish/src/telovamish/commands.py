@@ -76,7 +76,7 @@ def ran() -> int:
 
 
 def main() -> None:
-    if sys.stderr is None:  # else faults would go to standard output, amid the replies
+    if sys.stderr is None:  # or faults would go to standard output, amid the replies
         sys.stderr = open(os.devnull, "w", encoding="utf-8")
     if sys.stdin is None or sys.stdout is None:
         report("Device: standard input or output is closed")

@@ -26,7 +26,7 @@ class Replay(subprocess.Popen[bytes]):
         with contextlib.suppress(BrokenPipeError):  # it had ended before its input
             super().__exit__(*error)
 
-    def answer(self, item: Item) -> Optional[Reply]:
+    def reply_to(self, item: Item) -> Optional[Reply]:
         """The reply to an entry; None for a head and a mark. Raises Fault with the program's own
         message if it ends."""
         assert self.stdin and self.stdout and self.stderr
@@ -48,7 +48,7 @@ def facts(
     """Each item of a dump with the reply to it, the ledger after it, and what came of it."""
     ledger = Ledger(1)
     for item in items:
-        reply = replay.answer(item)
+        reply = replay.reply_to(item)
         if isinstance(item, Head):
             ledger = Ledger(item.clients_max)
         found = list(ledger.enter(item, reply)) if isinstance(item, Entry) and reply else []
