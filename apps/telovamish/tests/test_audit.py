@@ -1,11 +1,17 @@
 """Which lines an audit has, and how a time is shown."""
 from __future__ import annotations
 
+import subprocess
+
 import pytest
+from by_hand import account, entered, entry_of, transfer
+from conftest import APP, ran
 
 from telovamish.audit import Audit, Wanted
+from telovamish.checking import Differs, compare_records
 from telovamish.model import Ledger
 from telovamish.reader import Pair
+from telovamish.records import Account
 from telovamish.streams import Entry
 
 ENTRY = Entry(2, 12 * 10**9, Pair(12 * 10**9, 7, 1, 1, "lookup_accounts", b""))
@@ -38,3 +44,36 @@ def test_bounds_of_an_audit(wanted: Wanted, is_shown: bool) -> None:
 def test_zeros_at_the_end_of_a_second_are_left_out(time: int, utc: str) -> None:
     (line,) = Audit(Wanted(is_utc=True)).lines(ENTRY._replace(time=time), Ledger(1), [])
     assert line["utc"] == utc
+
+
+def test_lines_of_an_account() -> None:
+    """Its transfers on either side, and its balances if they changed."""
+    audit, ledger = Audit(Wanted(account=1)), Ledger(2)
+    history = [
+        (entry_of(1, 1, 7, "register"), []),
+        (entry_of(2, 4, 7, "create_accounts", *map(account, (1, 2, 3))), ["event", "account"]),
+        (entry_of(3, 5, 7, "create_transfers", transfer(11, 2, 1, 5)), ["event", "account"]),
+        (entry_of(4, 6, 7, "create_transfers", transfer(12, 1, 3, 5)), ["event", "account"]),
+        (entry_of(5, 7, 7, "create_transfers", transfer(13, 2, 3, 5)), []),
+        (entry_of(6, 8, 7, "create_transfers", transfer(14, 1, 3, 0)), ["event"]),
+    ]
+    for entry, wanted in history:
+        found = entered(ledger, entry)
+        assert [[*it][-1] for it in audit.lines(entry, ledger, found)] == wanted, entry
+
+
+def test_a_check_of_an_audit(tbs: str) -> None:
+    script = (APP.parent.parent / "examples" / "first.script").read_bytes()
+    dump = subprocess.run([tbs, "dump", "2"], input=script, capture_output=True).stdout
+    status, out, errors = ran("audit", "--check", "--tbs", tbs, given=dump)
+    assert (status, len(out.splitlines())) == (0, 6)
+    counts = "2 accounts, 0 transfers, 0 pending transfers, 1 sessions"
+    assert errors == f"telovamish: as in tbs: {counts}\n"
+
+
+@pytest.mark.parametrize("found", [b"", bytes(128), 2 * bytes([7, *bytes(127)])])
+def test_a_record_that_differs(found: bytes) -> None:
+    known = {7: Account.read(bytes([7, *bytes(127)]))}
+    compare_records(Account, known, bytes([7, *bytes(15)]), known[7].to_bytes())
+    with pytest.raises(Differs, match="^account "):
+        compare_records(Account, known, bytes([7, *bytes(15)]), found)

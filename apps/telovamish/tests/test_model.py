@@ -10,17 +10,18 @@ import subprocess
 
 import pytest
 import rules
+from by_hand import account, entered, entry_of, transfer
 from drawn_histories import Drawer
 
 from tb_client import Reply
 
 from telovamish.checking import Check
 from telovamish.live import Replay, facts
-from telovamish.model import PENDING, Disagrees, Event, Evicted, Ledger, Session
+from telovamish.model import BALANCES_CREDIT, BALANCES_DEBIT, PENDING, Disagrees, Event, Evicted
+from telovamish.model import Expired, Ledger, Session, balanced_amount
 from telovamish.reader import Pair
-from telovamish.records import Account, Record, Transfer
 from telovamish.streams import Entry, Mark, read_dump, read_replies
-from telovamish.words import OPERATIONS, RESULTS, SECOND, STATUSES
+from telovamish.words import RESULTS, SECOND, STATUSES
 
 EVENTS = int(os.environ.get("EVENTS", 10_000))
 Counts = collections.Counter[object]
@@ -99,43 +100,51 @@ def test_a_new_seed(tbs: str) -> None:
         compare_history(seed, tbs, counts)
 
 
-def entered(ledger: Ledger, commit: int, time: int, client: int, name: str, *its: Record):
-    """What an entry of these records makes, by hand."""
-    is_register = name == "register"
-    pair = Pair(time, client, 0 if is_register else 1, 0 if is_register else 1, name, b"")
-    entry = Entry(commit, time, pair._replace(body=b"".join(it.to_bytes() for it in its)))
-    return [*ledger.enter(entry, Reply(client, 1, 1, OPERATIONS[name], 0, commit, b""))]
-
-
 def test_the_session_with_the_least_last_commit_is_evicted_by_hand() -> None:
     ledger = Ledger(2)
     for commit, client in ((1, 7), (2, 8)):
-        assert entered(ledger, commit, commit, client, "register") == []
-    entered(ledger, 3, 3, 7, "lookup_accounts")
-    assert entered(ledger, 4, 4, 9, "register") == [Evicted(8, 2)]
+        assert entered(ledger, entry_of(commit, commit, client, "register")) == []
+    entered(ledger, entry_of(3, 3, 7, "lookup_accounts"))
+    assert entered(ledger, entry_of(4, 4, 9, "register")) == [Evicted(8, 2)]
     assert ledger.sessions == {7: Session(1, 3), 9: Session(4, 4)}
-
-
-def pending(id: int, timeout: int) -> Transfer:
-    it = Transfer.read(bytes(128))
-    it.id, it.debit_account_id, it.credit_account_id, it.amount = id, 1, 2, 5
-    it.timeout, it.flags = timeout, PENDING
-    return it
 
 
 @pytest.mark.parametrize("early, ids", [(1, []), (0, [11, 12])])
 def test_what_is_due_expires_by_hand(early: int, ids: list[int]) -> None:
     """At its moment and not before, in the order of ids if two are due at one time."""
-    ledger, accounts = Ledger(2), [Account.read(bytes(128)) for _ in range(2)]
-    accounts[0].id, accounts[1].id = 1, 2
-    entered(ledger, 1, 1, 7, "register")
-    entered(ledger, 2, 3, 7, "create_accounts", *accounts)
-    entered(ledger, 3, 5, 7, "create_transfers", pending(12, timeout=2))
-    entered(ledger, 4, 5 + SECOND, 7, "create_transfers", pending(11, timeout=1))
-    due = 5 + 2 * SECOND
-    found = entered(ledger, 5, due - early, 7, "lookup_accounts")
-    assert [(it.time, it.transfer.id) for it in found] == [(due, id) for id in ids]
+    ledger, due = Ledger(2), 5 + 2 * SECOND
+    first = transfer(12, 1, 2, 5, flags=PENDING, timeout=2)
+    second = transfer(11, 1, 2, 5, flags=PENDING, timeout=1)
+    entered(ledger, entry_of(1, 1, 7, "register"))
+    entered(ledger, entry_of(2, 3, 7, "create_accounts", account(1), account(2)))
+    entered(ledger, entry_of(3, 5, 7, "create_transfers", first))
+    entered(ledger, entry_of(4, 5 + SECOND, 7, "create_transfers", second))
+    found = entered(ledger, entry_of(5, due - early, 7, "lookup_accounts"))
+    assert [(it.time, it.transfer.id) for it in found if isinstance(it, Expired)] == [
+        (due, id) for id in ids
+    ]
     assert ledger.accounts[1].debits_pending == (10 if early else 0)
+
+
+@pytest.mark.parametrize(
+    "amount, flags, debits, credits, wanted",
+    [
+        (100, BALANCES_DEBIT, (50, 20, 7), (0, 0, 0), 23),
+        (20, BALANCES_DEBIT, (50, 20, 7), (0, 0, 0), 20),
+        (100, BALANCES_CREDIT, (0, 0, 0), (50, 20, 7), 23),
+        (100, BALANCES_DEBIT | BALANCES_CREDIT, (50, 20, 7), (30, 20, 7), 3),
+        (100, BALANCES_CREDIT, (0, 0, 0), (20, 20, 7), 0),
+    ],
+)
+def test_the_amount_of_a_balancing_transfer_by_hand(
+    amount: int, flags: int, debits: tuple[int, ...], credits: tuple[int, ...], wanted: int
+) -> None:
+    """At most what the other side has posted above this side's posted and pending sums."""
+    sides = "credits_posted debits_posted debits_pending".split()
+    debit = account(1, **dict(zip(sides, debits)))
+    sides = "debits_posted credits_posted credits_pending".split()
+    credit = account(2, **dict(zip(sides, credits)))
+    assert balanced_amount(transfer(9, 1, 2, amount, flags=flags), debit, credit) == wanted
 
 
 def test_what_cannot_follow_is_reported() -> None:

@@ -134,3 +134,18 @@ def test_a_prompt_is_there_soon(terminal):
     fields = open(f"/proc/{terminal.child.pid}/stat").read().rpartition(")")[2].split()
     used = (int(fields[11]) + int(fields[12])) / os.sysconf("SC_CLK_TCK")
     assert used < 0.5
+
+
+def test_what_is_longer_than_the_terminal_goes_through_the_pager(state, tbs):
+    it = Terminal(state=state, env={"TBS": tbs, "PAGER": "sed 's/^/paged: /'"})
+    it.wait("> ")
+    ids = ", ".join(f"id={it} ledger=1 code=1" for it in range(1, 61))
+    it.type(f"\x1b[200~create_accounts {ids};\x1b[201~\r")
+    it.wait("60 of 60 accounts created")
+    it.wait("\n> ")
+    ids = ", ".join(f"id={it}" for it in range(1, 61))
+    it.type(f"\x1b[200~lookup_accounts {ids};\x1b[201~\r")
+    it.wait("paged: id  debits_posted")
+    it.wait("paged: 60 ")
+    it.wait("\n> ")
+    it.close()
