@@ -1,5 +1,6 @@
 # try: the example unproved, in a minute. run: the same, proved. check: proves everything, quick tests.
-.PHONY: try run check
+# packages: proves everything, and makes the packages of a release in dist/.
+.PHONY: try run check packages
 
 TELOVAMISH = $(CURDIR)/apps/telovamish/telovamish
 SERVE = script=$$(mktemp) && $(TELOVAMISH) script < examples/retry.text > $$script && cd crates/tb_script
@@ -13,3 +14,6 @@ run:
 
 check:
 	tools/check.py
+
+packages:
+	packaging/build

@@ -1,0 +1,191 @@
+"""The one table of programs, forms and options: manual pages and completion are made from it.
+
+Rows of the proved programs are in forms.toml. A Python program's are those of its own parser, so
+that each option has its words in one place."""
+
+import argparse
+import importlib
+import re
+import sys
+import tomllib
+from collections.abc import Callable, Iterator
+from contextlib import contextmanager
+from dataclasses import dataclass, field
+from pathlib import Path
+from typing import Any, NoReturn
+
+ROOT = Path(__file__).resolve().parents[2]
+SOURCES = ("apps/telovamish/src", "apps/host/src", "apps/books/src", "clients/python/src")
+
+
+@dataclass(frozen=True)
+class Option:
+    """Flags of one option, what its value is called, and what it does."""
+
+    flags: list[str]
+    text: str
+    value: str = ""
+
+    def shown(self) -> str:
+        return ", ".join(self.flags) + (f" {self.value}" if self.value else "")
+
+
+@dataclass(frozen=True)
+class Form:
+    """A form: its words as usage shows them, and its own options."""
+
+    words: str
+    text: str
+    options: list[Option] = field(default_factory=list)
+
+    def name(self) -> str:
+        """The form's first word, or nothing if the words are values alone."""
+        first = self.words.split()[0] if self.words else ""
+        return first if re.fullmatch(r"[a-z][a-z-]*", first) else ""
+
+
+@dataclass(frozen=True)
+class Program:
+    name: str
+    summary: str
+    page: str = ""
+    sections: list[str] = field(default_factory=list)
+    see: list[str] = field(default_factory=list)
+    same_as: str = ""
+    forms: list[Form] = field(default_factory=list)
+    options: list[Option] = field(default_factory=list)
+
+
+class Caught(Exception):
+    """Carries a parser that was about to parse."""
+
+    def __init__(self, parser: argparse.ArgumentParser) -> None:
+        super().__init__(parser.prog)
+        self.parser = parser
+
+
+@contextmanager
+def importable() -> Iterator[None]:
+    """The packages of the clone, while this lasts."""
+    before = list(sys.path)
+    sys.path[:0] = [str(ROOT / it) for it in SOURCES]
+    try:
+        yield
+    finally:
+        sys.path[:] = before
+
+
+def caught(call: Callable[[], object]) -> argparse.ArgumentParser:
+    """The parser that a call makes: it is taken when it would parse."""
+
+    def take(parser: argparse.ArgumentParser, *_: object, **__: object) -> NoReturn:
+        raise Caught(parser)
+
+    kept = argparse.ArgumentParser.parse_args
+    argparse.ArgumentParser.parse_args = take  # type: ignore
+    try:
+        call()
+    except Caught as it:
+        return it.parser
+    finally:
+        argparse.ArgumentParser.parse_args = kept  # type: ignore
+    raise ValueError("no parser was made")
+
+
+def of_argparse(parser: argparse.ArgumentParser) -> list[Option]:
+    found = []
+    for it in parser._actions:  # pylint: disable=protected-access
+        if it.option_strings:
+            takes = it.nargs != 0
+            value = str(it.metavar or it.dest.upper()) if takes else ""
+            text = (it.help or "").replace("%(default)s", str(it.default))
+            text = text.replace("%(default)g", f"{it.default:g}" if takes and it.default else "")
+            found.append(Option(list(it.option_strings), text, value))
+    return found
+
+
+def words_of(parser: argparse.ArgumentParser) -> str:
+    """The usage without the program's name."""
+    usage = parser.format_usage().split(":", 1)[1].split()
+    return " ".join(usage).replace("[-h] ", "").removeprefix(parser.prog.split()[0]).strip()
+
+
+def of_books() -> tuple[list[Form], list[Option]]:
+    top = importlib.import_module("tb_sql.commands").words()
+    chosen = next(it for it in top._actions if isinstance(it, argparse._SubParsersAction))
+    said = {it.dest: it.help or "" for it in chosen._choices_actions}
+    forms = [
+        Form(words_of(it), sentence(said[name]), of_argparse(it))
+        for name, it in chosen.choices.items()
+    ]
+    return forms, of_argparse(top)
+
+
+def of_host(module: str, parts: list[str]) -> tuple[list[Form], list[Option]]:
+    """Of the listener and the replica: the part that serves has the program's own options."""
+    loaded = importlib.import_module(module)
+    if not parts:
+        served = caught(lambda: loaded.words([]))
+        return [Form("[OPTIONS] -- COMMAND [WORD ..]", "")], of_argparse(served)
+    served = caught(lambda: loaded.run("", []))
+    forms = [Form("[OPTIONS] --log LOG --copy FOLDER -- COMMAND [WORD ..]", "")]
+    for part in parts:
+        parser = caught(lambda name=part: loaded.run(name, []))  # type: ignore[misc]
+        forms.append(Form(words_of(parser), "", of_argparse(parser)))
+    return forms, of_argparse(served)
+
+
+def of_click() -> tuple[list[Form], list[Option]]:
+    import click
+
+    top = importlib.import_module("telovamish.commands").telovamish
+    context = click.Context(top, info_name="telovamish")
+
+    def options(command: Any, inner: Any) -> list[Option]:
+        rows = [it for it in command.get_params(inner) if isinstance(it, click.Option)]
+        return [
+            Option([*it.opts, *it.secondary_opts], it.help or "", "" if it.is_flag else value(it))
+            for it in rows
+        ]
+
+    def value(option: click.Option) -> str:
+        return option.make_metavar()
+
+    forms = []
+    for name in top.list_commands(context):
+        command = top.get_command(context, name)
+        inner = click.Context(command, parent=context, info_name=name)
+        words = " ".join([name, *command.collect_usage_pieces(inner)[1:]])
+        text = sentence(re.split(r"\n\s*\n", command.help or "")[0])
+        forms.append(Form(words, text, options(command, inner)))
+    return forms, options(top, context)
+
+
+def sentence(text: str) -> str:
+    plain = " ".join(text.split())
+    return plain[:1].upper() + plain[1:] + ("" if plain.endswith(".") or not plain else ".")
+
+
+def of_row(name: str, row: dict[str, Any]) -> Program:
+    own = {it: row[it] for it in ("summary", "page", "sections", "see", "same_as") if it in row}
+    parser = row.get("parser")
+    if parser == "click":
+        forms, options = of_click()
+    elif parser == "tb_sql.commands":
+        forms, options = of_books()
+    elif parser:
+        forms, options = of_host(parser, row.get("parts", []))
+    else:
+        options = [Option(**it) for it in row.get("options", [])]
+        forms = [
+            Form(it["words"], it["text"], [Option(**o) for o in it.get("options", [])])
+            for it in row["forms"]
+        ]
+    return Program(name, forms=forms, options=options, **own)
+
+
+def whole() -> dict[str, Program]:
+    """All programs, by name."""
+    rows = tomllib.loads((ROOT / "packaging/forms.toml").read_text())
+    with importable():
+        return {name: of_row(name, row) for name, row in rows.items()}
