@@ -79,6 +79,7 @@ PARTS = [
     Part("lint of Python", ".", ["flake8"], by_status),
     *(Part(f"types of {it}", it, ["mypy"], by_status) for it in PACKAGES),
     Part("quick tests", ".", [*PYTEST, "-m", "quick", "tests"], pytest_counts),
+    Part("packages", ".", [*PYTEST, "-m", "quick", "packaging/tests"], pytest_counts),
     Part("telovamish", "apps/telovamish", [*PYTEST, *WORDS], pytest_counts),
     Part("client in Python", "clients/python", [*PYTEST, "-n", "2", "tests"], pytest_counts),
     Part("format of Go", "clients/go", ["sh", "-c", 'test -z "$(gofmt -l .)"'], by_status),

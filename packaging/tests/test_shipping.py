@@ -1,0 +1,166 @@
+"""What packages are made of: one version, the table of forms, manual pages, units, the bill."""
+
+import json
+import re
+import shutil
+import tarfile
+from pathlib import Path
+
+import jsonschema
+import pytest
+from shipping import bill, completion, ecosystems, manuals, notes, table, units, versions
+from shipping.programs import Record
+from shipping.table import ROOT
+from trying import watching
+
+PROGRAMS = table.whole()
+SUMS = {it: "0" * 64 for it in ("tbs", "tb_script", "tbd", "tb_follow", "libtb_embed.a")}
+RECORD = Record("0.1.0", "c" * 40, "2026-11-29T00:00:00Z", "kit", "left by rt ci", True, SUMS)
+pytestmark = pytest.mark.quick
+
+
+def copied(tmp_path: Path) -> Path:
+    for name in (*versions.PLACES, "packaging/VERSION"):
+        (tmp_path / name).parent.mkdir(parents=True, exist_ok=True)
+        shutil.copyfile(ROOT / name, tmp_path / name)
+    return tmp_path
+
+
+def test_the_version_is_the_same_everywhere() -> None:
+    assert versions.others(ROOT) == {}
+
+
+@pytest.mark.parametrize("name", versions.PLACES)
+def test_another_version_in_one_place_is_found(name: str, tmp_path: Path) -> None:
+    top = copied(tmp_path)
+    text = (top / name).read_text()
+    found = re.search(versions.PLACES[name], text, re.M)
+    assert found
+    (top / name).write_text(text[: found.start(1)] + "9.9.9" + text[found.end(1) :])
+    assert versions.others(top) == {name: "9.9.9"}
+
+
+def test_a_rewritten_copy_has_one_version(tmp_path: Path) -> None:
+    top = copied(tmp_path)
+    versions.rewrite(top, "7.8.9")
+    assert versions.the_version(top) == "7.8.9" and versions.others(top) == {}
+
+
+def test_forms_of_tbd_are_those_of_its_usage() -> None:
+    usage = (ROOT / "crates/tb_keep_commands/src/help.rt").read_text()
+    shown = set(re.findall(r"^  ([a-z]+) FILE", usage, re.M))
+    assert {it.name() for it in PROGRAMS["tbd"].forms} == shown
+    flags = set(re.findall(r"(?<![\w-])--[a-z]+", usage))
+    assert set(completion.flags(completion.all_options(PROGRAMS["tbd"]))) == flags | {"-h"}
+
+
+@pytest.mark.parametrize("name", ["tbs", "tb_script"])
+def test_forms_of_tbs_are_those_of_its_page(name: str) -> None:
+    page = (ROOT / "docs/use/TBS.md").read_text()
+    shown = set(re.findall(r"^\| `([a-z]+[^`]*)` \|", page, re.M))
+    wanted = shown - ({"storm C R"} if name == "tb_script" else set())
+    assert {it.words for it in PROGRAMS[name].forms} == wanted
+
+
+def test_python_programs_have_their_parsers_options() -> None:
+    assert "--metrics" in completion.flags(PROGRAMS["tb-listen"].options)
+    assert {it.name() for it in PROGRAMS["tb-sql"].forms} == {"load", "serve", "check"}
+    run = next(it for it in PROGRAMS["telovamish"].forms if it.name() == "run")
+    assert {"--file", "--connect", "--json"} <= set(completion.flags(run.options))
+
+
+@pytest.mark.parametrize("name", PROGRAMS)
+def test_each_form_and_option_is_in_the_manual_page(name: str) -> None:
+    program = PROGRAMS[name]
+    page = manuals.of_program(program, "0.1.0", "2026-11-29")
+    if program.same_as:
+        assert page == f".so man1/{program.same_as}.1\n"
+        return
+    plain = re.sub(r"\\f.|\\", "", page)
+    for flag in completion.flags(completion.all_options(program)):
+        assert flag in plain
+    assert all(it.name() in plain for it in program.forms)
+
+
+def test_a_section_that_a_page_lost_is_found() -> None:
+    with pytest.raises(ValueError, match="has no section"):
+        manuals.body("TBD.md", ["The promise", "No such section"])
+
+
+def test_units_have_the_paths_of_the_package(tmp_path: Path) -> None:
+    units.write(tmp_path)
+    text = (tmp_path / "tb-listen.service").read_text()
+    assert "/usr/bin/tbd run ${LEDGER} $PLACES" in text and "User=telovamish" in text
+    assert "RestartPreventExitStatus=" in text and "/opt/" not in text
+
+
+def test_a_path_of_a_copy_by_hand_is_found(monkeypatch: pytest.MonkeyPatch) -> None:
+    monkeypatch.setitem(units.REPLACED, "tb-listen.service", units.COMMON[:3])
+    with pytest.raises(ValueError, match="not replaced: .*/opt/ledger"):
+        units.packaged("tb-listen.service")
+
+
+def test_the_bill_lists_crates_and_their_licences(tmp_path: Path) -> None:
+    kit = tmp_path / "kit"
+    (kit / "byteorder").mkdir(parents=True)
+    granted = "Permission is hereby granted, free of charge, to any person"
+    (kit / "byteorder/LICENSE-MIT").write_text(granted)
+    bill.write(ROOT, kit, RECORD, tmp_path / "bill.json")
+    rows = {it["name"]: it for it in json.loads((tmp_path / "bill.json").read_text())["packages"]}
+    assert rows["crate-byteorder"]["licenseDeclared"] == "MIT"
+    assert rows["crate-tb_ledger"]["licenseDeclared"] == "Apache-2.0"
+    assert rows["tbd"]["checksums"][0]["checksumValue"] == "0" * 64
+
+
+@pytest.mark.parametrize(
+    "field, value", [("spdxVersion", "SPDX-9"), ("name", ""), ("packages", []), ("more", 1)]
+)
+def test_a_wrong_bill_is_refused(field: str, value: object, tmp_path: Path) -> None:
+    document = bill.bill(ROOT, tmp_path, RECORD)
+    bill.check(document)
+    with pytest.raises(jsonschema.ValidationError):
+        bill.check({**document, field: value})
+
+
+def test_a_relation_of_what_is_not_listed_is_refused(tmp_path: Path) -> None:
+    document = bill.bill(ROOT, tmp_path, RECORD)
+    document["packages"] = [it for it in document["packages"] if it["name"] != "crate-tb_ledger"]
+    with pytest.raises(ValueError, match="not listed"):
+        bill.check(document)
+
+
+def test_release_notes_are_of_the_changelog(tmp_path: Path) -> None:
+    notes.write(ROOT, RECORD, tmp_path / "notes")
+    text = (tmp_path / "notes").read_text()
+    assert "### Ledger" in text and "telovamish_0.1.0_amd64.deb" in text and "](" not in text
+    with pytest.raises(ValueError, match="has no 9.9"):
+        notes.part((ROOT / "CHANGELOG.md").read_text(), "9.9")
+
+
+def test_each_alert_is_on_the_operators_page() -> None:
+    watching.explained()
+
+
+def test_each_metric_of_a_query_is_one_of_the_listener() -> None:
+    source = (ROOT / "apps/host/src/tb_host/reports.py").read_text()
+    served = set(re.findall(r'"(tb_[a-z_]+)"', source))
+    for query in watching.queries():
+        for name in watching.METRIC.findall(query):
+            assert re.sub(r"_(total|bucket|sum|count)$", "", name) in served, query
+
+
+def test_an_archive_is_the_same_whenever_it_was_made(tmp_path: Path) -> None:
+    (tmp_path / "b").write_text("b")
+    (tmp_path / "a").write_text("a")
+    found = []
+    for order, mtime in (("ab", 1), ("ba", 2)):
+        path = tmp_path / f"{order}.tar.gz"
+        with tarfile.open(path, "w:gz") as archive:
+            for name in order:
+                info = archive.gettarinfo(str(tmp_path / name), name)
+                info.mtime, info.uname = mtime, order
+                with open(tmp_path / name, "rb") as file:
+                    archive.addfile(info, file)
+        ecosystems.steady(path, 7)
+        found.append(path.read_bytes())
+    assert found[0] == found[1]

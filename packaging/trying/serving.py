@@ -1,0 +1,240 @@
+"""Trials of the listener: over TCP, by its units, over an upgrade, and removal of everything."""
+
+import re
+import signal
+import subprocess
+import time
+from collections.abc import Callable
+
+from shipping.running import Failed
+
+from .installed import check
+from .root import Root
+
+LEDGER = "/var/lib/telovamish/ledger.tbk"
+UNITS = ("tb-listen.service", "tb-listen-activated.service", "tb-replica.service")
+EXPOSURE = 30  # tenths: systemd calls 3.0 OK
+CLIENT = """
+import sys, time
+import tb_client as tb
+end, sent = sys.argv[2], 0
+with tb.ClientSync(cluster_id=0, replica_addresses=sys.argv[1]) as client:
+    client.create_accounts([tb.Account(id=it, ledger=1, code=1) for it in (1, 2)])
+    while True:
+        sent += 1
+        sale = tb.Transfer(
+            id=tb.id(), debit_account_id=1, credit_account_id=2, amount=1, ledger=1, code=1
+        )
+        wrong = client.create_transfers([sale])
+        assert not wrong, wrong
+        try:
+            open(end).close()
+            break
+        except FileNotFoundError:
+            time.sleep(0.01)
+    found = client.lookup_accounts([2])[0].credits_posted
+print(sent, found)
+"""
+
+
+def waited(what: str, is_there: Callable[[], object], seconds: float = 60) -> None:
+    """Waits until something is so."""
+    end = time.monotonic() + seconds
+    while not is_there():
+        if time.monotonic() > end:
+            raise Failed(f"not in {seconds:.0f} s: {what}")
+        time.sleep(0.1)
+
+
+class Listener:
+    """tb-listen in the root, as the system user, on a TCP port that the system chose."""
+
+    def __init__(self, root: Root, *options: str) -> None:
+        words = ["tb-listen", "--tcp", "127.0.0.1:0", *options, "--"]
+        words += ["tbd", "run", LEDGER, "64"]
+        self.process = root.start(*words, user="telovamish")
+        self.lines: list[str] = []
+        assert self.process.stderr
+        for line in self.process.stderr:
+            self.lines.append(line)
+            found = re.search(r"listens on 127\.0\.0\.1:(\d+)", line)
+            if found:
+                self.port = found[1]
+                return
+        raise Failed("".join(self.lines))
+
+    def stop(self) -> None:
+        """SIGTERM: all that was taken is answered, and the status is 0."""
+        self.process.send_signal(signal.SIGTERM)
+        check(self.process.wait(60) == 0, f"status {self.process.returncode}")
+
+
+def state_folder(root: Root) -> None:
+    """What StateDirectory= makes at a unit's start."""
+    root.shell("install -d -m 0700 -o telovamish -g telovamish /var/lib/telovamish")
+
+
+def listener(root: Root) -> None:
+    """A client over TCP, and the command for people over the same port."""
+    state_folder(root)
+    served = Listener(root)
+    try:
+        root.inside("/tmp/client.py").write_text(CLIENT)
+        root.inside("/tmp/end").touch()
+        said = root.run("python3", "/tmp/client.py", served.port, "/tmp/end", user="nobody")
+        check(said.split() == ["1", "1"], said)
+        shown = root.run(
+            *("telovamish", "run", "--connect", served.port, "--command", "lookup_accounts id=2;")
+        )
+        check("credits_posted" in shown, shown)
+    finally:
+        served.stop()
+
+
+def restored(root: Root) -> str:
+    """A backup that is made while the ledger is served, put into its place, is served again."""
+    copy = "/var/lib/telovamish/copy.tbk"
+    before, served = entries(root), Listener(root)
+    root.run("tbd", "backup", LEDGER, copy, user="telovamish")
+    served.stop()
+    root.shell(f"rm {LEDGER} && mv {copy} {LEDGER}", user="telovamish")
+    check(entries(root) == before, f"{entries(root)} entries of {before}")
+    Listener(root).stop()
+    return f"{before} entries"
+
+
+def verified(root: Root) -> None:
+    """systemd reads each unit without a complaint."""
+    said = root.run("systemd-analyze", "verify", *UNITS, "tb-listen-activated.socket")
+    wrong = [it for it in said.splitlines() if "tb-" in it]
+    check(not wrong, "\n".join(wrong))
+
+
+def secured(root: Root) -> str:
+    """systemd's exposure of each unit is at most OK."""
+    found = []
+    for it in UNITS:
+        words = ["systemd-analyze", "security", "--offline=true", f"--threshold={EXPOSURE}"]
+        said = root.run(*words, "--no-pager", it)
+        level = re.search(r"exposure level for \S+: (\S+)", said)
+        check(level is not None, said)
+        assert level
+        found.append(f"{it} {level[1]}")
+    return ", ".join(found)
+
+
+def not_enabled(root: Root) -> None:
+    """The units are installed, and nothing starts them."""
+    links = list(root.inside("/etc/systemd/system").rglob("tb-*"))
+    check(not links, links)
+    for it in UNITS:
+        check(root.inside(f"/lib/systemd/system/{it}").exists(), it)
+
+
+def unit_words(root: Root, unit: str) -> list[str]:
+    """The command of a unit, with the values of its configuration."""
+    text = root.inside(f"/lib/systemd/system/{unit}").read_text().replace("\\\n", " ")
+    command = re.search(r"^ExecStart=(.*)$", text, re.M)
+    place = re.search(r"^EnvironmentFile=(.*)$", text, re.M)
+    assert command and place
+    given = dict(
+        line.split("=", 1)
+        for line in root.inside(place[1]).read_text().splitlines()
+        if line and not line.startswith("#")
+    )
+    words: list[str] = []
+    for word in command[1].split():
+        if re.fullmatch(r"\$\w+", word):
+            words += given[word[1:]].split()
+        else:
+            words.append(re.sub(r"\$\{(\w+)\}", lambda it: given[it[1]], word))
+    return words
+
+
+def activated(root: Root) -> None:
+    """The activated unit's command serves over a socket that is passed to it."""
+    state_folder(root)
+    root.shell("install -d -m 0755 -o telovamish -g telovamish /run/telovamish")
+    words = unit_words(root, "tb-listen-activated.service")
+    line = ["systemd-socket-activate", "--listen=/run/telovamish/passed.sock", *words]
+    process = root.start(*line, user="telovamish")
+    path = root.inside("/run/telovamish/passed.sock")
+    try:
+        waited("a socket", path.exists)
+        statement = "lookup_accounts id=2;"
+        shown = root.run(
+            *("telovamish", "run", "--connect", "/run/telovamish/passed.sock"),
+            *("--command", statement),
+            user="telovamish",
+        )
+        check("credits_posted" in shown, shown)
+    finally:
+        process.send_signal(signal.SIGTERM)
+        process.wait(60)
+
+
+def entries(root: Root) -> int:
+    said = root.run("tbd", "check", LEDGER)
+    found = re.search(r"(\d+) entries|entries[ :]+(\d+)", said)
+    check(found is not None, said)
+    assert found
+    return int(found[1] or found[2])
+
+
+def upgraded(root: Root, newer: list[str]) -> str:
+    """Newer packages come while a client moves money; then the listener starts again with them."""
+    state_folder(root)
+    before = entries(root)
+    served = Listener(root)
+    root.shell("rm -f /tmp/end")
+    root.inside("/tmp/client.py").write_text(CLIENT)
+    words = root.words(["python3", "/tmp/client.py", served.port, "/tmp/end"], "nobody")
+    client = subprocess.Popen(words, stdout=subprocess.PIPE, text=True)
+    try:
+        time.sleep(1)
+        root.apt("install", *newer)
+        check(client.poll() is None and served.process.poll() is None, "an end at the upgrade")
+    finally:
+        root.inside("/tmp/end").touch()
+        said = client.communicate(timeout=120)[0].split()
+        served.stop()
+    sent, now = int(said[0]), entries(root)
+    check(client.returncode == 0 and sent > 1 and now >= before + sent, f"{said} {before} {now}")
+    again = Listener(root)
+    shown = root.run(
+        *("telovamish", "run", "--connect", again.port, "--command", "lookup_accounts id=2;")
+    )
+    again.stop()
+    check(f" {said[1]} " in shown, shown)
+    return f"{sent} transfers, {now - before} entries, {root.run('tbd', '--version').strip()}"
+
+
+def traces(root: Root) -> set[str]:
+    """Files of the packages, by their names, outside dpkg's own records."""
+    words = (
+        r"-name '*telovamish*' -o -name 'tb[-_]*' -o -name '_tb*' -o -name 'tbs*' -o -name 'tbd*'"
+    )
+    found = root.shell(f"find /usr /lib/ /etc /var /run -xdev \\( {words} \\) 2>/dev/null || true")
+    own = ("/var/lib/dpkg/", "/var/cache/", "/var/lib/apt/", "/var/lib/systemd/deb-systemd-helper")
+    return {it for it in found.splitlines() if not it.startswith(own)}
+
+
+def removed(root: Root, names: list[str]) -> None:
+    """`apt remove` leaves ledgers and configuration; `apt purge` leaves ledgers."""
+    kept = root.shell(f"sha256sum {LEDGER}")
+    installed = [
+        it
+        for name in names
+        for it in root.run("dpkg", "-L", name).splitlines()
+        if not it.startswith("/etc/") and not root.inside(it).is_dir()
+    ]
+    root.apt("remove", *names)
+    left = [it for it in installed if root.inside(it).exists() or root.inside(it).is_symlink()]
+    check(not left, f"left: {left}")
+    allowed = ("/etc/telovamish", "/var/lib/telovamish", "/run/telovamish")
+    others = {it for it in traces(root) if not it.startswith(allowed)}
+    check(not others, f"left: {sorted(others)}")
+    root.apt("purge", *names)
+    others = {it for it in traces(root) if not it.startswith(allowed[1:])}
+    check(not others, f"left by purge: {sorted(others)}")
+    check(root.shell(f"sha256sum {LEDGER}") == kept, "the ledger is another one")
