@@ -3,7 +3,7 @@ payouts and card holds, among them values of 128 bits."""
 
 import random
 
-from audits import MAX, Audit, account, transfer
+from made import MAX, Made, account, transfer
 
 DAY = 86400 * 10**9
 BANK, SALES, FEES, HOLDS = 1, 2, 3, 4
@@ -17,7 +17,7 @@ def id_at(time, rng):
 
 def sample(days=30, seed=4):
     rng = random.Random(seed)
-    audit = Audit(clients_max=3, client=0xC0FFEE, time=1_790_000_000_000_000_000).register()
+    audit = Made(clients_max=3, client=0xC0FFEE, time=1_790_000_000_000_000_000).register()
     customers = [id_at(audit.time + it * 10**9, rng) for it in range(12)]
     audit.accounts(
         account(BANK, code=1, flags=["credits_must_not_exceed_debits"], user_data_32=840),
@@ -58,9 +58,12 @@ def events(rng, audit, customers, holds):
         elif kind < 0.72:
             timeout = rng.choice([7 * 86400, 30 * 86400, 0])
             found.append(transfer(id, one, HOLDS, price, ["pending"], timeout=timeout))
-            holds.append((id, one, price))
-        elif kind < 0.82 and holds:
-            held, of, amount = holds.pop(0)
+            ends = audit.time + timeout * 10**9 if timeout else MAX
+            holds.append((id, one, price, ends))
+        elif kind < 0.82 and any(it[3] > audit.time + DAY for it in holds):
+            open_ones = [it for it in holds if it[3] > audit.time + DAY]
+            held, of, amount, _ = open_ones[0]
+            holds.remove(open_ones[0])
             flag = rng.choice(["post_pending_transfer", "void_pending_transfer"])
             found.append(transfer(id, of, HOLDS, amount, [flag], held))
         elif kind < 0.9:

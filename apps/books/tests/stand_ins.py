@@ -1,18 +1,25 @@
 #!/usr/bin/env python3
-"""Stand-ins for `tbd` and `telovamish`, for tests of their use: a ledger's file is an audit here.
+"""Stand-ins for `tbd` and `tbs`, for tests of their use: a ledger's file is a dump here.
 
     stand_ins.py tbd check FILE
     stand_ins.py tbd dump FILE [--follow]
-    stand_ins.py telovamish audit [--after COMMIT] [--follow]
+    stand_ins.py tbs replay
 
-Each writes its words to the file that WORDS names, a line for each start. FAULT=PROGRAM:STATUS:LINE
-makes a program end so behind its output.
+REPLIES names a file with the replies to its entries. Each writes its words to the file that WORDS
+names, a line for each start. FAULT=PROGRAM:STATUS:LINE makes a program end so after its output.
 """
 
+import io
 import os
-import re
+import pathlib
 import sys
 import time
+
+TOP = pathlib.Path(__file__).resolve().parents[3]
+sys.path[:0] = [str(TOP / "apps/telovamish/src"), str(TOP / "clients/python/src")]
+
+from telovamish.faults import Fault  # noqa: E402
+from telovamish.streams import Entry, read_dump  # noqa: E402
 
 
 def fault(name):
@@ -31,13 +38,27 @@ def dump(path, follow):
             time.sleep(0.02)
 
 
-def audit(after):
-    """The lines of entries behind a commit number, and the others. An entry's line is followed by
-    those of its events, which have its number too."""
-    for line in sys.stdin.buffer:
-        found = re.match(rb'\{"commit":"([0-9]+)"', line)
-        if not found or int(found[1]) > after:
-            os.write(1, line)
+def replay():
+    """The reply to each entry, from the file of replies."""
+    with open(os.environ["REPLIES"], "rb") as file:
+        replies = file.read()
+    at = 0
+    for item in read_dump(sys.stdin.buffer):
+        if isinstance(item, Entry):
+            end = at + 48 + int.from_bytes(replies[at + 32 : at + 36], "little")
+            os.write(1, replies[at:end])
+            at = end
+
+
+def entries(path):
+    count = 0
+    with open(path, "rb") as file:
+        try:
+            for item in read_dump(io.BytesIO(file.read())):
+                count += isinstance(item, Entry)
+        except Fault:
+            pass
+    return count
 
 
 def main(name, *words):
@@ -45,13 +66,11 @@ def main(name, *words):
         with open(os.environ["WORDS"], "a") as file:
             print(name, *words, file=file)
     if words[0] == "check":
-        with open(words[1], "rb") as file:
-            found = re.findall(rb'"commit":"([0-9]+)"', file.read())
-        print(f"records 1\nentries {int(found[-1]) if found else 0}\nlast time 5")
+        print(f"records 1\nentries {entries(words[1])}\nlast time 5")
     elif name == "tbd":
         dump(words[1], "--follow" in words)
     else:
-        audit(int(words[words.index("--after") + 1]) if "--after" in words else 0)
+        replay()
     fault(name)
 
 

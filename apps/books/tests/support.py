@@ -1,7 +1,8 @@
-"""What the tests share: loading an audit, reading tables, and the command as a process."""
+"""What the tests share: loading a history, reading tables, and the command as a process."""
 
 import contextlib
 import io
+import os
 import pathlib
 import sqlite3
 import subprocess
@@ -11,14 +12,33 @@ import unittest
 
 HERE = pathlib.Path(__file__).resolve().parent
 SQL = HERE.parent
-CLIENT = SQL.parent.parent / "clients" / "python"
-sys.path[:0] = [str(SQL / "src"), str(HERE), str(CLIENT / "src")]
+TOP = SQL.parent.parent
 
-from tb_sql.audits import Loading  # noqa: E402
 from tb_sql.commands import main  # noqa: E402
+from tb_sql.loading import Loading  # noqa: E402
 from tb_sql.sqlite_store import SqliteStore, contents  # noqa: E402
 
 COMMAND = [sys.executable, "-B", str(SQL / "tb-sql")]
+
+
+def entered(store, steps, **more):
+    """Loads items and replies into a store, which is closed."""
+    try:
+        loading = Loading(store, **more)
+        loading.read(iter(steps))
+        loading.ended()
+    finally:
+        store.close()
+    return loading
+
+
+def stand_in(folder, name):
+    """A stand-in for a program, in a folder."""
+    program = folder / name
+    words = f"{sys.executable} -SE {HERE}/stand_ins.py {name}"
+    program.write_text(f'#!/bin/sh\nexec {words} "$@"\n')
+    program.chmod(0o700)
+    return str(program)
 
 
 class Tables(unittest.TestCase):
@@ -30,17 +50,9 @@ class Tables(unittest.TestCase):
         self.room = pathlib.Path(room.name)
         self.path = str(self.room / "ledger.sqlite")
 
-    def load(self, audit, path=None):
-        """Loads lines in this process."""
-        store = SqliteStore(path or self.path)
-        try:
-            loading = Loading(store)
-            lines = audit if isinstance(audit, bytes) else audit.bytes
-            loading.read(iter(lines.splitlines(keepends=True)))
-            loading.ended()
-        finally:
-            store.close()
-        return loading
+    def load(self, made, path=None, count=None):
+        """Loads a history, or its first steps, in this process."""
+        return entered(SqliteStore(path or self.path), made.steps[:count])
 
     def rows(self, text, *values, path=None):
         with contextlib.closing(sqlite3.connect(path or self.path)) as connection:
@@ -60,9 +72,21 @@ class Tables(unittest.TestCase):
             connection.execute(text, values)
             connection.commit()
 
-    def command(self, *words, input=b""):
-        """Runs the command as a process: its status, and what it wrote."""
-        ran = subprocess.run([*COMMAND, *words], input=input, capture_output=True, timeout=120)
+    def environment(self, made):
+        """What programs get that load a history by stand-ins."""
+        replies = self.room / "replies"
+        replies.write_bytes(made.replies)
+        return {**os.environ, "REPLIES": str(replies), "TBS": stand_in(self.room, "tbs")}
+
+    def command(self, *words, made=None, input=None):
+        """Runs the command as a process: its status, and what it wrote. A history is its input."""
+        ran = subprocess.run(
+            [*COMMAND, *words],
+            input=made.bytes if made and input is None else input or b"",
+            capture_output=True,
+            timeout=120,
+            env=self.environment(made) if made else None,
+        )
         return ran.returncode, ran.stdout.decode(), ran.stderr.decode()
 
     def said(self, *words):

@@ -28,7 +28,7 @@ except ImportError as error:
 
 from support import COMMAND  # noqa: I001
 from sample import BANK, GREAT, HOLDS, SALES, sample
-from audits import MAX
+from made import MAX
 
 DRIVER = "/usr/bin/chromedriver"
 WINDOW = ("--headless=new", "--no-sandbox", "--disable-gpu", "--disable-dev-shm-usage")

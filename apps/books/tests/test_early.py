@@ -9,7 +9,10 @@ import sys
 import tempfile
 import unittest
 
-from support import SQL
+from support import SQL, TOP
+
+FOLDERS = (SQL / "src", TOP / "apps/telovamish/src", TOP / "clients/python/src")
+PACKAGES = ":".join(map(str, FOLDERS))
 
 # Sends this process a signal when a module is looked for.
 SENDS = """
@@ -43,7 +46,7 @@ class Loading(unittest.TestCase):
                 capture_output=True,
                 text=True,
                 cwd=folder,
-                env={**os.environ, "PYTHONPATH": str(SQL / "src"), "PYTHONDONTWRITEBYTECODE": "1"},
+                env={**os.environ, "PYTHONPATH": PACKAGES, "PYTHONDONTWRITEBYTECODE": "1"},
             )
             left = os.listdir(folder)
         return ran.returncode, ran.stderr, left

@@ -23,7 +23,7 @@ except ImportError as error:
     raise unittest.SkipTest(str(error)) from None
 
 from support import COMMAND, Tables  # noqa: I001
-from audits import MAX, START, Audit, account, transfer
+from made import MAX, START, Made, account, transfer
 from test_load import history
 from tb_sql.audits import Loading
 from tb_sql.errors import Failed, Stop
@@ -135,10 +135,10 @@ class Shown(Pages):
                 self.assertIn("Read-only", said)
 
     def test_empty_ledger(self):
-        self.load(Audit())
+        self.load(Made())
         for address in ("/", "/accounts", "/transfers", "/pending", "/refusals", "/sessions"):
             self.words(address)
-        self.load(Audit().register().accounts(account(1)))
+        self.load(Made().register().accounts(account(1)))
         self.assertIn("There are no postings.", self.words("/account/1"))
 
     def test_pages_beyond_the_rows(self):
@@ -159,7 +159,7 @@ class Shown(Pages):
                     self.assertNotIn(none, said)
 
     def test_statement(self):
-        audit = Audit().register().accounts(account(1), account(2))
+        audit = Made().register().accounts(account(1), account(2))
         audit.transfers(transfer(11, 1, 2, 1500), transfer(12, 2, 1, 2000))
         audit.later(86400 * 10**9 * 3).transfers(transfer(13, 1, 2, 70))
         self.load(audit)
@@ -176,7 +176,7 @@ class Shown(Pages):
         self.assertIn("between these dates: the balance was 500 credit", said)
 
     def test_paging_meets_each_posting_once(self):
-        audit = Audit().register().accounts(account(1), account(2))
+        audit = Made().register().accounts(account(1), account(2))
         audit.transfers(*(transfer(100 + it, 1, 2, 1) for it in range(230)))
         self.load(audit)
         for first, words in (("/account/1", "Older"), ("/account/1?after=0", "Newer")):
@@ -196,7 +196,7 @@ class Shown(Pages):
             self.assertFalse(">Older</a>" in page, address)
 
     def test_paging_keeps_the_dates(self):
-        audit = Audit().register().accounts(account(1), account(2))
+        audit = Made().register().accounts(account(1), account(2))
         audit.transfers(*(transfer(100 + it, 1, 2, 1) for it in range(120)))
         self.load(audit)
         page = self.get("/account/1?from=2026-09-01&to=2026-10-01")
@@ -207,7 +207,7 @@ class Shown(Pages):
     def test_the_end_of_time(self):
         """What has the last time that there is, 2^63 - 1, is shown and counted."""
         end = (1 << 63) - 1
-        audit = Audit(time=end - 6).register().accounts(account(1), account(2))
+        audit = Made(time=end - 6).register().accounts(account(1), account(2))
         audit.transfers(*(transfer(id, 1, 2, 7) for id in (11, 12, 13)))
         self.assertEqual(audit.time, end)
         self.load(audit)
@@ -223,7 +223,7 @@ class Shown(Pages):
 
     def test_great_values(self):
         big = MAX - 1
-        audit = Audit().register()
+        audit = Made().register()
         audit.accounts(account(big, user_data_128=MAX, user_data_64=2**64 - 1), account(1))
         self.load(audit.transfers(transfer(big, big, 1, MAX)))
         grouped = f"{MAX:,}"
@@ -237,14 +237,14 @@ class Shown(Pages):
 
     def test_hostile_text(self):
         """A name that only a wrong program could print is still shown as text."""
-        self.load(Audit().register().accounts(account(1, result="<script>alert(1)</script>")))
+        self.load(Made().register().accounts(account(1, result="<script>alert(1)</script>")))
         page = self.get("/refusals")
         self.assertNotIn("<script", page)
         self.assertIn("&lt;script&gt;", page)
 
     def test_text_in_place_of_numbers(self):
         """In tables that another program changed."""
-        self.load(Audit().register().accounts(account(1)))
+        self.load(Made().register().accounts(account(1)))
         self.change("UPDATE accounts SET user_data_32 = '<script>', user_data_128 = '\"<b>'")
         page = self.get("/account/1", 500)
         self.assertIsNone(re.search("<script|<b>", page))
@@ -252,7 +252,7 @@ class Shown(Pages):
 
     def test_a_million_postings(self):
         """Of one account, made in the database: pages and the chart take a bounded time."""
-        self.load(Audit().register().accounts(account(1), account(2)))
+        self.load(Made().register().accounts(account(1), account(2)))
         with contextlib.closing(sqlite3.connect(self.path)) as connection:
             connection.execute(
                 "WITH RECURSIVE at(n) AS"
@@ -269,7 +269,7 @@ class Shown(Pages):
 
     def test_steps(self):
         """What a page asks takes no longer with a longer history, or with more accounts."""
-        self.load(Audit().register().accounts(account(1), account(2)))
+        self.load(Made().register().accounts(account(1), account(2)))
         count = 100_000
         made = "WITH RECURSIVE at(n) AS (SELECT 9 UNION ALL SELECT n + 1 FROM at WHERE n < ?)"
         rows = {
@@ -295,7 +295,7 @@ class Shown(Pages):
             self.assertLess(sum(steps), count / 10, name)
 
     def test_sessions_of_a_client(self):
-        audit = Audit(clients_max=1)
+        audit = Made(clients_max=1)
         for _ in range(3):
             audit.register(7).accounts(account(audit.commit))
             audit.register(8)
@@ -310,7 +310,7 @@ class Shown(Pages):
     def test_lists_that_are_cut_say_so(self):
         more = "These are 50, and there are more."
         for count in (50, 51):
-            audit = Audit(clients_max=1).register().accounts(account(1), account(2))
+            audit = Made(clients_max=1).register().accounts(account(1), account(2))
             audit.transfers(*(transfer(100 + it, 1, 2, 1, ["pending"]) for it in range(count)))
             audit.transfers(transfer(9, 1, 2, 1))
             audit.transfers(*(transfer(9, 1, 2, 1, result="exists") for _ in range(count)))
@@ -348,7 +348,7 @@ class Shown(Pages):
         self.assertIn("has not changed since", page)
 
     def test_names_that_cannot_be_shown(self):
-        self.load(Audit())
+        self.load(Made())
         for path, ledger, status in (
             (self.path, "/nowhere/b\udcfccher.tbk", 200),
             (str(self.room / "b\udcfccher.sqlite"), None, 500),
@@ -378,7 +378,7 @@ class Shown(Pages):
 
 class Tabled(Pages):
     def test_statement(self):
-        audit = Audit().register().accounts(account(1), account(2))
+        audit = Made().register().accounts(account(1), account(2))
         audit.transfers(transfer(11, 1, 2, MAX)).later(10**9 * 86400)
         self.load(audit.transfers(transfer(12, 2, 1, 5)))
         rows = self.csv("/csv/statement.csv?account=1")
@@ -407,7 +407,7 @@ class Ports(Pages):
     """A port that cannot be listened on: one line, with the reason."""
 
     def test_taken(self):
-        self.load(Audit())
+        self.load(Made())
         with socket.create_server(("127.0.0.1", 0)) as other:
             port = other.getsockname()[1]
             status, _, said = self.command("serve", self.path, "--port", str(port))
@@ -415,7 +415,7 @@ class Ports(Pages):
         self.assertEqual((status, said), (1, wanted))
 
     def test_not_allowed(self):
-        self.load(Audit())
+        self.load(Made())
         fault = PermissionError(errno.EACCES, "Permission denied")
         with unittest.mock.patch("socket.socket.bind", side_effect=fault):
             status, _, said = self.said("serve", self.path, "--port", "80")
@@ -423,7 +423,7 @@ class Ports(Pages):
 
     def test_without_standard_output(self):
         """It serves, and ends at a signal without a word."""
-        self.load(Audit())
+        self.load(Made())
         with socket.create_server(("127.0.0.1", 0)) as other:
             port = other.getsockname()[1]
         words = " ".join([*COMMAND, "serve", self.path, "--port", str(port)])
@@ -446,7 +446,7 @@ class Stalled(Pages):
 
     def setUp(self):
         super().setUp()
-        self.load(Audit())
+        self.load(Made())
         patch = unittest.mock.patch.object(Handler, "timeout", Handler.timeout / 100)
         patch.start()
         self.addCleanup(patch.stop)

@@ -16,7 +16,7 @@ except ImportError as error:
     raise unittest.SkipTest(str(error)) from None
 
 from support import Tables  # noqa: I001
-from audits import MAX, Audit, account, transfer
+from made import MAX, Made, account, transfer
 from sample import sample
 from test_load import history
 from tb_sql.audits import Loading
@@ -118,7 +118,7 @@ class PostgreSQL(Tables):
 
     def test_great_sums(self):
         """Of a ledger above 128 bits: the view's sum is exact."""
-        audit = Audit().register().accounts(*(account(it) for it in range(1, 5)))
+        audit = Made().register().accounts(*(account(it) for it in range(1, 5)))
         audit.transfers(transfer(11, 1, 2, MAX), transfer(12, 3, 4, MAX))
         self.load_both(audit)
         self.assertSame()
@@ -127,14 +127,14 @@ class PostgreSQL(Tables):
     def test_records_that_come_twice(self):
         """It is the audit that is wrong, and not the database."""
         with self.assertRaises(Refused) as raised:
-            self.load_there(Audit().register().accounts(account(1), account(1)).bytes)
+            self.load_there(Made().register().accounts(account(1), account(1)).bytes)
         said = str(raised.exception)
         self.assertRegex(said, r"^no audit up to line 5: [^\n]*duplicate key[^\n]*$")
 
     def test_encodings(self):
         """A load goes on in a database of any encoding, as that of initdb in the locale C."""
-        audit = Audit().register().accounts(account(1), account(2))
-        longer = Audit().register().accounts(account(1), account(2))
+        audit = Made().register().accounts(account(1), account(2))
+        longer = Made().register().accounts(account(1), account(2))
         longer.transfers(transfer(11, 1, 2, 5, result="exceeds_credits"))
         self.load(longer)
         for encoding in ("SQL_ASCII", "LATIN1"):
@@ -146,14 +146,14 @@ class PostgreSQL(Tables):
                 self.assertSame()
 
     def test_another_history(self):
-        self.load_there(Audit().register().accounts(account(1)).bytes)
+        self.load_there(Made().register().accounts(account(1)).bytes)
         with self.assertRaises(Refused) as raised:
-            self.load_there(Audit().register().accounts(account(2)).bytes)
+            self.load_there(Made().register().accounts(account(2)).bytes)
         self.assertIn("entry 2 is another one", str(raised.exception))
 
     def test_lost_connection(self):
         """One that breaks while rows are read, as where the server is stopped, is one line."""
-        audit = Audit().register().accounts(account(1), account(2))
+        audit = Made().register().accounts(account(1), account(2))
         self.load_there(audit.bytes)
         store = PostgresStore(self.url)
         loading = Loading(store)
@@ -170,7 +170,7 @@ class PostgreSQL(Tables):
         self.assertSame()
 
     def test_two_first_loads_at_once(self):
-        audit = Audit().register().accounts(account(1))
+        audit = Made().register().accounts(account(1))
         store = PostgresStore(self.url)
         loading = Loading(store)
         self.load_both(audit)
@@ -181,12 +181,12 @@ class PostgreSQL(Tables):
         self.assertSame()
 
     def test_edited_position(self):
-        self.load_there(Audit().register().bytes)
+        self.load_there(Made().register().bytes)
         with contextlib.closing(psycopg.connect(self.url, autocommit=True)) as it:
             for change in ("UPDATE position SET head = '{'", "DELETE FROM position"):
                 it.execute(change)
                 with self.assertRaises(Refused) as raised:
-                    self.load_there(Audit().register().bytes)
+                    self.load_there(Made().register().bytes)
                 self.assertIn("has no position in a history", str(raised.exception))
 
     def test_faults_are_one_line(self):
@@ -200,7 +200,7 @@ class PostgreSQL(Tables):
                 (
                     self.url,
                     "DROP TABLE position",
-                    Audit().register().accounts(account(1), account(10**40)).bytes,
+                    Made().register().accounts(account(1), account(10**40)).bytes,
                     "numeric field overflow: A field with precision 39",
                 ),
             ):
@@ -214,7 +214,7 @@ class PostgreSQL(Tables):
     def test_command(self):
         status, said, fault = self.said("load", self.address("none"), "--quiet")
         self.assertEqual((status, said, fault.count("\n")), (1, "", 1), fault)
-        ended = self.command("load", self.url, input=Audit().register().bytes)
+        ended = self.command("load", self.url, input=Made().register().bytes)
         self.assertEqual(ended[0], 0, ended)
         self.assertNotIn("Traceback", ended[2])
 

@@ -6,12 +6,12 @@ import pathlib
 import signal
 import sqlite3
 import subprocess
-import sys
 import time
 import unittest
 
-from audits import Audit, account, transfer
-from support import COMMAND, HERE, Tables
+from made import Made, account, transfer
+from support import COMMAND, Tables, stand_in
+from telovamish.streams import item_bytes
 
 SECONDS = 60  # on a busy machine
 
@@ -22,31 +22,28 @@ def setUpModule():
 
 
 def history():
-    audit = Audit().register().accounts(account(1), account(2))
+    made = Made().register().accounts(account(1), account(2))
     for number in range(1, 6):
-        audit.transfers(transfer(number, 1, 2, 10))
-    return audit
+        made.transfers(transfer(number, 1, 2, 10))
+    return made
 
 
 class Sources(Tables):
-    """Loads from a file by stand-ins for `tbd` and `telovamish`."""
+    """Loads from a file by stand-ins for `tbd` and `tbs`."""
 
     def setUp(self):
         super().setUp()
         self.file = self.room / "ledger.tbk"
         self.given = ["load", self.path, "--ledger", str(self.file)]
         self.environment = {**os.environ, "WORDS": str(self.room / "words")}
-        for name in ("tbd", "telovamish"):
-            program = self.room / name
-            stand_in = f"{sys.executable} -SE {HERE}/stand_ins.py {name}"
-            program.write_text(f'#!/bin/sh\nexec {stand_in} "$@"\n')
-            program.chmod(0o700)
-            self.given += [f"--{name}", str(program)]
+        for name in ("tbd", "tbs"):
+            self.given += [f"--{name}", stand_in(self.room, name)]
 
-    def write(self, audit, count=None):
-        """The file with the first lines of an audit."""
-        lines = audit.bytes.splitlines(keepends=True)
-        self.file.write_bytes(b"".join(lines[:count]))
+    def write(self, made, count=None):
+        """The file with the first items of a history."""
+        self.environment["REPLIES"] = str(self.room / "replies")
+        (self.room / "replies").write_bytes(made.replies)
+        self.file.write_bytes(b"".join(item_bytes(it) for it, _ in made.steps[:count]))
 
     def loaded(self, *more, fault=""):
         """A load to its end: the status and what it said on standard error."""
@@ -94,13 +91,12 @@ class Sources(Tables):
             time.sleep(0.02)
 
     def test_words(self):
-        """Behind the entries that are kept only the last one of them is read again."""
         self.write(history())
         self.assertEqual(self.loaded(), (0, ""))
-        self.assertEqual(self.words(), ["tbd dump FILE", "telovamish audit"])
+        self.assertEqual(self.words(), ["tbd dump FILE", "tbs replay"])
         before = self.contents()
         self.assertEqual(self.loaded(), (0, ""))
-        self.assertEqual(self.words(), ["tbd dump FILE", "telovamish audit --after 6"])
+        self.assertEqual(self.words(), ["tbd dump FILE", "tbs replay"])
         self.assertEqual(self.contents(), before)
 
     def test_tables_in_the_ledger_s_own_file(self):
@@ -115,38 +111,11 @@ class Sources(Tables):
             self.assertEqual((status, said.count("\n")), (2, 1), said)
             self.assertEqual(self.file.read_bytes(), b"")
 
-    def test_nothing_new(self):
-        """A load of a file that changed and has no new entry, as one that a server was started
-        over again, makes the tables newer than the file."""
-        self.write(history())
-        self.assertEqual(self.loaded(), (0, ""))
-        os.utime(self.path, (5, 5))
-        os.utime(self.file, (10, 10))
-        self.assertEqual(self.loaded(), (0, ""))
-        self.assertGreater(os.path.getmtime(self.path), 10)
-
-    def test_what_comes_meanwhile(self):
-        """What the ledger's file gets after it was read makes it newer than the tables, also where
-        somebody reads them: then their WAL stays."""
-        tbd = self.room / "tbd"
-        tbd.write_text(tbd.read_text().replace("exec ", "") + f"touch {self.file}\n")
-        for count in (7, None):
-            self.write(history(), count)
-            self.assertEqual(self.loaded(), (0, ""))
-            tables = [self.path, *filter(os.path.exists, [f"{self.path}-wal"])]
-            self.assertEqual(len(tables), 1 if count else 2)
-            for path in tables:
-                self.assertGreater(os.path.getmtime(self.file), os.path.getmtime(path))
-            reading = sqlite3.connect(self.path)
-            self.addCleanup(reading.close)
-            reading.execute("BEGIN")
-            reading.execute("SELECT * FROM position").fetchone()
-
     def test_what_is_followed(self):
         """A load that is ended amid an entry goes on where it was."""
-        audit = history()
-        head, *entries = [f"{it}\n".encode() for it in audit.lines]
-        self.file.write_bytes(head)
+        made = history()
+        self.write(made, 1)
+        head, *entries = [item_bytes(it) for it, _ in made.steps]
         for number, end in ((2, signal.SIGTERM), (4, signal.SIGKILL), (7, signal.SIGINT)):
             process = self.follow()
             rest = b"".join(entries[: number + 1])[:-9]
@@ -158,88 +127,31 @@ class Sources(Tables):
         self.assertEqual(self.loaded(), (0, ""))
         self.assertEqual(self.contents(), followed)
 
-    def test_a_file_with_another_time_alone(self):
-        """As of a server that was started again: what is followed is then no older than it. The
-        page told to load it again until the next entry."""
-        self.write(history())
-        process = self.follow()
-        self.reaches(7)
-        time.sleep(1)  # the file was looked at as it is
-        later = int(time.time()) + 500
-        os.utime(self.file, (later, later))
-        until = time.monotonic() + SECONDS
-        while os.path.getmtime(self.path) < later:
-            self.assertLess(time.monotonic(), until, "the tables stay older")
-            time.sleep(0.05)
-        with open(self.file, "ab") as file:
-            file.write(b'{"commit"')
-        os.utime(self.file, (later + 500, later + 500))
-        time.sleep(1)
-        self.assertEqual(os.path.getmtime(self.path), later)
-        self.end(process, signal.SIGTERM, 0)
-
-    def test_a_follow_with_nothing_new(self):
-        """Tables that have all of a file are no older than it once it is followed, though it got
-        another time before. The page told to load it again until the next entry."""
-        self.write(history())
-        self.assertEqual(self.loaded(), (0, ""))
-        os.utime(self.path, (5, 5))
-        os.utime(self.file, (10, 10))
-        process = self.follow()
-        until = time.monotonic() + SECONDS
-        while os.path.getmtime(self.path) < 10:
-            self.assertLess(time.monotonic(), until, "the tables stay older")
-            time.sleep(0.05)
-        self.end(process, signal.SIGTERM, 0)
-
-    def put_behind(self, name, filter):
-        """What a program writes goes through a filter."""
-        program = self.room / name
-        program.write_text(program.read_text().replace('"$@"', f'"$@" | {filter}'))
-
     def test_a_follow_of_another_ledger(self):
-        """It is refused, and the tables stay as old as they are."""
+        """It is refused, and the tables stay as they are."""
         self.write(history())
         self.assertEqual(self.loaded(), (0, ""))
-        os.utime(self.path, (5, 5))
-        audit = Audit().register().accounts(account(3), account(4))
+        before = self.contents()
+        made = Made().register().accounts(account(3), account(4))
         for number in range(1, 6):
-            audit.transfers(transfer(number, 3, 4, 10))
-        self.write(audit)
-        self.put_behind("telovamish", "(sleep 1; cat)")
+            made.transfers(transfer(number, 3, 4, 10))
+        self.write(made)
         status, said = self.loaded("--follow")
         self.assertEqual(status, 2, said)
         self.assertIn("entry 7 is another one", said)
-        self.assertEqual(os.path.getmtime(self.path), 5)
+        self.assertEqual(self.contents(), before)
 
     def test_a_dump_that_is_killed(self):
         """Whole entries that came before are no whole history."""
         self.write(history())
         tbd = self.room / "tbd"
-        tbd.write_text("#!/bin/sh\nhead -n 7 $2\nkill -9 $$\n")
+        made = history()
+        cut = sum(len(item_bytes(it)) for it, _ in made.steps[:4])
+        tbd.write_text(f"#!/bin/sh\nhead -c {cut} $2\nkill -9 $$\n")
         status, said = self.loaded()
         self.assertEqual((status, said.count("\n")), (1, 1), said)
         self.assertIn("ended with -9", said)
         self.assertEqual(self.rows("SELECT commit_number FROM position"), [(3,)])
-
-    def test_a_follow_whose_entries_are_late(self):
-        """Tables that lack entries stay older than the file, whatever time it gets meanwhile."""
-        self.write(history(), 7)
-        self.assertEqual(self.loaded(), (0, ""))
-        self.write(history())
-        os.utime(self.path, (5, 5))
-        self.put_behind("telovamish", "(sed -u 3q; sleep 3; cat)")
-        process, until, told = self.follow(), time.monotonic() + SECONDS, 10
-        while True:
-            os.utime(self.file, (told, told))
-            shown = os.path.getmtime(self.path)
-            if self.rows("SELECT commit_number FROM position") == [(7,)]:
-                break
-            self.assertEqual(shown, 5)
-            self.assertLess(time.monotonic(), until)
-            told += 1
-            time.sleep(0.05)
-        self.end(process, signal.SIGTERM, 0)
 
     def test_words_of_a_follow(self):
         self.write(history())
@@ -247,13 +159,12 @@ class Sources(Tables):
         self.words()
         process = self.follow()
         until = time.monotonic() + SECONDS
-        while len(children(process.pid)) < 2 or not os.path.exists(self.environment["WORDS"]):
-            self.assertLess(time.monotonic(), until)
-            time.sleep(0.02)
-        time.sleep(1)
+        wanted, found = ["tbd check FILE", "tbd dump FILE --follow", "tbs replay"], []
+        while sorted(found) != wanted:
+            self.assertLess(time.monotonic(), until, found)
+            time.sleep(0.1)
+            found += self.words()
         self.end(process, signal.SIGTERM, 0)
-        wanted = ["tbd check FILE", "tbd dump FILE --follow", "telovamish audit --after 6 --follow"]
-        self.assertEqual(self.words(), wanted)
 
     def test_histories_that_are_shorter(self):
         """An older copy is refused, and is not waited for."""
@@ -267,26 +178,29 @@ class Sources(Tables):
             self.assertEqual(said.count("\n"), 1, said)
 
     def test_faults(self):
-        """What a program said last is told."""
+        """What a program said last is printed."""
         self.write(history())
         for fault, wanted in (
             ("tbd:6:tbd: Damaged: FILE at byte 9", "tbd: Damaged: FILE at byte 9"),
             ("tbd:1:tbd: Device: FILE", "tbd: Device: FILE"),
-            ("telovamish:1:telovamish: NoMemory", "telovamish: NoMemory"),
         ):
             self.assertEqual(self.loaded(fault=fault), (1, f"tb-sql: {wanted}\n"))
             os.unlink(self.path)
 
-    def test_faults_amid_an_entry(self):
-        """An audit that fails there is told, and not the end of its lines."""
-        data = history().bytes
-        for end in (data.index(b"\n", 1500) + 40, data.rindex(b"\n", 0, -1) + 1):
-            self.file.write_bytes(data[:end])
-            wanted = "tb-sql: telovamish: NoMemory\n"
-            self.assertEqual(self.loaded(fault="telovamish:1:telovamish: NoMemory"), (1, wanted))
-            status, said = self.loaded()
-            self.assertEqual(status, 2, said)
-            self.assertIn("the input ends within", said)
+    def test_a_history_that_is_refused(self):
+        """What the proved program says of it."""
+        self.write(history())
+        tbs = self.room / "tbs"
+        tbs.write_text("#!/bin/sh\nhead -c 16 > /dev/null\necho tbs: TimeNotAfter >&2\nexit 2\n")
+        wanted = (2, "tb-sql: the history is refused: TimeNotAfter\n")
+        self.assertEqual(self.loaded(), wanted)
+
+    def test_a_cut_entry(self):
+        self.write(history())
+        self.file.write_bytes(self.file.read_bytes()[:-9])
+        wanted = (2, "tb-sql: the input ends within an entry\n")
+        self.assertEqual(self.loaded(), wanted)
+        self.assertEqual(self.rows("SELECT commit_number FROM position"), [(6,)])
 
 
 def children(process):

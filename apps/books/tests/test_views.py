@@ -5,7 +5,7 @@ import sqlite3
 import unittest
 
 from support import Tables  # noqa: I001
-from audits import MAX, START, Audit, account, transfer
+from made import MAX, START, Made, account, transfer
 from tb_sql.numbers import held, id_of, time_of, time_text
 
 SECOND = 10**9
@@ -13,7 +13,7 @@ SECOND = 10**9
 
 class Views(Tables):
     def test_statement(self):
-        audit = Audit().register().accounts(account(1), account(2), account(3))
+        audit = Made().register().accounts(account(1), account(2), account(3))
         self.load(audit.transfers(transfer(11, 1, 2, 100), transfer(12, 3, 1, 130)))
         self.assertEqual(
             self.rows("SELECT * FROM statement WHERE account_id = 1 ORDER BY timestamp"),
@@ -25,7 +25,7 @@ class Views(Tables):
 
     def test_trial_balance(self):
         audit = (
-            Audit().register().accounts(account(1), account(2), account(3, 701), account(4, 701))
+            Made().register().accounts(account(1), account(2), account(3, 701), account(4, 701))
         )
         audit.transfers(transfer(11, 1, 2, 7), transfer(12, 3, 4, 9, ["pending"], ledger=701))
         self.load(audit)
@@ -50,11 +50,11 @@ class Views(Tables):
             [MAX, MAX, MAX, 1],
             [MAX // 3 + it for it in range(50)],
         ]
-        self.load(Audit().register())
+        self.load(Made().register())
         with contextlib.closing(sqlite3.connect(self.path)) as connection:
             for ledger, amounts in enumerate(cases):
                 connection.executemany(
-                    "INSERT INTO accounts VALUES (?, ?, ?, ?, 0, ?, 0, 0, 0, ?, 1, 0, 0, 1)",
+                    "INSERT INTO accounts VALUES (?, ?, ?, ?, 0, ?, 0, 0, 0, ?, 1, 0, 0, 1, 0)",
                     [
                         (1000 * ledger + at, 1000 * ledger + at, 0, held(it), held(it), ledger)
                         for at, it in enumerate(amounts)
@@ -70,7 +70,7 @@ class Views(Tables):
         )
 
     def test_pending_by_expiry(self):
-        audit = Audit().register().accounts(account(1), account(2))
+        audit = Made().register().accounts(account(1), account(2))
         audit.transfers(
             transfer(11, 1, 2, 5, ["pending"]),
             transfer(12, 1, 2, 6, ["pending"], timeout=20),
@@ -88,14 +88,14 @@ class Views(Tables):
         )
 
     def test_refusals_and_retries(self):
-        audit = Audit().register().accounts(account(1), account(2))
+        audit = Made().register().accounts(account(1), account(2))
         audit.transfers(transfer(11, 1, 2, 5))
-        audit.transfers(transfer(11, 1, 2, 5, result="exists"), transfer(12, 1, 9, 5, result="x"))
+        audit.transfers(transfer(11, 1, 2, 5, result="exists"), transfer(12, 1, 9, 5, result="linked_event_failed"))
         audit.transfers(transfer(11, 1, 2, 5, result="exists"))
         self.load(audit)
         self.assertEqual(
             self.rows("SELECT * FROM refusals ORDER BY result"),
-            [("create_transfers", "exists", 2, 4, 5), ("create_transfers", "x", 1, 4, 4)],
+            [("create_transfers", "exists", 2, 4, 5), ("create_transfers", "linked_event_failed", 1, 4, 4)],
         )
         self.assertEqual(
             self.rows("SELECT id, commit_number, place FROM retries ORDER BY 2"),
@@ -103,7 +103,7 @@ class Views(Tables):
         )
 
     def test_sessions(self):
-        audit = Audit(clients_max=1, time=0).register(7).register(8)
+        audit = Made(clients_max=1, time=0).register(7).register(8)
         self.load(audit)
         self.assertEqual(
             self.rows("SELECT session, client, registered, evicted FROM session_list"),

@@ -1,16 +1,21 @@
-"""Computes balances again from the postings, and compares them: with the accounts of the tables,
-with the limits, and with the accounts that a server answers."""
+"""Compares tables with what they are to be: rows that are made again, from the events in the tables
+themselves or from the history, limits, and the accounts of a server."""
 
 from __future__ import annotations
 
 import argparse
 import itertools
+import os
 import sqlite3
+import tempfile
 import time
-from typing import Any, Dict, Iterator, List, Optional, Sequence, Tuple
+from typing import Any, Dict, List, Optional, Sequence, Tuple
 
-from .audits import Loading, store_of
+from telovamish.faults import Fault
+
 from .errors import Failed, Refused, Stop
+from .events import Changed, steps_of
+from .loading import Loading, store_of
 from .numbers import (
     CLOSED,
     CLOSING_CREDIT,
@@ -19,11 +24,10 @@ from .numbers import (
     DEBITS_LIMITED,
     ID_MAX,
     Number,
-    held,
 )
-from .schema import SUMS
-from .sources import Ledger
-from .sqlite_store import check_schema, check_still, connect_read_only, write_time
+from .schema import KEYS, SUMS, TABLES, columns
+from .sources import Ledger, Programs
+from .sqlite_store import SqliteStore, check_schema, check_still, connect_read_only, write_time
 
 LOOKED_UP = 8190  # ids of a lookup
 PAUSE = 0.2  # seconds between two looks at the tables
@@ -44,7 +48,7 @@ def check_tables(given: argparse.Namespace) -> int:
     try:
         connection.isolation_level = None
         connection.execute("BEGIN")
-        print(checked(connection, given.file), flush=True)
+        print(checked(connection, given), flush=True)
         connection.execute("COMMIT")
         if given.server is not None:
             print(Server(given, connection).compare(), flush=True)
@@ -53,15 +57,16 @@ def check_tables(given: argparse.Namespace) -> int:
     return 0
 
 
-def checked(connection: sqlite3.Connection, path: str) -> str:
+def checked(connection: sqlite3.Connection, given: argparse.Namespace) -> str:
     """What was compared; the first difference is raised, also where it is no number."""
-    before = write_time(connection, path)
+    before = write_time(connection, given.file)
+    tables = Tables(connection)
     try:
-        return Tables(connection).check()
+        return tables.check(given)
     except (TypeError, ValueError) as error:
         raise Difference(f"a value that no table has: {error}") from None
     finally:
-        check_still(connection, path, before)
+        check_still(connection, given.file, before)
 
 
 def pending_sums(
@@ -81,163 +86,117 @@ def pending_sums(
     return found
 
 
-def differ(what: str, found: object, wanted: object) -> None:
-    if found != wanted:
-        raise Difference(f"{what}: {found} in the tables, {wanted} when computed again")
-
-
 class Tables:
     """The tables, of one moment."""
 
     def __init__(self, connection: sqlite3.Connection) -> None:
         self.connection = connection
 
-    def check(self) -> str:
-        """Looks at all. What was looked at."""
-        self.check_entries()
-        self.check_transfers()
-        accounts, postings = self.check_accounts()
-        ledgers = self.check_ledgers()
+    def check(self, given: argparse.Namespace) -> str:
+        """Compares all. What was compared."""
         commit = self.one("SELECT commit_number FROM position")
+        with tempfile.TemporaryDirectory() as folder:
+            path = os.path.join(folder, "again.sqlite")
+            self._make_again(path, given, commit)
+            self._compare(path)
+        ledgers = self._check_ledgers()
+        accounts, postings = (self.one(f"SELECT count(*) FROM {it}") for it in ("accounts", "postings"))
+        what = "the history" if given.ledger else "their own events"
         return (
             f"{accounts:,} accounts of {ledgers:,} ledgers are the sums of {postings:,} postings, "
-            f"at commit {commit:,}"
+            f"and each row is that of {what}, at commit {commit:,}"
         )
 
     def one(self, text: str, *values: Any) -> Any:
         row = self.connection.execute(text, values).fetchone()
         return row[0] if row else None
 
-    def check_entries(self) -> None:
-        """Entries come one after another, and their counts are those of the other tables."""
-        before, sums = (0, -1), [0, 0, 0]
-        made = self._counted("accounts UNION ALL SELECT commit_number FROM transfers")
-        rejected = self._counted("refused")
-        for commit, at, operation, events, refused, *so_far in self.connection.execute(
-            "SELECT commit_number, time, operation, events, refused, accounts_so_far,"
-            " transfers_so_far, refused_so_far FROM entries ORDER BY commit_number"
-        ):
-            differ(f"the entry behind {before[0]}", commit, before[0] + 1)
-            if at <= before[1]:
-                raise Difference(f"entry {commit}: its time {at} is not after {before[1]}")
-            created = events - refused if operation.startswith("create_") else 0
-            differ(f"entry {commit}: created records", made.pop(commit, 0), created)
-            differ(f"entry {commit}: refused events", rejected.pop(commit, 0), refused)
-            sums[0] += created if operation == "create_accounts" else 0
-            sums[1] += created if operation == "create_transfers" else 0
-            sums[2] += refused
-            differ(f"entry {commit}: accounts, transfers and refused so far", so_far, sums)
-            before = commit, at
-        for commit in (*made, *rejected):
-            raise Difference(f"entry {commit} has records, and is not in the tables")
-        kept = self.connection.execute("SELECT commit_number, time FROM position").fetchone()
-        differ("the last entry", (kept[0], kept[1]), (before[0], max(before[1], 0)))
+    def _make_again(self, path: str, given: argparse.Namespace, commit: int) -> None:
+        """Makes the rows again in another file."""
+        store = SqliteStore(path, is_kept=False)
+        loading = Loading(store, until=commit if given.ledger else None)
+        try:
+            if given.ledger:
+                Ledger(given.ledger, Programs(given.tbd, given.tbs)).read(loading)
+            else:
+                loading.read(steps_of(self.connection))
+        except (Changed, Refused, Fault) as error:
+            raise Difference(str(error)) from None
+        finally:
+            store.close()
+        if loading.commit_number != commit:
+            raise Difference(
+                f"position one 1: commit_number: {commit} in the tables, and the history ends at "
+                f"entry {loading.commit_number}"
+            )
 
-    def _counted(self, tables: str) -> Dict[int, int]:
-        """How many rows of these tables each entry has."""
-        return dict(
-            self.connection.execute(
-                f"SELECT commit_number, count(*) FROM (SELECT commit_number FROM {tables})"
-                " GROUP BY commit_number"
-            ).fetchall()
-        )
+    def _compare(self, path: str) -> None:
+        """Compares each row of each table with that of another file."""
+        again = connect_read_only(path)
+        try:
+            for table in TABLES:
+                text = f"SELECT * FROM {table} ORDER BY {', '.join(KEYS[table])}"
+                rows = self.connection.execute(text), again.execute(text)
+                for found, wanted in itertools.zip_longest(*rows):
+                    if found != wanted:
+                        raise Difference(self._named(table, found, wanted))
+        finally:
+            again.close()
 
-    def check_transfers(self) -> None:
-        """Each transfer that moves money has two postings of its amount, and none else has one."""
-        moving = "t.flags & 2 = 0 AND t.flags & 8 = 0"
-        wrong = self.connection.execute(
-            "SELECT t.id FROM transfers AS t"
-            " LEFT JOIN postings AS d ON d.account_id = t.debit_account_id"
-            " AND d.timestamp = t.timestamp"
-            " LEFT JOIN postings AS c ON c.account_id = t.credit_account_id"
-            f" AND c.timestamp = t.timestamp WHERE {moving}"
-            " AND (d.debit IS NOT t.amount OR d.credit IS NOT 0 OR d.transfer_id IS NOT t.id"
-            " OR d.counterparty_id IS NOT t.credit_account_id OR c.credit IS NOT t.amount"
-            " OR c.debit IS NOT 0 OR c.transfer_id IS NOT t.id"
-            " OR c.counterparty_id IS NOT t.debit_account_id) LIMIT 1"
-        ).fetchone()
-        if wrong:
-            raise Difference(f"transfer {wrong[0]}: its postings are not of its amount")
-        count = self.one(f"SELECT count(*) FROM transfers AS t WHERE {moving}")
-        differ("the number of postings", self.one("SELECT count(*) FROM postings"), 2 * count)
+    def _named(self, table: str, found: Any, wanted: Any) -> str:
+        """The row and the column that differ."""
+        names, keys = columns(table), KEYS[table]
+        if wanted is None:
+            return f"{shown(table, found)} is not in the history"
+        row = dict(zip(names, wanted))
+        if found is not None and all(found[names.index(it)] == row[it] for it in keys):
+            name = next(it for it, value in zip(names, found) if value != row[it])
+            return differing(table, wanted, name, found[names.index(name)])
+        for key in keys:  # which may have been changed itself
+            others = [it for it in names if it != key]
+            where = " AND ".join(f"{it} IS ?" for it in others)
+            values = self.connection.execute(
+                f"SELECT {key} FROM {table} WHERE {where}", [row[it] for it in others]
+            ).fetchone()
+            if values:
+                return differing(table, wanted, key, values[0])
+        return f"{shown(table, wanted)} is not in the tables"
 
-    def check_accounts(self) -> Tuple[int, int]:
-        """Each account's sums are those of its postings and of its open pending transfers."""
-        pending = pending_sums(self.connection, "state = 'pending'")
-        moved = self._posted()
-        following = next(moved, None)
-        accounts = postings = 0
-        for row in self.connection.execute(
-            "SELECT id, debits_pending, debits_posted, credits_pending, credits_posted, flags,"
-            " postings FROM accounts ORDER BY id"
-        ):
-            id, flags, count = row[0], row[5], row[6]
-            posted = (0, 0, 0)
-            if following and following[0] == id:
-                posted, following = following[1], next(moved, None)
-            sums, closed = pending.pop(id, ([0, 0], False))
-            found = tuple(map(int, row[1:5]))
-            wanted = (sums[0], posted[0], sums[1], posted[1])
-            for name, kept, computed in zip(SUMS, found, wanted):
-                differ(f"account {id}: {name}", kept, computed)
-            differ(f"account {id}: postings", count, posted[2])
-            if closed and not flags & CLOSED:
-                raise Difference(f"account {id}: a closing transfer is pending, and it is open")
-            check_limits(id, found, flags)
-            accounts, postings = accounts + 1, postings + count
-        if following or pending:
-            lost = following[0] if following else next(iter(pending))
-            raise Difference(f"account {lost} has transfers, and is not in the tables")
-        return accounts, postings
-
-    def _posted(self) -> Iterator[Tuple[Number, Tuple[int, int, int]]]:
-        """The posted sums of each account that has postings, and their number; each posting's
-        running sums are compared on the way."""
-        rows = self.connection.execute(
-            "SELECT account_id, number, debit, credit, debits_posted, credits_posted, balance"
-            " FROM postings ORDER BY account_id, timestamp"
-        )
-        for id, of_account in itertools.groupby(rows, key=_first):
-            debits = credits = count = 0
-            for _, number, debit, credit, *after in of_account:
-                debits, credits, count = debits + int(debit), credits + int(credit), count + 1
-                if number != count or after != [
-                    held(debits),
-                    held(credits),
-                    held(debits - credits),
-                ]:
-                    raise Difference(
-                        f"account {id}, posting {number}: {after} in the tables, posting {count} "
-                        f"with {[debits, credits, debits - credits]} when computed again"
-                    )
-            yield id, (debits, credits, count)
-
-    def check_ledgers(self) -> int:
-        """In each ledger debits are equal to credits, posted and pending ones."""
+    def _check_ledgers(self) -> int:
+        """In each ledger debits are equal to credits, posted and pending ones, and the limits of
+        each account hold."""
         sums: Dict[int, List[int]] = {}
-        for ledger, *found in self.connection.execute(
-            "SELECT ledger, debits_pending, debits_posted, credits_pending, credits_posted"
-            " FROM accounts"
+        for id, ledger, flags, *found in self.connection.execute(
+            "SELECT id, ledger, flags, debits_pending, debits_posted, credits_pending,"
+            " credits_posted FROM accounts"
         ):
-            of_ledger = sums.setdefault(ledger, [0, 0, 0, 0])
-            for at, amount in enumerate(found):
-                of_ledger[at] += int(amount)
+            amounts = list(map(int, found))
+            check_limits(id, amounts, flags)
+            before = sums.get(ledger, [0, 0, 0, 0])
+            sums[ledger] = [one + other for one, other in zip(before, amounts)]
         for ledger, (debits_pending, debits, credits_pending, credits) in sums.items():
-            for what, taken, given in (
-                ("posted", debits, credits),
-                ("pending", debits_pending, credits_pending),
-            ):
-                if taken != given:
-                    raise Difference(f"ledger {ledger}: {taken} debits {what}, {given} credits")
+            if debits != credits:
+                raise Difference(f"ledger {ledger}: {debits} debits posted, {credits} credits")
+            if debits_pending != credits_pending:
+                raise Difference(
+                    f"ledger {ledger}: {debits_pending} debits pending, {credits_pending} credits"
+                )
         return len(sums)
 
 
-def _first(row: Sequence[Any]) -> Number:
-    found: Number = row[0]
-    return found
+def shown(table: str, row: Sequence[Any]) -> str:
+    """A row by its key, and by its id if it has one."""
+    named = dict(zip(columns(table), row))
+    keys = [*KEYS[table], *(["id"] if "id" in named else [])]
+    return f"{table} " + ", ".join(f"{it} {named[it]}" for it in keys)
 
 
-def check_limits(id: Number, sums: Tuple[int, ...], flags: int) -> None:
+def differing(table: str, wanted: Sequence[Any], column: str, found: Any) -> str:
+    right = dict(zip(columns(table), wanted))[column]
+    return f"{shown(table, wanted)}: {column}: {found!r} in the tables, {right!r} is right"
+
+
+def check_limits(id: Number, sums: Sequence[int], flags: int) -> None:
     """The limits of an account hold, and its sums are of 128 bits."""
     debits_pending, debits, credits_pending, credits = sums
     if flags & DEBITS_LIMITED and debits_pending + debits > credits:
@@ -363,10 +322,10 @@ class Server:
         return int(row[0])
 
     def _load(self, commit: int) -> None:
-        ledger = Ledger(self.given.ledger, self.given.tbd, self.given.telovamish)
+        ledger = Ledger(self.given.ledger, Programs(self.given.tbd, self.given.tbs))
         store = store_of(self.given.file)
         try:
-            ledger.read(Loading(store, until=commit), lambda: None)
+            ledger.read(Loading(store, until=commit))
         except Refused as error:
             raise Difference(str(error)) from None
         finally:

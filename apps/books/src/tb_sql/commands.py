@@ -12,19 +12,23 @@ import sys
 import time
 from typing import Any, List, Optional
 
+from telovamish.faults import Fault
+
 from . import __version__
-from .audits import Loading, lines_of, store_of
 from .early import INTERRUPTED, end_by
 from .errors import Failed, Stop
+from .loading import Loading, store_of
 from .numbers import time_text
-from .sources import Ledger
+from .sources import Ledger, Programs, read_dump
 
-LOAD = """Reads an audit (`telovamish audit`) from standard input, or a kept ledger's file, into
-tables. What the tables have already is skipped, so the same command goes on where the last one
-stopped. FILE is a file of SQLite, made if there is none, or a URL of PostgreSQL."""
-SERVE = """Shows the tables as pages, on the loopback interface alone, without writing."""
-CHECK = """Computes the balances again from the postings, and compares. With --server also asks a
-server for its accounts, which takes a session and an entry for each 8190 accounts."""
+LOAD = """Reads a history into tables: a dump from standard input, or a kept ledger's file. The
+program `tbs` gives the reply to each entry. What the tables have already is skipped, so the same
+command goes on where the last one stopped. FILE is a file of SQLite, made if there is none, or a
+URL of PostgreSQL."""
+SERVE = """Shows the tables as pages, only on the loopback interface, without writing."""
+CHECK = """Computes each column again that other rows determine, and compares the digests of all
+others. --ledger compares every row with the history itself. --server also asks a server for its
+accounts, which takes a session and an entry for each 8190 accounts."""
 STATUSES = """Exit status: 0 done; 1 a file, a program or a database failed, or a check found a
 difference; 2 the input or the words are wrong."""
 
@@ -61,11 +65,11 @@ class Progress:
 
 
 def load(given: argparse.Namespace) -> int:
-    """Loads, and says how far the tables are."""
+    """Loads, and prints how far the tables are."""
     if given.follow and given.ledger is None:
-        raise_usage("--follow goes with --ledger; an audit on standard input is followed anyway")
+        raise_usage("--follow goes with --ledger; a dump on standard input is followed anyway")
     is_file = given.ledger is not None
-    ledger = Ledger(given.ledger, given.tbd, given.telovamish) if is_file else None
+    ledger = Ledger(given.ledger, programs_of(given)) if is_file else None
     if is_file and os.path.exists(given.file) and os.path.samefile(given.file, given.ledger):
         raise_usage(f"{given.file} is the ledger's own file: name another one for the tables")
     gc.set_threshold(GARBAGE)
@@ -75,7 +79,7 @@ def load(given: argparse.Namespace) -> int:
         is_terminal = sys.stderr is not None and sys.stderr.isatty()
         progress = Progress(loading, is_terminal and not given.quiet)
         try:
-            read(loading, ledger, given.follow, progress)
+            read(loading, ledger, given, progress)
         finally:
             progress.end()
     finally:
@@ -88,14 +92,17 @@ def load(given: argparse.Namespace) -> int:
     return 0
 
 
-def read(loading: Loading, ledger: Optional[Ledger], follow: bool, progress: Progress) -> None:
-    """Reads the input to its end, or until a signal where it is followed."""
+def programs_of(given: argparse.Namespace) -> Programs:
+    return Programs(given.tbd, given.tbs)
+
+
+def read(
+    loading: Loading, ledger: Optional[Ledger], given: argparse.Namespace, progress: Progress
+) -> None:
+    """Reads the input to its end, or until a signal if it is followed."""
     if ledger is None:
-        if sys.stdin is None:
-            raise Failed("standard input is closed")
-        loading.read(lines_of(sys.stdin.fileno()), progress.tell)
-        loading.ended()
-    elif not follow:
+        read_dump(loading, programs_of(given), progress.tell)
+    elif not given.follow:
         ledger.read(loading, progress.tell)
     else:
         try:
@@ -146,9 +153,7 @@ def seconds(text: str) -> float:
 def add_ledger(parser: argparse.ArgumentParser, what: str) -> None:
     parser.add_argument("--ledger", metavar="FILE", help=what)
     parser.add_argument("--tbd", metavar="PROGRAM", help="the program tbd (or the variable TBD)")
-    parser.add_argument(
-        "--telovamish", metavar="PROGRAM", help="the command telovamish (or TELOVAMISH)"
-    )
+    parser.add_argument("--tbs", metavar="PROGRAM", help="the program tbs (or the variable TBS)")
 
 
 def words() -> argparse.ArgumentParser:
@@ -186,7 +191,7 @@ def words() -> argparse.ArgumentParser:
         metavar="SECONDS",
         help="how long to wait for a load to reach the server's answer (%(default)g)",
     )
-    add_ledger(it, "the server's file, to load what is later than the tables")
+    add_ledger(it, "the kept ledger's file, with which every row is compared")
     it.set_defaults(run=check)
     return parser
 
@@ -203,7 +208,7 @@ def main(arguments: Optional[List[str]] = None) -> int:
         if sys.stdout is not None:
             sys.stdout.flush()
         return status
-    except Stop as stop:
+    except (Stop, Fault) as stop:
         print(f"tb-sql: {stop}", file=sys.stderr)
         return stop.status
     except BrokenPipeError:

@@ -8,79 +8,27 @@ from __future__ import annotations
 
 import datetime
 import re
-from typing import Any, Dict, Iterable, List, Tuple, Union
+from typing import Dict, Iterable, List, Union
+
+from telovamish.words import ACCOUNT_FLAGS, SECOND, TRANSFER_FLAGS, U128
 
 Number = Union[int, str]
 
 INTEGER_END = 1 << 63
-SMALL_END = 1 << 32
-ID_MAX = (1 << 128) - 1
-SECOND = 1_000_000_000
+ID_MAX = U128
 DAY_SECONDS = 86400
-
-ACCOUNT_FLAGS = {
-    "linked": 1,
-    "debits_must_not_exceed_credits": 2,
-    "credits_must_not_exceed_debits": 4,
-    "history": 8,
-    "imported": 16,
-    "closed": 32,
-}
-TRANSFER_FLAGS = {
-    "linked": 1,
-    "pending": 2,
-    "post_pending_transfer": 4,
-    "void_pending_transfer": 8,
-    "balancing_debit": 16,
-    "balancing_credit": 32,
-    "closing_debit": 64,
-    "closing_credit": 128,
-    "imported": 256,
-}
-DEBITS_LIMITED, CREDITS_LIMITED, CLOSED = 2, 4, 32
-PENDING, POST, VOID, CLOSING_DEBIT, CLOSING_CREDIT = 2, 4, 8, 64, 128
-
-
-def number(digits: str) -> Number:
-    """A number from its digits, as a table holds it."""
-    if len(digits) < 19:
-        return int(digits)
-    value = int(digits)
-    return value if value < INTEGER_END else digits
-
-
-def word(value: Any) -> str:
-    """The name of an operation or of a result."""
-    if not isinstance(value, str):
-        raise ValueError("a name is no text")
-    return value
-
-
-def small(value: Any) -> int:
-    """A number of at most 32 bits, which an audit has without quotes."""
-    if type(value) is not int or not 0 <= value < SMALL_END:
-        raise ValueError("a field of 32 bits is no such number")
-    return value
+DEBITS_LIMITED = ACCOUNT_FLAGS["debits_must_not_exceed_credits"]
+CREDITS_LIMITED = ACCOUNT_FLAGS["credits_must_not_exceed_debits"]
+HISTORY, CLOSED = ACCOUNT_FLAGS["history"], ACCOUNT_FLAGS["closed"]
+PENDING = TRANSFER_FLAGS["pending"]
+POST, VOID = TRANSFER_FLAGS["post_pending_transfer"], TRANSFER_FLAGS["void_pending_transfer"]
+CLOSING_DEBIT = TRANSFER_FLAGS["closing_debit"]
+CLOSING_CREDIT = TRANSFER_FLAGS["closing_credit"]
 
 
 def held(value: int) -> Number:
     """A number as a table holds it. A balance may be negative."""
     return value if -INTEGER_END < value < INTEGER_END else str(value)
-
-
-class Flags(Dict[Tuple[str, ...], int]):
-    """The bits of flags by their names; bits without a name follow as one number."""
-
-    def __init__(self, names: Dict[str, int]) -> None:
-        super().__init__()
-        self.names = names
-
-    def __missing__(self, flags: Tuple[str, ...]) -> int:
-        bits = 0
-        for name in flags:
-            bits |= self.names[name] if name in self.names else int(name)
-        self[flags] = bits
-        return bits
 
 
 def flag_names(bits: int, names: Dict[str, int]) -> List[str]:

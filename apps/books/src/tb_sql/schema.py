@@ -8,7 +8,7 @@ from __future__ import annotations
 
 from typing import Callable, Dict, List
 
-SCHEMA = 1  # the number of these tables; another one is made again from the history
+SCHEMA = 2  # the number of these tables; another one is made again from the history
 
 # Each table: its columns, with their kinds, and what follows them.
 TABLES: Dict[str, List[str]] = {
@@ -19,7 +19,7 @@ TABLES: Dict[str, List[str]] = {
         "profile small NOT NULL",
         "commit_number whole NOT NULL",
         "time whole NOT NULL",
-        "hash text NOT NULL",
+        "digest text NOT NULL",
     ],
     "entries": [
         "commit_number whole PRIMARY KEY",
@@ -33,6 +33,7 @@ TABLES: Dict[str, List[str]] = {
         "accounts_so_far whole NOT NULL",
         "transfers_so_far whole NOT NULL",
         "refused_so_far whole NOT NULL",
+        "digest text NOT NULL",
     ],
     "sessions": [
         "session whole PRIMARY KEY",
@@ -56,6 +57,7 @@ TABLES: Dict[str, List[str]] = {
         "flags small NOT NULL",
         "postings whole NOT NULL",
         "commit_number whole NOT NULL",
+        "created_flags small NOT NULL",
     ],
     "transfers": [
         "timestamp whole PRIMARY KEY",
@@ -90,6 +92,15 @@ TABLES: Dict[str, List[str]] = {
         "balance wide NOT NULL",
         "PRIMARY KEY (account_id, timestamp)",
     ],
+    "balances": [
+        "account_id wide NOT NULL",
+        "timestamp whole NOT NULL",
+        "debits_pending wide NOT NULL",
+        "debits_posted wide NOT NULL",
+        "credits_pending wide NOT NULL",
+        "credits_posted wide NOT NULL",
+        "PRIMARY KEY (account_id, timestamp)",
+    ],
     "refused": [
         "commit_number whole NOT NULL",
         "place small NOT NULL",
@@ -101,7 +112,21 @@ TABLES: Dict[str, List[str]] = {
     ],
 }
 # Rows of these lie in the order of their keys (SQLite).
-BY_KEY = ("postings", "refused")
+BY_KEY = ("postings", "balances", "refused")
+
+# What each row is found by.
+KEYS = {
+    "position": ["one"],
+    "entries": ["commit_number"],
+    "sessions": ["session"],
+    "accounts": ["timestamp"],
+    "transfers": ["timestamp"],
+    "postings": ["account_id", "timestamp"],
+    "balances": ["account_id", "timestamp"],
+    "refused": ["commit_number", "place"],
+}
+
+HELD = "flags & 10 <> 0"  # of a transfer without postings: one that is pending, or a void
 
 INDEXES = [
     "CREATE INDEX accounts_by_ledger ON accounts(ledger)",
@@ -109,6 +134,14 @@ INDEXES = [
     "CREATE INDEX pending_by_expiry ON transfers(expires_at) WHERE state = 'pending'",
     "CREATE INDEX pending_by_debit ON transfers(debit_account_id) WHERE state = 'pending'",
     "CREATE INDEX pending_by_credit ON transfers(credit_account_id) WHERE state = 'pending'",
+    f"CREATE INDEX held_by_debit ON transfers(debit_account_id, timestamp) WHERE {HELD}",
+    f"CREATE INDEX held_by_credit ON transfers(credit_account_id, timestamp) WHERE {HELD}",
+    *(
+        f"CREATE INDEX {table}_by_user_data_{bits} ON {table}(user_data_{bits}, timestamp)"
+        f" WHERE user_data_{bits} <> 0"
+        for table in ("accounts", "transfers")
+        for bits in (128, 64, 32)
+    ),
     "CREATE INDEX refused_by_id ON refused(id)",
     "CREATE INDEX refused_by_reason ON refused(operation, result, commit_number)",
 ]

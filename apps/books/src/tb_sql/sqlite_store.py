@@ -2,15 +2,13 @@
 
 from __future__ import annotations
 
-import contextlib
 import os
 import pathlib
 import sqlite3
 from typing import Any, Iterable, List, Optional, Sequence, Tuple
 
 from .errors import Failed, Refused
-from .model import Account, Changes, OpenSession, PendingTransfer, Position
-from .numbers import Number, held
+from .rows import Changes, Position
 from .schema import SCHEMA, TABLES, columns, sqlite_schema
 
 CACHE_KIB = 131_072
@@ -68,7 +66,7 @@ def check_schema(connection: sqlite3.Connection, path: str) -> None:
 
 def position_row(connection: sqlite3.Connection) -> Optional[Sequence[Any]]:
     found: Optional[Sequence[Any]] = connection.execute(
-        "SELECT head, profile, commit_number, time, hash FROM position"
+        "SELECT head, profile, commit_number, time, digest FROM position"
     ).fetchone()
     return found
 
@@ -76,10 +74,9 @@ def position_row(connection: sqlite3.Connection) -> Optional[Sequence[Any]]:
 class SqliteStore:
     """A file of SQLite that one process writes, while others read it."""
 
-    def __init__(self, path: str) -> None:
+    def __init__(self, path: str, is_kept: bool = True) -> None:
         self.path = path
         self.is_new = False
-        self._read_at: Optional[int] = None
         try:
             # by its whole path: of "", ":memory:" and "file:.." SQLite would keep nothing
             whole = os.path.abspath(path)
@@ -87,7 +84,7 @@ class SqliteStore:
             self._look()  # first: another program's database is left as it is
             self._opened = self._file()
             self._connection.execute("PRAGMA journal_mode = WAL")
-            self._connection.execute("PRAGMA synchronous = NORMAL")
+            self._connection.execute(f"PRAGMA synchronous = {'NORMAL' if is_kept else 'OFF'}")
             self._connection.execute(f"PRAGMA cache_size = -{CACHE_KIB}")
         except sqlite3.Error as error:
             raise Failed(f"{path}: {error}") from None
@@ -111,78 +108,10 @@ class SqliteStore:
 
     def close(self) -> None:
         self._connection.close()
-        if self._read_at is None:
-            return
-        whole = os.path.realpath(self.path)  # the WAL lies next to what a link names
-        for path in (whole, f"{whole}-wal"):
-            with contextlib.suppress(OSError):
-                os.utime(path, ns=(self._read_at, self._read_at))
-
-    def read_whole(self, began: int) -> None:
-        """Says that all that the ledger's file had at a time is in the tables. Their files have
-        that time then: what the ledger's file got later is newer."""
-        self._read_at = began
-
-    def has_time(self, before: int, now: int) -> None:
-        """Says that the ledger's file has this time in place of that one, and nothing more. Tables
-        that are no older than it stay so."""
-        whole = os.path.realpath(self.path)
-        with contextlib.suppress(OSError):
-            found = [os.stat(it) for it in (whole, f"{whole}-wal")]
-            written = max((it.st_mtime_ns for it in found if it.st_size), default=now)
-            if before <= written < now:
-                os.utime(whole, ns=(now, now))
 
     def position(self) -> Optional[Position]:
         """How far the tables are; nothing where there are none."""
-        if self.is_new:
-            return None
-        counts = self._connection.execute(
-            "SELECT accounts_so_far, transfers_so_far, refused_so_far FROM entries"
-            " ORDER BY commit_number DESC LIMIT 1"
-        ).fetchone()
-        return Position.of(self.path, position_row(self._connection), counts)
-
-    def account(self, id: Number) -> Optional[Account]:
-        if self.is_new:
-            return None
-        row = self._connection.execute(
-            "SELECT debits_pending, debits_posted, credits_pending, credits_posted, flags, postings"
-            " FROM accounts WHERE id = ?",
-            (id,),
-        ).fetchone()
-        return Account(id, None, *self._numbers(row)) if row else None
-
-    def pending_transfer(self, id: Number) -> Optional[PendingTransfer]:
-        if self.is_new:
-            return None
-        row = self._connection.execute(
-            "SELECT amount, debit_account_id, credit_account_id, flags FROM transfers"
-            " WHERE id = ? AND state = 'pending'",
-            (id,),
-        ).fetchone()
-        if row is None:
-            return None
-        amount, flags = self._numbers((row[0], row[3]))
-        return PendingTransfer(amount, row[1], row[2], flags)
-
-    def open_sessions(self) -> List[OpenSession]:
-        if self.is_new:
-            return []
-        rows = self._connection.execute(
-            "SELECT session, client, requests, last_commit FROM sessions WHERE evicted_by IS NULL"
-        )
-        found = []
-        for session, client, *counts in rows:
-            found.append(OpenSession(session, client, *self._numbers(counts)))
-        return found
-
-    def _numbers(self, row: Sequence[Any]) -> List[int]:
-        """The numbers of a row, which somebody else may have written."""
-        try:
-            return list(map(int, row))
-        except (TypeError, ValueError) as error:
-            raise Failed(f"{self.path}: a value that no table has: {error}") from None
+        return None if self.is_new else Position.of(self.path, position_row(self._connection))
 
     def write(self, changes: Changes, position: Position, before: Optional[Position]) -> None:
         """Writes rows and the position that they lead to, in one transaction. Raises `ValueError`
@@ -211,24 +140,17 @@ class SqliteStore:
             for statement in sqlite_schema():
                 self._connection.execute(statement)
         self._move(position, before)
-        for account in changes.changed.values():
-            if account.row is not None:
-                account.row[2:6] = _sums(account)
-                account.row[11:13] = account.flags, account.postings
         self._insert("entries", changes.entries)
         self._insert("accounts", changes.accounts)
         self._insert("transfers", changes.transfers)
         # in the order of their keys, so that neighbours are written together
         self._insert("postings", sorted(changes.postings, key=_key_of))
+        self._insert("balances", sorted(changes.balances, key=_key_of))
         self._insert("refused", changes.refused)
         self._connection.executemany(
             "UPDATE accounts SET debits_pending = ?, debits_posted = ?, credits_pending = ?,"
             " credits_posted = ?, flags = ?, postings = ? WHERE id = ?",
-            (
-                (*_sums(it), it.flags, it.postings, it.id)
-                for it in changes.changed.values()
-                if it.row is None
-            ),
+            changes.changed,
         )
         self._connection.executemany(
             "UPDATE transfers SET state = ?, ended_at = ?, ended_by = ? WHERE id = ?", changes.ended
@@ -246,16 +168,16 @@ class SqliteStore:
         )
 
     def _move(self, position: Position, before: Optional[Position]) -> None:
-        row = (position.profile, position.commit_number, position.time, position.hash)
+        row = (position.profile, position.commit_number, position.time, position.digest)
         if before is None:
             self._connection.execute(
                 "INSERT INTO position VALUES (1, ?, ?, ?, ?, ?, ?)", (SCHEMA, position.head, *row)
             )
             return
         moved = self._connection.execute(
-            "UPDATE position SET profile = ?, commit_number = ?, time = ?, hash = ?"
-            " WHERE commit_number = ? AND hash = ?",
-            (*row, before.commit_number, before.hash),
+            "UPDATE position SET profile = ?, commit_number = ?, time = ?, digest = ?"
+            " WHERE commit_number = ? AND digest = ?",
+            (*row, before.commit_number, before.digest),
         )
         if moved.rowcount != 1:
             raise Failed(f"{self.path}: another load writes to it")
@@ -267,15 +189,6 @@ class SqliteStore:
 
 def _key_of(posting: Sequence[Any]) -> Tuple[bool, Any, int]:
     return isinstance(posting[0], str), posting[0], posting[1]
-
-
-def _sums(account: Account) -> Tuple[Number, Number, Number, Number]:
-    return (
-        held(account.debits_pending),
-        held(account.debits_posted),
-        held(account.credits_pending),
-        held(account.credits_posted),
-    )
 
 
 def contents(connection: sqlite3.Connection) -> List[Tuple[str, List[Any]]]:

@@ -4,43 +4,17 @@ at each refused event, and what is pending at each open transfer (of the account
 
 from __future__ import annotations
 
-import re
-import sqlite3
 from typing import Any, Dict, Iterator, List, NamedTuple, Optional, Tuple
 
 from ..errors import AGAIN, Failed
+from ..loading import is_postgresql
 from ..numbers import Number
-from ..schema import TABLES
-from ..sqlite_store import check_schema, check_still, connect_read_only, write_time
+from ..reading import PostgresReading, Reading, Row, SqliteReading
 
 ROWS = 50  # of a page
 POINTS = 240  # of a chart of an account
 BARS = 48
 LAST = (1 << 63) - 1
-
-Row = sqlite3.Row
-
-# the columns of text: of tables, and times as a view spells them. All others hold numbers
-TEXTS = {it.split()[0] for table in TABLES.values() for it in table if it.split()[1] == "text"}
-TEXTS |= {"registered", "last", "evicted"}
-DIGITS = re.compile("-?[0-9]{1,40}")
-
-
-def _row(cursor: sqlite3.Cursor, values: Tuple[Any, ...]) -> Row:
-    """A row. Raises `Failed` where another program wrote a value of another kind."""
-    for (name, *_), value in zip(cursor.description, values):
-        if not _may_hold(name, value):
-            raise Failed(f"A value that no table has: {name} is {value!r:.60}. {AGAIN}")
-    return Row(cursor, values)
-
-
-def _may_hold(name: str, value: Any) -> bool:
-    """Whether a column of this name may hold a value."""
-    if value is None:  # which SQLite itself refuses where there is to be one
-        return True
-    if isinstance(value, str):
-        return name in TEXTS or DIGITS.fullmatch(value) is not None
-    return isinstance(value, int) and name not in TEXTS
 
 
 class Range(NamedTuple):
@@ -78,40 +52,55 @@ class Summary(NamedTuple):
     closing: int
 
 
+POSTINGS = (
+    "SELECT p.*, t.pending_id, h.amount AS was_pending FROM postings AS p"
+    " JOIN transfers AS t ON t.timestamp = p.timestamp"
+    " LEFT JOIN transfers AS h ON h.id = t.pending_id AND t.pending_id <> 0"
+    " WHERE p.account_id = ? AND {}"
+)
+
+
+class Account(NamedTuple):
+    """Which accounts are wanted: of a ledger, of a code, with this in one of its user data."""
+
+    ledger: Optional[int] = None
+    code: Optional[int] = None
+    user_data: Optional[Number] = None
+
+    def where(self) -> Tuple[str, List[Any]]:
+        """The condition in SQL, and its values."""
+        tests: List[str] = []
+        values: List[Any] = []
+        for name, value in (("ledger", self.ledger), ("code", self.code)):
+            if value is not None:
+                tests.append(f"{name} = ?")
+                values.append(value)
+        if self.user_data is not None:
+            sizes = (128, 64, 32) if isinstance(self.user_data, int) else (128, 64)
+            tests.append("(" + " OR ".join(f"user_data_{bits} = ?" for bits in sizes) + ")")
+            values += [self.user_data] * len(sizes)
+        return " AND ".join(tests) or "1 = 1", values
+
+
+# what accounts are sorted by, the greatest first
+SORTS = {
+    "newest": "timestamp DESC",
+    "id": "{id}",
+    "balance": "{balance} DESC, timestamp",
+    "code": "code, timestamp",
+    "postings": "postings DESC, timestamp",
+}
+
+
 class Tables:
-    """A connection for one request: all that it reads is of one moment."""
+    """What the pages ask, of one moment."""
 
-    def __init__(self, path: str) -> None:
-        self._path, self._connection = path, connect_read_only(path)
-        self._written = write_time(self._connection, path)
-        check_schema(self._connection, path)
-        self._connection.isolation_level = None
-        self._connection.execute("BEGIN")
-
-    def close(self) -> None:
-        self._connection.close()
-
-    def check_still(self) -> None:
-        """Says that what was read is of one moment."""
-        check_still(self._connection, self._path, self._written)
-
-    def _asked(self, text: str, values: Tuple[Any, ...], made: Any = _row) -> sqlite3.Cursor:
-        """The answer to a question, whose rows are made by this."""
-        cursor = self._connection.cursor()
-        cursor.row_factory = made
-        return cursor.execute(text, values)
-
-    def one(self, text: str, *values: Any) -> Optional[Row]:
-        row: Optional[Row] = self._asked(text, values).fetchone()
-        return row
-
-    def all(self, text: str, *values: Any) -> List[Row]:
-        return self._asked(text, values).fetchall()
-
-    def each(self, text: str, *values: Any) -> Tuple[List[str], Iterator[Row]]:
-        """The names of the columns, and the rows as they are, one after another."""
-        cursor = self._asked(text, values, Row)
-        return [it[0] for it in cursor.description], cursor
+    def __init__(self, name: str) -> None:
+        self.reading: Reading = (
+            PostgresReading(name) if is_postgresql(name) else SqliteReading(name)
+        )
+        self.one, self.all, self.each = self.reading.one, self.reading.all, self.reading.each
+        self.close, self.check_still = self.reading.close, self.reading.check_still
 
     def position(self) -> Row:
         row = self.one("SELECT * FROM position")
@@ -240,20 +229,63 @@ class Tables:
     def statement(
         self, id: Number, range: Range, before: Optional[int], after: Optional[int]
     ) -> Page:
-        """A page of an account's postings."""
-        return self._page(
-            "SELECT * FROM postings WHERE account_id = ? AND {}", [id], range, before, after
-        )
+        """A page of an account's postings, with the amount that was pending for each."""
+        return self._page(POSTINGS, [id], range, before, after, "p.timestamp")
+
+    def month(self, id: Number, range: Range, limit: int) -> List[Row]:
+        """An account's postings within a range, the oldest first."""
+        within = POSTINGS.format("p.timestamp >= ? AND p.timestamp <= ?")
+        return self.all(f"{within} ORDER BY p.timestamp LIMIT ?", id, *range, limit)
+
+    def trial_balance_at(self, time: int) -> List[List[int]]:
+        """Each ledger with its number of accounts and its four sums, as they were after all that
+        came up to a time: by each account's last posting, and what was pending then."""
+        found: Dict[int, List[int]] = {}
+        for row in self.all(
+            "SELECT a.ledger, p.debits_posted, p.credits_posted FROM accounts AS a"
+            " LEFT JOIN postings AS p ON p.account_id = a.id AND p.timestamp = (SELECT"
+            " max(b.timestamp) FROM postings AS b WHERE b.account_id = a.id AND b.timestamp <= ?)"
+            " WHERE a.timestamp <= ?",
+            time,
+            time,
+        ):
+            sums = found.setdefault(row[0], [row[0], 0, 0, 0, 0, 0])
+            sums[1] += 1
+            sums[3] += int(row[1] or 0)
+            sums[5] += int(row[2] or 0)
+        for row in self.all(
+            "SELECT d.ledger AS debit_ledger, c.ledger AS credit_ledger, t.amount FROM transfers"
+            " AS t JOIN accounts AS d ON d.id = t.debit_account_id"
+            " JOIN accounts AS c ON c.id = t.credit_account_id WHERE t.state IS NOT NULL"
+            " AND t.timestamp <= ? AND (t.ended_at IS NULL OR t.ended_at > ?)",
+            time,
+            time,
+        ):
+            found[row[0]][2] += int(row[2])
+            found[row[1]][4] += int(row[2])
+        return [found[it] for it in sorted(found)]
 
     def transfers(self, range: Range, before: Optional[int], after: Optional[int]) -> Page:
         return self._page("SELECT * FROM transfers WHERE {}", [], range, before, after)
 
-    def accounts(self, ledger: Optional[int], before: Optional[int], after: Optional[int]) -> Page:
-        if ledger is None:
-            return self._page("SELECT * FROM accounts WHERE {}", [], Range(), before, after)
-        return self._page(
-            "SELECT * FROM accounts WHERE ledger = ? AND {}", [ledger], Range(), before, after
+    def accounts(self, wanted: Account, before: Optional[int], after: Optional[int]) -> Page:
+        """A page of accounts, the newest first."""
+        where, values = wanted.where()
+        text = f"SELECT * FROM accounts WHERE {where} AND {{}}"
+        return self._page(text, values, Range(), before, after)
+
+    def accounts_sorted(self, wanted: Account, sort: str, page: int) -> Tuple[List[Row], bool]:
+        """A page of accounts in an order, and whether there are more."""
+        where, values = wanted.where()
+        balance = self.reading.balance_key
+        order = SORTS[sort].format(balance=balance, id=self.reading.id_key)
+        rows = self.all(
+            f"SELECT * FROM accounts WHERE {where} ORDER BY {order} LIMIT ? OFFSET ?",
+            *values,
+            ROWS + 1,
+            page * ROWS,
         )
+        return rows[:ROWS], len(rows) > ROWS
 
     def ledgers(self) -> List[int]:
         """The first ledgers, each found behind the one before it."""
@@ -289,6 +321,7 @@ class Tables:
             rows.reverse()
         if not rows:
             return Page([], None, None)
+        key = key.rpartition(".")[2]
         newest, oldest = rows[0][key], rows[-1][key]
         is_newer = is_more if after is not None else before is not None
         is_older = after > 0 if after is not None else is_more
@@ -333,7 +366,7 @@ class Tables:
         of_account = "SELECT * FROM transfers WHERE state = 'pending' AND {}_account_id = ?"
         return self.all(
             f"SELECT * FROM ({of_account.format('debit')} UNION ALL {of_account.format('credit')})"
-            " ORDER BY expires_at IS NULL, expires_at, timestamp LIMIT ?",
+            " AS t ORDER BY expires_at IS NULL, expires_at, timestamp LIMIT ?",
             id,
             id,
             ROWS + 1,

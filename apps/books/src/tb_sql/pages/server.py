@@ -13,20 +13,12 @@ from typing import Any, Callable, Dict, Iterator, List, Optional, Tuple
 
 from flask import Flask, Response, abort, g, redirect, render_template, request, url_for
 from markupsafe import Markup
+from telovamish.words import ACCOUNT_FLAGS, SECOND, TRANSFER_FLAGS
 from werkzeug.exceptions import HTTPException
 from werkzeug.serving import WSGIRequestHandler, make_server
 
 from ..errors import Failed, Stop
-from ..numbers import (
-    ACCOUNT_FLAGS,
-    SECOND,
-    TRANSFER_FLAGS,
-    Number,
-    flag_names,
-    id_of,
-    time_of,
-    time_text,
-)
+from ..numbers import Number, flag_names, id_of, time_of, time_text
 from ..schema import TABLES, VIEWS
 from . import charts
 from .queries import LAST, ROWS, Range, Tables

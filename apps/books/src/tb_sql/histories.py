@@ -1,0 +1,147 @@
+"""A ledger's history: the items of a dump, each entry with the reply of the proved program to it."""
+
+from __future__ import annotations
+
+import os
+import queue
+import threading
+from typing import BinaryIO, Iterator, List, Optional, Tuple, Union, cast
+
+from telovamish.faults import Fault
+from telovamish.live import Replay
+from telovamish.streams import Entry, Item, Reply, item_bytes, read_dump, read_reply
+
+from .errors import Cut, Failed, Refused
+
+CHUNK = 1 << 18  # bytes that are read at once
+WAITING = 4  # parts of the history that are read before their rows are made
+IDLE = 0.2  # seconds without an item, after which what is whole is written
+
+Step = Optional[Tuple[Item, Optional[Reply]]]  # None: nothing has come for a while
+
+
+class Source:
+    """A file's number as a stream of bytes. Before it waits for more it says so."""
+
+    def __init__(self, number: int) -> None:
+        self._number = number
+        self._data = b""
+        self._at = 0
+
+    def wait(self) -> None:
+        """What is done before more is awaited: nothing here."""
+
+    def read(self, length: int) -> bytes:
+        """So many bytes; fewer where the stream ends."""
+        end = self._at + length
+        if end > len(self._data):
+            self._fill(length)
+            end = length
+        data = self._data[self._at : end]
+        self._at = min(end, len(self._data))
+        return data
+
+    def _fill(self, length: int) -> None:
+        parts = [self._data[self._at :]]
+        wanted = length - len(parts[0])
+        while wanted > 0:
+            self.wait()
+            data = os.read(self._number, max(CHUNK, wanted))
+            if not data:
+                break
+            parts.append(data)
+            wanted -= len(data)
+        self._data, self._at = b"".join(parts), 0
+
+
+class History(Source):
+    """The items of a dump. A thread reads them and passes them to `tbs replay`, so that its replies
+    are made while rows are. Whoever takes items always reads replies: neither side waits for the
+    other."""
+
+    def __init__(self, number: int, tbs: str) -> None:
+        super().__init__(number)
+        self._replay = Judge(tbs)
+        self._parts: queue.Queue[Union[List[Item], BaseException, None]] = queue.Queue(WAITING)
+        self._items: List[Item] = []
+        self._is_closed = False
+        self._thread = threading.Thread(target=self._read_items, daemon=True)
+
+    def __enter__(self) -> History:
+        self._thread.start()
+        return self
+
+    def __exit__(self, *error: object) -> None:
+        self._is_closed = True
+        self._replay.__exit__()
+
+    def join(self) -> None:
+        """Waits for the thread, once the input has ended."""
+        self._thread.join()
+
+    def __iter__(self) -> Iterator[Step]:
+        while True:
+            try:
+                part = self._parts.get(timeout=IDLE)
+            except queue.Empty:
+                yield None
+                continue
+            if part is None:
+                return
+            if isinstance(part, BaseException):
+                raise _named(part)
+            for item in part:
+                yield item, self._replay.take() if isinstance(item, Entry) else None
+
+    def wait(self) -> None:
+        """Passes on what is read so far."""
+        items, self._items = self._items, []
+        if not items:
+            return
+        self._put(items)
+        self._replay.put(b"".join(map(item_bytes, items)))
+
+    def _put(self, part: Union[List[Item], BaseException, None]) -> None:
+        while not self._is_closed:
+            try:
+                return self._parts.put(part, timeout=IDLE)
+            except queue.Full:
+                pass
+
+    def _read_items(self) -> None:
+        end: Optional[BaseException] = None
+        try:
+            for item in read_dump(cast(BinaryIO, self)):
+                self._items.append(item)
+        except Exception as error:  # which the other thread raises
+            end = error
+        try:
+            self.wait()
+        except Exception as error:
+            end = end or error
+        self._put(end)
+
+
+class Judge(Replay):
+    """`tbs replay`, whose replies are taken in another thread than its items are put."""
+
+    def take(self) -> Reply:
+        try:
+            reply = read_reply(self._output)
+        except Fault as fault:
+            raise Failed(f"tbs replay: {fault}") from None
+        if reply is None:
+            said = self._errors.read().decode(errors="replace").strip()
+            if self._process.wait() < 0:
+                raise Failed(said or f"tbs replay ended with {self._process.returncode}")
+            raise Refused(f"the history is refused: {said.rpartition(': ')[2] or 'without a word'}")
+        return reply
+
+
+def _named(error: BaseException) -> BaseException:
+    """What a dump that is read wrongly is called."""
+    if not isinstance(error, Fault):
+        return error
+    if str(error) == "Short":
+        return Cut("the input ends within an entry")
+    return Refused(f"the input is no dump of a history: {error}")
