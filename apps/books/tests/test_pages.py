@@ -18,18 +18,17 @@ import urllib.request
 
 try:
     import flask  # noqa: F401
-    from werkzeug.serving import make_server
+    import waitress  # noqa: F401
 except ImportError as error:
     raise unittest.SkipTest(str(error)) from None
 
-from support import COMMAND, Tables  # noqa: I001
+from support import COMMAND, Tables, stand_in  # noqa: I001
 from made import MAX, START, Made, account, transfer
 from test_load import history
-from tb_sql.audits import Loading
 from tb_sql.errors import Failed, Stop
 from tb_sql.pages import queries
-from tb_sql.pages.server import Handler, make_app
-from tb_sql.sqlite_store import SqliteStore
+from tb_sql.pages import server
+from tb_sql.pages.server import Site, make_app, make_server
 
 HERE = "http://127.0.0.1:8642"
 
@@ -37,7 +36,7 @@ HERE = "http://127.0.0.1:8642"
 class Pages(Tables):
     def setUp(self):
         super().setUp()
-        self.site = make_app(self.path).test_client()
+        self.site = make_app(Site(self.path)).test_client()
 
     def get(self, address, status=200, **more):
         reply = self.site.get(address, base_url=more.pop("base_url", HERE), **more)
@@ -214,7 +213,8 @@ class Shown(Pages):
         said = self.words("/account/1")
         for part in ("Debits 21", "Balance after 21 debit", "Postings 1 to 3 of 3"):
             self.assertIn(part, said)
-        self.assertIn("16.854775807 13", self.words("/transfers"))
+        self.assertIn("23:47:16 13", self.words("/transfers"))
+        self.assertIn("16.854775807Z", self.get("/transfers"))
         self.assertIn("/transfer/13", self.get(f"/transfers?after={end - 1}"))
         self.assertIn("3 in all, from", self.get("/"))
         self.assertEqual(len(self.csv("/csv/statement.csv?account=1")), 4)
@@ -230,14 +230,16 @@ class Shown(Pages):
         self.assertIn(f"Balance {grouped} debit", self.words(f"/account/{big}"))
         self.assertIn(f"Amount {grouped}", self.words(f"/transfer/{big}"))
         self.assertIn(grouped, self.words("/"))
-        self.assertIn(f"{MAX}, {2**64 - 1}, 0", self.words(f"/account/{big}"))
+        said = self.words(f"/account/{big}")
+        self.assertIn(f"User data, 128 bits {MAX} User data, 64 bits {2**64 - 1} Sums", said)
         reply = self.site.get(f"/search?id={hex(1)}", base_url=HERE)
         self.assertEqual((reply.status_code, reply.location), (302, "/account/1"))
         self.assertIn("account of ledger", self.words(f"/search?id={hex(big)}"))
 
     def test_hostile_text(self):
         """A name that only a wrong program could print is still shown as text."""
-        self.load(Made().register().accounts(account(1, result="<script>alert(1)</script>")))
+        self.load(Made().register().accounts(account(1, result="exists")))
+        self.change("UPDATE refused SET result = ?", "<script>alert(1)</script>")
         page = self.get("/refusals")
         self.assertNotIn("<script", page)
         self.assertIn("&lt;script&gt;", page)
@@ -274,8 +276,8 @@ class Shown(Pages):
         made = "WITH RECURSIVE at(n) AS (SELECT 9 UNION ALL SELECT n + 1 FROM at WHERE n < ?)"
         rows = {
             "postings": "1, n + ?, n, n, 2, 1, 0, n, 0, n",
-            "entries": "n, n + ?, 7, 1, n, 'lookup_accounts', 0, 0, 2, 0, 0",
-            "accounts": "n + ?, n, 0, 0, 0, 0, 0, 0, 0, 700 + n % 3, 1, 0, 0, 2",
+            "entries": "n, n + ?, 7, 1, n, 'lookup_accounts', 0, 0, 2, 0, 0, 'x'",
+            "accounts": "n + ?, n, 0, 0, 0, 0, 0, 0, 0, 700 + n % 3, 1, 0, 0, 2, 0",
         }
         for table, row in rows.items():
             self.change(f"INSERT INTO {table} {made} SELECT {row} FROM at", count, START + 9)
@@ -289,9 +291,9 @@ class Shown(Pages):
             ("search", lambda: self.assertEqual(len(tables.sessions_of(7)), 1)),
         ):
             steps = []
-            tables._connection.set_progress_handler(lambda: steps.append(100), 100)
+            tables.reading._connection.set_progress_handler(lambda: steps.append(100), 100)
             asked()
-            tables._connection.set_progress_handler(None, 0)
+            tables.reading._connection.set_progress_handler(None, 0)
             self.assertLess(sum(steps), count / 10, name)
 
     def test_sessions_of_a_client(self):
@@ -334,18 +336,32 @@ class Shown(Pages):
         self.assertIn(f"{transfers:,} in all, from", page)
         self.assertIn(f"{refused:,} in all, from", page)
 
-    def test_ledger_changed_since(self):
-        ledger = self.room / "ledger.tbk"
-        self.load(history())
-        site = make_app(self.path, str(ledger)).test_client()
-        self.assertIn("There is no file", site.get("/", base_url=HERE).get_data(as_text=True))
-        ledger.write_bytes(b"x")
-        os.utime(ledger, (time.time() + 500, time.time() + 500))
-        page = site.get("/", base_url=HERE).get_data(as_text=True)
-        self.assertIn("8 minutes after that: load it again", page)
-        os.utime(ledger, (5, 5))
-        page = site.get("/", base_url=HERE).get_data(as_text=True)
-        self.assertIn("has not changed since", page)
+    def test_how_far_behind_the_ledger(self):
+        """By its entries, counted again when its file changed."""
+        made, ledger = history(), self.room / "ledger.tbk"
+        self.load(made, count=-4)
+        tbd = stand_in(self.room, "tbd")
+        self.site = make_app(Site(self.path, ledger=str(ledger), tbd=tbd)).test_client()
+        self.assertIn("There is no file", self.words("/"))
+        ledger.write_bytes(made.bytes)
+        said = self.words("/")
+        self.assertIn(f"has {made.commit:,} entries: these tables are 4 behind it", said)
+        reply = self.site.get("/query_accounts?limit=1", base_url=HERE).json
+        self.assertEqual((reply["commit"], reply["behind"]), (str(made.commit - 4), "4"))
+        self.load(made)
+        self.assertIn("has no entry that is not here", self.words("/"))
+
+    def test_a_commit_that_is_waited_for(self):
+        made = history()
+        self.load(made, count=-4)
+        late = threading.Timer(0.5, self.load, (made,))
+        late.start()
+        self.addCleanup(late.join)
+        reply = self.site.get(f"/query_accounts?commit={made.commit}", base_url=HERE).json
+        self.assertEqual(reply["commit"], str(made.commit))
+        with unittest.mock.patch.object(server, "WAIT_MAX", 0.1):
+            said = self.words(f"/accounts?commit={made.commit + 1}", 504)
+        self.assertIn(f"The tables end at commit {made.commit}", said)
 
     def test_names_that_cannot_be_shown(self):
         self.load(Made())
@@ -353,27 +369,10 @@ class Shown(Pages):
             (self.path, "/nowhere/b\udcfccher.tbk", 200),
             (str(self.room / "b\udcfccher.sqlite"), None, 500),
         ):
-            self.site = make_app(path, ledger).test_client()
+            site = Site(path, ledger=ledger, tbd=stand_in(self.room, "tbd"))
+            self.site = make_app(site).test_client()
             said = self.words("/", status)
             self.assertRegex(said, r"here is no file /.*/b\\udcfccher")
-
-    def test_written_through_a_link(self):
-        """What a load that goes on wrote is in the WAL, next to the file that the link names."""
-        ledger = self.room / "ledger.tbk"
-        ledger.write_bytes(b"x")
-        (self.room / "link").symlink_to(self.path)
-        store = SqliteStore(self.path)
-        try:
-            loading = Loading(store)
-            loading.read(iter(history().bytes.splitlines(keepends=True)))
-            for path, moment in ((self.path, 5), (ledger, 10), (f"{self.path}-wal", 15)):
-                os.utime(path, (moment, moment))
-            for name in (self.path, str(self.room / "link")):
-                site = make_app(name, str(ledger)).test_client()
-                page = site.get("/", base_url=HERE).get_data(as_text=True)
-                self.assertTrue("file has not changed since" in page, name)
-        finally:
-            store.close()
 
 
 class Tabled(Pages):
@@ -447,15 +446,16 @@ class Stalled(Pages):
     def setUp(self):
         super().setUp()
         self.load(Made())
-        patch = unittest.mock.patch.object(Handler, "timeout", Handler.timeout / 100)
+        patch = unittest.mock.patch.multiple(server, PATIENCE=1, CONNECTIONS=8)
         patch.start()
         self.addCleanup(patch.stop)
-        server = make_server("127.0.0.1", 0, make_app(self.path), True, request_handler=Handler)
-        serving = threading.Thread(target=server.serve_forever)
+        listening = server.listen(0)
+        self.port = listening.getsockname()[1]
+        self.server = make_server(Site(self.path), listening)
+        serving = threading.Thread(target=self.server.run)
         serving.start()
         self.addCleanup(serving.join)
-        self.addCleanup(server.shutdown)
-        self.port = server.port
+        self.addCleanup(self.server.close)
 
     def sent(self, data):
         connection = socket.create_connection(("127.0.0.1", self.port), timeout=60)
@@ -468,7 +468,7 @@ class Stalled(Pages):
             self.assertEqual(self.sent(data).recv(1), b"")
 
     def test_a_table_that_nobody_reads(self):
-        """Its rows are held until then, and the WAL with them."""
+        """Its rows are not held for it, nor the WAL."""
         self.change(
             "WITH RECURSIVE at(n) AS (SELECT 1 UNION ALL SELECT n + 1 FROM at WHERE n < 300000)"
             " INSERT INTO postings SELECT 1, n, n, n, 2, 1, 0, n, 0, n FROM at"
@@ -480,6 +480,18 @@ class Stalled(Pages):
         while self.rows("PRAGMA wal_checkpoint(TRUNCATE)")[0][0] == 1:
             self.assertLess(time.monotonic(), deadline, "the rows are still held")
             time.sleep(0.1)
+
+    def test_bounds_of_threads_and_connections(self):
+        """Others wait: none is served beyond them, and none is lost."""
+        before = threading.active_count()
+        held = [self.sent(b"GET / HTTP/1.1\r\n") for _ in range(12)]
+        time.sleep(0.3)
+        self.assertLessEqual(threading.active_count(), before + server.THREADS)
+        self.assertLessEqual(len(self.server.active_channels), 8)
+        last = self.sent(b"GET /pending HTTP/1.1\r\nHost: localhost\r\nConnection: close\r\n\r\n")
+        last.settimeout(60)
+        self.assertEqual(last.recv(15), b"HTTP/1.1 200 OK")
+        del held
 
 
 class Refused(Pages):
@@ -532,6 +544,8 @@ class Refused(Pages):
     def test_other_hosts(self):
         for host in ("ledger.example", "127.0.0.1.example:80", "localhost.example", "10.0.0.1"):
             self.get("/", 403, base_url=f"http://{host}")
+        for host in ("user@localhost", "ledger.example@127.0.0.1:8642", "localhost:1@x", "", "a:b:1"):
+            self.get("/", 403, headers={"Host": host})
         for host in ("localhost", "localhost:1", "127.0.0.1:2", "[::1]", "[::1]:3"):
             self.get("/", base_url=f"http://{host}")
 

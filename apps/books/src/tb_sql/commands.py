@@ -18,6 +18,7 @@ from . import __version__
 from .early import INTERRUPTED, end_by
 from .errors import Failed, Stop
 from .loading import Loading, store_of
+from .names import read_names
 from .numbers import time_text
 from .sources import Ledger, Programs, read_dump
 
@@ -72,14 +73,19 @@ def load(given: argparse.Namespace) -> int:
     ledger = Ledger(given.ledger, programs_of(given)) if is_file else None
     if is_file and os.path.exists(given.file) and os.path.samefile(given.file, given.ledger):
         raise_usage(f"{given.file} is the ledger's own file: name another one for the tables")
+    names = read_names(given.names).rows if given.names else None
     gc.set_threshold(GARBAGE)
     store = store_of(given.file)
     try:
         loading = Loading(store)
+        if names is not None and not store.is_new:
+            store.write_names(names)
         is_terminal = sys.stderr is not None and sys.stderr.isatty()
         progress = Progress(loading, is_terminal and not given.quiet)
         try:
             read(loading, ledger, given, progress)
+            if names is not None and not store.is_new:
+                store.write_names(names)
         finally:
             progress.end()
     finally:
@@ -124,10 +130,11 @@ class Usage(Stop):
 def serve(given: argparse.Namespace) -> int:
     """Serves the pages until a signal."""
     try:
-        from .pages.server import serve_pages
+        from .pages.server import Site, serve_pages
     except ImportError as error:
         raise Failed(f"Flask is not installed (Debian: python3-flask): {error}") from None
-    return serve_pages(given.file, given.port, given.ledger)
+    names = read_names(given.names) if given.names else None
+    return serve_pages(given.file, given.port, Site(given.file, names, given.ledger, given.tbd))
 
 
 def check(given: argparse.Namespace) -> int:
@@ -170,14 +177,17 @@ def words() -> argparse.ArgumentParser:
     it.add_argument("file", metavar="FILE", help="a file of SQLite, or postgresql://..")
     add_ledger(it, "the file of a kept ledger, in place of standard input")
     it.add_argument("--follow", action="store_true", help="go on with what comes, until a signal")
+    it.add_argument("--names", metavar="TOML", help="names and decimal places, kept in the tables")
     it.add_argument("--quiet", action="store_true", help="print nothing but faults")
     it.set_defaults(run=load)
     it = commands.add_parser("serve", help="show the tables as pages", description=SERVE)
-    it.add_argument("file", metavar="FILE", help="a file of SQLite")
+    it.add_argument("file", metavar="FILE", help="a file of SQLite, or postgresql://..")
     it.add_argument("--port", type=port, default=8642, help="the port on 127.0.0.1 (%(default)s)")
     it.add_argument(
-        "--ledger", metavar="FILE", help="the kept ledger's file, to show when it last changed"
+        "--ledger", metavar="FILE", help="the kept ledger's file, to show how far behind it this is"
     )
+    it.add_argument("--tbd", metavar="PROGRAM", help="the program tbd (or the variable TBD)")
+    it.add_argument("--names", metavar="TOML", help="other names than those of the tables")
     it.set_defaults(run=serve)
     it = commands.add_parser(
         "check", help="compute balances again", description=CHECK, epilog=STATUSES

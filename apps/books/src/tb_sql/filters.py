@@ -52,10 +52,8 @@ def is_query_filter(wanted: Mapping[str, int]) -> bool:
 def tests_of(wanted: Mapping[str, int], names: List[str]) -> Tuple[str, Values]:
     """What the rows of a filter meet. A field that is 0 is not compared. Rows with user data are
     found by indexes, which have no row with 0."""
-    tests, values = ["t.timestamp >= ?", "t.timestamp <= ?"], [
-        wanted["timestamp_min"],
-        wanted["timestamp_max"] or TIME_MAX,
-    ]
+    tests = ["t.timestamp >= ?", "t.timestamp <= ?"]
+    values: Values = [wanted["timestamp_min"], wanted["timestamp_max"] or TIME_MAX]
     for name in names:
         if wanted[name]:
             tests.append(f"t.{name} = ? AND t.{name} <> 0" if name in USER_DATA else f"t.{name} = ?")

@@ -88,6 +88,16 @@ class PostgresStore:
         ).fetchone()
         return Position.of(self.path, row)
 
+    def write_names(self, rows: Sequence[Sequence[Any]]) -> None:
+        """Puts names in the place of those that are there."""
+        try:
+            with self._connection.transaction():
+                cursor = self._connection.cursor()
+                cursor.execute("DELETE FROM names")
+                cursor.executemany("INSERT INTO names VALUES (%s, %s, %s, %s)", rows)
+        except self._psycopg.Error as error:
+            raise self._failed(error) from None
+
     def write(self, changes: Changes, position: Position, before: Optional[Position]) -> None:
         """Writes rows and the position that they lead to, in one transaction. Raises `ValueError`
         where one of them cannot be there."""

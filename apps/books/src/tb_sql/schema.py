@@ -114,6 +114,15 @@ TABLES: Dict[str, List[str]] = {
 # Rows of these lie in the order of their keys (SQLite).
 BY_KEY = ("postings", "balances", "refused")
 
+# What a file of names gives: no part of the history.
+NAMES = [
+    "kind text NOT NULL",
+    "number wide NOT NULL",
+    "name text NOT NULL",
+    "places small NOT NULL",
+    "PRIMARY KEY (kind, number)",
+]
+
 # What each row is found by.
 KEYS = {
     "position": ["one"],
@@ -279,8 +288,88 @@ def _column(column: str, kinds: Dict[str, str]) -> str:
 
 
 def _table(table: str, kinds: Dict[str, str]) -> str:
-    rows = ",\n    ".join(_column(it, kinds) for it in TABLES[table])
+    listed = NAMES if table == "names" else TABLES[table]
+    rows = ",\n    ".join(_column(it, kinds) for it in listed)
     return f"CREATE TABLE {table} (\n    {rows}\n)"
+
+
+ACCOUNT_TRANSFERS = """
+CREATE VIEW account_transfers AS
+SELECT p.account_id, CASE WHEN t.debit_account_id = p.account_id THEN 'debit' ELSE 'credit' END
+    AS side, t.*
+FROM postings AS p JOIN transfers AS t ON t.timestamp = p.timestamp
+UNION ALL SELECT debit_account_id, 'debit', t.* FROM transfers AS t WHERE t.flags & 10 <> 0
+UNION ALL SELECT credit_account_id, 'credit', t.* FROM transfers AS t WHERE t.flags & 10 <> 0"""
+
+
+def _digits(column: str, is_sqlite: bool) -> str:
+    """The 48 digits of a number, without its sign."""
+    zeros = f"'{48 * '0'}'"
+    if is_sqlite:
+        return f"substr({zeros} || ltrim(CAST({column} AS TEXT), '-'), -48)"
+    return f"right({zeros} || ltrim({column}::text, '-'), 48)"
+
+
+def _decimal(column: str, is_sqlite: bool) -> str:
+    """A number with commas, a point and its unit, as text; NULL for a ledger without a name."""
+    digits = _digits(column, is_sqlite)
+    whole = f"substr({digits}, 1, 48 - l.places)"
+    zeros = f"'{48 * '0'}'"
+    padded = f"substr({zeros} || {whole}, -48)" if is_sqlite else f"right({zeros} || {whole}, 48)"
+    groups = " || ',' || ".join(f"substr({padded}, {at}, 3)" for at in range(1, 48, 3))
+    sign = f"CASE WHEN CAST({column} AS TEXT) LIKE '-%' THEN '-' ELSE '' END"
+    part = f"CASE WHEN l.places > 0 THEN '.' || substr({digits}, 49 - l.places) ELSE '' END"
+    shown = f"coalesce(nullif(ltrim({groups}, '0,'), ''), '0')"
+    return f"CASE WHEN l.name IS NOT NULL THEN {sign} || {shown} || {part} || ' ' || l.name END"
+
+
+def _named(view: str, kept: str, amounts: List[str], more: str) -> Callable[[bool], str]:
+    """A view with names, and with each amount as it is written: the exact one is next to it."""
+
+    def made(is_sqlite: bool) -> str:
+        written = [f"{_decimal(it, is_sqlite)} AS {it.split('.')[1]}_written" for it in amounts]
+        return f"CREATE VIEW {view} AS SELECT {', '.join([kept, *amounts, *written])}\n{more}"
+
+    return made
+
+
+def _join(kind: str, alias: str, column: str) -> str:
+    return f"LEFT JOIN names AS {alias} ON {alias}.kind = '{kind}' AND {alias}.number = {column}"
+
+
+NAMED_VIEWS = [
+    _named(
+        "named_accounts",
+        "a.id, n.name, a.ledger, a.code, c.name AS code_name, a.flags",
+        [f"a.{it}" for it in SUMS],
+        f"FROM accounts AS a {_join('account', 'n', 'a.id')} {_join('code', 'c', 'a.code')}"
+        f" {_join('ledger', 'l', 'a.ledger')}",
+    ),
+    _named(
+        "named_transfers",
+        "t.id, t.debit_account_id, d.name AS debit_name, t.credit_account_id,"
+        " e.name AS credit_name, t.ledger, t.code, c.name AS code_name, t.state, t.timestamp",
+        ["t.amount"],
+        f"FROM transfers AS t {_join('account', 'd', 't.debit_account_id')}"
+        f" {_join('account', 'e', 't.credit_account_id')} {_join('code', 'c', 't.code')}"
+        f" {_join('ledger', 'l', 't.ledger')}",
+    ),
+    _named(
+        "named_statement",
+        "p.account_id, n.name, p.number, p.timestamp, p.counterparty_id, o.name AS"
+        " counterparty_name, p.transfer_id",
+        ["p.debit", "p.credit", "p.balance"],
+        "FROM postings AS p JOIN accounts AS a ON a.id = p.account_id"
+        f" {_join('account', 'n', 'p.account_id')} {_join('account', 'o', 'p.counterparty_id')}"
+        f" {_join('ledger', 'l', 'a.ledger')}",
+    ),
+    _named(
+        "named_trial_balance",
+        "b.ledger, l.name, b.accounts, b.balances",
+        [f"b.{it}" for it in SUMS],
+        f"FROM trial_balance AS b {_join('ledger', 'l', 'b.ledger')}",
+    ),
+]
 
 
 def _plain_views(shown: Callable[[str], str]) -> List[str]:
@@ -294,21 +383,25 @@ def _plain_views(shown: Callable[[str], str]) -> List[str]:
             registered=shown("e.time"), last=shown("l.time"), evicted=shown("v.time")
         ),
         EVICTIONS.format(evicted=shown("v.time")),
+        ACCOUNT_TRANSFERS,
     ]
 
 
 def sqlite_schema() -> List[str]:
     """The statements that make the tables and views in SQLite."""
     tables = [
-        _table(it, SQLITE_KINDS) + (" WITHOUT ROWID" if it in BY_KEY else "") for it in TABLES
+        _table(it, SQLITE_KINDS) + (" WITHOUT ROWID" if it in BY_KEY else "")
+        for it in (*TABLES, "names")
     ]
-    return [*tables, *INDEXES, _sqlite_trial_balance(), *_plain_views(_sqlite_time)]
+    named = [it(True) for it in NAMED_VIEWS]
+    return [*tables, *INDEXES, _sqlite_trial_balance(), *_plain_views(_sqlite_time), *named]
 
 
 def postgres_schema() -> List[str]:
     """The statements that make the tables and views in PostgreSQL."""
-    tables = [_table(it, POSTGRES_KINDS) for it in TABLES]
-    return [*tables, *INDEXES, POSTGRES_TRIAL_BALANCE, *_plain_views(_postgres_time)]
+    tables = [_table(it, POSTGRES_KINDS) for it in (*TABLES, "names")]
+    named = [it(False) for it in NAMED_VIEWS]
+    return [*tables, *INDEXES, POSTGRES_TRIAL_BALANCE, *_plain_views(_postgres_time), *named]
 
 
 VIEWS = (
@@ -319,4 +412,9 @@ VIEWS = (
     "retries",
     "session_list",
     "evictions",
+    "account_transfers",
+    "named_accounts",
+    "named_transfers",
+    "named_statement",
+    "named_trial_balance",
 )

@@ -113,6 +113,13 @@ class SqliteStore:
         """How far the tables are; nothing where there are none."""
         return None if self.is_new else Position.of(self.path, position_row(self._connection))
 
+    def write_names(self, rows: Sequence[Sequence[Any]]) -> None:
+        """Puts names in the place of those that are there."""
+        with self._connection:
+            self._connection.execute("BEGIN IMMEDIATE")
+            self._connection.execute("DELETE FROM names")
+            self._connection.executemany("INSERT INTO names VALUES (?, ?, ?, ?)", rows)
+
     def write(self, changes: Changes, position: Position, before: Optional[Position]) -> None:
         """Writes rows and the position that they lead to, in one transaction. Raises `ValueError`
         where one of them cannot be there."""

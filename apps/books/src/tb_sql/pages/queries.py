@@ -54,7 +54,7 @@ class Summary(NamedTuple):
 
 POSTINGS = (
     "SELECT p.*, t.pending_id, h.amount AS was_pending FROM postings AS p"
-    " JOIN transfers AS t ON t.timestamp = p.timestamp"
+    " LEFT JOIN transfers AS t ON t.timestamp = p.timestamp"
     " LEFT JOIN transfers AS h ON h.id = t.pending_id AND t.pending_id <> 0"
     " WHERE p.account_id = ? AND {}"
 )

@@ -6,25 +6,31 @@ import csv
 import errno
 import io
 import os
+import re
 import socket
 import sqlite3
 import time
-from typing import Any, Callable, Dict, Iterator, List, Optional, Tuple
+from typing import Any, Callable, Dict, Iterator, List, Optional, Sequence, Tuple
 
-from flask import Flask, Response, abort, g, redirect, render_template, request, url_for
+from flask import Flask, Response, abort, g, jsonify, redirect, render_template, request, url_for
 from markupsafe import Markup
+from telovamish.programs import program
 from telovamish.words import ACCOUNT_FLAGS, SECOND, TRANSFER_FLAGS
 from werkzeug.exceptions import HTTPException
-from werkzeug.serving import WSGIRequestHandler, make_server
 
 from ..errors import Failed, Stop
-from ..numbers import Number, flag_names, id_of, time_of, time_text
+from ..filters import OPERATIONS, filter_of
+from ..loading import is_postgresql
+from ..names import Names
+from ..numbers import CLOSED, CREDITS_LIMITED, DEBITS_LIMITED, HISTORY, Number
+from ..numbers import flag_names, id_of, time_of, time_text
 from ..schema import TABLES, VIEWS
+from ..sources import entries_of
 from . import charts
-from .queries import LAST, ROWS, Range, Tables
+from .queries import LAST, ROWS, SORTS, Account, Range, Tables
 
 HOST = "127.0.0.1"
-NAMES = ("localhost", "127.0.0.1", "[::1]")
+HERE = re.compile(r"(?:localhost|127\.0\.0\.1|\[::1\])(?::[0-9]{1,5})?")
 HEADERS = {
     "Content-Security-Policy": "default-src 'none'; style-src 'self'; img-src data:;"
     " form-action 'self'; base-uri 'none'; frame-ancestors 'none'",
@@ -34,7 +40,11 @@ HEADERS = {
 }
 SPANS = {"all": 0, "30 days": 30 * 86400, "day": 86400, "hour": 3600}
 CSV_ROWS = 2000  # that are written at a time
+THREADS, CONNECTIONS = 4, 64  # at most
 PATIENCE = 60  # seconds that a browser has to send its request, and to take each part of a reply
+WAIT_MAX = 10.0  # seconds that a request waits for a commit
+PAUSE = 0.05  # seconds between two looks at the last commit
+MONTH_ROWS = 2000  # of a month that is printed
 # Each view's rows in an order, where the view has none.
 ORDERS = {
     "accounts": "timestamp",
@@ -42,49 +52,74 @@ ORDERS = {
     "entries": "commit_number",
     "sessions": "session",
     "postings": "account_id, timestamp",
+    "balances": "account_id, timestamp",
     "refused": "commit_number, place",
     "statement": "account_id, timestamp",
+    "named_statement": "account_id, timestamp",
     "trial_balance": "ledger",
+    "named_trial_balance": "ledger",
     "refusals": "operation, result",
     "retries": "commit_number, place",
     "session_list": "session",
     "evictions": "commit_number",
 }
+OF_ACCOUNT = ("statement", "postings", "named_statement", "balances", "account_transfers")
+FLAG_WORDS = {
+    DEBITS_LIMITED: "debits at most credits",
+    CREDITS_LIMITED: "credits at most debits",
+    HISTORY: "keeps its history",
+    CLOSED: "closed",
+}
 
 
-def shown_number(value: Number) -> Markup:
-    """A number with commas. A long one may be broken behind each."""
+def shown_number(value: Number, ledger: Optional[Number] = None) -> Markup:
+    """An amount: with point and unit where the ledger has a name, and then the exact integer next
+    to it; otherwise with commas. A long one may be broken after each."""
+    written = names().amount(int(value), ledger) if ledger is not None else None
+    if written is not None:
+        return Markup('<span class="number">{}</span> <span class="exact">{}</span>').format(
+            written, value
+        )
     text = charts.grouped(int(value))
     if len(text) <= 26:
         return Markup(f'<span class="number">{text}</span>')
     return Markup('<span class="number long">' + text.replace(",", ",<wbr>") + "</span>")
 
 
-def shown_balance(value: Number) -> Markup:
+def shown_balance(value: Number, ledger: Optional[Number] = None) -> Markup:
     """A balance, and the side that it is on."""
     amount = int(value)
     side = "debit" if amount > 0 else "credit" if amount < 0 else ""
-    return shown_number(abs(amount)) + Markup(f' <span class="side">{side}</span>' if side else "")
+    number = shown_number(abs(amount), ledger)
+    return number + Markup(f' <span class="side">{side}</span>' if side else "")
 
 
 def shown_id(value: Number, kind: str = "") -> Markup:
-    """An id, with a link to what it names."""
+    """An id, with a link to what it names, and the name of an account."""
     text = str(value)
     long = " long" if len(text) > 20 else ""
+    name = names().name("account", value) if kind == "account" else ""
+    more = Markup(' <span class="named">{}</span>').format(name) if name else Markup("")
     if not kind or text == "0":
         return Markup('<span class="id{}">{}</span>').format(long, text)
-    return Markup('<a class="id{}" href="{}">{}</a>').format(long, url_for(kind, id=text), text)
+    link = Markup('<a class="id{}" href="{}">{}</a>')
+    return link.format(long, url_for(kind, id=text), text) + more
+
+
+def shown_kind(value: int, kind: str) -> Markup:
+    """A ledger or a code, and its name."""
+    name = names().name(kind, value)
+    more = Markup(' <span class="named">{}</span>').format(name) if name else Markup("")
+    return Markup(f"{value}") + more
 
 
 def shown_time(value: Optional[int]) -> Markup:
-    """A time in UTC: the date, the time of day, and what is below a second smaller."""
+    """A time in UTC: the date and the time of day to the second; the nanoseconds as its title."""
     if value is None:
         return Markup('<span class="none">never</span>')
     text = time_text(value)
-    date, clock, rest = text[:10], text[11:19], text[19:-1]
-    return Markup(
-        f'<time datetime="{text}">{date} {clock}<span class="fraction">{rest}</span></time>'
-    )
+    shown = f"{text[:10]} {text[11:19]}"
+    return Markup(f'<time datetime="{text}" title="{text}">{shown}</time>')
 
 
 def shown_name(text: str) -> str:
@@ -100,12 +135,50 @@ def ago(seconds: float) -> str:
     return f"{int(seconds)} seconds"
 
 
-class Site:
-    """The pages of one file of tables."""
+def flag_words(bits: int) -> List[str]:
+    """The flags of an account in words that say something to who reads the books."""
+    return [word for bit, word in FLAG_WORDS.items() if bits & bit]
 
-    def __init__(self, path: str, ledger: Optional[str] = None) -> None:
+
+def available(row: Any) -> List[Tuple[str, int]]:
+    """What may still be debited or credited under the limits of an account."""
+    found = []
+    if row["flags"] & DEBITS_LIMITED:
+        used = int(row["debits_posted"]) + int(row["debits_pending"])
+        found.append(("debit", int(row["credits_posted"]) - used))
+    if row["flags"] & CREDITS_LIMITED:
+        used = int(row["credits_posted"]) + int(row["credits_pending"])
+        found.append(("credit", int(row["debits_posted"]) - used))
+    return found
+
+
+def state_of(row: Any) -> str:
+    """A pending transfer's state. One whose timeout has run out is overdue until the ledger's next
+    entry, which releases it."""
+    is_late = row["state"] == "pending" and (row["expires_at"] or LAST) <= time.time_ns()
+    return "overdue" if is_late else str(row["state"] or "")
+
+
+def names() -> Names:
+    found: Names = g.names
+    return found
+
+
+class Site:
+    """The pages of one database of tables."""
+
+    def __init__(
+        self,
+        path: str,
+        names: Optional[Names] = None,
+        ledger: Optional[str] = None,
+        tbd: Optional[str] = None,
+    ) -> None:
         self.path = path
         self.ledger = ledger
+        self._names = names
+        self._tbd = program("tbd", tbd, "--tbd") if ledger else ""
+        self._seen: Tuple[Tuple[int, int], int] = ((-1, -1), 0)  # a file's state, and its entries
 
     def tables(self) -> Tables:
         if "tables" not in g:
@@ -113,25 +186,48 @@ class Site:
         tables: Tables = g.tables
         return tables
 
+    def names(self) -> Names:
+        if self._names is not None:
+            return self._names
+        return Names(tuple(it) for it in self.tables().all("SELECT * FROM names"))
+
+    def wait_for(self, commit: int) -> None:
+        """Waits until the tables have an entry."""
+        deadline = time.monotonic() + WAIT_MAX
+        while True:
+            tables = Tables(self.path)
+            last = tables.position()["commit_number"]
+            if last >= commit:
+                g.tables = tables
+                return
+            tables.close()
+            if time.monotonic() > deadline:
+                abort(504, f"The tables end at commit {last}: {commit} did not come.")
+            time.sleep(PAUSE)
+
+    def entries(self) -> Optional[int]:
+        """How many entries the ledger's file has, counted again if it changed."""
+        if not self.ledger:
+            return None
+        try:
+            state = os.stat(self.ledger)
+        except OSError:
+            return None
+        now = state.st_size, state.st_mtime_ns
+        if self._seen[0] != now:
+            self._seen = now, entries_of(self.ledger, self._tbd)
+        return self._seen[1]
+
     def freshness(self) -> Dict[str, Any]:
-        """How far behind the tables may be."""
+        """How far behind the ledger the tables are."""
         position = self.tables().position()
-        path = os.path.realpath(self.path)  # the WAL lies next to what a link names
-        written = max(
-            os.path.getmtime(it)
-            for it in (path, f"{path}-wal")
-            if os.path.exists(it) and os.path.getsize(it)
-        )
-        behind = None
-        if self.ledger and os.path.exists(self.ledger):
-            behind = max(0.0, os.path.getmtime(self.ledger) - written)
+        last, entries = position["commit_number"], self.entries()
         return {
             "position": position,
             "age": ago(max(0.0, time.time() - position["time"] / SECOND)),
-            "written": int(written * SECOND),
-            "written_ago": ago(max(0.0, time.time() - written)),
             "ledger": self.ledger and shown_name(self.ledger),
-            "behind": None if behind is None else ago(behind) if behind else "",
+            "entries": entries,
+            "behind": None if entries is None else max(0, entries - last),
         }
 
 
@@ -192,10 +288,31 @@ def overview(site: Site) -> str:
 
 
 def accounts(site: Site) -> str:
-    ledger = asked_number("ledger")
-    page = site.tables().accounts(ledger, *asked_page())
-    ledgers = site.tables().ledgers()
-    return render_template("accounts.html", page=page, ledger=ledger, ledgers=ledgers)
+    tables, sort = site.tables(), request.args.get("sort") or "newest"
+    if sort not in SORTS:
+        abort(400, f"sort is one of {', '.join(SORTS)}")
+    user_data = request.args.get("user_data", "").strip()
+    wanted = Account(
+        asked_number("ledger"), asked_number("code"), asked_id(user_data) if user_data else None
+    )
+    page, number, more = None, asked_number("page") or 0, False
+    if sort == "newest":
+        page = tables.accounts(wanted, *asked_page())
+        rows = page.rows
+    else:
+        rows, more = tables.accounts_sorted(wanted, sort, min(number, LAST // ROWS))
+    return render_template(
+        "accounts.html",
+        page=page,
+        rows=rows,
+        number=number,
+        more=more,
+        wanted=wanted,
+        sort=sort,
+        sorts=list(SORTS),
+        ledgers=tables.ledgers(),
+        totals=[it for it in tables.trial_balance() if wanted.ledger in (None, it["ledger"])],
+    )
 
 
 def account(site: Site, id: str) -> str:
@@ -214,6 +331,7 @@ def account(site: Site, id: str) -> str:
         "account.html",
         account=row,
         flags=flag_names(row["flags"], ACCOUNT_FLAGS),
+        available=available(row),
         balance=int(row["debits_posted"]) - int(row["credits_posted"]),
         range=range,
         summary=summary,
@@ -222,9 +340,82 @@ def account(site: Site, id: str) -> str:
         chart=charts.steps("balance", title, drawn, is_whole) if drawn else None,
         is_whole=is_whole,
         moments=len(drawn),
+        latest_month=time_text(points[-1][0] if points else row["timestamp"])[:7],
         side=side,
         pending=tables.pending_of(found),
     )
+
+
+def month(site: Site, id: str, month: str) -> str:
+    """An account's month, for print: opening balance, lines, closing balance."""
+    tables, found = site.tables(), asked_id(id)
+    row = tables.account(found)
+    if row is None:
+        abort(404, f"There is no account {found}.")
+    if not re.fullmatch("[0-9]{4}-[0-9]{2}", month, re.A):
+        abort(400, "A month is as 2026-11.")
+    try:
+        year, number = int(month[:4]), int(month[5:])
+        start = time_of(f"{month}-01")
+        end = time_of(f"{year + number // 12:04}-{number % 12 + 1:02}-01")
+    except ValueError as error:
+        abort(400, str(error))
+    range = Range(max(0, start), min(end, LAST) - 1)
+    lines = tables.month(found, range, MONTH_ROWS + 1)
+    opening = tables.balance_at(found, range.start - 1)
+    summary = tables.summary(found, range)
+    shown = lines[:MONTH_ROWS]
+    debits, credits = (sum(int(it[side]) for it in shown) for side in ("debit", "credit"))
+    closing = summary.closing if summary else opening
+    return render_template(
+        "month.html",
+        account=row,
+        month=month,
+        lines=shown,
+        is_whole=len(lines) <= MONTH_ROWS,
+        opening=opening,
+        closing=closing,
+        debits=debits,
+        credits=credits,
+        adds_up=opening + debits - credits == closing,
+        last=range.end,
+    )
+
+
+def trial_balance(site: Site) -> str:
+    """Each ledger's sums at a time."""
+    text = request.args.get("at", "").strip()
+    try:
+        at = time_of(text, is_end=True) - 1 if text else LAST
+    except (ValueError, OverflowError) as error:
+        return abort(400, str(error))
+    rows = site.tables().trial_balance_at(max(-1, min(at, LAST)))
+    return render_template("trial_balance.html", rows=rows, at=None if at >= LAST else at)
+
+
+def answer(site: Site, operation: str) -> Response:
+    """A question of TigerBeetle's clients, in JSON."""
+    words = {it: text for it, text in request.args.items() if it != "commit"}
+    try:
+        wanted = filter_of(operation, words)
+    except ValueError as error:
+        return _json_fault(400, str(error))
+    tables = site.tables()
+    position = tables.position()
+    found = OPERATIONS[operation].answer(tables.reading, wanted)
+    behind = site.freshness()["behind"]
+    return jsonify(
+        commit=str(position["commit_number"]),
+        time=str(position["time"]),
+        behind=None if behind is None else str(behind),
+        results=found,
+    )
+
+
+def _json_fault(status: int, says: str) -> Response:
+    reply = jsonify(fault=says)
+    reply.status_code = status
+    return reply
 
 
 def transfers(site: Site) -> str:
@@ -294,37 +485,50 @@ def search(site: Site) -> Any:
 
 
 def table_csv(site: Site, name: str) -> Response:
-    """The rows of a table or view; of one account where that is asked for."""
-    if name not in TABLES and name not in VIEWS:
+    """The rows of a table or view; of one account where that is asked for. With bom=1 it begins
+    with a byte order mark, by which Excel sees that it is UTF-8."""
+    if name not in TABLES and name not in VIEWS and name != "names":
         abort(404, f"There is no table {name}.")
     text = f"SELECT * FROM {name}"
     values: List[Number] = []
-    if name in ("statement", "postings"):
+    if name in OF_ACCOUNT:
+        column = "account_id"
         tests = ["timestamp >= ?", "timestamp <= ?"]
         values = list(asked_range())
         if "account" in request.args:
-            tests.append("account_id = ?")
+            tests.append(f"{column} = ?")
             values.append(asked_id(request.args["account"]))
         text += " WHERE " + " AND ".join(tests)
     if name in ORDERS:
         text += f" ORDER BY {ORDERS[name]}"
     tables = Tables(site.path)
-    names, rows = tables.each(text, *values)
+    columns, rows = tables.each(text, *values)
+    mark = "\ufeff" if request.args.get("bom") == "1" else ""
     return Response(
-        csv_lines(tables, names, rows),
+        csv_lines(tables, columns, rows, mark),
         mimetype="text/csv",
         headers={"Content-Disposition": f'attachment; filename="{name}.csv"'},
     )
 
 
-def csv_lines(tables: Tables, names: List[str], rows: Iterator[Any]) -> Iterator[str]:
+def cell(value: Any) -> Any:
+    """A value that no program takes for a formula: a text that begins as one gets an apostrophe."""
+    if isinstance(value, str) and value[:1] in ("=", "+", "-", "@", "\t", "\r"):
+        return value if re.fullmatch("-?[0-9]+", value) else "'" + value
+    return value
+
+
+def csv_lines(
+    tables: Tables, columns: List[str], rows: Iterator[Sequence[Any]], mark: str
+) -> Iterator[str]:
     """The lines of a table, many at a time."""
     text = io.StringIO()
+    text.write(mark)
     writer = csv.writer(text, lineterminator="\n")
-    writer.writerow(names)
+    writer.writerow(columns)
     try:
         for count, row in enumerate(rows, 1):
-            writer.writerow(row)
+            writer.writerow(map(cell, row))
             if count % CSV_ROWS == 0:
                 yield text.getvalue()
                 text.seek(0)
@@ -339,6 +543,8 @@ PAGES: Dict[str, Callable[..., Any]] = {
     "/": overview,
     "/accounts": accounts,
     "/account/<id>": account,
+    "/account/<id>/<month>": month,
+    "/trial-balance": trial_balance,
     "/transfers": transfers,
     "/transfer/<id>": transfer,
     "/pending": pending,
@@ -350,30 +556,41 @@ PAGES: Dict[str, Callable[..., Any]] = {
 }
 
 
-def make_app(path: str, ledger: Optional[str] = None) -> Flask:
-    """The application over a file of tables."""
-    app, site = Flask(__name__), Site(path, ledger)
+def make_app(site: Site) -> Flask:
+    """The application over a database of tables."""
+    app = Flask(__name__)
     app.jinja_env.trim_blocks = app.jinja_env.lstrip_blocks = True
     app.jinja_env.filters.update(
         number=shown_number,
         balance=shown_balance,
         id=shown_id,
+        kind=shown_kind,
         time=shown_time,
         count=charts.grouped,
+        flags=flag_words,
     )
     app.jinja_env.globals.update(
-        account_flags=lambda bits: flag_names(bits, ACCOUNT_FLAGS),
+        available=available,
         transfer_flags=lambda bits: flag_names(bits, TRANSFER_FLAGS),
         carried=carried,
         rows_max=ROWS,
+        state_of=state_of,
+        name_of=lambda kind, number: names().name(kind, number),
     )
     for address, page in PAGES.items():
         app.add_url_rule(address, page.__name__, _of_site(page, site), methods=["GET"])
+    for operation in OPERATIONS:
+        app.add_url_rule(
+            f"/{operation}",
+            operation,
+            _of_site(answer, site),
+            defaults={"operation": operation},
+            methods=["GET"],
+        )
 
     @app.before_request
     def only_here() -> None:
-        name = request.host if request.host.endswith("]") else request.host.rpartition(":")[0]
-        if (name or request.host) not in NAMES and request.host not in NAMES:
+        if not HERE.fullmatch(request.environ.get("HTTP_HOST", "")):
             abort(403, "These pages are for this computer alone.")
 
     @app.after_request
@@ -393,14 +610,21 @@ def make_app(path: str, ledger: Optional[str] = None) -> Flask:
     return app
 
 
+CARRIED = ("from", "to", "ledger", "code", "user_data", "sort")
+
+
 def carried(**changes: Any) -> Dict[str, Any]:
     """The words of this address that a link to another page of the same rows keeps."""
-    kept = {it: request.args[it] for it in ("from", "to", "ledger") if request.args.get(it)}
+    kept = {it: request.args[it] for it in CARRIED if request.args.get(it)}
     return {**(request.view_args or {}), **kept, **changes}
 
 
 def _of_site(page: Callable[..., Any], site: Site) -> Callable[..., Any]:
     def shown(**words: Any) -> Any:
+        commit = asked_number("commit")
+        if commit is not None:
+            site.wait_for(commit)
+        g.names = site.names()
         reply = page(site, **words)
         if "tables" in g:
             g.tables.check_still()
@@ -409,29 +633,23 @@ def _of_site(page: Callable[..., Any], site: Site) -> Callable[..., Any]:
     return shown
 
 
-def _http_fault(error: HTTPException) -> Tuple[str, int]:
-    code = error.code or 500
-    return render_template("fault.html", name=error.name, fault=error.description), code
+def _fault(name: str, fault: str, status: int) -> Any:
+    if request.path.lstrip("/") in OPERATIONS:
+        return _json_fault(status, fault)
+    g.setdefault("names", Names())
+    return render_template("fault.html", name=name, fault=fault), status
 
 
-def _stop(error: Exception) -> Tuple[str, int]:
-    return render_template("fault.html", name="The tables", fault=shown_name(str(error))), 500
+def _http_fault(error: HTTPException) -> Any:
+    return _fault(error.name, error.description or "", error.code or 500)
 
 
-class Handler(WSGIRequestHandler):
-    """Writes no line for a request. Leaves a browser that neither sends nor reads: while a table is
-    read for it, no load can shorten the WAL."""
-
-    timeout = PATIENCE
-
-    def log_request(self, *_: Any, **__: Any) -> None:
-        pass
-
-    log_error = log_request
+def _stop(error: Exception) -> Any:
+    return _fault("The tables", shown_name(str(error)), 500)
 
 
 def listen(port: int) -> socket.socket:
-    """A socket that listens. Werkzeug would end the program, with lines of its own."""
+    """A socket that listens."""
     try:
         return socket.create_server((HOST, port))
     except OSError as error:
@@ -440,12 +658,31 @@ def listen(port: int) -> socket.socket:
         raise Failed(f"port {port} of {HOST} is taken: choose another one by --port") from None
 
 
-def serve_pages(path: str, port: int, ledger: Optional[str]) -> int:
+def make_server(site: Site, listening: socket.socket) -> Any:
+    """A server with a bound of threads and of connections. It closes those that neither send nor
+    read. A reply that is not taken waits in a file, and keeps neither a thread nor the tables."""
+    from waitress.server import create_server
+
+    return create_server(
+        make_app(site),
+        sockets=[listening],
+        threads=THREADS,
+        connection_limit=CONNECTIONS,
+        channel_timeout=PATIENCE,
+        cleanup_interval=max(1, PATIENCE // 4),
+        clear_untrusted_proxy_headers=True,
+        outbuf_high_watermark=1 << 40,
+        ident=None,
+    )
+
+
+def serve_pages(path: str, port: int, site: Site) -> int:
     """Serves until a signal raises KeyboardInterrupt."""
     Tables(path).close()
     listening = listen(port)
-    app, place = make_app(path, ledger), listening.fileno()
-    server = make_server(HOST, port, app, threaded=True, request_handler=Handler, fd=place)
-    print(f"http://{HOST}:{server.port}/ shows {path}; Ctrl-C ends it", flush=True)
-    server.serve_forever()
+    port = listening.getsockname()[1]
+    server = make_server(site, listening)
+    name = path.partition("?")[0].rpartition("@")[2] if is_postgresql(path) else path
+    print(f"http://{HOST}:{port}/ shows {name}; Ctrl-C ends it", flush=True)
+    server.run()
     return 0

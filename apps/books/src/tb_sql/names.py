@@ -1,0 +1,137 @@
+"""Names and decimal places of ledgers, codes and accounts, from a TOML file:
+
+    [ledger.700]
+    name = "EUR"
+    places = 2
+    [code]
+    10 = "customer deposit"
+    [account]
+    1 = "House"
+"""
+
+from __future__ import annotations
+
+import re
+import tomllib
+from typing import Any, Dict, Iterable, List, Optional, Sequence, Tuple
+
+from telovamish.words import U16, U32, U128
+
+from .errors import Failed, Refused
+from .numbers import Number, held
+
+GREATEST = {"ledger": U32, "code": U16, "account": U128}
+PLACES_MAX = 38
+LENGTH_MAX = 200
+Row = Tuple[str, Number, str, int]  # of the table of names
+
+
+class Names:
+    """What ledgers, codes and accounts are called, and how many digits of a ledger's amounts come
+    after the point."""
+
+    def __init__(self, rows: Iterable[Sequence[Any]] = ()) -> None:
+        self.rows: List[Row] = []
+        self._found: Dict[Tuple[str, str], Tuple[str, int]] = {}
+        for kind, number, name, places in rows:
+            self.rows.append((kind, number, name, places))
+            self._found[kind, str(number)] = name, places
+
+    def name(self, kind: str, number: Number) -> str:
+        """The name of a ledger, a code or an account; without one an empty text."""
+        return self._found.get((kind, str(number)), ("", 0))[0]
+
+    def amount(self, value: int, ledger: Number) -> Optional[str]:
+        """An amount with its point and unit; nothing for a ledger without a name."""
+        found = self._found.get(("ledger", str(ledger)))
+        return f"{decimal(value, found[1])} {found[0]}" if found else None
+
+
+def decimal(value: int, places: int) -> str:
+    """A number with commas, and so many digits after the point."""
+    digits = str(abs(value)).rjust(places + 1, "0")
+    whole, part = (digits[:-places], "." + digits[-places:]) if places else (digits, "")
+    return f"{'-' if value < 0 else ''}{int(whole):,}{part}"
+
+
+def read_names(path: str) -> Names:
+    """The names of a file. Refuses a wrong one with its line and key."""
+    try:
+        with open(path, encoding="utf-8") as file:
+            text = file.read()
+    except OSError as error:
+        raise Failed(f"{path}: {error.strerror}") from None
+    except UnicodeDecodeError:
+        raise Refused(f"{path} is no text in UTF-8") from None
+    try:
+        found = tomllib.loads(text)
+    except tomllib.TOMLDecodeError as error:
+        raise Refused(f"{path}: {error}") from None
+    rows: List[Row] = []
+    for kind, table in found.items():
+        try:
+            rows += rows_of(kind, table)
+        except Wrong as wrong:
+            line = line_of(text, wrong.keys)
+            key = ".".join(wrong.keys)
+            raise Refused(f"{path}, line {line}, key {key}: {wrong}") from None
+    return Names(rows)
+
+
+class Wrong(Exception):
+    """What is wrong with the value of some keys."""
+
+    def __init__(self, says: str, *keys: str) -> None:
+        super().__init__(says)
+        self.keys = keys
+
+
+def rows_of(kind: str, table: Any) -> List[Row]:
+    """The rows of a table of the file."""
+    if kind not in GREATEST:
+        raise Wrong(f"one of {', '.join(GREATEST)} is meant", kind)
+    if not isinstance(table, dict):
+        raise Wrong("this is a table, as [ledger.700]", kind)
+    return [row_of(kind, number, value) for number, value in table.items()]
+
+
+def row_of(kind: str, number: str, value: Any) -> Row:
+    if not re.fullmatch("[0-9]{1,39}", number) or int(number) > GREATEST[kind]:
+        raise Wrong(f"a number of a {kind} is 0 to {GREATEST[kind]}", kind, number)
+    fields = {"name": value} if isinstance(value, str) else value
+    known = ("name", "places") if kind == "ledger" else ("name",)
+    if not isinstance(fields, dict):
+        raise Wrong("a name is meant", kind, number)
+    for field in fields:
+        if field not in known:
+            raise Wrong(f"it has only {' and '.join(known)}", kind, number, field)
+    name, places = fields.get("name"), fields.get("places", 0)
+    where = [kind, number, *(["name"] if "name" in fields and fields is value else [])]
+    if not isinstance(name, str) or not 0 < len(name) <= LENGTH_MAX or not name.isprintable():
+        raise Wrong(f"a name is 1 to {LENGTH_MAX} printable characters", *where)
+    if type(places) is not int or not 0 <= places <= PLACES_MAX:
+        raise Wrong(f"places are 0 to {PLACES_MAX}", kind, number, "places")
+    return kind, held(int(number)), name, places
+
+
+def line_of(text: str, keys: Sequence[str]) -> int:
+    """The line where these keys are given, or the last one of them that is found."""
+    table: List[str] = []
+    found, depth = 1, 0
+    for number, line in enumerate(text.splitlines(), 1):
+        header = re.match(r"\s*\[([^\]]*)\]", line)
+        if header:
+            table = [it.strip().strip("\"'") for it in header[1].split(".")]
+            given = table
+        else:
+            key = re.match(r"\s*([^=#]+?)\s*=", line)
+            if not key:
+                continue
+            given = [*table, *(it.strip().strip("\"'") for it in key[1].split("."))]
+            given += [it for it in keys[len(given) :] if re.search(rf"\b{re.escape(it)}\b\s*=", line)]
+        common = 0
+        while common < min(len(given), len(keys)) and given[common] == keys[common]:
+            common += 1
+        if common > depth:
+            found, depth = number, common
+    return found
