@@ -15,14 +15,19 @@ try:
 except ImportError as error:
     raise unittest.SkipTest(str(error)) from None
 
-from support import Tables  # noqa: I001
+from drawn_steps import TBS, drawn
+from support import TOP, Tables, entered  # noqa: I001
 from made import MAX, Made, account, transfer
 from sample import sample
 from test_load import history
-from tb_sql.audits import Loading
 from tb_sql.errors import Failed, Refused, Stop
+from tb_sql.loading import Loading
+from tb_sql.names import Names
+from tb_sql.pages.queries import Tables as Read
 from tb_sql.postgres_store import PostgresStore
-from tb_sql.schema import TABLES, VIEWS, columns
+from tb_sql.reading import PostgresReading, SqliteReading
+from tb_sql.sqlite_store import SqliteStore
+from tb_sql.schema import TABLES, VIEWS
 
 PROGRAMS = sorted(pathlib.Path("/usr/lib/postgresql").glob("*/bin"))
 
@@ -34,13 +39,6 @@ def as_owner(words):
 
 def run(*words):
     subprocess.run(as_owner([str(it) for it in words]), check=True, stdout=subprocess.DEVNULL)
-
-
-def plain(row):
-    """A row with digits in place of numbers, and 0 and 1 in place of truths."""
-    return tuple(
-        it if it is None else str(int(it)) if not isinstance(it, str) else it for it in row
-    )
 
 
 @unittest.skipUnless(PROGRAMS, "PostgreSQL is not installed")
@@ -72,33 +70,95 @@ class PostgreSQL(Tables):
     def address(self, name):
         return f"postgresql://postgres@/{name}?host={self.folder}"
 
-    def load_both(self, audit):
-        self.load(audit)
-        return self.load_there(audit.bytes)
+    def load_both(self, made):
+        self.load(made)
+        return self.load_there(made)
 
-    def load_there(self, data, url=None):
-        store = PostgresStore(url or self.url)
-        try:
-            loading = Loading(store)
-            loading.read(iter(data.splitlines(keepends=True)))
-            loading.ended()
-        finally:
-            store.close()
-        return loading
+    def load_there(self, made, url=None, count=None):
+        return entered(PostgresStore(url or self.url), made.steps[:count])
 
     def there(self, text):
         with contextlib.closing(psycopg.connect(self.url, client_encoding="UTF8")) as connection:
-            return [plain(row) for row in connection.execute(text).fetchall()]
+            return [tuple(map(str, row)) for row in connection.execute(text).fetchall()]
 
     def assertSame(self):
-        for table in TABLES:
-            asked = f"SELECT {', '.join(columns(table))} FROM {table}"
-            here = sorted(map(plain, self.rows(asked)), key=str)
-            self.assertEqual(sorted(self.there(asked), key=str), here, table)
-        for view in VIEWS:
-            asked = f"SELECT * FROM {view}"
-            here = sorted(map(plain, self.rows(asked)), key=str)
-            self.assertEqual(sorted(self.there(asked), key=str), here, view)
+        """The rows of all tables and views."""
+        here, there = SqliteReading(self.path), PostgresReading(self.url)
+        try:
+            for name in (*TABLES, *VIEWS, "names"):
+                rows = [
+                    sorted(map(str, map(list, it.each(f"SELECT * FROM {name}")[1])))
+                    for it in (here, there)
+                ]
+                self.assertEqual(*rows, name)
+        finally:
+            here.close()
+            there.close()
+
+    @unittest.skipUnless(TBS, "tbs is not there: set TBS")
+    def test_drawn(self):
+        """DRAWN histories; with names, so that the views with them have rows."""
+        names = Names([("ledger", 1, "EUR", 2), ("code", 1, "x", 0), ("account", 1, "House", 0)])
+        first, count = (int(os.environ.get(it, "0")) for it in ("DRAWN_FIRST", "DRAWN"))
+        for seed in range(first, first + (count or 5)):
+            steps, path = drawn(seed), self.room / "drawn.sqlite"
+            with contextlib.closing(psycopg.connect(self.url, autocommit=True)) as it:
+                it.execute("DROP SCHEMA public CASCADE; CREATE SCHEMA public")
+            entered(PostgresStore(self.url), steps)
+            entered(SqliteStore(str(path), is_kept=False), steps)
+            for store in (PostgresStore(self.url), SqliteStore(str(path))):
+                store.write_names(names.rows)
+                store.close()
+            self.path = str(path)
+            with self.subTest(seed):
+                self.assertSame()
+            path.unlink()
+
+    def reader(self):
+        """The address for the role of the page docs/use/READING.md, made by the words there."""
+        page = (TOP / "docs/use/READING.md").read_text(encoding="utf-8")
+        block = next(it for it in page.split("```sql\n")[1:] if "CREATE ROLE" in it)
+        with contextlib.closing(psycopg.connect(self.url, autocommit=True)) as it:
+            with contextlib.suppress(psycopg.errors.UndefinedObject):
+                it.execute("DROP OWNED BY books_reader; DROP ROLE books_reader")
+            it.execute(block.split("```")[0])
+        self.addCleanup(self.drop_reader)
+        return self.url.replace("postgres@", "books_reader@")
+
+    def drop_reader(self):
+        with contextlib.closing(psycopg.connect(self.url, autocommit=True)) as it:
+            it.execute("DROP OWNED BY books_reader; DROP ROLE books_reader")
+
+    def test_pages_by_a_role_that_reads(self):
+        """Each page is that of SQLite, and the role cannot write."""
+        from tb_sql.pages.server import Site, make_app
+
+        made = history()
+        self.load_both(made)
+        url = self.reader()
+        sites = [make_app(Site(it)).test_client() for it in (self.path, url)]
+        for address in (
+            *("/", "/accounts", "/accounts?sort=balance", "/accounts?ledger=700&code=10&user_data=7"),
+            *("/account/1", "/account/1/2026-09", "/trial-balance?at=2026-09-21", "/transfers"),
+            *("/transfer/2000", "/pending", "/refusals", "/sessions", "/search?id=29"),
+            *("/refusals/create_transfers/exceeds_credits", "/accounts?sort=id&page=1"),
+            *("/query_transfers?limit=3", "/get_account_transfers?account_id=1&flags=debits"),
+            *("/csv/statement.csv", "/csv/trial_balance.csv", "/csv/named_statement.csv"),
+        ):
+            with self.subTest(address):
+                here, there = (
+                    it.get(address, base_url="http://localhost") for it in sites
+                )
+                self.assertEqual(there.status_code, here.status_code)
+                self.assertEqual(there.get_data(as_text=True), here.get_data(as_text=True))
+        with contextlib.closing(psycopg.connect(url, autocommit=True)) as it:
+            for text in ("DELETE FROM accounts", "UPDATE position SET time = 1", "DROP VIEW statement"):
+                with self.assertRaises(psycopg.errors.InsufficientPrivilege):
+                    it.execute(text)
+        tables = Read(url)
+        self.addCleanup(tables.close)
+        with self.assertRaises(Failed):
+            tables.all("CREATE TABLE mine (one int)")
 
     def test_history(self):
         self.load_both(history())
@@ -109,12 +169,12 @@ class PostgreSQL(Tables):
         self.assertSame()
 
     def test_in_parts(self):
-        audit = history()
-        for count in (10, 30, 31, len(audit.lines)):
-            self.load_there("".join(f"{it}\n" for it in audit.lines[:count]).encode())
-        self.load(audit)
+        made = history()
+        for count in (10, 30, 31, None):
+            self.load_there(made, count=count)
+        self.load(made)
         self.assertSame()
-        self.assertEqual(self.load_there(audit.bytes).entries, 0)
+        self.assertEqual(self.load_there(made).entries, 0)
 
     def test_great_sums(self):
         """Of a ledger above 128 bits: the view's sum is exact."""
@@ -123,13 +183,6 @@ class PostgreSQL(Tables):
         self.load_both(audit)
         self.assertSame()
         self.assertEqual(self.there("SELECT debits_posted FROM trial_balance"), [(str(2 * MAX),)])
-
-    def test_records_that_come_twice(self):
-        """It is the audit that is wrong, and not the database."""
-        with self.assertRaises(Refused) as raised:
-            self.load_there(Made().register().accounts(account(1), account(1)).bytes)
-        said = str(raised.exception)
-        self.assertRegex(said, r"^no audit up to line 5: [^\n]*duplicate key[^\n]*$")
 
     def test_encodings(self):
         """A load goes on in a database of any encoding, as that of initdb in the locale C."""
@@ -141,20 +194,20 @@ class PostgreSQL(Tables):
             with self.subTest(encoding):
                 options = f"ENCODING '{encoding}' TEMPLATE template0 LOCALE 'C'"
                 self.url = self.made(f"test_{encoding.lower()}", options)
-                self.load_there(audit.bytes)
-                self.assertEqual(self.load_there(longer.bytes).entries, 1)
+                self.load_there(audit)
+                self.assertEqual(self.load_there(longer).entries, 1)
                 self.assertSame()
 
     def test_another_history(self):
-        self.load_there(Made().register().accounts(account(1)).bytes)
+        self.load_there(Made().register().accounts(account(1)))
         with self.assertRaises(Refused) as raised:
-            self.load_there(Made().register().accounts(account(2)).bytes)
+            self.load_there(Made().register().accounts(account(2)))
         self.assertIn("entry 2 is another one", str(raised.exception))
 
     def test_lost_connection(self):
         """One that breaks while rows are read, as where the server is stopped, is one line."""
         audit = Made().register().accounts(account(1), account(2))
-        self.load_there(audit.bytes)
+        self.load_there(audit)
         store = PostgresStore(self.url)
         loading = Loading(store)
         with contextlib.closing(psycopg.connect(self.url, autocommit=True)) as it:
@@ -164,7 +217,7 @@ class PostgreSQL(Tables):
             )
         audit.transfers(transfer(11, 1, 2, 5))
         with self.assertRaises(Failed):
-            loading.read(iter(audit.bytes.splitlines(keepends=True)))
+            loading.read(iter(audit.steps))
         store.close()
         self.load_both(audit)
         self.assertSame()
@@ -175,46 +228,40 @@ class PostgreSQL(Tables):
         loading = Loading(store)
         self.load_both(audit)
         with self.assertRaises(Failed) as raised:
-            loading.read(iter(audit.bytes.splitlines(keepends=True)))
+            loading.read(iter(audit.steps))
         store.close()
         self.assertIn("another load writes to it", str(raised.exception))
         self.assertSame()
 
     def test_edited_position(self):
-        self.load_there(Made().register().bytes)
+        self.load_there(Made().register())
         with contextlib.closing(psycopg.connect(self.url, autocommit=True)) as it:
             for change in ("UPDATE position SET head = '{'", "DELETE FROM position"):
                 it.execute(change)
                 with self.assertRaises(Refused) as raised:
-                    self.load_there(Made().register().bytes)
+                    self.load_there(Made().register())
                 self.assertIn("has no position in a history", str(raised.exception))
 
     def test_faults_are_one_line(self):
         """Those with a place, a detail, a context or a hint are."""
         missing = self.url.replace(str(self.folder), str(self.folder / "none"))
         with contextlib.closing(psycopg.connect(self.url, autocommit=True)) as it:
-            for url, change, data, wanted in (
-                (self.address("none"), "", b"", 'database "none" does not exist'),
-                (missing, "", b"", "No such file or directory Is the server running"),
-                (self.url, "CREATE TABLE position (one int)", b"", '"schema" does not exist'),
-                (
-                    self.url,
-                    "DROP TABLE position",
-                    Made().register().accounts(account(1), account(10**40)).bytes,
-                    "numeric field overflow: A field with precision 39",
-                ),
+            for url, change, wanted in (
+                (self.address("none"), "", 'database "none" does not exist'),
+                (missing, "", "No such file or directory Is the server running"),
+                (self.url, "CREATE TABLE position (one int)", '"schema" does not exist'),
             ):
                 with self.subTest(wanted):
                     it.execute(change)
                     with self.assertRaises(Stop) as raised:
-                        self.load_there(data, url)
+                        self.load_there(Made().register(), url)
                     self.assertIn(wanted, str(raised.exception))
                     self.assertNotIn("\n", str(raised.exception))
 
     def test_command(self):
         status, said, fault = self.said("load", self.address("none"), "--quiet")
         self.assertEqual((status, said, fault.count("\n")), (1, "", 1), fault)
-        ended = self.command("load", self.url, input=Made().register().bytes)
+        ended = self.command("load", self.url, made=Made().register())
         self.assertEqual(ended[0], 0, ended)
         self.assertNotIn("Traceback", ended[2])
 
