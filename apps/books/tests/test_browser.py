@@ -26,9 +26,10 @@ try:
 except ImportError as error:
     raise unittest.SkipTest(str(error)) from None
 
-from support import COMMAND  # noqa: I001
+from support import COMMAND, entered  # noqa: I001
 from sample import BANK, GREAT, HOLDS, SALES, sample
 from made import MAX
+from tb_sql.sqlite_store import SqliteStore
 
 DRIVER = "/usr/bin/chromedriver"
 WINDOW = ("--headless=new", "--no-sandbox", "--disable-gpu", "--disable-dev-shm-usage")
@@ -68,6 +69,19 @@ for (const it of document.querySelectorAll("body *")) {
 }
 return [found.length, found.filter((it) => it[0] < 4.5)];
 """
+# amounts and charts that are not whole within the window; of tables that scroll only on a phone
+HIDDEN = """
+const found = [];
+for (const it of document.querySelectorAll("main .number, main svg, main time")) {
+  if (!it.getClientRects().length || (!arguments[0] && it.closest(".scroll"))) continue;
+  const box = it.getBoundingClientRect();
+  if (box.left < 0 || box.right > innerWidth) found.push(it.outerHTML.slice(0, 200));
+}
+for (const it of arguments[0] ? document.querySelectorAll("tbody td[data-label]") : []) {
+  if (getComputedStyle(it, "::before").content === "none") found.push(it.outerHTML.slice(0, 200));
+}
+return found;
+"""
 OVERFLOW = "return document.documentElement.scrollWidth - document.documentElement.clientWidth"
 
 
@@ -83,7 +97,7 @@ class Browser(unittest.TestCase):
         cls.room = tempfile.TemporaryDirectory()
         cls.addClassCleanup(cls.room.cleanup)
         path = str(pathlib.Path(cls.room.name) / "ledger.sqlite")
-        subprocess.run([*COMMAND, "load", path, "--quiet"], input=sample().bytes, check=True)
+        entered(SqliteStore(path), sample().steps)
         cls.server = subprocess.Popen(
             [*COMMAND, "serve", path, "--port", "0"], stdout=subprocess.PIPE, text=True
         )
@@ -145,7 +159,10 @@ class Browser(unittest.TestCase):
         ("/", "Trial balance"),
         ("/accounts", "the newest first"),
         (f"/account/{SALES}", "Balance before"),
-        (f"/account/{BANK}", "credits_must_not_exceed_debits"),
+        (f"/account/{BANK}", "credits at most debits"),
+        (f"/account/{SALES}/2026-10", "Opening balance"),
+        ("/accounts?sort=balance", "balances to zero"),
+        ("/trial-balance?at=2026-10-01", "After all that came up to"),
         (f"/account/{GREAT}", f"{MAX - 10**30:,}"),
         (f"/account/{GREAT - 1}", "There are no postings."),
         (f"/account/{HOLDS}", "by expiry"),
@@ -182,13 +199,15 @@ class Browser(unittest.TestCase):
             grounds.append(self.one("body").value_of_css_property("background-color"))
         self.assertNotEqual(*grounds)
 
-    def test_narrow_windows(self):
-        """Nothing but the tables is wider than the window, which is as narrow as a phone."""
-        self.size(360, 740)
-        for address, _ in self.PAGES:
-            with self.subTest(address):
-                self.open(address)
-                self.assertLessEqual(self.driver.execute_script(OVERFLOW), 0)
+    def test_widths(self):
+        """Nothing is wider than the window of a phone; amounts, charts and labels are in sight."""
+        for width, height in ((375, 740), (768, 1024), (1280, 900)):
+            self.size(width, height)
+            for address, _ in self.PAGES:
+                with self.subTest(address, width=width):
+                    self.open(address)
+                    self.assertLessEqual(self.driver.execute_script(OVERFLOW), 0)
+                    self.assertEqual(self.driver.execute_script(HIDDEN, width == 375), [])
 
     def test_controls_are_labelled(self):
         for address, _ in self.PAGES:
@@ -285,12 +304,17 @@ class Browser(unittest.TestCase):
         if not folder:
             self.skipTest("TB_SQL_PICTURES names no folder")
         for name, address, scheme, height in (
-            ("books-overview", "/", "light", 905),
-            ("books-account", f"/account/{SALES}", "light", 900),
-            ("books-dark", f"/transfer/{GREAT}", "dark", 560),
+            ("books-overview", "/", "light", (1000, 905)),
+            ("books-account", f"/account/{SALES}", "light", (1000, 900)),
+            ("books-dark", f"/transfer/{GREAT}", "dark", (1000, 560)),
+            ("books-narrow", "/accounts", "light", (375, 900)),
+            ("books-narrow-account", f"/account/{SALES}", "light", (375, 1800)),
+            ("books-768", "/accounts", "light", (768, 1024)),
+            ("books-1280", "/accounts?sort=balance", "light", (1280, 900)),
+            ("books-month", f"/account/{SALES}/2026-10", "light", (768, 900)),
         ):
             self.show(scheme)
-            self.size(1000, height)
+            self.size(*height)
             self.open(address)
             self.driver.save_screenshot(str(pathlib.Path(folder) / f"{name}.png"))
 

@@ -43,7 +43,9 @@ def filters(rng, operation, plain):
     of_account = operation in ("get_account_transfers", "get_account_balances")
     found = dict.fromkeys(fields, 0)
     found["limit"] = rng.choice([0, 1, 2, 5, 8190, 9000, 2**32 - 1])
-    found["flags"] = rng.choice([0, 1, 2, 3, 3, 5, 6, 7, 7, 8]) if of_account else rng.choice([0, 1, 2])
+    found["flags"] = (
+        rng.choice([0, 1, 2, 3, 3, 5, 6, 7, 7, 8]) if of_account else rng.choice([0, 1, 2])
+    )
     times = [0, 1, some.timestamp, some.timestamp + 1, 2**63 - 1, 2**63]
     found["timestamp_min"], found["timestamp_max"] = rng.choice(times), rng.choice([0, 0, *times])
     if of_account:
@@ -92,9 +94,7 @@ def assert_balanced(tables, rng, plain):
     assert all(it["balances"] for it in tables.trial_balance())
     now = {it[0]: it[1:] for it in tables.trial_balance_at(2**63 - 1)}
     names = ("accounts", "debits_pending", "debits_posted", "credits_pending", "credits_posted")
-    assert now == {
-        it["ledger"]: [int(it[name]) for name in names] for it in tables.trial_balance()
-    }
+    assert now == {it["ledger"]: [int(it[name]) for name in names] for it in tables.trial_balance()}
     for time in rng.sample(plain.times, min(3, len(plain.times))):
         for ledger, _, debits_pending, debits, credits_pending, credits in tables.trial_balance_at(
             time

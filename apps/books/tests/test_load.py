@@ -184,8 +184,10 @@ class Events(Tables):
         made.transfers(transfer(13, 1, 2, 60, ["post_pending_transfer"], pending=11))
         self.load(made)
         self.assertEqual(
-            self.rows("SELECT account_id, timestamp, debits_pending, debits_posted, credits_pending,"
-            " credits_posted FROM balances"),
+            self.rows(
+                "SELECT account_id, timestamp, debits_pending, debits_posted, credits_pending,"
+                " credits_posted FROM balances"
+            ),
             [
                 (1, START + 4, 100, 0, 0, 0),
                 (1, START + 5, 100, 0, 0, 30),

@@ -182,7 +182,9 @@ class Shown(Pages):
             met, address, pages = [], first, 0
             while address:
                 page = self.get(address)
-                met += re.findall(r'<th scope="row"><a class="id" href="/transfer/(\d+)"', page)
+                met += re.findall(
+                    r'<th scope="row" role="rowheader"><a class="id" href="/transfer/(\d+)"', page
+                )
                 found = re.search(rf'<a rel="\w+" href="([^"]*)">{words}</a>', page)
                 address, pages = html.unescape(found[1]) if found else None, pages + 1
             self.assertEqual(sorted(map(int, met)), list(range(100, 330)))
@@ -544,7 +546,13 @@ class Refused(Pages):
     def test_other_hosts(self):
         for host in ("ledger.example", "127.0.0.1.example:80", "localhost.example", "10.0.0.1"):
             self.get("/", 403, base_url=f"http://{host}")
-        for host in ("user@localhost", "ledger.example@127.0.0.1:8642", "localhost:1@x", "", "a:b:1"):
+        for host in (
+            "user@localhost",
+            "ledger.example@127.0.0.1:8642",
+            "localhost:1@x",
+            "",
+            "a:b:1",
+        ):
             self.get("/", 403, headers={"Host": host})
         for host in ("localhost", "localhost:1", "127.0.0.1:2", "[::1]", "[::1]:3"):
             self.get("/", base_url=f"http://{host}")

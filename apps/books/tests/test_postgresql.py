@@ -138,7 +138,12 @@ class PostgreSQL(Tables):
         url = self.reader()
         sites = [make_app(Site(it)).test_client() for it in (self.path, url)]
         for address in (
-            *("/", "/accounts", "/accounts?sort=balance", "/accounts?ledger=700&code=10&user_data=7"),
+            *(
+                "/",
+                "/accounts",
+                "/accounts?sort=balance",
+                "/accounts?ledger=700&code=10&user_data=7",
+            ),
             *("/account/1", "/account/1/2026-09", "/trial-balance?at=2026-09-21", "/transfers"),
             *("/transfer/2000", "/pending", "/refusals", "/sessions", "/search?id=29"),
             *("/refusals/create_transfers/exceeds_credits", "/accounts?sort=id&page=1"),
@@ -146,13 +151,15 @@ class PostgreSQL(Tables):
             *("/csv/statement.csv", "/csv/trial_balance.csv", "/csv/named_statement.csv"),
         ):
             with self.subTest(address):
-                here, there = (
-                    it.get(address, base_url="http://localhost") for it in sites
-                )
+                here, there = (it.get(address, base_url="http://localhost") for it in sites)
                 self.assertEqual(there.status_code, here.status_code)
                 self.assertEqual(there.get_data(as_text=True), here.get_data(as_text=True))
         with contextlib.closing(psycopg.connect(url, autocommit=True)) as it:
-            for text in ("DELETE FROM accounts", "UPDATE position SET time = 1", "DROP VIEW statement"):
+            for text in (
+                "DELETE FROM accounts",
+                "UPDATE position SET time = 1",
+                "DROP VIEW statement",
+            ):
                 with self.assertRaises(psycopg.errors.InsufficientPrivilege):
                     it.execute(text)
         tables = Read(url)

@@ -24,9 +24,7 @@ class Views(Tables):
         )
 
     def test_trial_balance(self):
-        audit = (
-            Made().register().accounts(account(1), account(2), account(3, 701), account(4, 701))
-        )
+        audit = Made().register().accounts(account(1), account(2), account(3, 701), account(4, 701))
         audit.transfers(transfer(11, 1, 2, 7), transfer(12, 3, 4, 9, ["pending"], ledger=701))
         self.load(audit)
         self.assertEqual(
@@ -90,12 +88,18 @@ class Views(Tables):
     def test_refusals_and_retries(self):
         audit = Made().register().accounts(account(1), account(2))
         audit.transfers(transfer(11, 1, 2, 5))
-        audit.transfers(transfer(11, 1, 2, 5, result="exists"), transfer(12, 1, 9, 5, result="linked_event_failed"))
+        audit.transfers(
+            transfer(11, 1, 2, 5, result="exists"),
+            transfer(12, 1, 9, 5, result="linked_event_failed"),
+        )
         audit.transfers(transfer(11, 1, 2, 5, result="exists"))
         self.load(audit)
         self.assertEqual(
             self.rows("SELECT * FROM refusals ORDER BY result"),
-            [("create_transfers", "exists", 2, 4, 5), ("create_transfers", "linked_event_failed", 1, 4, 4)],
+            [
+                ("create_transfers", "exists", 2, 4, 5),
+                ("create_transfers", "linked_event_failed", 1, 4, 4),
+            ],
         )
         self.assertEqual(
             self.rows("SELECT id, commit_number, place FROM retries ORDER BY 2"),

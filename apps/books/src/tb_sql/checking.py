@@ -100,7 +100,9 @@ class Tables:
             self._make_again(path, given, commit)
             self._compare(path)
         ledgers = self._check_ledgers()
-        accounts, postings = (self.one(f"SELECT count(*) FROM {it}") for it in ("accounts", "postings"))
+        accounts, postings = (
+            self.one(f"SELECT count(*) FROM {it}") for it in ("accounts", "postings")
+        )
         what = "the history" if given.ledger else "their own events"
         return (
             f"{accounts:,} accounts of {ledgers:,} ledgers are the sums of {postings:,} postings, "

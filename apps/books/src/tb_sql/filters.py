@@ -56,7 +56,9 @@ def tests_of(wanted: Mapping[str, int], names: List[str]) -> Tuple[str, Values]:
     values: Values = [wanted["timestamp_min"], wanted["timestamp_max"] or TIME_MAX]
     for name in names:
         if wanted[name]:
-            tests.append(f"t.{name} = ? AND t.{name} <> 0" if name in USER_DATA else f"t.{name} = ?")
+            tests.append(
+                f"t.{name} = ? AND t.{name} <> 0" if name in USER_DATA else f"t.{name} = ?"
+            )
             values.append(held(wanted[name]))
     return " AND ".join(tests), values
 

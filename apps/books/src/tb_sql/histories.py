@@ -1,4 +1,4 @@
-"""A ledger's history: the items of a dump, each entry with the reply of the proved program to it."""
+"""A history: the items of a dump, each entry with the reply of the proved program to it."""
 
 from __future__ import annotations
 

@@ -128,7 +128,9 @@ def line_of(text: str, keys: Sequence[str]) -> int:
             if not key:
                 continue
             given = [*table, *(it.strip().strip("\"'") for it in key[1].split("."))]
-            given += [it for it in keys[len(given) :] if re.search(rf"\b{re.escape(it)}\b\s*=", line)]
+            given += [
+                it for it in keys[len(given) :] if re.search(rf"\b{re.escape(it)}\b\s*=", line)
+            ]
         common = 0
         while common < min(len(given), len(keys)) and given[common] == keys[common]:
             common += 1

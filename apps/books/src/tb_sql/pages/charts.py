@@ -9,7 +9,7 @@ from markupsafe import Markup, escape
 from ..numbers import time_text
 
 HEIGHT = 200
-NARROW, WIDE = 560, 1160
+PHONE, NARROW, WIDE = 360, 560, 1160  # a phone's chart is shown in place of a wider one
 LEFT, RIGHT, TOP, BOTTOM = 92, 8, 10, 26  # around the drawing
 
 
@@ -74,33 +74,43 @@ def axis_times(start: int, end: int) -> Tuple[str, str]:
 
 
 def drawing(name: str, title: str, description: str, parts: Sequence[str], width: int) -> Markup:
-    kind = "chart wide" if width == WIDE else "chart"
+    kind, id = "phone" if width == PHONE else "wide", f"{name}-{width}"
     return Markup(
-        f'<svg class="{kind}" viewBox="0 0 {width} {HEIGHT}" role="img"'
-        f' aria-labelledby="{name}-title {name}-description">'
-        f'<title id="{name}-title">{escape(title)}</title>'
-        f'<desc id="{name}-description">{escape(description)}</desc>{"".join(parts)}</svg>'
+        f'<svg class="chart {kind}" viewBox="0 0 {width} {HEIGHT}" role="img"'
+        f' aria-labelledby="{id}-title {id}-description">'
+        f'<title id="{id}-title">{escape(title)}</title>'
+        f'<desc id="{id}-description">{escape(description)}</desc>{"".join(parts)}</svg>'
     )
 
 
 def bars(name: str, title: str, counted: Sequence[Tuple[int, int, int]]) -> Markup:
-    """A bar for each span of time: its start, its end, and what was counted."""
+    """A bar for each span of time: its start, its end, and what was counted. In two widths, of
+    which one is shown."""
+    return Markup("").join(_bars(name, title, counted, it) for it in (NARROW, PHONE))
+
+
+def steps(name: str, title: str, points: Sequence[Tuple[int, int]], is_whole: bool) -> Markup:
+    """A line that holds each value until the next one, in two widths."""
+    return Markup("").join(_steps(name, title, points, is_whole, it) for it in (WIDE, PHONE))
+
+
+def _bars(name: str, title: str, counted: Sequence[Tuple[int, int, int]], width: int) -> Markup:
     start, end = counted[0][0], counted[-1][1]
     greatest = max(it[2] for it in counted)
     total = sum(it[2] for it in counted)
     ticks = axis(0, greatest or 1)
-    parts = frame(ticks, start, end, NARROW)
+    parts = frame(ticks, start, end, width)
     base = HEIGHT - BOTTOM
     for begin, finish, count in counted:
         if count == 0:
             continue
-        left = place(begin, start, end, LEFT, NARROW - RIGHT)
-        right = place(finish, start, end, LEFT, NARROW - RIGHT)
+        left = place(begin, start, end, LEFT, width - RIGHT)
+        right = place(finish, start, end, LEFT, width - RIGHT)
         y = min(place(count, 0, ticks[-1], base, TOP), base - 1.5)
         gap = min(1.0, (right - left) / 5)
-        width = max(1.0, right - left - 2 * gap)
+        across = max(1.0, right - left - 2 * gap)
         parts.append(
-            f'<rect class="{name}" x="{left + gap:.1f}" width="{width:.1f}"'
+            f'<rect class="{name}" x="{left + gap:.1f}" width="{across:.1f}"'
             f' y="{y:.1f}" height="{base - y:.1f}"><title>{grouped(count)} from '
             f"{time_text(begin)}</title></rect>"
         )
@@ -108,25 +118,26 @@ def bars(name: str, title: str, counted: Sequence[Tuple[int, int, int]]) -> Mark
         f"{grouped(total)} in all, from {time_text(start)} to {time_text(end)}; at most "
         f"{grouped(greatest)} in one of {len(counted)} spans."
     )
-    return drawing(name, title, description, parts, NARROW)
+    return drawing(name, title, description, parts, width)
 
 
-def steps(name: str, title: str, points: Sequence[Tuple[int, int]], is_whole: bool) -> Markup:
-    """A line that holds each value until the next one."""
+def _steps(
+    name: str, title: str, points: Sequence[Tuple[int, int]], is_whole: bool, width: int
+) -> Markup:
     values = [value for _, value in points]
     start, end = points[0][0], points[-1][0]
     ticks = axis(min(0, *values), max(0, *values))
-    parts = frame(ticks, start, end, WIDE)
+    parts = frame(ticks, start, end, width)
     drawn: List[str] = []
     for time, value in points:
-        x = place(time, start, max(end, start + 1), LEFT, WIDE - RIGHT)
+        x = place(time, start, max(end, start + 1), LEFT, width - RIGHT)
         y = place(value, ticks[0], ticks[-1], HEIGHT - BOTTOM, TOP)
         drawn.append(f"H{x:.1f}V{y:.1f}" if drawn else f"M{x:.1f} {y:.1f}")
-    drawn.append(f"H{WIDE - RIGHT}")
+    drawn.append(f"H{width - RIGHT}")
     parts.append(f'<path class="{name}" d="{"".join(drawn)}"/>')
     what = "each posting" if is_whole else f"{len(points)} moments"
     description = (
         f"By {what} from {time_text(start)} to {time_text(end)}: lowest "
         f"{grouped(min(values))}, highest {grouped(max(values))}, at the end {grouped(values[-1])}."
     )
-    return drawing(name, title, description, parts, WIDE)
+    return drawing(name, title, description, parts, width)

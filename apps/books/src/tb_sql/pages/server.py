@@ -386,7 +386,8 @@ def trial_balance(site: Site) -> str:
     """Each ledger's sums at a time."""
     text = request.args.get("at", "").strip()
     try:
-        at = time_of(text, is_end=True) - 1 if text else LAST
+        is_day = ":" not in text
+        at = time_of(text, is_end=True) - is_day if text else LAST
     except (ValueError, OverflowError) as error:
         return abort(400, str(error))
     rows = site.tables().trial_balance_at(max(-1, min(at, LAST)))
