@@ -1,30 +1,49 @@
 #!/usr/bin/env python3
-"""What reading the books costs: `telovamish audit` of a dump, and what `tb-sql` makes of the audit.
+"""What reading the books costs: `telovamish audit` of a dump, and `tb-sql` over it.
 
     reading.py [--size N] [--turns N] [--work FOLDER]
 
 It needs crates/tbs/out/tbs (PROGRAM names another), as `rt run` leaves it, and
-apps/telovamish/telovamish (TELOVAMISH names another); for the page, Flask. Scripts of --size
+apps/telovamish/telovamish (TELOVAMISH names another); for the pages, Flask. Scripts of --size
 transfers (1,000,000) between 10,000 accounts are made from a seed; --work FOLDER keeps them.
 
 CPU seconds, the best of --turns runs (2): of an audit, whose events a CPU second are marked with
-'<' below their bound (25,000); events a CPU second of one `tb-sql load` (20,000 at least); the
-milliseconds of the statement of the account with most postings, in SQL (20), and of the overview
-page (300), the best of five.
+'<' below their bound (25,000). Seconds of one `tb-sql load` (30,000 events a second at least), with
+the memory of its largest process, and of one `tb-sql check` (120); the milliseconds of pages (200),
+the best of five.
 """
 import contextlib
 import json
 import os
-import sqlite3
+import pathlib
+import resource
 import subprocess
+import time
 
 import measure
 import tried
 from measure import TBS, whole
 
-import books
-
-TELOVAMISH = books.program("telovamish")
+TOP = pathlib.Path(__file__).resolve().parent.parent
+PYTHON = "/usr/bin/python3"
+TELOVAMISH = os.environ.get("TELOVAMISH", str(TOP / "apps/telovamish/telovamish"))
+TB_SQL = [PYTHON, "-B", str(TOP / "apps/books/tb-sql")]
+FOLDERS = ("apps/books/src", "apps/telovamish/src", "clients/python/src")
+LOAD_LEAST, CHECK_MOST, PAGE_MOST = 30_000, 120, 200
+PAGES = """
+import json, sys, time
+from tb_sql.pages.server import Site, make_app
+client = make_app(Site(sys.argv[1])).test_client()
+taken = {}
+for page in sys.argv[2:]:
+    times = []
+    for _ in range(5):
+        began = time.monotonic()
+        assert client.get(page, base_url="http://localhost").status_code == 200, page
+        times.append((time.monotonic() - began) * 1000)
+    taken[page] = min(times)
+print(json.dumps(taken))
+"""
 SIZE, ACCOUNTS = 1_000_000, 10_000
 LOADS = ["rising", "expiring"]
 AUDIT_LEAST = 25_000
@@ -46,37 +65,31 @@ def audit(load, size, turns, folder):
     print(f"{load}: audit {best:.2f} s, {below}{speed:,} events a second", flush=True)
 
 
-def tables(load, size, folder):
-    """Loads an audit into SQLite, and prints what that and its readers cost."""
-    said, path = os.path.join(folder, f"{load}.audit"), os.path.join(folder, "ledger.sqlite")
+def tables(load, size, turns, folder):
+    """Loads a dump into SQLite, and prints what that, its check and its readers cost."""
+    script = measure.make_script(folder, load, size, ACCOUNTS)
+    dump, path = os.path.join(folder, "dump"), os.path.join(folder, "ledger.sqlite")
+    whole([TBS, "dump", "64"], script, dump)
     with contextlib.suppress(FileNotFoundError):
         os.remove(path)
-    spent = whole([*books.TB_SQL, "load", path, "--quiet"], said, os.devnull)
-    speed = round((size + ACCOUNTS) / spent)
-    below = "" if speed >= books.EVENTS_A_SECOND else "<"
-    print(f"tb-sql load: {spent:.1f} s, {below}{speed:,} events a second", flush=True)
-    with contextlib.closing(sqlite3.connect(path)) as connection:
-        busiest = "SELECT id, postings FROM accounts ORDER BY postings DESC"
-        account, postings = connection.execute(busiest).fetchone()
-        took = books.least(lambda: books.statement(connection, (account,)))
-    print(f"a statement of {postings} postings: {marked(took, books.STATEMENT_MS, ' ms')}")
-    pages(path)
-
-
-def pages(path):
-    """Prints what the overview page costs."""
-    python = books.python_with("flask")
-    if python is None:
-        print("passed over: the overview page: no Python here has Flask")
-        return
+    began = time.monotonic()
+    with open(dump, "rb") as input:
+        subprocess.run([*TB_SQL, "load", path, "--quiet", "--tbs", TBS], stdin=input, check=True)
+    took = time.monotonic() - began
+    used = resource.getrusage(resource.RUSAGE_CHILDREN).ru_maxrss / 1024
+    speed = round((size + ACCOUNTS) / took)
+    below = "" if speed >= LOAD_LEAST else "<"
+    print(f"tb-sql load: {took:.1f} s, {below}{speed:,} events a second, {used:,.0f} MiB", flush=True)
+    began = time.monotonic()
+    subprocess.run([*TB_SQL, "check", path], stdout=subprocess.DEVNULL, check=True)
+    print(f"tb-sql check: {marked(time.monotonic() - began, CHECK_MOST, ' s')}", flush=True)
+    page = [PYTHON, "-B", "-c", PAGES, path, "/", "/accounts?sort=balance", "/account/1"]
+    packages = ":".join(str(TOP / it) for it in FOLDERS)
     ran = subprocess.run(
-        [python, "-B", "-c", books.PAGES, path, "/"],
-        env={**os.environ, "PYTHONPATH": str(books.SQL)},
-        stdout=subprocess.PIPE,
-        check=True,
+        page, env={**os.environ, "PYTHONPATH": packages}, stdout=subprocess.PIPE, check=True
     )
-    took = json.loads(ran.stdout)["/"]
-    print(f"the overview page: {marked(took, books.OVERVIEW_MS, ' ms')}")
+    for name, took in json.loads(ran.stdout).items():
+        print(f"the page {name}: {marked(took, PAGE_MOST, ' ms')}")
 
 
 def measure_all(size, turns, folder):
@@ -84,7 +97,7 @@ def measure_all(size, turns, folder):
     tried.built(TBS, TELOVAMISH)
     for load in LOADS:
         audit(load, size, turns, folder)
-    tables(LOADS[0], size, folder)
+    tables(LOADS[0], size, turns, folder)
 
 
 def main():

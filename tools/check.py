@@ -73,6 +73,7 @@ def by_status(_: str) -> Counts:
 PYTEST = [PYTHON, "-m", "pytest", "-q"]
 PACKAGES = ["clients/python", "apps/telovamish", "apps/host", "apps/books"]
 WORDS = [f"tests/test_{it}.py" for it in ("run", "page", "sending", "recorded_texts")]
+BOOKS = [f"tests/test_{it}.py" for it in ("load", "check", "views", "names", "books", "drawn")]
 PARTS = [
     Part("proofs", ".", ["rt", "ci"], closing_line),
     Part("format of Python", ".", ["black", "--check", "--quiet", "."], by_status),
@@ -81,6 +82,7 @@ PARTS = [
     Part("quick tests", ".", [*PYTEST, "-m", "quick", "tests"], pytest_counts),
     Part("packages", ".", [*PYTEST, "-m", "quick", "packaging/tests"], pytest_counts),
     Part("telovamish", "apps/telovamish", [*PYTEST, *WORDS], pytest_counts),
+    Part("books", "apps/books", [*PYTEST, "-n", "2", *BOOKS], pytest_counts),
     Part("client in Python", "clients/python", [*PYTEST, "-n", "2", "tests"], pytest_counts),
     Part("format of Go", "clients/go", ["sh", "-c", 'test -z "$(gofmt -l .)"'], by_status),
     Part("Go", "clients/go", ["go", "test", "-v", "./..."], go_counts),
