@@ -79,7 +79,7 @@ def tables(load, size, turns, folder):
     used = resource.getrusage(resource.RUSAGE_CHILDREN).ru_maxrss / 1024
     speed = round((size + ACCOUNTS) / took)
     below = "" if speed >= LOAD_LEAST else "<"
-    print(f"tb-sql load: {took:.1f} s, {below}{speed:,} events a second, {used:,.0f} MiB", flush=True)
+    print(f"tb-sql load: {took:.1f} s, {below}{speed:,} events a second, {used:,.0f} MiB")
     began = time.monotonic()
     subprocess.run([*TB_SQL, "check", path], stdout=subprocess.DEVNULL, check=True)
     print(f"tb-sql check: {marked(time.monotonic() - began, CHECK_MOST, ' s')}", flush=True)
