@@ -38,7 +38,8 @@ var (
 	// ErrReplyLost says that no reply came: the request may have been executed or not. See
 	// [LostError].
 	ErrReplyLost error = &kind{text: "no reply came"}
-	// ErrBusy is an ErrReplyLost: the server has too many connections, and did not take the request.
+	// ErrBusy is an ErrReplyLost: the server has too many connections, or this peer has its share,
+	// and the server did not take the request.
 	ErrBusy error = &kind{"the server is busy", ErrReplyLost}
 	// ErrBadReply says that what came is no reply to the request that was sent: the server is none,
 	// or broken. What the request did is unknown.
@@ -66,8 +67,8 @@ func invalid(field, format string, values ...any) error {
 	return &InvalidError{Field: field, Problem: fmt.Sprintf(format, values...)}
 }
 
-// LostError is an ErrReplyLost, and an ErrBusy where the server told Busy. The request stays in
-// doubt: Retry sends the same bytes again.
+// LostError is an ErrReplyLost, and an ErrBusy if the server told Busy, TooManyConnections,
+// TooManySessions or TooManyRequests. The request stays in doubt: Retry sends the same bytes again.
 type LostError struct {
 	Told string // the name that the server told before it closed the connection, or ""
 	Err  error  // what went wrong
@@ -78,7 +79,7 @@ func (it *LostError) Error() string { return fmt.Sprintf("%v: %v", it.Unwrap(), 
 // Unwrap is the kind. The cause is no part of the chain: one that says that nothing was sent is of
 // the last sending alone.
 func (it *LostError) Unwrap() error {
-	if it.Told == toldBusy {
+	if toldLater[it.Told] {
 		return ErrBusy
 	}
 	return ErrReplyLost

@@ -78,10 +78,15 @@ const DefaultTimeout = 5 * time.Second
 const (
 	firstPause = 20 * time.Millisecond // before the addresses are called again; doubled each time
 	lastPause  = 500 * time.Millisecond
-	toldBusy   = "Busy"
 
 	toldStarting = "Starting"
 )
+
+// toldLater are the names by which a server says to come later: there are too many connections, or
+// the peer has its share.
+var toldLater = map[string]bool{
+	"Busy": true, "TooManyConnections": true, "TooManySessions": true, "TooManyRequests": true,
+}
 
 // toldMark begins what a server says before it closes a connection: a line that is shorter than a
 // header.

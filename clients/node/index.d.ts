@@ -326,7 +326,10 @@ export declare class ReplyLost extends ClientError {
   /** The name that the server gave before it closed the connection, or "". */
   readonly told: string;
 }
-/** The server has too many connections, and did not take the request: come later. */
+/**
+ * The server has too many connections, or this peer has its share, and the server did not take the
+ * request: come later.
+ */
 export declare class Busy extends ReplyLost {}
 /** What came is no reply to the request that was sent. */
 export declare class BadReply extends ClientError {}

@@ -281,7 +281,7 @@ def reply_tests(text):
 # What the listener serves connections with.
 LISTENER = [
     f"apps/host/src/tb_host/{it}.py"
-    for it in ("access", "command", "connections", "lines", "process", "serving")
+    for it in ("access", "command", "connections", "lines", "process", "serving", "shares")
 ]
 RECORDS = {"account": "Account", "transfer": "Transfer", "result": "EventResult"}
 SPELLINGS = {

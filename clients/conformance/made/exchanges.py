@@ -5,6 +5,7 @@ from .frames import (
     ACCOUNTS,
     FIND_ACCOUNTS,
     FIND_TRANSFERS,
+    LATER,
     LONG,
     LOST,
     NAMES,
@@ -577,7 +578,7 @@ def bad_replies():
 
 
 # the names of the table but those whose scenarios stand apart, and two that no client knows yet
-NAMED = [row["name"] for row in TABLE["told"] if row["name"] not in ("Busy", "Starting")]
+NAMED = [row["name"] for row in TABLE["told"] if row["name"] not in (*LATER, "Starting")]
 NAMED += ["Full", "NewerThanThisClient"]
 
 
@@ -661,6 +662,36 @@ def what_is_told():
         saved(1),
         begin="registered-thrice",
     )
+    for name in LATER[1:]:
+        yield scenario(
+            f"told-{name}",
+            "Told that its peer has its share, the client pauses as after Busy, and sends the same"
+            " bytes.",
+            {"server": [{"close": "c"}]},
+            sale(
+                [
+                    accept(),
+                    send(told(name)),
+                    {"half": "c"},
+                    {"drain": "c", "of": ASKED.hex()},
+                    accept("d", not_before=0.07),
+                    *served(ASKED, DONE, "d"),
+                ]
+            ),
+            saved(1),
+            begin="registered-thrice",
+        )
+        yield scenario(
+            f"told-{name}-once",
+            "The same with one sending allowed: Busy with that name.",
+            sale(
+                [read(ASKED), send(told(name)), {"close": "c"}],
+                error("Busy", sent=True, told=name),
+            ),
+            saved(0, ASKED),
+            retry(again(), OK),
+            begin="registered-once",
+        )
     yield scenario(
         "told-Busy-before-request",
         "Told Busy and closed before the request was read.",

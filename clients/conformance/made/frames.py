@@ -49,6 +49,7 @@ TRANSFER_FIELDS = (
     "timestamp",
 )
 MOST = (U128,) * 6 + (U64, U32, U32, U32, U16, U16, U64)
+LATER = [row["name"] for row in TABLE["told"] if row.get("later")]  # Busy, and shares
 ACCOUNT_FLAGS = {row["name"]: row["bit"] for row in TABLE["account_flags"]}
 TRANSFER_FLAGS = {row["name"]: row["bit"] for row in TABLE["transfer_flags"]}
 ACCOUNT_CODES = {row["name"]: row["code"] for row in TABLE["account_results"]}

@@ -23,6 +23,7 @@ from .frames import (
     TRANSFER_FLAGS,
     TRANSFERS,
     U32,
+    LATER,
     account_bytes,
     accept,
     ask,
@@ -51,7 +52,7 @@ from .oracle import STATUSES, Asked, Fields, Held, Phase  # noqa: F401
 HEADER = 48
 NOT_YET = 7
 TOLD = {row["name"]: row["executed"] for row in TABLE["told"]}
-NAMED = [name for name in TOLD if name not in ("Busy", "Starting")]
+NAMED = [name for name in TOLD if name not in (*LATER, "Starting")]
 CREATES = {
     ACCOUNTS: (ACCOUNT_CODES, ACCOUNT_FLAGS, account_bytes, whole_account),
     TRANSFERS: (TRANSFER_CODES, TRANSFER_FLAGS, transfer_bytes, whole_transfer),
@@ -677,15 +678,15 @@ class Drawn:
         return self.lost(name)
 
     def is_busy(self, line, held):
-        name = line.connection
+        name, why = line.connection, self.draw.choice(LATER)
         # before a connection that is there already is used the client looks at it
         if not line.is_new or self.over == "tls" or self.draw.random() < 0.5:
             self.reads(line, held)
-            self.lose(line, send(told("Busy"), name), {"close": name})
+            self.lose(line, send(told(why), name), {"close": name})
         else:
             drained = {"drain": name, "of": held.asked.frame.hex()}
-            self.lose(line, send(told("Busy"), name), {"half": name}, drained)
-        return True, error("Busy", sent=True, told="Busy")
+            self.lose(line, send(told(why), name), {"half": name}, drained)
+        return True, error("Busy", sent=True, told=why)
 
     def is_starting(self, line, held):
         """The same sending goes on over another connection."""

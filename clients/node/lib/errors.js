@@ -94,7 +94,10 @@ class ReplyLost extends ClientError {
   }
 }
 
-/** The server has too many connections, and did not take the request: come later. */
+/**
+ * The server has too many connections, or this peer has its share, and the server did not take the
+ * request: come later.
+ */
 class Busy extends ReplyLost {}
 
 /** What came is no reply to the request that was sent. */

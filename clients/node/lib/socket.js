@@ -28,6 +28,8 @@ const CLOSED = "this Socket was closed";
 // begins what a server says before it closes a connection: fewer bytes than a frame has
 const TOLD = "tb_listen: ";
 const STARTING = "Starting";
+// say to come later: there are too many connections, or the peer has its share
+const LATER = new Set(["Busy", "TooManyConnections", "TooManySessions", "TooManyRequests"]);
 // alerts of TLS by which a server refuses this client, whose request it does not read. The last
 // one says so in TLS 1.2, where the server wants a certificate
 const REFUSAL = /_ALERT_(?:\w*CERTIFICATE\w*|UNKNOWN_CA|ACCESS_DENIED|HANDSHAKE_FAILURE)$/;
@@ -59,7 +61,7 @@ function lost(said, how) {
   const text = said.toString("latin1");
   if (!text.startsWith(TOLD)) return new ReplyLost(how);
   const told = text.slice(TOLD.length).trim().replace(/[^ -~]/g, "?"); // it may go to a terminal
-  const Kind = told === "Busy" ? Busy : ReplyLost;
+  const Kind = LATER.has(told) ? Busy : ReplyLost;
   return new Kind(`the server closed the connection: ${told}`, told);
 }
 

@@ -91,7 +91,8 @@ class ReplyLost(ClientError):
 
 
 class Busy(ReplyLost):
-    """The server has too many connections, and did not take the request: come later."""
+    """The server has too many connections, or this peer has its share, and the server did not take
+    the request: come later."""
 
 
 class NoMemory(ClientError):

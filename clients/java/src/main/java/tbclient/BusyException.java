@@ -1,6 +1,9 @@
 package tbclient;
 
-/** The server has too many connections, and did not take the request: come later. */
+/**
+ * The server has too many connections, or this peer has its share, and the server did not take the
+ * request: come later.
+ */
 public final class BusyException extends ReplyLostException {
     private static final long serialVersionUID = 1L;
 
@@ -10,6 +13,10 @@ public final class BusyException extends ReplyLostException {
      * @param message what became of the sending
      */
     public BusyException(String message) {
-        super(message, "Busy", null);
+        this(message, "Busy");
+    }
+
+    BusyException(String message, String told) {
+        super(message, told, null);
     }
 }

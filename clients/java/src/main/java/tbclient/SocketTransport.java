@@ -35,6 +35,9 @@ public final class SocketTransport implements Transport {
     private static final long LAST_PAUSE = 500_000_000;
     private static final String TOLD = "tb_listen: "; // begins what is told before a closing
     private static final String STARTING = "Starting";
+    // say to come later: there are too many connections, or the peer has its share
+    private static final Set<String> LATER =
+            Set.of("Busy", "TooManyConnections", "TooManySessions", "TooManyRequests");
     // alerts by which a server refuses this client, whose request it does not read. The last one
     // says so in TLS 1.2, where the server wants a certificate
     private static final Pattern REFUSAL =
@@ -385,8 +388,8 @@ public final class SocketTransport implements Transport {
             return new ReplyLostException("the server closed the connection", "", cause);
         }
         String text = "the server closed the connection: " + told;
-        return told.equals("Busy")
-                ? new BusyException(text)
+        return LATER.contains(told)
+                ? new BusyException(text, told)
                 : new ReplyLostException(text, told, cause);
     }
 
