@@ -1,6 +1,7 @@
 #!/usr/bin/env python3
 """What one peer may take of a listener: connections, sessions, and requests in a second."""
 import argparse
+import collections
 import contextlib
 import socket
 import time
@@ -12,7 +13,8 @@ from tb_client import Session, Socket
 from tb_host import lines
 from tb_host.access import network_of
 from tb_host.lines import Told
-from tb_host.shares import Shares, Turns
+from tb_host.refusals import COST, MOMENT, MOST, WHOLE, Refusals
+from tb_host.shares import PIECE, Shares, Turns
 from test_listen import Running, register, told
 
 
@@ -81,8 +83,26 @@ class OfAPeer(unittest.TestCase):
                 taken += 1
         self.assertIn(taken, (9, 10, 11), "ten in a second")
 
+    def test_calls(self):
+        """A connection takes turns, where requests do, and none where the peer has its number."""
+        it = self.shares(connections=1, requests=8)
+        for _ in range(5):
+            it.call("a", 4)
+        self.refused("TooManyRequests", it.call, "a", 4)
+        it.call("b", 4)
+        it.enter("b")
+        self.refused("TooManyConnections", it.call, "b", 4)
+
+    def test_long_replies(self):
+        """They take turns of the requests that come next."""
+        it = self.shares(requests=100)
+        it.charge("a", 48)
+        self.assertEqual(it.turns, {})
+        it.charge("a", 128 * PIECE)
+        self.assertAlmostEqual(it.wait("a", 100), 0.28)
+
     def test_long_requests(self):
-        """One of 1 MiB counts as 65, also where a second has fewer."""
+        """One that counts as 65, also where a second has fewer."""
         it = Turns(10)
         self.assertEqual(it.wait(65, 1000.0), 0.0)
         with self.assertRaises(Told):
@@ -116,6 +136,28 @@ class OfAPeer(unittest.TestCase):
         self.assertEqual(lines.left_out(), 490)
 
 
+class InAMoment(unittest.TestCase):
+    """Refusals that go the long way, short ones, and none until the moment is over."""
+
+    def test_refusals(self):
+        clock = Clock()
+        it = Refusals(clock)
+        for count in range(WHOLE):
+            self.assertFalse(it.are_many(), count)
+            it.add(COST)
+        self.assertTrue(it.are_many())
+        for _ in range(MOST - WHOLE * COST):
+            self.assertEqual(it.wait(), 0.0)
+            it.add(1)
+        self.assertAlmostEqual(it.wait(), MOMENT)
+        clock.now += MOMENT / 2
+        self.assertAlmostEqual(it.wait(), MOMENT / 2)
+        clock.now += MOMENT
+        self.assertEqual((it.are_many(), it.wait()), (False, 0.0))
+        it.add(1)
+        self.assertEqual(it.count, 1)
+
+
 class OverSockets(unittest.TestCase):
     def call(self, listener, host="127.0.0.1"):
         return socket.create_connection(listener.address, 10, (host, 0))
@@ -140,6 +182,22 @@ class OverSockets(unittest.TestCase):
                     break
                 time.sleep(0.1)
             self.assertEqual(len(reply), 48)
+
+    def test_comes_again_and_again(self):
+        """A peer that has its connections is refused a thousand times. Another one is served."""
+        options = ("--tcp", "127.0.0.1:0", "--connections-per-peer", "1")
+        with Running(*options) as listener, contextlib.ExitStack() as held:
+            held.enter_context(self.call(listener, "127.0.0.2")).sendall(register(1))
+            other = held.enter_context(Session.register(Socket(listener.address)))
+            lines = collections.Counter()
+            for _ in range(1000):
+                with self.call(listener, "127.0.0.2") as it, contextlib.suppress(OSError):
+                    lines[it.recv(48, socket.MSG_WAITALL)] += 1
+            self.assertEqual(list(lines), [b"tb_listen: TooManyConnections\n"])
+            self.assertEqual(lines.total(), 1000)
+            other.lookup_accounts([1])
+            self.assertEqual(listener.end(), 0)
+        self.assertIn("1002 connections", listener.news[-1])
 
     def test_sessions(self):
         with Running("--tcp", "127.0.0.1:0", "--sessions-per-range", "2") as listener:

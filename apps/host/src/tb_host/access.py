@@ -3,6 +3,7 @@ from __future__ import annotations
 
 import argparse
 import asyncio
+import functools
 import ipaddress
 import os
 import pwd
@@ -65,8 +66,7 @@ class Access:
         """Who connected. Raises `Told` where they may not."""
         it: Any = transport.get_extra_info("socket")
         if it.family == socket.AF_UNIX:
-            raw = it.getsockopt(socket.SOL_SOCKET, socket.SO_PEERCRED, CREDENTIALS.size)
-            uid = CREDENTIALS.unpack(raw)[1]
+            uid = _user_of(it)
             if uid not in self.users:
                 raise Told("NotAllowed", f"user {uid}")
             found = Peer(f"user {uid}", ("user", uid), ("user", uid))
@@ -93,6 +93,22 @@ class Access:
             raise Told("ClientNotAllowed", peer.shown)
 
 
+def _user_of(it: socket.socket) -> int:
+    """Who is at the other end of a Unix socket."""
+    raw = it.getsockopt(socket.SOL_SOCKET, socket.SO_PEERCRED, CREDENTIALS.size)
+    return int(CREDENTIALS.unpack(raw)[1])
+
+
+def caller_of(it: socket.socket, address: Any) -> Peer:
+    """Who makes a connection, as far as that is known before TLS is agreed on."""
+    if it.family == socket.AF_UNIX:
+        uid = _user_of(it)
+        return Peer(f"user {uid}", ("user", uid), ("user", uid))
+    host, port = address[:2]
+    return Peer(f"{host}:{port}", ("certificate", ""), ("address", network_of(host)))
+
+
+@functools.lru_cache(maxsize=1024)
 def network_of(host: str) -> str:
     """Whose address it is: one host has all that begin with 64 bits of IPv6."""
     found = ipaddress.ip_address(host.partition("%")[0])

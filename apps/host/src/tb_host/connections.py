@@ -5,6 +5,7 @@ import argparse
 import asyncio
 import contextlib
 import math
+import socket
 import time
 from typing import Any, Callable, List, Optional, Protocol, Set, Tuple
 
@@ -13,12 +14,13 @@ from tb_client.layout import HEADER, REPLY
 from tb_client.names import Operation
 from tb_client.records import u128_at
 
-from .access import Access, Peer
+from .access import Access, Peer, caller_of
 from .counts import Counts
 from .evictions import Evictions
 from .lines import TOLD, Told, say_of
 from .process import came
-from .shares import Shares
+from .refusals import COST, Refusals
+from .shares import CALL, TLS_CALL, Shares
 
 READ_AHEAD = 1 << 16  # bytes that are read of a connection beyond the request that is answered
 PIECE = 1 << 12  # bytes, of which those that come in smaller pieces are put together
@@ -206,10 +208,12 @@ class Connection(asyncio.Protocol):
             self.close(fault)
 
     def _use_session(self, reply: bytes) -> None:
-        """A reply that is no refusal has used its client's session."""
+        """A reply that is no refusal has used its client's session. A long one has taken turns."""
         shares = self.listener.shares
-        if shares.sessions is not None and self.peer is not None and not reply[29]:
-            shares.use(self.peer.share, u128_at(reply, 0))
+        if self.peer is not None:
+            shares.charge(self.peer.share, len(reply))
+            if shares.sessions is not None and not reply[29]:
+                shares.use(self.peer.share, u128_at(reply, 0))
 
     def _pass_on(self, reply: bytes, now: float) -> None:
         self.transport.write(reply)
@@ -285,7 +289,7 @@ class Listener:
     ) -> None:
         self.command, self.given, self.access = command, given, access
         self.counts, self.evictions = counts, evictions
-        self.shares = Shares(given)
+        self.shares, self.refusals = Shares(given), Refusals()
         self.open: Set[Connection] = set()
         self.served: Set[Connection] = set()  # those that are not told why they are closed
         self.leaving: Set[Connection] = set()  # those that were told why, and may still send
@@ -334,8 +338,30 @@ class Listener:
         """A connection of this peer is closed for this reason."""
         self._free(it)
         if why not in UNSAID:
-            self.counts.closed[why] += 1
-            say_of(peer, f"a connection is closed: {why}")
+            self.refusals.add(COST)
+            self._count_closed(why, peer)
+
+    def _count_closed(self, why: str, peer: str) -> None:
+        self.counts.closed[why] += 1
+        say_of(peer, f"a connection is closed: {why}")
+
+    def refuses(self, it: socket.socket, address: Any, is_tls: bool) -> str:
+        """Why a new connection is refused at once, or nothing. Those who come again and again,
+        though their peer has its share, take no more time than that."""
+        try:
+            peer = caller_of(it, address)
+            self.shares.call(peer.share, TLS_CALL if is_tls else CALL)
+            if len(self.served) >= self.given.connections:
+                raise Told("Busy")
+        except OSError:
+            return ""  # it was gone before it was taken
+        except Told as told:
+            if self.refusals.are_many():
+                self.counts.taken += 1
+                self.refusals.add(1)
+                self._count_closed(str(told), peer.shown)
+                return str(told)
+        return ""
 
     def leave_out(self, it: Connection) -> None:
         """A connection is gone."""

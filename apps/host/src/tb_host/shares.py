@@ -13,7 +13,8 @@ from typing import Callable, Counter, Dict, Hashable, Optional
 from .arguments import count
 from .lines import Told
 
-PIECE = 1 << 14  # bytes of a request that count as one
+PIECE = 1 << 12  # bytes of a request, or of a reply, that count as one request
+CALL, TLS_CALL = 4, 16  # requests that a new connection counts as, and one that agrees on TLS
 BURST = 1.0  # seconds whose requests may come at once
 PATIENCE = 1.0  # seconds that a request waits for its turn
 
@@ -37,8 +38,9 @@ def add_shares(parser: argparse.ArgumentParser) -> None:
         "--requests-per-second",
         metavar="N",
         type=count,
-        help="requests of one peer in a second, a long one counted for each 16 KiB; more wait a "
-        "second at most, and are then told TooManyRequests",
+        help="requests of one peer in a second, counted once and for each 4 KiB of request and "
+        "reply, a new connection as four; more wait a second at most, and are then told "
+        "TooManyRequests",
     )
 
 
@@ -58,6 +60,10 @@ class Turns:
         self.due = due + cost / self.rate
         return wait
 
+    def charge(self, cost: int, now: float) -> None:
+        """Counts what was done already."""
+        self.due = max(self.due, now) + cost / self.rate
+
 
 class Shares:
     """What each peer has taken."""
@@ -76,9 +82,12 @@ class Shares:
 
     def enter(self, key: Hashable) -> None:
         """Takes a connection of a peer. Raises `Told` if it has too many."""
+        self._test_connections(key)
+        self.open[key] += 1
+
+    def _test_connections(self, key: Hashable) -> None:
         if self.connections is not None and self.open[key] >= self.connections:
             raise Told("TooManyConnections")
-        self.open[key] += 1
 
     def leave(self, key: Hashable) -> None:
         """A connection that was taken is closed."""
@@ -92,11 +101,28 @@ class Shares:
         if self.requests is None:
             return 0.0
         now = self.clock()
+        return self._turns_of(key, self.requests, now).wait(1 + length // PIECE, now)
+
+    def charge(self, key: Hashable, length: int) -> None:
+        """Counts a long reply to a request of a peer."""
+        if self.requests is not None and length >= PIECE:
+            now = self.clock()
+            self._turns_of(key, self.requests, now).charge(length // PIECE, now)
+
+    def call(self, key: Hashable, cost: int) -> None:
+        """Takes a turn for a connection that a peer makes. Raises `Told` if it has none, or has its
+        connections."""
+        self._test_connections(key)
+        if self.requests is not None:
+            now = self.clock()
+            self._turns_of(key, self.requests, now).wait(cost, now)
+
+    def _turns_of(self, key: Hashable, rate: int, now: float) -> Turns:
         turns = self.turns.get(key)
         if turns is None:
             self._forget_turns(now)
-            turns = self.turns[key] = Turns(self.requests)
-        return turns.wait(1 + length // PIECE, now)
+            turns = self.turns[key] = Turns(rate)
+        return turns
 
     def _forget_turns(self, now: float) -> None:
         """Drops peers that may have as many requests at once as new ones."""

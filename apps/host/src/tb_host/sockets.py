@@ -17,6 +17,7 @@ from typing import Any, Dict, Iterator, List, Optional
 
 from .connections import Connection, Listener
 from .lines import Ended, say, say_of
+from .refusals import refuse
 from .systemd import passed_sockets
 from .tls import agreeing_on, context_of, is_loopback
 
@@ -221,13 +222,16 @@ async def take_connections(at: Place, listener: Listener) -> None:
         else:
             is_said = False
             it.setblocking(False)
-            if at.tls is None:
+            why = listener.refuses(it, address, at.tls is not None)
+            if why:
+                refuse(it, "" if at.tls else why)
+            elif at.tls is None:
                 await _begin(it, listener)
             else:  # who is slow at it holds up nobody
                 if len(agreeing) >= listener.given.connections:
                     await _drop_oldest(listener)
                 _keep(asyncio.ensure_future(_begin(it, listener, at.tls)), shown(*address))
-                await asyncio.sleep(0)  # nor do many that call at once
+            await asyncio.sleep(listener.refusals.wait())  # nor do many that call at once
 
 
 async def _called(place: socket.socket) -> None:
