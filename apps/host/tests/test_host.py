@@ -1876,6 +1876,14 @@ class Replicas(OverALog):
         await it.begin()
         self.assertGreater(it.moments.next(), time.time_ns())
 
+    @mock.patch.multiple(replica, CLOCK=0.0, CLOCK_AGAIN=0.01)
+    async def test_a_log_ahead_of_the_clock_beyond_the_copy(self):
+        """It is found when the log was read, before a request is taken."""
+        self.log.put(entry(A, 1, pair(time.time_ns() + 100 * 10**9, register(5))).to_bytes())
+        it = await self.began()
+        self.assertEqual(await self.ended(), "Ahead")
+        self.assertEqual((it.is_met, self.log.made), (False, set()))
+
     async def test_files_that_are_renewed_before_it_serves(self):
         """A replica that waits for its clock reaches the engine by them. SIGHUP did nothing."""
         given = argparse.Namespace(

@@ -696,12 +696,14 @@ class Replica:
         elif self.right is None:
             await self._ask_the_engine()
         self._test_clock()
+        await self._test_last_moment()  # of what was read since the start
 
     async def _answer_until(self, others: Set[str]) -> None:
-        """Waits for the clocks of others, and tells them this one: they may begin too."""
+        """Waits for the clocks of others, and tells them this one: they may begin too. Once the own
+        report was read, so was the log up to there."""
         end = time.monotonic() + ANSWERS
         self.reporting.set()
-        while self.reporting.is_set() or others - set(self.ahead):
+        while self.reporting.is_set() or others - set(self.ahead) or not self.is_heard:
             if self.reporting.is_set():
                 self.reporting.clear()
                 await self.report()
