@@ -9,7 +9,7 @@ import sys
 import pytest
 
 ROOT = pathlib.Path(__file__).resolve().parent.parent
-for folder in ("checks", "tools", "clients/python/src"):
+for folder in ("checks", "tools", "clients/python/src", "apps/host/src"):
     sys.path.append(str(ROOT / folder))
 
 
@@ -55,7 +55,13 @@ def ran(words, given=b"", seconds=120, **how):
 def pytest_addoption(parser):
     parser.addoption("--storms", type=int, default=3, help="how often each storm is run")
     parser.addoption("--drawn", type=int, default=200, help="schedules for each client")
-    parser.addoption("--seed", type=int, default=1, help="of the first schedule")
+    parser.addoption("--faults", type=int, default=13, help="of machines, disks and clocks")
+    parser.addoption("--kinds", type=lambda it: it.split(","), help="of faults, with commas")
+    parser.addoption("--seed", type=int, default=1, help="of what is drawn")
+    parser.addoption("--between", type=float, default=0.5, help="seconds between faults")
+    parser.addoption("--pause", type=float, default=0.1, help="seconds between a client's requests")
+    parser.addoption("--sync", type=float, default=0, help="ms that each sync takes longer (rates)")
+    parser.addoption("--requests", type=int, default=100_000, help="before a start over them")
     parser.addoption("--every", type=int, default=1, help="refuse the first call, each N-th")
     parser.addoption("--seeds", type=int, default=10_000, help="how many the simulator runs")
     parser.addoption("--first-seed", type=int, default=0, help="the first of them")

@@ -2,7 +2,7 @@
 import ssl
 import subprocess
 
-from processes import Cluster
+from .processes import Cluster
 
 CA, SERVER, CLIENT = "ca", "server", "client"
 PASSWORD = "a long password"
@@ -33,11 +33,11 @@ def certificates(folder):
 class Closed(Cluster):
     """A cluster whose etcd wants certificates and passwords."""
 
-    def __init__(self, folder, replica=None, count=3):
+    def __init__(self, folder, **options):
         certificates(folder)
         with open(f"{folder}/password", "w", encoding="utf-8") as file:
             file.write(f"{PASSWORD}\n")
-        super().__init__(folder, replica=replica, count=count)
+        super().__init__(folder, **options)
 
     def _node(self, at):
         at = super()._node(at)

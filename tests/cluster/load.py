@@ -4,7 +4,8 @@
     load.py PORT CLIENTS BATCH SECONDS
 
 Each client registers, and makes transfers of 1 from account 1 to account 2, BATCH in a request.
-Prints how many transfers were answered in SECONDS, and how many seconds that took.
+Prints how many transfers were answered in SECONDS, how many seconds that took, and the times of a
+request that half of them (p50) and 99 of 100 (p99) do not exceed, in milliseconds.
 """
 import asyncio
 import os
@@ -30,7 +31,7 @@ def renewed(body, batch, first):
         struct.pack_into("<Q", body, 128 * at, first + at)
 
 
-async def client(port, number, batch, end):
+async def client(port, number, batch, end, times):
     reader, writer = await asyncio.open_connection("127.0.0.1", port)
     name = (os.getpid() << 16) + number + 1
     reply = await asked(reader, writer, request_frame(name, 0, 0, Operation.register))
@@ -43,7 +44,9 @@ async def client(port, number, batch, end):
         request += 1
         renewed(body, batch, 1 + done)
         frame = request_frame(name, session, request, Operation.create_transfers, bytes(body))
+        began = time.monotonic()
         reply = await asked(reader, writer, frame)
+        times.append(time.monotonic() - began)
         if len(reply) != 48 or reply[29]:
             sys.exit(f"a request was not answered as it should be: {reply[:48].hex()}")
         done += batch
@@ -61,10 +64,12 @@ async def main():
     await asked(
         reader, writer, request_frame(name, session, 1, Operation.create_accounts, accounts)
     )
-    began = time.monotonic()
+    began, times = time.monotonic(), []
     end = began + seconds
-    done = await asyncio.gather(*(client(port, it, batch, end) for it in range(clients)))
-    print(sum(done), round(time.monotonic() - began, 3))
+    done = await asyncio.gather(*(client(port, it, batch, end, times) for it in range(clients)))
+    took, times = time.monotonic() - began, sorted(times)
+    halves = (1000 * times[len(times) * part // 100] for part in (50, 99))
+    print(sum(done), round(took, 3), *(round(it, 3) for it in halves))
 
 
 if __name__ == "__main__":

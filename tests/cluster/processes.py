@@ -1,4 +1,6 @@
 """The processes of a cluster on one machine: an engine's nodes, links, and replicas."""
+
+import collections
 import contextlib
 import glob
 import os
@@ -9,14 +11,15 @@ import subprocess
 import sys
 import time
 
+from ..conftest import found
+
 HERE = os.path.dirname(os.path.abspath(__file__))
 TOP = os.path.dirname(os.path.dirname(HERE))
 CLIENT = f"{TOP}/clients/python/src"
 HOST = f"{TOP}/apps/host"
 ENVIRONMENT = {**os.environ, "PYTHONPATH": f"{HOST}/src:{CLIENT}"}
 PYTHON = "/usr/bin/python3"  # Debian's, which sees its packages
-PROGRAM = os.path.abspath(os.environ.get("PROGRAM", f"{TOP}/crates/tb_script/out/tb_script"))
-# The server with its replies kept in a file: those of its last start. A status above 128 is that
+# The server with its replies in a file: those of its last start. A status above 128 is that
 # of a signal. Where rates count and no reply is compared, the server runs as it is.
 KEEPING = 'set -o pipefail; program=$1 out=$2; shift 2; "$program" "$@" | tee "$out"'
 
@@ -136,18 +139,38 @@ class Machines:
     """Replicas on the loopback interface, over the log of a subclass."""
 
     nodes = ()  # the engine's processes
-    sync = 0.0  # seconds by which each sync of the engine takes longer
-    follows = None  # tb_follow, where that is the server
-    keeps = None  # a server that keeps its ledger in a file, where that is it
 
-    def __init__(self, folder, clients_max, replica, count, keeps_replies=True):
+    def __init__(
+        self,
+        folder,
+        program=found,
+        server="tb_script",
+        clients_max=64,
+        replica=None,
+        count=3,
+        keeps_replies=True,
+        sync=0.0,
+    ):
+        """`server` is tb_script, tb_follow or tbd, and `sync` by how many seconds each sync of the
+        engine takes longer."""
         self.folder, self.count, self.clients_max = folder, count, clients_max
+        self.program, self.server, self.sync = program, server, sync
         self.keeps_replies = keeps_replies
+        self.words = replica or [f"{HOST}/tb-replica"]
         self.tcp = free_ports(count)
-        words = replica or [f"{HOST}/tb-replica"]
-        self.replicas = [
-            Process(f"replica{it}", self.replica_words(it, words), folder) for it in range(count)
-        ]
+        self.replicas = [self.replica(it) for it in range(count)]
+
+    def replica(self, at):
+        return Process(f"replica{at}", self.replica_words(at, self.words), self.folder)
+
+    @property
+    def follows(self):
+        return self.server == "tb_follow"
+
+    @property
+    def keeps(self):
+        """The server, if it keeps its ledger in a file."""
+        return str(self.program("tbd")) if self.server == "tbd" else None
 
     def copy(self, at):
         return f"{self.folder}/copy{at}"
@@ -162,7 +185,7 @@ class Machines:
         """The server of a replica, and its words."""
         if self.keeps:
             return [self.keeps, "follow", self.file(at), str(self.clients_max)]
-        program = [self.follows or PROGRAM]
+        program = [str(self.program(self.server))]
         if self.keeps_replies:
             program = ["bash", "-c", KEEPING, "bash", *program, self.out(at)]
         return [*program, *([] if self.follows else ["run"]), str(self.clients_max)]
@@ -214,20 +237,18 @@ class Cluster(Machines):
         self,
         folder,
         quota=0,
-        clients_max=64,
-        replica=None,
         count=3,
         is_linked=True,
-        keeps_replies=True,
+        **options,
     ):
-        self.quota, self.shown = quota, 0  # `shown` is the node whose log is shown
+        self.quota, self.is_linked = quota, is_linked
         take = iter(free_ports(3 * count + count * count)).__next__
         self.serves, self.peers = [[take() for _ in range(count)] for _ in range(2)]
         self.peer_links = [take() for _ in range(count)]
         self.ways = [[take() for _ in range(count)] for _ in range(count)]
         if not is_linked:
             self.peer_links, self.ways = self.peers, [self.serves] * count
-        super().__init__(folder, clients_max, replica, count, keeps_replies)
+        super().__init__(folder, count=count, **options)
         pairs = list(zip(self.peer_links, self.peers))
         pairs += [(it, self.serves[at]) for way in self.ways for at, it in enumerate(way)]
         self.links = Links(pairs if is_linked else [])
@@ -245,6 +266,29 @@ class Cluster(Machines):
         words += ["--listen-client-urls", serves, "--advertise-client-urls", serves]
         words += ["--quota-backend-bytes", str(self.quota)] if self.quota else []
         return slowed(words, self.sync)
+
+    def lose(self, at):
+        """Loses a machine: its node, its replica, and their disks."""
+        for it in (self.nodes[at], self.replicas[at]):
+            it.kill()
+        for folder in (f"{self.folder}/etcd{at}", self.copy(at)):
+            shutil.rmtree(folder)
+
+    def replace_node(self, at):
+        """Removes a member of etcd and adds another one in its place, as `etcdctl member` does."""
+        import etcd3.etcdrpc as rpc
+
+        with self.channel(self.serves[(at + 1) % self.count]) as channel:
+            stub = rpc.ClusterStub(channel)
+            members = stub.MemberList(rpc.MemberListRequest(), timeout=10).members
+            (gone,) = (it.ID for it in members if it.name == f"n{at}")
+            stub.MemberRemove(rpc.MemberRemoveRequest(ID=gone), timeout=10)
+            url = f"http://127.0.0.1:{self.peer_links[at]}"
+            stub.MemberAdd(rpc.MemberAddRequest(peerURLs=[url]), timeout=10)
+        node = self.nodes[at]
+        node.words = [*node.words, "--initial-cluster-state", "existing"]
+        node.start()
+        until(lambda: self.is_up(at), 60, "the new member is up")
 
     def log(self, at=None):
         """The log's URL: over a replica's links, or without links."""
@@ -298,22 +342,26 @@ class Cluster(Machines):
         return []
 
     def script(self):
-        """The entries of the log, read without the replicas' code for that."""
+        """The entries of the log as most nodes have them, read without the replicas' code."""
         import etcd3.etcdrpc as rpc
 
-        with self.channel(self.serves[self.shown]) as channel:
-            request = rpc.RangeRequest(key=b"bank/log/", range_end=b"bank/log0")
-            more = self.metadata(channel)
-            found = rpc.KVStub(channel).Range(request, timeout=60, metadata=more).kvs
-        return [it.value for it in sorted(found, key=lambda it: it.create_revision)]
+        entries = collections.defaultdict(collections.Counter)
+        for port in self.serves:
+            with self.channel(port) as channel:
+                request = rpc.RangeRequest(key=b"bank/log/", range_end=b"bank/log0")
+                request.serializable = True
+                more = self.metadata(channel)
+                for it in rpc.KVStub(channel).Range(request, timeout=60, metadata=more).kvs:
+                    entries[it.create_revision][it.value] += 1
+        return [entries[it].most_common(1)[0][0] for it in sorted(entries)]
 
 
 class Postgres(Machines):
     """A primary, one standby that each commit waits for, and replicas over them."""
 
-    def __init__(self, folder, clients_max=64, replica=None, count=3, keeps_replies=True):
+    def __init__(self, folder, **options):
         self.ports = free_ports(2)
-        super().__init__(folder, clients_max, replica, count, keeps_replies)
+        super().__init__(folder, **options)
         os.chmod(folder, 0o711)
         self.data = f"{folder}/postgresql"
         os.mkdir(self.data)
@@ -325,15 +373,15 @@ class Postgres(Machines):
         ]
 
     def _server(self, data):
-        return slowed(self.words("postgres", "-D", data), self.sync)
+        return slowed(self.postgres("postgres", "-D", data), self.sync)
 
-    def words(self, program, *words):
+    def postgres(self, program, *words):
         """A program of PostgreSQL's, which root may not run."""
         user = ["setpriv", "--reuid=postgres", "--regid=postgres", "--clear-groups"]
         return [*(user if os.getuid() == 0 else []), f"{postgres_folder()}/{program}", *words]
 
     def run(self, *words):
-        subprocess.run(self.words(*words), cwd="/", check=True, capture_output=True, timeout=120)
+        subprocess.run(self.postgres(*words), cwd="/", check=True, capture_output=True, timeout=120)
 
     def log(self, _=None):
         """The standby's address is for reading what the primary has no more."""
@@ -418,5 +466,4 @@ def missing(engine="etcd"):
         names.append("postgresql")
     package = {"etcd": "etcd3", "postgresql": "psycopg"}[engine]
     ran = subprocess.run([PYTHON, "-c", f"import {package}"], capture_output=True, check=False)
-    names += [f"python3-{package}"] if ran.returncode else []
-    return names + ([] if os.access(PROGRAM, os.X_OK) else [PROGRAM])
+    return names + ([f"python3-{package}"] if ran.returncode else [])

@@ -1,4 +1,5 @@
 """Bits that a disk has changed, in what an engine's node and a replica keep of the log."""
+
 import glob
 import os
 
@@ -71,3 +72,12 @@ def change_key(paths, data, bit):
                 count += 1
                 place = kept.find(data, place + 1)
     return count
+
+
+def flip(path, at, bit=0):
+    """Changes a bit of a file."""
+    with open(path, "r+b") as file:
+        file.seek(at)
+        byte = file.read(1)
+        file.seek(at)
+        file.write(bytes([byte[0] ^ 1 << bit]))

@@ -1,25 +1,24 @@
 #!/usr/bin/env python3
-"""A replica that does one thing wrong, to see that checks/cluster.py finds it.
+"""A replica that does one thing wrong, to see that the tests of this folder find it.
 
     wrong_replica.py KIND WORD ..
 
 executes_early: a request is executed before the log has it. replies_early: a transfer is answered
 before the log has it, and appended a little later, so that a kill finds some. skips_at_restart: the
 first entry that is read after a restart is left out. takes_twice_at_restart: it is taken twice.
-clock_ahead: its clock is an hour ahead (it is a right replica: it has to end itself).
+Two are right replicas: the clock of clock_ahead is an hour ahead, so it has to end itself, and
+old_format is a version that knows entries of format 1 alone.
 """
+
 import asyncio
-import os
 import struct
 import sys
 import time
 
-sys.path.insert(0, os.getcwd())
-
-from tb_client import Operation  # noqa: E402
-from tb_host import machines, moments, replica  # noqa: E402
-from tb_host.entries import Entry  # noqa: E402
-from tb_host.log import Written  # noqa: E402
+from tb_client import Operation
+from tb_host import heads, machines, moments, replica
+from tb_host.entries import Entry
+from tb_host.log import Written
 
 LATE = 0.05  # seconds
 take, append, ask = replica.Replica.take, replica.Replica._append, replica.Replica.ask_soon
@@ -90,6 +89,11 @@ def clock_ahead():
     replica.CLOCK = 2.0  # seconds in which nobody sets it right
 
 
+def old_format():
+    for module in (heads, replica):
+        module.FORMATS, module.WRITTEN = (1,), 1
+
+
 if __name__ == "__main__":
     {
         it.__name__: it
@@ -99,6 +103,7 @@ if __name__ == "__main__":
             skips_at_restart,
             takes_twice_at_restart,
             clock_ahead,
+            old_format,
         )
     }[sys.argv.pop(1)]()
     sys.exit(machines.main())

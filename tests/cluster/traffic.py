@@ -1,14 +1,10 @@
 """Clients that move money, and never give a request up."""
-import sys
+
 import threading
 import time
 
-from processes import CLIENT
-
-sys.path.insert(0, CLIENT)
-
-import tb_client as tb  # noqa: E402
-from tb_client import Account, Operation, Session, Socket, Transfer  # noqa: E402
+import tb_client as tb
+from tb_client import Account, Operation, Session, Socket, Transfer
 
 PAYER, PAYEE = 1, 2
 TIMEOUT = 8.0  # seconds for which a client waits for a reply

@@ -3,16 +3,11 @@ import asyncio
 import hashlib
 import os
 import subprocess
-import sys
 import time
 
-from processes import CLIENT, HOST, PROGRAM
-
-sys.path[:0] = [CLIENT, f"{HOST}/src"]
-
-from tb_host.entries import Entry  # noqa: E402
-from tb_host.local_copy import records_of  # noqa: E402
-from tb_host.log import Access, LogGone, Written, opened  # noqa: E402
+from tb_host.entries import Entry
+from tb_host.local_copy import records_of
+from tb_host.log import Access, LogGone, Written, opened
 
 
 def script_of(cluster):
@@ -65,12 +60,10 @@ def script_of_copy(folder):
     return [Entry.from_bytes(it.entry).pairs for it in records_of(folder)]
 
 
-def replies_to(script, clients_max):
+def replies_to(script, cluster):
     """What a fresh server answers to the script."""
-    ran = subprocess.run(
-        [PROGRAM, "run", str(clients_max)], input=b"".join(script), capture_output=True, check=True
-    )
-    return ran.stdout
+    words = [cluster.program("tb_script"), "run", str(cluster.clients_max)]
+    return subprocess.run(words, input=b"".join(script), capture_output=True, check=True).stdout
 
 
 def replies_of(cluster, at):

@@ -4,8 +4,8 @@ import os
 import shutil
 import subprocess
 
-import agreement
-from processes import until
+from . import agreement
+from .processes import until
 
 QUESTION, STANDING = b"\2", 73  # what a server is asked for its position, and the bytes of that
 
@@ -37,7 +37,7 @@ def replies_of(data):
 def expected(cluster):
     """What a file has to have, by the engine's script and a fresh server."""
     script = agreement.script_of(cluster)
-    replies = agreement.replies_to(script, cluster.clients_max)
+    replies = agreement.replies_to(script, cluster)
     hashes = chained(script) + chained(replies_of(replies))
     return QUESTION + len(script).to_bytes(8, "little") + hashes
 
@@ -52,15 +52,6 @@ def settled(cluster):
         return len(set(now)) == 1 and sizes[-2:] == [now, now]
 
     until(are_equal, 120, "each replica has the log")
-
-
-def flip(path, at):
-    """Changes a bit of a file."""
-    with open(path, "r+b") as file:
-        file.seek(at)
-        byte = file.read(1)
-        file.seek(at)
-        file.write(bytes([byte[0] ^ 1]))
 
 
 def replace(cluster, at, source):

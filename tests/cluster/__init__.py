@@ -1,0 +1,1 @@
+"""A ledger on several machines, and many tenants of one listener."""

@@ -1,0 +1,52 @@
+"""Clusters on this machine for the tests of this folder. A test of an engine that is not installed
+is skipped, and says what is missing."""
+
+import contextlib
+import tempfile
+
+import pytest
+
+from .processes import HERE, Cluster, missing
+
+WAY = "-B", f"{HERE}/wrong_replica.py"
+
+
+def pytest_runtest_setup(item):
+    for engine in ("etcd", "postgresql"):
+        if item.get_closest_marker(f"needs_{engine}"):
+            lacks = missing(engine)
+            if lacks:
+                pytest.skip(f"not installed: {', '.join(lacks)}")
+
+
+@pytest.fixture
+def cluster_of(program):
+    """Makes clusters that run, and end with the test. `wrong` is a kind of wrong_replica.py."""
+    with contextlib.ExitStack() as stack:
+
+        def made(kind=Cluster, wrong=None, server="tb_script", **options):
+            folder = stack.enter_context(tempfile.TemporaryDirectory(prefix="cluster-"))
+            words = [*WAY, wrong] if wrong else None
+            it = kind(folder, server=server, program=program, replica=words, **options)
+            stack.callback(it.end)
+            it.start()
+            return it
+
+        yield made
+
+
+@pytest.fixture
+def show(capsys):
+    """Prints a figure, also where the output of tests is captured."""
+
+    def say(text):
+        with capsys.disabled():
+            print(f"\n  {text}", end="", flush=True)
+
+    return say
+
+
+@pytest.fixture
+def given(request):
+    """The options of the command line."""
+    return request.config.option

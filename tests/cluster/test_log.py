@@ -1,0 +1,236 @@
+"""The log and its copies: trimmed amid faults, full, torn, damaged, behind TLS, in PostgreSQL."""
+
+import os
+import shutil
+import signal
+import time
+
+import pytest
+
+from . import agreement, kept, rot
+from .closed import Closed
+from .ends import agreed
+from .faults import Faults, last
+from .processes import Postgres, until
+from .traffic import Traffic
+
+pytestmark = pytest.mark.slow
+REPORT = 11  # seconds in which a replica has reported
+TRIMMED, DAMAGED, FULL = 21, 24, 26
+
+
+def moving(cluster, clients=4, **how):
+    traffic = Traffic(cluster.tcp, clients, **how)
+    traffic.open_accounts()
+    traffic.start()
+    return traffic
+
+
+@pytest.mark.needs_etcd
+def test_trim_amid_faults(cluster_of, given):
+    cluster = cluster_of()
+    traffic, faults = moving(cluster, 12, pause=0.05, spread=True), Faults(cluster, given.seed)
+    trims = []
+    for kind in ("replica killed", "leader killed", "links of a replica cut"):
+        time.sleep(REPORT)
+        faults.one(kind)
+        trims.append(cluster.part("trim", "--log", cluster.log(), seconds=120))
+    assert not any(status for status, _ in trims), trims
+    assert any("are removed" in said for _, said in trims), trims
+    assert agreement.is_gone(cluster, 0), "the log still has its beginning"
+    assert agreement.is_kept(cluster, cluster.copy(0)), "the log lacks what was not trimmed"
+    comes_too_late(cluster)
+    agreed(cluster, traffic, is_trimmed=True)
+
+
+def comes_too_late(cluster):
+    """A replica without a copy comes too late, and goes on with a peer's."""
+    late = cluster.replicas[2]
+    late.kill()
+    os.rename(cluster.copy(2), cluster.copy(2) + ".lost")
+    late.start()
+    assert late.process.wait(60) == TRIMMED, last(late)
+    os.rename(cluster.copy(2), cluster.copy(2) + ".empty")
+    status, said = cluster.part("copy-from", cluster.copy(0), "--copy", cluster.copy(2))
+    assert status == 0, said
+    late.start()
+    cluster.until_listens(2)
+
+
+@pytest.mark.needs_etcd
+def test_copies_torn_and_damaged(cluster_of):
+    cluster = cluster_of()
+    traffic = moving(cluster, pause=0.05)
+    time.sleep(5)
+    torn, damaged = cluster.replicas[2], cluster.replicas[1]
+    for it in (torn, damaged):
+        assert it.end() == 0, last(it)
+    with open(f"{cluster.copy(2)}/log", "ab") as file:
+        file.write(b"\x01" * 30)
+    torn.start()
+    cluster.until_listens(2)
+    assert "30 bytes that a crash left torn" in torn.said()
+    path, at = f"{cluster.copy(1)}/log", 200
+    rot.flip(path, at)
+    damaged.start()
+    assert damaged.process.wait(60) == DAMAGED, last(damaged)
+    rot.flip(path, at)
+    damaged.start()
+    cluster.until_listens(1)
+    agreed(cluster, traffic)
+
+
+@pytest.mark.needs_etcd
+def test_full(cluster_of):
+    """etcd's quota is used up, and the log is trimmed."""
+    cluster = cluster_of(quota=24 << 20)
+    traffic = moving(cluster, batch=2000)
+    until(lambda: "LogFull" in "".join(it.said() for it in cluster.replicas), 240, "LogFull")
+    status, said = cluster.part("status", "--log", cluster.log())
+    assert status == FULL, said
+    cluster.replicas[2].kill()
+    cluster.replicas[2].start()
+    cluster.until_listens(2)  # a replica starts nevertheless
+    status, said = cluster.part("trim", "--log", cluster.log(), seconds=180)
+    assert status == 0 and "still full" not in said, said
+    before = traffic.made
+    until(lambda: traffic.made > before, 60, "transfers go on")
+    traffic.stop.set()
+    for _ in range(6):  # it may be full again
+        time.sleep(REPORT)
+        cluster.part("trim", "--log", cluster.log(), seconds=180)
+        if cluster.part("status", "--log", cluster.log())[0] == 0:
+            break
+    agreed(cluster, traffic, is_trimmed=True)
+
+
+@pytest.mark.needs_etcd
+def test_tls_and_passwords(cluster_of, given):
+    """etcd and the replicas speak TLS and want certificates; etcd wants a password too."""
+    cluster = cluster_of(kind=Closed)
+    traffic = moving(cluster, pause=0.05, spread=True, tls=cluster.context())
+    faults = Faults(cluster, given.seed)
+    for kind in ("leader killed", "links of a replica cut", "follower killed"):
+        faults.one(kind)
+        time.sleep(3)
+    time.sleep(REPORT)
+    log = ("--log", cluster.log())
+    root = (*cluster.files(), *cluster.user("root"), *log)
+    status, said = cluster.part("status", *root)
+    assert status == 0 and said.count("replica r") == 3, said
+    for words in (
+        (*cluster.user(), *log),
+        (*cluster.files(), *log),
+        (*cluster.files(), *cluster.user(password="names"), *log),
+    ):
+        status, said = cluster.part("status", *words)
+        assert status in (1, 20), said
+    agreed(cluster, traffic)
+    status, said = cluster.part("trim", *root, seconds=120)
+    assert status == 0, said
+
+
+@pytest.mark.needs_postgresql
+def test_postgresql(cluster_of, given):
+    """The log is in PostgreSQL, with one standby."""
+    cluster = cluster_of(kind=Postgres)
+    traffic, faults = moving(cluster, 12, pause=0.05, spread=True), Faults(cluster, given.seed)
+    primary, standby = cluster.nodes
+    for process in (cluster.replicas[0], standby, primary, cluster.replicas[1], standby):
+        time.sleep(2)
+        faults.kill(process)
+    rows_without_a_standby(cluster, traffic)
+    before = traffic.made
+    until(lambda: traffic.made > before, 60, "transfers go on")
+    time.sleep(REPORT)
+    words = ("--log-user", "postgres", "--log", cluster.log())
+    status, said = cluster.part("status", *words)
+    assert status == 0 and said.count("replica r") == 3, said
+    agreed(cluster, traffic)
+    status, said = cluster.part("trim", *words)
+    assert status == 0, said
+
+
+def rows_without_a_standby(cluster, traffic):
+    """A wait for the standby is cancelled: the primary then shows rows that it alone has. They are
+    not to be answered before the standby has them."""
+    standby = cluster.nodes[1]
+    until(cluster.is_streaming, 60, "the standby streams")
+    standby.send(signal.SIGSTOP)
+    standby.signal_server(signal.SIGSTOP)
+    time.sleep(2)
+    made, rows = traffic.made, len(cluster.script())
+    for _ in range(30):
+        cluster.cancel_waits()
+        time.sleep(0.1)
+    shown, answered = len(cluster.script()), traffic.made - made
+    standby.send(signal.SIGCONT)
+    standby.signal_server(signal.SIGCONT)
+    assert shown > rows, "no row without a standby is visible"
+    assert answered == 0, f"{answered} of them are answered"
+
+
+@pytest.mark.needs_etcd
+def test_ledgers_in_files(cluster_of):
+    """Starts, trims and files that are refused, where servers keep their ledgers in files."""
+    cluster = cluster_of(server="tbd")
+    Traffic(cluster.tcp, 1).open_accounts()
+    moved_while(cluster, cluster.tcp, a_replica_comes_late)
+    moved_while(cluster, cluster.tcp[:2], the_log_is_trimmed)
+    kept.settled(cluster)
+    ended = [it.end() for it in cluster.replicas]
+    assert not any(ended), ended
+    assert len({kept.standing(cluster, at) for at in range(cluster.count)}) == 1
+    files_are_refused(cluster)
+
+
+def moved_while(cluster, ports, work):
+    """Money moves once while something is done."""
+    traffic = Traffic(ports, 6, pause=0.05, spread=True)
+    before = traffic.posted()
+    traffic.start()
+    work(cluster, traffic)
+    left = traffic.end()
+    assert not left and not traffic.wrong, (left, traffic.wrong[:3])
+    assert traffic.posted() - before == traffic.made > 0
+
+
+def a_replica_comes_late(cluster, traffic):
+    late = cluster.replicas[2]
+    late.kill()
+    before = traffic.made
+    until(lambda: traffic.made > before + 200, 60, "transfers go on")
+    late.start()
+    cluster.until_listens(2)
+
+
+def the_log_is_trimmed(cluster, traffic):
+    """A replica comes back after a trim, and takes a peer's file."""
+    late = cluster.replicas[2]
+    late.kill()
+    time.sleep(REPORT)
+    words = ("trim", "--log", cluster.log(), "--forget", "r2")
+    status, said = cluster.part(*words, seconds=120)
+    assert status == 0 and "are removed" in said, said
+    late.start()
+    assert late.process.wait(60) == TRIMMED, last(late)
+    status, said = kept.replace(cluster, 2, 0)
+    assert status == 0, said
+    late.start()
+    cluster.until_listens(2)
+    for at in (0, 1):
+        cluster.replicas[at].kill()
+        cluster.replicas[at].start()
+        cluster.until_listens(at)
+
+
+def files_are_refused(cluster):
+    it, words = cluster.replicas[1], cluster.replicas[1].words
+    same = str(cluster.clients_max)
+    for name, clients, status in (("ahead", same, 22), ("other", "8", 23), ("rot", same, DAMAGED)):
+        shutil.rmtree(cluster.copy(1))
+        if name == "rot":
+            rot.flip(cluster.file(1), 200)
+        it.words = [word.replace("/bank", f"/{name}") for word in words[:-1]] + [clients]
+        it.start()
+        assert it.process.wait(60) == status, f"{name}: {last(it)}"

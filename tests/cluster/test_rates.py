@@ -1,0 +1,27 @@
+"""How fast a cluster is, next to the listener over a ledger in a file on the same machine. A
+machine that does something else meanwhile has other rates: compare the ratios. `--sync MS` has
+each sync of the engine and of tbd take longer."""
+
+import pytest
+
+from . import rates
+from .processes import Postgres
+
+pytestmark = pytest.mark.slow
+
+
+@pytest.mark.needs_etcd
+@pytest.mark.parametrize("server", ["tb_script", "tbd"])
+def test_rates_over_etcd(cluster_of, given, show, server, tbd):
+    cluster = cluster_of(
+        server=server, is_linked=False, keeps_replies=False, sync=given.sync / 1000
+    )
+    for line in rates.compared(cluster, 10, 3, tbd):
+        show(f"etcd, {server}: {line}")
+
+
+@pytest.mark.needs_postgresql
+def test_rates_over_postgresql(cluster_of, given, show, tbd):
+    cluster = cluster_of(kind=Postgres, keeps_replies=False, sync=given.sync / 1000)
+    for line in rates.compared(cluster, 10, 3, tbd):
+        show(f"PostgreSQL: {line}")
