@@ -14,7 +14,7 @@ from .arguments import count
 from .lines import Told
 
 PIECE = 1 << 12  # bytes of a request, or of a reply, that count as one request
-CALL, TLS_CALL = 4, 16  # requests that a new connection counts as, and one that agrees on TLS
+CALL, TLS_CALL = 8, 32  # requests that a new connection counts as, and one that agrees on TLS
 BURST = 1.0  # seconds whose requests may come at once
 PATIENCE = 1.0  # seconds that a request waits for its turn
 
@@ -39,7 +39,7 @@ def add_shares(parser: argparse.ArgumentParser) -> None:
         metavar="N",
         type=count,
         help="requests of one peer in a second, counted once and for each 4 KiB of request and "
-        "reply, a new connection as four; more wait a second at most, and are then told "
+        "reply, a new connection as eight; more wait a second at most, and are then told "
         "TooManyRequests",
     )
 
