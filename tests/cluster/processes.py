@@ -290,6 +290,19 @@ class Cluster(Machines):
         node.start()
         until(lambda: self.is_up(at), 60, "the new member is up")
 
+    def swap_data(self, keep, take=None):
+        """Ends the nodes, keeps a copy of their data under a name, and starts them over other data
+        if that is given."""
+        for it in self.nodes:
+            it.kill()
+        for at in range(self.count):
+            data = f"{self.folder}/etcd{at}"
+            shutil.copytree(data, f"{data}.{keep}")
+            if take:
+                shutil.rmtree(data)
+                shutil.copytree(f"{data}.{take}", data)
+        self.start_engine()
+
     def log(self, at=None):
         """The log's URL: over a replica's links, or without links."""
         ports = self.serves if at is None else self.ways[at][at:] + self.ways[at][:at]

@@ -81,6 +81,38 @@ def test_copies_torn_and_damaged(cluster_of):
 
 
 @pytest.mark.needs_etcd
+def test_engine_restored_from_a_backup(cluster_of):
+    """The log lacks what was acknowledged since. A new one is made of the longest copy."""
+    cluster = cluster_of()
+    traffic = moving(cluster, pause=0.02, spread=True)
+    until(lambda: traffic.made > 200, 60, "transfers")
+    cluster.swap_data("backup")
+    before = traffic.made
+    until(lambda: traffic.made > before + 200, 60, "more transfers")
+    cluster.swap_data("lost", "backup")
+    ended = (22, 25)  # Diverged, BadEntry
+    until(lambda: any(it.process.poll() in ended for it in cluster.replicas), 60, "one is found")
+    for it in cluster.replicas:
+        it.kill()
+    copies = [f"{cluster.copy(at)}.kept" for at in range(cluster.count)]
+    for at, it in enumerate(copies):
+        os.rename(cluster.copy(at), it)
+    longest = max(copies, key=lambda it: os.path.getsize(f"{it}/log"))
+    for status in (0, 1):  # the second time there is a log
+        log = cluster.log().replace("/bank", "/bank2")
+        found, said = cluster.part("restore", "--log", log, "--copy", longest)
+        assert found == status, said
+    for it in cluster.replicas:
+        it.words = [word.replace("/bank", "/bank2") for word in it.words]
+        it.start()
+    for at in range(cluster.count):
+        cluster.until_listens(at)
+    before = traffic.made
+    until(lambda: traffic.made > before + 50, 60, "transfers go on")
+    agreed(cluster, traffic, is_trimmed=True)
+
+
+@pytest.mark.needs_etcd
 def test_full(cluster_of):
     """etcd's quota is used up, and the log is trimmed."""
     cluster = cluster_of(quota=24 << 20)

@@ -32,6 +32,7 @@ from tb_client.frames import asker, reply_fault, request_frame
 from tb_client.names import Operation
 from tb_host import backlog, checksums, connections, faults, listen, log, machines, nodes, replica
 from tb_host import status as parts_of_status
+from tb_host.restored import restore
 from tb_host.backlog import Backlog, Checkpoint
 from tb_host.connections import Connection
 from tb_host.entries import MOMENT_MAX, NOTHING, Claim, Entry, askers, chained
@@ -1857,6 +1858,37 @@ class Replicas(OverALog):
         for trimmed in ((0, 0), (1, 7)):
             self.log.trimmed = mock.AsyncMock(return_value=trimmed)
             await it.begin()
+
+    async def test_a_new_log_of_a_copy(self):
+        """It has the same script, and is made once. One that is not whole is refused."""
+        it = await self.began()
+        for client in range(6, 26):
+            await self.asked(it, client)
+        await self.closed(it)
+        given = argparse.Namespace(copy=self.folder, log="x")
+        pairs, self.log = self.pairs(), MemoryLog()
+        self.log.change_head = mock.AsyncMock(return_value=b"another")
+        with self.assertRaisesRegex(Ended, "^the head of x was changed meanwhile$"):
+            await restore(given, self.log)
+        os.rename(self.folder, f"{self.folder}.kept")
+        self.assertEqual(await self.begins(self.made()), "OtherRules")
+        given.copy, self.log = f"{self.folder}.kept", MemoryLog()
+        with contextlib.redirect_stdout(io.StringIO()) as said:
+            self.assertEqual(await restore(given, self.log), 0)
+        self.assertRegex(said.getvalue(), f"^position {len(pairs)} log [0-9a-f]{{64}}\n$")
+        self.assertEqual(self.pairs(), pairs)
+        with self.assertRaisesRegex(Ended, "^there is a log at x: give the new one another name$"):
+            await restore(given, self.log)
+        self.copy.close()
+        os.dup2(os.open(os.devnull, os.O_RDONLY), self.copy.file)
+        it = await self.began()
+        self.assertEqual((await self.asked(it, 7))[0], 7)
+        await self.closed(it)
+
+    def pairs(self):
+        """The pairs of each entry of the log."""
+        found = [it.data for it in self.log.items if isinstance(it, Written)]
+        return [Entry.from_bytes(it).pairs for it in found]
 
     async def test_a_log_that_is_gone_where_it_is_read(self):
         it = self.made()

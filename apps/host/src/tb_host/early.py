@@ -15,6 +15,7 @@ PARTS = (
     "copy-from",
     "script",
     "hashes",
+    "restore",
 )  # of tb-replica, which serve nothing
 
 

@@ -7,6 +7,7 @@
     tb-replica copy-from FOLDER --copy FOLDER
     tb-replica script --copy FOLDER
     tb-replica hashes --copy FOLDER [--at POSITION] -- COMMAND [WORD ..]
+    tb-replica restore --log LOG --copy FOLDER
 
 LOG is etcd://HOST[:PORT],../NAME or postgresql://HOST[:PORT],../DATABASE/NAME. COMMAND is a server
 that keeps its ledger in memory, as `tb_script run 64`, or in a file, as `tbd follow FILE 64`, with
@@ -57,6 +58,7 @@ from .log import Access, Log, LogFull, NoLog, opened, parts
 from .loops import fill_standard_files, run as run_loop
 from .replica import Replica
 from .reports import add_reports
+from .restored import restore
 from .serving import listen_on, read_again, stop_signals, until
 from .shares import add_shares
 from .sockets import bound, make_room
@@ -244,6 +246,16 @@ def _trim_words(given: Sequence[str]) -> argparse.Namespace:
     return found
 
 
+def _restore_words(given: Sequence[str]) -> argparse.Namespace:
+    parser = _parser("%(prog)s restore --log LOG --copy FOLDER")
+    add_log(parser)
+    whose = "the copy whose history it gets"
+    parser.add_argument("--copy", metavar="FOLDER", type=path, required=True, help=whose)
+    found = parser.parse_args(given)
+    _test_log(parser, found)
+    return found
+
+
 def _copy_words(given: Sequence[str]) -> argparse.Namespace:
     parser = _parser("%(prog)s copy-from FOLDER --copy FOLDER")
     parser.add_argument("source", metavar="FOLDER", type=path, help="a peer's copy")
@@ -287,6 +299,8 @@ def run(part: str, rest: List[str]) -> int:
         return int(asyncio.run(_with_log(_log_words(part, rest), work)))
     if part == "trim":
         return int(asyncio.run(_with_log(_trim_words(rest), trim)))
+    if part == "restore":
+        return int(asyncio.run(_with_log(_restore_words(rest), restore)))
     given = _run_words(rest)
     if given.log_json:
         speak_json()
