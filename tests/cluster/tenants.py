@@ -89,7 +89,7 @@ class Tenant:
         try:
             async with self.called() as (reader, writer):
                 client, session = await self.session(reader, writer)
-                number = self.replies = 0
+                number = 0
                 while not self.is_over():
                     number += 1
                     body = self.transfers(client, number, 1)
@@ -141,8 +141,8 @@ class Tenant:
                 await self.reply(reader)
 
     async def unread(self, reader, writer):
-        """The longest replies, none of which is read."""
-        reader._transport.pause_reading()
+        """Long requests, whose replies are not read."""
+        writer.transport.pause_reading()
         client = self.new_client()
         body = struct.pack("<QQ", 1, 0) * LARGEST
         while True:
