@@ -13,12 +13,14 @@ LOADS = (("24 clients with single transfers", 24, 1), ("1 client with batches of
 
 
 @contextlib.contextmanager
-def listener(tbd, sync=0.0, options=()):
-    """The port of a listener over tbd. Each sync of tbd's takes so many seconds more."""
+def listener(program, sync=0.0, options=()):
+    """The port of a listener over tbd, of which each sync takes so many seconds more, or over a
+    server that keeps its ledger in memory."""
     with tempfile.TemporaryDirectory(prefix="listener-") as folder:
         (port,) = free_ports(1)
         words = [PYTHON, "-B", f"{HOST}/tb-listen", "--tcp", f"127.0.0.1:{port}", *options, "--"]
-        words = slowed([*words, str(tbd), "run", f"{folder}/ledger.tbk", "64"], sync)
+        keeps = [f"{folder}/ledger.tbk"] if program.name == "tbd" else []
+        words = slowed([*words, str(program), "run", *keeps, "64"], sync)
         it = Process("listener", words, folder)
         it.start()
         try:

@@ -37,9 +37,9 @@ def rows(process):
 
 
 @contextlib.contextmanager
-def accounts(tbd, *options):
+def accounts(server, *options):
     """A listener whose ledger has the two accounts."""
-    with listener(tbd, options=options) as port:
+    with listener(server, options=options) as port:
         with tb.Session.register(tb.Socket(("127.0.0.1", port), 30)) as session:
             opened = [tb.Account(it, ledger=700, code=10) for it in (1, 2)]
             tb.require_ok(session.create_accounts(opened))
@@ -62,21 +62,26 @@ def rate(port, greedy=()):
 def shares(capacity, count):
     """The options by which so many tenants share a listener."""
     return [
-        *("--requests-per-second", str(max(int(capacity / count), 1))),
+        *("--requests-per-second", str(max(int(capacity / count), 16))),
         *("--sessions-per-range", str(PLACES // count)),
         *("--connections-per-peer", "16"),
     ]
 
 
-@pytest.mark.parametrize("kinds", [[it] for it in GREEDY] + [GREEDY], ids=[*KINDS, "all"])
-def test_honest_tenants_keep_their_rate(tbd, show, kinds):
-    with accounts(tbd) as port:
+ALONE = [("tb_script", [it]) for it in GREEDY]
+ALL = [("tb_script", GREEDY), ("tbd", GREEDY)]
+
+
+@pytest.mark.parametrize("server, kinds", ALONE + ALL, ids=[*KINDS, "all", "all over a file"])
+def test_honest_tenants_keep_their_rate(program, show, server, kinds):
+    server = program(server)
+    with accounts(server) as port:
         capacity, _, _ = rate(port)
     options = shares(capacity, len(HONEST) + len(GREEDY))
-    with accounts(tbd, *options) as port:
+    with accounts(server, *options) as port:
         alone, lost, _ = rate(port)
     assert not lost, f"{lost} sessions are lost without greedy tenants"
-    with accounts(tbd, *options) as port:
+    with accounts(server, *options) as port:
         kept, lost, greedy = rate(port, kinds)
     show(
         f"{len(kinds)} greedy: {kept:.0f} replies/s, alone {alone:.0f}, ratio {kept / alone:.2f}; "
@@ -88,8 +93,8 @@ def test_honest_tenants_keep_their_rate(tbd, show, kinds):
     assert kept >= KEPT * alone
 
 
-def test_sessions_are_lost_without_shares(tbd):
+def test_sessions_are_lost_without_shares(program):
     """The same greed evicts honest tenants if no share is set: so the test above can fail."""
-    with accounts(tbd) as port:
+    with accounts(program("tb_script")) as port:
         _, lost, _ = rate(port, ["registers:127.0.1.1"] * 4)
     assert lost

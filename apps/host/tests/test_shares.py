@@ -93,6 +93,13 @@ class OfAPeer(unittest.TestCase):
         it.enter("b")
         self.refused("TooManyConnections", it.call, "b", 4)
 
+    def test_calls_of_a_slow_peer(self):
+        """A connection takes a second at most, and its first requests come in time."""
+        it = self.shares(requests=1)
+        it.call("a", 8)
+        self.assertAlmostEqual(it.wait("a", 100), 0.0)
+        self.assertAlmostEqual(it.wait("a", 100), 1.0)
+
     def test_long_replies(self):
         """They take turns of the requests that come next."""
         it = self.shares(requests=100)

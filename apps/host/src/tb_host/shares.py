@@ -115,7 +115,8 @@ class Shares:
         self._test_connections(key)
         if self.requests is not None:
             now = self.clock()
-            self._turns_of(key, self.requests, now).wait(cost, now)
+            # no more than a second has, so that the first request of a connection finds its turn
+            self._turns_of(key, self.requests, now).wait(min(cost, self.requests), now)
 
     def _turns_of(self, key: Hashable, rate: int, now: float) -> Turns:
         turns = self.turns.get(key)
