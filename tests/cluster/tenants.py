@@ -86,17 +86,25 @@ class Tenant:
             writer.transport.abort()
 
     async def honest(self):
+        """A session, which comes later while it is refused, and keeps what it then has."""
+        while not self.is_over():
+            with contextlib.suppress(OSError, EOFError):
+                async with self.called() as (reader, writer):
+                    await self.moves(reader, writer, *await self.session(reader, writer))
+                    return
+            await asyncio.sleep(0.2)
+
+    async def moves(self, reader, writer, client, session):
+        """One transfer after another."""
+        number = 0
         try:
-            async with self.called() as (reader, writer):
-                client, session = await self.session(reader, writer)
-                number = 0
-                while not self.is_over():
-                    number += 1
-                    body = self.transfers(client, number, 1)
-                    writer.write(request_frame(client, session, number, CREATE, body))
-                    reply = await asyncio.wait_for(self.reply(reader), WITHIN)
-                    if len(reply) != 48 or reply[29]:
-                        raise EOFError
+            while not self.is_over():
+                number += 1
+                body = self.transfers(client, number, 1)
+                writer.write(request_frame(client, session, number, CREATE, body))
+                reply = await asyncio.wait_for(self.reply(reader), WITHIN)
+                if len(reply) != 48 or reply[29]:
+                    raise EOFError
         except (OSError, EOFError, asyncio.TimeoutError):
             self.lost += 1
 

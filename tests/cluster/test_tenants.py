@@ -96,5 +96,8 @@ def test_honest_tenants_keep_their_rate(program, show, server, kinds):
 def test_sessions_are_lost_without_shares(program):
     """The same greed evicts honest tenants if no share is set: so the test above can fail."""
     with accounts(program("tb_script")) as port:
-        _, lost, _ = rate(port, ["registers:127.0.1.1"] * 4)
-    assert lost
+        for _ in range(10):  # on a busy machine fewer register in the time
+            _, lost, _ = rate(port, ["registers:127.0.1.1"] * 4)
+            if lost:
+                return
+    raise AssertionError("no session is lost")
