@@ -37,11 +37,11 @@ class Timed:
         self.began = time.monotonic()
 
 
-def moving(cluster, clients=6, wanted=300, ports=None):
-    traffic = Traffic(ports or cluster.tcp, clients, pause=0.02, spread=True)
+def moving(cluster, clients=6, wanted=50):
+    traffic = Traffic(cluster.tcp, clients, pause=0.02, spread=True)
     traffic.open_accounts()
     traffic.start()
-    until(lambda: traffic.made > wanted, 120, "transfers")
+    until(lambda: traffic.made > wanted, 240, "transfers")
     return traffic
 
 
@@ -74,7 +74,7 @@ def fill_by(cluster, requests):
 def test_trim_amid_load(cluster_of, show):
     """The log is trimmed while money moves, and a replica starts after that."""
     cluster = cluster_of()
-    traffic = moving(cluster, 12, 2000)
+    traffic = moving(cluster, 12, 500)
     time.sleep(REPORT)
     timed = Timed(show, traffic)
     status, said = cluster.part("trim", "--log", cluster.log(), seconds=180)
@@ -133,7 +133,7 @@ def test_replaced_machine(cluster_of, show):
     assert status == 0, said
     cluster.lose(2)
     before = traffic.made
-    until(lambda: traffic.made > before + 300, 120, "transfers go on")
+    until(lambda: traffic.made > before + 50, 240, "transfers go on")
     timed = Timed(show, traffic)
     cluster.replace_node(2)
     timed.done("a member of etcd is removed and added, and is up")

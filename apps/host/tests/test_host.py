@@ -1960,9 +1960,15 @@ class Replicas(OverALog):
         said = {"clock": time.time_ns() - int(ahead * 10**9), "heard": {"r0": hello}}
         await self.log.report("r1", json.dumps(said).encode())
 
+    async def is_heard(self, it, ahead):
+        """It answers until it is heard: a busy machine may miss a round."""
+        while it.right is None:
+            await self.answers(ahead)
+            await asyncio.sleep(0.02)
+
     async def meets(self):
-        """A replica that has asked another for its clock."""
-        it = self.made()
+        """A replica that has asked another for its clock, and begins by no other."""
+        it = self.made(alone=False)
         await it.begin()
         self.log.kept["r1"] = b"{}"
         self.running = asyncio.ensure_future(it.run())
@@ -1991,7 +1997,7 @@ class Replicas(OverALog):
         right = time.time_ns
         with mock.patch.object(time, "time_ns", lambda: right() + 1000 * 10**9):
             it = await self.meets()
-            await self.answers(1000)
+            await self.is_heard(it, 1000)
             await self.asks_again(it)
         self.assertIn("s ahead of the others': set it right; tested again", self.told.getvalue())
         with mock.patch.object(time, "time_ns", lambda: right() + 500 * 10**9):  # by too little
@@ -2004,7 +2010,7 @@ class Replicas(OverALog):
     async def test_others_whose_clocks_are_behind(self):
         """The replica, whose own clock is not set, serves once another one has said that its is."""
         it = await self.meets()
-        await self.answers(1000)
+        await self.is_heard(it, 1000)
         await self.asks_again(it)
         while not it.is_met:
             await self.answers(0)
