@@ -113,11 +113,17 @@ func isEviction(status Status) bool {
 // says (context.Canceled or context.DeadlineExceeded), and an ErrNotSent where Sent is false. Where
 // Sent is true the request is in doubt.
 type CancelledError struct {
-	Sent bool  // whether this call may have sent the request
-	Err  error // what the context says
+	Sent  bool  // whether this call may have sent the request
+	Err   error // what the context says
+	Cause error // of a [Client]: why no reply came so far, or nil
 }
 
-func (it *CancelledError) Error() string { return fmt.Sprintf("%v: %v", ErrCancelled, it.Err) }
+func (it *CancelledError) Error() string {
+	if it.Cause != nil {
+		return fmt.Sprintf("%v: %v, after %v", ErrCancelled, it.Err, it.Cause)
+	}
+	return fmt.Sprintf("%v: %v", ErrCancelled, it.Err)
+}
 
 func (it *CancelledError) Unwrap() error { return it.Err }
 
@@ -125,6 +131,16 @@ func (it *CancelledError) Unwrap() error { return it.Err }
 func (it *CancelledError) Is(target error) bool {
 	return target == ErrCancelled || target == ErrNotSent && !it.Sent
 }
+
+// connectError is an ErrCannotConnect.
+type connectError struct {
+	cause   error
+	isFinal bool // one side does not trust the other, at each address
+}
+
+func (it *connectError) Error() string { return fmt.Sprintf("%v: %v", ErrCannotConnect, it.cause) }
+
+func (it *connectError) Unwrap() error { return ErrCannotConnect }
 
 // FailedEvent is an event of a batch that was not accepted.
 type FailedEvent struct {

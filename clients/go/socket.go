@@ -79,7 +79,9 @@ const (
 	firstPause = 20 * time.Millisecond // before the addresses are called again; doubled each time
 	lastPause  = 500 * time.Millisecond
 
-	toldStarting = "Starting"
+	toldStarting         = "Starting"
+	toldNotAllowed       = "NotAllowed"
+	toldClientNotAllowed = "ClientNotAllowed"
 )
 
 // toldLater are the names by which a server says to come later: there are too many connections, or
@@ -137,6 +139,7 @@ type Socket struct {
 	cause error         // why no reply came to this exchange so far
 
 	closed chan struct{} // is closed with the Socket
+	ending chan struct{} // is closed where no connection is to be made any more
 	mu     sync.Mutex    // of what follows
 	conn   *connection
 	done   bool
@@ -155,6 +158,7 @@ func NewSocket(addresses []Address, options ...SocketOption) (*Socket, error) {
 		timeout:   DefaultTimeout,
 		turn:      make(chan struct{}, 1),
 		closed:    make(chan struct{}),
+		ending:    make(chan struct{}),
 	}
 	for _, option := range options {
 		if err := option(it); err != nil {
@@ -225,13 +229,14 @@ func (it *Socket) Exchange(ctx context.Context, frame []byte) ([]byte, error) {
 		if fault.isRefusal {
 			refusing[fault.address] = true
 		}
-		if !it.areAll(refusing) && sleep(within, pause) {
+		isFinal := it.areAll(refusing)
+		if !isFinal && sleep(within, pause) {
 			continue
 		}
 		if ctx.Err() != nil {
 			return nil, &CancelledError{Err: ctx.Err()}
 		}
-		return nil, it.notConnected()
+		return nil, it.notConnected(isFinal)
 	}
 }
 
@@ -242,8 +247,8 @@ func (it *Socket) keepCause(err error) {
 	}
 }
 
-func (it *Socket) notConnected() error {
-	return fmt.Errorf("%w: %v", ErrCannotConnect, it.cause)
+func (it *Socket) notConnected(isFinal bool) error {
+	return &connectError{it.cause, isFinal}
 }
 
 // areAll reports whether these are all addresses.
@@ -273,7 +278,7 @@ func (it *Socket) once(ctx, within context.Context, frame []byte, asked requestH
 	case err == nil:
 	case ctx.Err() != nil:
 		return nil, &CancelledError{Err: ctx.Err()}
-	case it.isClosed():
+	case it.isClosed() || it.isEnding():
 		return nil, ErrClosed
 	default:
 		return nil, err
@@ -315,12 +320,25 @@ func (it *Socket) failed(ctx, within context.Context, err error) error {
 	return &LostError{Err: fmt.Errorf("the connection broke: %w", err)}
 }
 
-func (it *Socket) isClosed() bool {
+func (it *Socket) isClosed() bool { return isEnded(it.closed) }
+
+func (it *Socket) isEnding() bool { return isEnded(it.ending) }
+
+func isEnded(it chan struct{}) bool {
 	select {
-	case <-it.closed:
+	case <-it:
 		return true
 	default:
 		return false
+	}
+}
+
+// connectNoMore makes each later connecting an ErrClosed. An exchange that goes on ends in its time.
+func (it *Socket) connectNoMore() {
+	it.mu.Lock()
+	defer it.mu.Unlock()
+	if !it.isEnding() {
+		close(it.ending)
 	}
 }
 
@@ -340,6 +358,8 @@ func (it *Socket) connected(ctx context.Context) (*connection, error) {
 			select {
 			case <-it.closed:
 				cancel()
+			case <-it.ending:
+				cancel()
 			case <-ctx.Done():
 			}
 		}()
@@ -348,7 +368,7 @@ func (it *Socket) connected(ctx context.Context) (*connection, error) {
 		var areDistrust bool
 		conn, areDistrust = it.callEach(ctx)
 		if conn == nil && (areDistrust || !sleep(ctx, pause)) {
-			return nil, it.notConnected()
+			return nil, it.notConnected(areDistrust)
 		}
 	}
 	return conn, it.keep(conn)
@@ -375,7 +395,7 @@ func (it *Socket) callEach(ctx context.Context) (conn *connection, areDistrust b
 		deadline, _ := ctx.Deadline()
 		share, cancel := context.WithTimeout(ctx, time.Until(deadline)/time.Duration(left))
 		address := it.addresses[it.at]
-		conn, err := call(share, address, it.tls)
+		conn, err := dial(share, address, it.tls)
 		cancel()
 		if err == nil {
 			return conn, false
@@ -450,8 +470,8 @@ type connection struct {
 	isUsed bool       // a reply came over it
 }
 
-// call makes a connection.
-func call(ctx context.Context, address Address, config *tls.Config) (*connection, error) {
+// dial makes a connection.
+func dial(ctx context.Context, address Address, config *tls.Config) (*connection, error) {
 	var dialer net.Dialer
 	made, err := dialer.DialContext(ctx, address.network, address.dialed())
 	if err != nil {
