@@ -7,7 +7,7 @@ import ssl
 import struct
 import time
 
-HEADER = 48
+HEADER, ITEM = 48, 128  # bytes
 FIN_WAIT1 = 4  # the state of a TCP connection whose end the other side has not taken yet
 PATIENCE = 20.0  # seconds that the client may take for what is waited for
 
@@ -83,6 +83,8 @@ class Connections:
         self.sent_at = time.monotonic()  # when the last `send` began
         # servers whose further connections are no fault: who is refused calls again
         self.ignored = ()
+        # of shared clients: the client of each session, and by connection what was asked last
+        self.clients, self.asked = {}, {}
 
     def run(self, actions):
         for action in actions:
@@ -94,10 +96,7 @@ class Connections:
         has the first of them, and their number: ids rise by one."""
         frame = self.frames.get(text, text)
         if isinstance(frame, dict):
-            first = int.from_bytes(bytes.fromhex(frame["first"][:32]), "little")
-            rest = bytes.fromhex(frame["first"][32:])
-            ids = ((first + at).to_bytes(16, "little") for at in range(frame["count"]))
-            return bytes.fromhex(frame["header"]) + b"".join(it + rest for it in ids)
+            return bytes.fromhex(frame["header"]) + list_of(frame)
         if frame.startswith("text:"):
             return frame[5:].encode("ascii")
         return bytes.fromhex(frame)
@@ -264,6 +263,60 @@ class Connections:
                 client + struct.pack("<QIBB2xIQ4x", session, number, operation, 0, 0, commit)
             )
 
+    # Clients that callers share choose their ids, and the order of lists that came at once
+
+    def do_asked(self, wanted, action):
+        """Reads a request of these lists, in any order: its session, number and operation are
+        wanted. A register has a new client id, and where it is sent `again` the same bytes."""
+        name, (session, number, operation) = action["on"], wanted
+        lists = list(map(list_of, action["lists"]))
+        body = b"".join(lists)
+        header = self.received(self.connection(action), HEADER, action)
+        rest = struct.pack("<QIB3xI12x", session, number, operation, len(body))
+        if header[16:] != rest:
+            raise Failed(f"the client sends {shown(header)}, not one with {rest.hex()}")
+        got = self.received(self.connection(action), len(body), {})
+        self.test_client(header[:16], session, action)
+        frame = header + got
+        if action.get("again") and frame not in self.asked.values():
+            raise Failed(f"the client sends {shown(frame)}, which are not the same bytes again")
+        order = order_of(lists, got)
+        if order is None or action.get("ordered") and got != body:
+            raise Failed(f"the client sends {shown(frame)}, which are not the lists that wait")
+        self.asked[name], self.last[name] = frame, header
+        self.order, self.sizes = order, [len(it) // ITEM for it in lists]
+
+    def test_client(self, client, session, action):
+        known = self.clients.get(session)
+        if session == 0:
+            if client == bytes(16) or not action.get("again") and client in self.clients.values():
+                raise Failed(f"the client registers {client.hex()}, which is no new id")
+            self.clients[0] = client
+        elif client != known:
+            raise Failed(f"the client is {client.hex()} in a session of {known and known.hex()}")
+
+    def do_says(self, rows, action):
+        """Replies to what was asked last: the rows of each list in the order of the lists."""
+        header = self.last[action["on"]]
+        session, number, operation = struct.unpack_from("<QIB", header, 16)
+        status, body, first = action.get("status", 0), b"", 0
+        if number == 0:
+            session = action["session"]
+            self.clients[session] = header[:16]
+        for at in self.order if rows else ():
+            for it in rows[at]:
+                row = it if isinstance(it, str) else struct.pack("<II", first + it[0], it[1]).hex()
+                body += bytes.fromhex(row)
+            first += self.sizes[at]
+        commit = 0 if status else session + number
+        numbers = struct.pack("<QIBB2xIQ4x", session, number, operation, status, len(body), commit)
+        self.do_send((header[:16] + numbers + body).hex(), action)
+
+    def do_drop(self, name, _):
+        """Closes a connection that the client may have left."""
+        it = self.open.pop(name)
+        it.close()
+
     def do_kill(self, _, __):
         self.kill()
 
@@ -301,6 +354,29 @@ class Connections:
         self.open.clear()
         for server in self.servers.values():
             server.unlisten()
+
+
+def list_of(given):
+    """A list's bytes, as hex or by its first item and their number: ids rise by one."""
+    if isinstance(given, str):
+        return bytes.fromhex(given)
+    first = int.from_bytes(bytes.fromhex(given["first"][:32]), "little")
+    rest = bytes.fromhex(given["first"][32:])
+    ids = ((first + at).to_bytes(16, "little") for at in range(given["count"]))
+    return b"".join(it + rest for it in ids)
+
+
+def order_of(lists, body):
+    """The order in which a body has some lists, each whole, or None where it does not."""
+    left, order = dict(enumerate(lists)), []
+    while left:
+        found = [at for at, it in left.items() if body.startswith(it)]
+        if not found:
+            return None
+        at = max(found, key=lambda it: len(left[it]))
+        body = body[len(left.pop(at)) :]
+        order.append(at)
+    return order
 
 
 def shown(data):

@@ -18,7 +18,7 @@ import (
 	"ledger.example/tbclient"
 )
 
-var features = []string{"unix", "tcp", "addresses", "tls", "parallel", "cancel"}
+var features = []string{"unix", "tcp", "addresses", "tls", "parallel", "cancel", "shared"}
 
 // runner has the transports and sessions by the names that the kit gave them.
 type runner struct {
@@ -27,10 +27,17 @@ type runner struct {
 	mu         sync.Mutex // calls may go on at once
 	transports map[string]*tbclient.Socket
 	sessions   map[string]*tbclient.Session
+	shared     map[string]*tbclient.Client
+	begun      map[string]*begunCall
 }
 
 func newRunner() *runner {
-	it := &runner{transports: map[string]*tbclient.Socket{}, sessions: map[string]*tbclient.Session{}}
+	it := &runner{
+		transports: map[string]*tbclient.Socket{},
+		sessions:   map[string]*tbclient.Session{},
+		shared:     map[string]*tbclient.Client{},
+		begun:      map[string]*begunCall{},
+	}
 	it.calls = map[string]func(object) (any, error){
 		"hello":    it.hello,
 		"reset":    it.reset,
@@ -49,6 +56,10 @@ func newRunner() *runner {
 		"drop":     it.drop,
 		"ids":      it.ids,
 		"parallel": it.parallel,
+		"share":    it.share,
+		"begin":    it.begin,
+		"end":      it.end,
+		"leave":    it.leave,
 	}
 	return it
 }
@@ -59,15 +70,22 @@ func (it *runner) answer(line object) object {
 	if !isKnown {
 		return object{"unsupported": fmt.Sprintf("no call %v", line["do"])}
 	}
-	value, err := call(line)
+	return answerOf(func() (any, error) { return call(line) })
+}
+
+func answerOf(call func() (any, error)) object {
+	value, err := call()
 	if err == nil {
 		return object{"ok": value}
 	}
 	var (
+		ended   endedCall
 		never   unrepresentable
 		unknown unsupported
 	)
 	switch {
+	case errors.As(err, &ended):
+		return object(ended)
 	case errors.As(err, &never):
 		return object{"unrepresentable": never.Error()}
 	case errors.As(err, &unknown):
@@ -111,12 +129,12 @@ func (it *runner) keep(line object, session *tbclient.Session) {
 }
 
 // within is the context of a call: the caller's own limit where it has one.
-func within(line object) (context.Context, context.CancelFunc, error) {
+func within(ctx context.Context, line object) (context.Context, context.CancelFunc, error) {
 	if line["within"] == nil {
-		return context.Background(), func() {}, nil
+		return ctx, func() {}, nil
 	}
 	limit, err := secondsOf(line["within"])
-	ctx, cancel := context.WithTimeout(context.Background(), limit)
+	ctx, cancel := context.WithTimeout(ctx, limit)
 	return ctx, cancel, err
 }
 
@@ -136,6 +154,14 @@ func (it *runner) reset(object) (any, error) {
 	}
 	for name := range it.sessions {
 		delete(it.sessions, name)
+	}
+	for name, call := range it.begun {
+		call.cancel()
+		delete(it.begun, name)
+	}
+	for name, client := range it.shared {
+		go client.Close() // a request that is in flight has no reply any more
+		delete(it.shared, name)
 	}
 	return nil, nil
 }
@@ -245,7 +271,7 @@ func (it *runner) register(line object) (any, error) {
 	if err != nil {
 		return nil, err
 	}
-	ctx, cancel, err := within(line)
+	ctx, cancel, err := within(context.Background(), line)
 	if err != nil {
 		return nil, err
 	}
@@ -331,7 +357,7 @@ func (it *runner) retry(line object) (any, error) {
 	if err != nil {
 		return nil, err
 	}
-	ctx, cancel, err := within(line)
+	ctx, cancel, err := within(context.Background(), line)
 	if err != nil {
 		return nil, err
 	}
@@ -348,16 +374,50 @@ func (it *runner) retry(line object) (any, error) {
 	return shownAnswer(answer), nil
 }
 
+// asking is what a session and a shared client can be asked for.
+type asking interface {
+	CreateAccounts(context.Context, []tbclient.Account) (tbclient.AccountResults, error)
+	CreateTransfers(context.Context, []tbclient.Transfer) (tbclient.TransferResults, error)
+	LookupAccounts(context.Context, []tbclient.Uint128) ([]tbclient.Account, error)
+	LookupTransfers(context.Context, []tbclient.Uint128) ([]tbclient.Transfer, error)
+}
+
 func (it *runner) ask(line object) (any, error) {
+	if _, isShared := line["shared"]; isShared {
+		client, err := it.client(line)
+		if err != nil {
+			return nil, err
+		}
+		return askOf(client, line)
+	}
 	session, err := it.session(line)
 	if err != nil {
 		return nil, err
+	}
+	if line["operation"] != "register" && line["operation"] != nil {
+		return askOf(session, line)
 	}
 	request, err := requestOf(line["operation"], itemsOf(line))
 	if err != nil {
 		return nil, err
 	}
-	ctx, cancel, err := within(line)
+	if err := session.Prepare(request); err != nil {
+		return nil, err
+	}
+	answer, err := session.Retry(context.Background())
+	return shownAnswer(answer), err
+}
+
+func askOf(session asking, line object) (any, error) {
+	return askWithin(context.Background(), session, line)
+}
+
+func askWithin(ctx context.Context, session asking, line object) (any, error) {
+	request, err := requestOf(line["operation"], itemsOf(line))
+	if err != nil {
+		return nil, err
+	}
+	ctx, cancel, err := within(ctx, line)
 	if err != nil {
 		return nil, err
 	}
@@ -377,11 +437,7 @@ func (it *runner) ask(line object) (any, error) {
 		found, err := session.LookupTransfers(ctx, given)
 		return object{"records": shownAll(found, shownTransfer)}, err
 	}
-	if err := session.Prepare(request); err != nil {
-		return nil, err
-	}
-	answer, err := session.Retry(ctx)
-	return shownAnswer(answer), err
+	return nil, unsupported("no such operation")
 }
 
 func asked[T any](name string, said T, err error, required bool, shown func(T) []any, test func() error) (any, error) {
@@ -426,6 +482,13 @@ func (it *runner) close(line object) (any, error) {
 			return nil, err
 		}
 		return nil, session.Close()
+	}
+	if _, isShared := line["shared"]; isShared {
+		client, err := it.client(line)
+		if err == nil {
+			client.Close()
+		}
+		return nil, err
 	}
 	transport, err := it.transport(line)
 	if err != nil {

@@ -1,0 +1,114 @@
+package main
+
+import (
+	"context"
+	"fmt"
+
+	"ledger.example/tbclient"
+)
+
+// begunCall is a call of a shared client that goes on.
+type begunCall struct {
+	cancel context.CancelFunc
+	answer chan object
+}
+
+func (it *runner) client(line object) (*tbclient.Client, error) {
+	it.mu.Lock()
+	defer it.mu.Unlock()
+	client, isThere := it.shared[text(line["shared"])]
+	if !isThere {
+		return nil, unsupported(fmt.Sprintf("no shared client %v", line["shared"]))
+	}
+	return client, nil
+}
+
+func (it *runner) share(line object) (any, error) {
+	given, _ := line["addresses"].([]any)
+	addresses, err := allOf(given, textOfAddress)
+	if err != nil {
+		return nil, err
+	}
+	var options []tbclient.ClientOption
+	if limit, isGiven := line["timeout"]; isGiven {
+		timeout, err := secondsOf(limit)
+		if err != nil {
+			return nil, err
+		}
+		options = append(options, tbclient.WithSocket(tbclient.WithTimeout(timeout)))
+	}
+	if many, isGiven := line["sessions"]; isGiven {
+		sessions, err := intOf(many)
+		if err != nil {
+			return nil, err
+		}
+		options = append(options, tbclient.WithSessions(sessions))
+	}
+	client, err := tbclient.NewClient(tbclient.ToUint128(0), addresses, options...)
+	if err != nil {
+		return nil, err
+	}
+	it.mu.Lock()
+	defer it.mu.Unlock()
+	it.shared[text(line["shared"])] = client
+	return nil, nil
+}
+
+func textOfAddress(given any) (string, error) {
+	address, _ := given.(object)
+	if path, isUnix := address["unix"].(string); isUnix {
+		return path, nil
+	}
+	return fmt.Sprintf("%v:%v", address["host"], address["port"]), nil
+}
+
+// begin begins a call, which waits for `end`.
+func (it *runner) begin(line object) (any, error) {
+	client, err := it.client(line)
+	if err != nil {
+		return nil, err
+	}
+	ctx, cancel := context.WithCancel(context.Background())
+	call := &begunCall{cancel: cancel, answer: make(chan object, 1)}
+	started := make(chan struct{})
+	go func() {
+		close(started)
+		call.answer <- answerOf(func() (any, error) { return askWithin(ctx, client, line) })
+	}()
+	<-started
+	it.mu.Lock()
+	defer it.mu.Unlock()
+	it.begun[text(line["call"])] = call
+	return nil, nil
+}
+
+func (it *runner) call(line object) (*begunCall, error) {
+	it.mu.Lock()
+	defer it.mu.Unlock()
+	call, isThere := it.begun[text(line["call"])]
+	if !isThere {
+		return nil, unsupported(fmt.Sprintf("no call %v", line["call"]))
+	}
+	return call, nil
+}
+
+// endedCall is the answer of a call that was begun.
+type endedCall object
+
+func (it endedCall) Error() string { return fmt.Sprint(object(it)) }
+
+func (it *runner) end(line object) (any, error) {
+	call, err := it.call(line)
+	if err != nil {
+		return nil, err
+	}
+	return nil, endedCall(<-call.answer)
+}
+
+func (it *runner) leave(line object) (any, error) {
+	call, err := it.call(line)
+	if err == nil {
+		call.cancel()
+	}
+	return nil, err
+}
