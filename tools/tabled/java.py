@@ -21,6 +21,7 @@ def files(table):
         found[f"{t.camel(kind)}Flags.java"] = flags(kind, rows)
     for kind in ("account", "transfer"):
         found[f"{t.camel(kind)}.java"] = record(kind, t.fields(table, kind))
+        found[f"{t.camel(kind)}Batch.java"] = batch(kind, t.fields(table, kind))
     found["Layout.java"] = layout(table)
     return found
 
@@ -275,6 +276,117 @@ def record(kind, fields):
         "",
     ]
     return "\n".join(lines)
+
+
+AMOUNTS = ("amount", "debits_pending", "debits_posted", "credits_pending", "credits_posted")
+
+
+def batch(kind, fields):
+    """Records in one array of bytes, of which one at a time is read and set."""
+    name = t.camel(kind)
+    lines = [
+        HEAD,
+        f"package {PACKAGE};",
+        "",
+        "import java.math.BigInteger;",
+        "import java.util.List;",
+        "import java.util.UUID;",
+        "",
+        f"/** {name}s of a request or a reply. One at a time is read and set. */",
+        f"public final class {name}Batch extends Batch {{",
+        "    /**",
+        "     * A batch with room.",
+        "     *",
+        f"     * @param capacity how many {kind}s it is made for; it grows",
+        "     */",
+        f"    public {name}Batch(int capacity) {{",
+        "        super(Layout.RECORD_SIZE, capacity);",
+        "    }",
+        "",
+        f"    static {name}Batch of(List<{name}> records) {{",
+        f"        {name}Batch it = new {name}Batch(records.size());",
+        "        records.forEach(it::add);",
+        "        it.beforeFirst();",
+        "        return it;",
+        "    }",
+        "",
+        "    /**",
+        f"     * Adds {'an' if kind == 'account' else 'a'} {kind}, and is at it.",
+        "     *",
+        f"     * @param record the {kind}",
+        "     */",
+        f"    public void add({name} record) {{",
+        f'        append(Values.given("{kind}", record).data());',
+        "    }",
+        "",
+        "    /**",
+        f"     * The {kind} that this is at.",
+        "     *",
+        "     * @return it",
+        "     */",
+        f"    public {name} get() {{",
+        f"        return new {name}(item());",
+        "    }",
+    ]
+    for field in fields:
+        lines += getter(name, kind, field)
+    return "\n".join([*lines, "}", ""])
+
+
+def getter(name, kind, field):
+    """What reads a field of a batch, and what sets it."""
+    word, at = t.camel(field["name"]), f"Layout.{t.upper(kind)}_{t.upper(field['name'])}"
+    wide, full = field["type"] == "u128", f'"{name}.{field["name"]}"'
+    is_amount = field["name"] in AMOUNTS
+    reads = {
+        "u128": ("BigInteger", "u128") if is_amount else ("byte[]", "id"),
+        "u64": ("long", "i64"),
+        "u32": ("int", "i32"),
+        "u16": ("int", "u16"),
+    }
+    kind_of, read = reads[field["type"]]
+    sets = {
+        "u128": [
+            ("BigInteger value", f"Values.u128(data(), place() + {at}, {full}, value)"),
+            ("long value", f"Values.u128(data(), place() + {at}, {full}, value)"),
+            ("long least, long most", f"Values.bits(data(), place() + {at}, least, most)"),
+        ],
+        "u64": [("long value", f"Values.putLong(data(), place() + {at}, value)")],
+        "u32": [("int value", f"Values.putInt(data(), place() + {at}, value)")],
+        "u16": [("int value", f"Values.u16(data(), place() + {at}, {full}, value)")],
+    }[field["type"]]
+    if wide and not is_amount:
+        sets = [
+            ("byte[] value", f"Values.id(data(), place() + {at}, {full}, value)"),
+            ("UUID value", f"Values.id(data(), place() + {at}, {full}, UInt128.asBytes(value))"),
+            *sets,
+        ]
+    lines = [
+        "",
+        "    /**",
+        f"     * The {field['name']}.",
+        "     *",
+        f"     * @return it, {field['type']}{unit(field)}",
+        "     */",
+        f"    public {kind_of} get{word}() {{",
+        f"        return Values.{read}(data(), place() + {at});",
+        "    }",
+    ]
+    for given, how in sets:
+        params = [it.split()[1] for it in given.split(", ")]
+        says = {"least": "the lower 64 bits", "most": "the upper 64 bits"}
+        lines += [
+            "",
+            "    /**",
+            f"     * Sets the {field['name']}.",
+            "     *",
+            *(f"     * @param {it} {says.get(it, field['type'] + unit(field))}" for it in params),
+            "     */",
+            f"    public void set{word}({given}) {{",
+            f"        {how};",
+            "    }",
+        ]
+    return lines
 
 
 def unit(field):

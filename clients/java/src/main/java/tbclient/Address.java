@@ -11,10 +11,18 @@ import java.nio.file.Path;
 import java.util.ArrayList;
 import java.util.List;
 import java.util.Objects;
+import java.util.regex.Matcher;
+import java.util.regex.Pattern;
 
 /** Where a server listens: a Unix socket's path, or a host and a port. */
 public final class Address {
     private static final int PORT_MAX = 65535;
+    private static final int PORT = 3001; // of a host alone
+    private static final String HOST = "127.0.0.1"; // of a port alone
+    private static final Pattern TEXT =
+            Pattern.compile(
+                    "(?<alone>\\d+)|(\\[(?<number>[^\\]]+)\\]|(?<host>[^:\\[\\]]+|(?=:)))"
+                            + "(:(?<port>\\d+))?");
 
     private final Path path;
     private final String host;
@@ -71,6 +79,34 @@ public final class Address {
             throw new InvalidValueException("address", "has no name of a host");
         }
         return new Address(null, host, (int) Values.within("port", port, 1, PORT_MAX));
+    }
+
+    /** Addresses of texts, of which each may be several with commas between. */
+    static List<Address> parsed(String[] texts) {
+        List<Address> found = new ArrayList<>();
+        for (String text : texts) {
+            for (String it : Values.given("replicaAddresses", text).split(",", -1)) {
+                found.add(parsed(it.strip()));
+            }
+        }
+        return found;
+    }
+
+    private static Address parsed(String text) {
+        if (text.contains("/")) {
+            return unix(text);
+        }
+        Matcher it = TEXT.matcher(text);
+        if (text.isEmpty() || !it.matches()) {
+            throw new InvalidValueException(
+                    "replicaAddresses",
+                    "has \"" + text + "\": write a port, HOST, HOST:PORT, or a path with a slash");
+        }
+        String port = it.group("alone") != null ? it.group("alone") : it.group("port");
+        String host = it.group("number") != null ? it.group("number") : it.group("host");
+        return tcp(
+                host == null || host.isEmpty() ? HOST : host,
+                port == null ? PORT : port.length() > 5 ? 0 : Integer.parseInt(port));
     }
 
     boolean isUnix() {

@@ -344,6 +344,20 @@ public final class Session implements AutoCloseable {
         }
     }
 
+    /** Sends a request of this body, or the one in doubt again. */
+    Answer askBody(Operation operation, byte[] body) {
+        lock.lock();
+        try {
+            if (pending != null) {
+                return send(Deadline.in(null));
+            }
+            makeOf(operation, body);
+            return sendOrForget(Deadline.in(null));
+        } finally {
+            lock.unlock();
+        }
+    }
+
     private Answer sendOrForget(Deadline limit) {
         try {
             return send(limit);
@@ -378,6 +392,10 @@ public final class Session implements AutoCloseable {
         testNotInDoubt();
         byte[] body = Frames.body(operation, items);
         testNotInDoubt(); // again, since what gives the items may have used the session
+        makeOf(operation, body);
+    }
+
+    private void makeOf(Operation operation, byte[] body) {
         if (operation == Operation.REGISTER) {
             if (session != 0) {
                 throw new InvalidValueException("session", "is registered already");

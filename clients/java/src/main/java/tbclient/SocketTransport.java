@@ -137,7 +137,7 @@ public final class SocketTransport implements Transport {
                 keep(why, why.getMessage());
                 refusing.add(gone);
                 if (refusing.containsAll(addresses)) {
-                    throw notConnected(limit);
+                    throw notConnected(limit, true);
                 }
                 rest(pause, until, limit);
             } catch (ReplyLostException why) {
@@ -175,7 +175,7 @@ public final class SocketTransport implements Transport {
         } catch (InterruptedException interrupt) {
             throw Deadline.interrupted(false);
         }
-        throw notConnected(limit);
+        throw notConnected(limit, false);
     }
 
     private byte[] exchanged(byte[] frame, Deadline until, Deadline limit) {
@@ -218,7 +218,7 @@ public final class SocketTransport implements Transport {
             try {
                 boolean areDistrust = callEach(until);
                 if (link == null && (areDistrust || !until.sleep(pause))) {
-                    throw notConnected(limit);
+                    throw notConnected(limit, areDistrust);
                 }
                 pause = Math.min(2 * pause, LAST_PAUSE);
             } catch (InterruptedIOException | InterruptedException why) {
@@ -227,10 +227,10 @@ public final class SocketTransport implements Transport {
         }
     }
 
-    private ClientException notConnected(Deadline limit) {
+    private ClientException notConnected(Deadline limit, boolean isFinal) {
         return limit.isOver()
                 ? new CancelledException("the limit of the call went by: " + causeText, false)
-                : new CannotConnectException(causeText, cause);
+                : new CannotConnectException(causeText, cause, isFinal);
     }
 
     private static String said(IOException fault) {

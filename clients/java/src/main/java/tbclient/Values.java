@@ -5,6 +5,7 @@ import java.lang.invoke.VarHandle;
 import java.math.BigInteger;
 import java.nio.ByteOrder;
 import java.time.Duration;
+import java.util.Arrays;
 
 /** The tests of what fields and arguments hold, and their bytes. Each fault names the field. */
 final class Values {
@@ -41,6 +42,14 @@ final class Values {
         return (int) INT.get(data, at) & U32;
     }
 
+    static int i32(byte[] data, int at) {
+        return (int) INT.get(data, at);
+    }
+
+    static byte[] id(byte[] data, int at) {
+        return Arrays.copyOfRange(data, at, at + Layout.ID_SIZE);
+    }
+
     static int u16(byte[] data, int at) {
         return (short) SHORT.get(data, at) & U16;
     }
@@ -63,7 +72,24 @@ final class Values {
         putLong(data, at + 8, value.bitLength() <= 64 ? 0 : value.shiftRight(64).longValue());
     }
 
+    static void bits(byte[] data, int at, long least, long most) {
+        putLong(data, at, least);
+        putLong(data, at + 8, most);
+    }
+
     // Tested, and put into bytes
+
+    static void id(byte[] data, int at, String field, byte[] value) {
+        System.arraycopy(wide(field, value), 0, data, at, Layout.ID_SIZE);
+    }
+
+    static byte[] wide(String field, byte[] value) {
+        if (value == null || value.length != Layout.ID_SIZE) {
+            String given = value == null ? "null" : String.valueOf(value.length);
+            throw new InvalidValueException(field, "takes 16 bytes, not " + given);
+        }
+        return value;
+    }
 
     static void u128(byte[] data, int at, String field, BigInteger value) {
         putWide(data, at, whole(field, value, 128));

@@ -31,10 +31,12 @@ import javax.net.ssl.SSLContext;
  */
 public final class ConformanceRunner {
     private static final List<String> FEATURES =
-            List.of("unix", "tcp", "addresses", "tls", "parallel", "cancel");
+            List.of("unix", "tcp", "addresses", "tls", "parallel", "cancel", "shared");
 
     private final Map<String, Transport> transports = new ConcurrentHashMap<>();
     private final Map<String, Session> sessions = new ConcurrentHashMap<>();
+    private final Map<String, Client> clients = new ConcurrentHashMap<>();
+    private final Map<String, SharedRunner.Begun> begun = new ConcurrentHashMap<>();
 
     /** The kit asks for what this runner does not know. */
     private static final class Unsupported extends RuntimeException {
@@ -77,6 +79,8 @@ public final class ConformanceRunner {
             return one("ok", call(line));
         } catch (ClientException why) {
             return one("error", errorOf(why));
+        } catch (SharedRunner.Left why) {
+            return one("error", one("name", "Cancelled"));
         } catch (Unsupported why) {
             return one("unsupported", why.getMessage());
         } catch (Unrepresentable why) {
@@ -120,6 +124,20 @@ public final class ConformanceRunner {
                 return null;
             case "ids":
                 return line.containsKey("times") ? idsOf(line) : ids(line);
+            case "share":
+                return share(line);
+            case "begin":
+                Operation kind = operation(line.get("operation"));
+                List<?> given = items(kind, line.get("items"), line);
+                begun.put(
+                        (String) line.get("call"),
+                        SharedRunner.begin(client(line, "shared"), kind, given, time(line, "within")));
+                return null;
+            case "end":
+                return said(line, begun(line).end());
+            case "leave":
+                begun(line).future().cancel(true);
+                return null;
             case "parallel":
                 return together(
                         list(line.get("calls")).stream()
@@ -142,10 +160,52 @@ public final class ConformanceRunner {
     }
 
     private Object reset() {
+        begun.values().forEach(it -> it.future().cancel(true));
+        begun.clear();
+        clients.values().forEach(it -> new Thread(it::close).start());
+        clients.clear();
         transports.values().forEach(Transport::close);
         transports.clear();
         sessions.clear();
         return null;
+    }
+
+    private Object share(Map<String, Object> line) {
+        List<String> addresses = new ArrayList<>();
+        for (Object it : list(line.get("addresses"))) {
+            Map<String, Object> address = fields(it);
+            addresses.add(
+                    address.containsKey("unix")
+                            ? (String) address.get("unix")
+                            : address.get("host") + ":" + count(address, "port"));
+        }
+        ClientOptions options = ClientOptions.DEFAULT;
+        if (line.containsKey("timeout")) {
+            options = options.withTimeout(time(line, "timeout"));
+        }
+        if (line.containsKey("sessions")) {
+            options = options.withSessions(count(line, "sessions"));
+        }
+        String[] places = addresses.toArray(new String[0]);
+        clients.put(
+                (String) line.get("shared"), new Client(UInt128.asBytes(0), places, options));
+        return null;
+    }
+
+    private Client client(Map<String, Object> line, String name) {
+        Client client = clients.get(String.valueOf(line.get(name)));
+        if (client == null) {
+            throw new Unsupported("no shared client " + line.get(name));
+        }
+        return client;
+    }
+
+    private SharedRunner.Begun begun(Map<String, Object> line) {
+        SharedRunner.Begun call = begun.get(String.valueOf(line.get("call")));
+        if (call == null) {
+            throw new Unsupported("no call " + line.get("call"));
+        }
+        return call;
     }
 
     private Object connect(Map<String, Object> line) {
@@ -234,10 +294,14 @@ public final class ConformanceRunner {
     }
 
     private Object asked(Map<String, Object> line) {
-        Session session = session(line);
         Operation operation = operation(line.get("operation"));
         List<?> items = items(operation, line.get("items"), line);
         Duration within = time(line, "within");
+        if (line.containsKey("shared")) {
+            Client client = client(line, "shared");
+            return said(line, SharedRunner.ask(client, operation, items, within));
+        }
+        Session session = session(line);
         switch (operation) {
             case REGISTER:
                 session.prepare(operation, items);
@@ -266,7 +330,9 @@ public final class ConformanceRunner {
     }
 
     private Object closed(Map<String, Object> line) {
-        if (line.containsKey("session")) {
+        if (line.containsKey("shared")) {
+            client(line, "shared").close();
+        } else if (line.containsKey("session")) {
             session(line).close();
         } else {
             transports.get((String) line.get("transport")).close();
