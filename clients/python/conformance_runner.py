@@ -5,6 +5,8 @@
 """
 from __future__ import annotations
 
+import asyncio
+import concurrent.futures
 import functools
 import json
 import os
@@ -12,7 +14,7 @@ import platform
 import ssl
 import sys
 import threading
-from typing import Any, Callable, Dict, Iterator, List, Optional
+from typing import Any, Callable, Dict, Iterator, List, Optional, Tuple
 
 sys.path.insert(0, os.path.join(os.path.dirname(os.path.abspath(__file__)), "src"))
 
@@ -20,7 +22,7 @@ import tb_client as tb  # noqa: E402
 from tb_client.frames import header_of  # noqa: E402
 from tb_client.ids import MILLISECOND, Ids  # noqa: E402
 
-FEATURES = ["unix", "tcp", "addresses", "tls", "parallel"]
+FEATURES = ["unix", "tcp", "addresses", "tls", "parallel", "shared"]
 OPTIONS = ("attempts", "pause")
 
 
@@ -141,10 +143,26 @@ class KeepingSocket(tb.Socket):
         return super().exchange(moment, frame)
 
 
+class Ended(Exception):
+    """The answer of a call that was begun is that of `end`."""
+
+    def __init__(self, answer: Dict[str, Any]) -> None:
+        super().__init__("ended")
+        self.answer = answer
+
+
+Begun = "concurrent.futures.Future[Any]"
+LEFT = (asyncio.CancelledError, asyncio.TimeoutError, concurrent.futures.CancelledError)
+
+
 class Runner:
+    loop = asyncio.new_event_loop()  # of the clients that callers share
+
     def __init__(self) -> None:
         self.transports: Dict[str, tb.Socket] = {}
         self.sessions: Dict[str, tb.Session] = {}
+        self.shared: Dict[str, tb.ClientAsync] = {}
+        self.begun: Dict[str, Tuple[Dict[str, Any], Begun]] = {}
 
     def answer(self, line: Dict[str, Any]) -> Dict[str, Any]:
         call: Optional[Callable[[Dict[str, Any]], Any]] = getattr(
@@ -156,6 +174,10 @@ class Runner:
             return {"ok": call(line)}
         except Unsupported as why:
             return {"unsupported": str(why)}
+        except Ended as why:
+            return why.answer
+        except LEFT:
+            return {"error": {"name": "Cancelled"}}
         except (tb.ClientError, OSError) as error:
             return {"error": error_of(error)}
 
@@ -175,6 +197,10 @@ class Runner:
     def do_reset(self, _: Dict[str, Any]) -> None:
         for it in self.transports.values():
             it.close()
+        for _, call in self.begun.values():
+            call.cancel()
+        for client in self.shared.values():
+            asyncio.run_coroutine_threadsafe(client.close(), self.loop)
         self.__init__()  # type: ignore[misc]
 
     def do_connect(self, line: Dict[str, Any]) -> None:
@@ -186,6 +212,41 @@ class Runner:
             given["tls"] = context_of(line["tls"])
         place = addresses[0] if len(addresses) == 1 else addresses
         self.transports[line["transport"]] = KeepingSocket(place, **given)
+
+    def do_share(self, line: Dict[str, Any]) -> None:
+        addresses: List[Any] = [
+            it["unix"] if "unix" in it else (it["host"], it["port"]) for it in line["addresses"]
+        ]
+        given: Dict[str, Any] = {"sessions": line["sessions"]} if "sessions" in line else {}
+        tls = context_of(line["tls"]) if "tls" in line else None
+        limit = line.get("timeout", 5.0)
+        self.shared[line["shared"]] = tb.ClientAsync(
+            0, addresses, connect=lambda: tb.Socket(addresses, timeout=limit, tls=tls), **given
+        )
+
+    def asking(self, line: Dict[str, Any]) -> Begun:
+        """A call of a shared client, which goes on in the loop."""
+        client, operation = self.client(line), line["operation"]
+        call = getattr(client, operation)(items_of(operation, line.get("items", [])))
+        return asyncio.run_coroutine_threadsafe(
+            asyncio.wait_for(call, line.get("within")), self.loop
+        )
+
+    def client(self, line: Dict[str, Any]) -> tb.ClientAsync:
+        try:
+            return self.shared[line["shared"]]
+        except KeyError:
+            raise Unsupported(f"no shared client {line.get('shared')}") from None
+
+    def do_begin(self, line: Dict[str, Any]) -> None:
+        self.begun[line["call"]] = line, self.asking(line)
+
+    def do_end(self, line: Dict[str, Any]) -> None:
+        asked, call = self.begun[line["call"]]
+        raise Ended(self.answer({**asked, "do": "ask", "begun": call}))
+
+    def do_leave(self, line: Dict[str, Any]) -> None:
+        self.begun[line["call"]][1].cancel()
 
     def do_open(self, line: Dict[str, Any]) -> Any:
         client = value_of(line["client"]) if "client" in line else tb.id()
@@ -231,6 +292,9 @@ class Runner:
         return self.said(session, said, line, KeepingSocket.last.operation.name)
 
     def do_ask(self, line: Dict[str, Any]) -> Any:
+        if "shared" in line:
+            call = line["begun"] if "begun" in line else self.asking(line)
+            return self.said(None, call.result(), line, line["operation"])
         session, operation = self.session(line), line["operation"]
         items = items_of(operation, line.get("items", []))
         if operation in (
@@ -244,10 +308,12 @@ class Runner:
         return self.said(session, session.retry(), line, "register")
 
     @staticmethod
-    def said(session: tb.Session, said: Any, line: Dict[str, Any], operation: str) -> Any:
+    def said(
+        session: Optional[tb.Session], said: Any, line: Dict[str, Any], operation: str
+    ) -> Any:
         if line.get("require_ok"):
             tb.require_ok(said)
-        if said is None:
+        if said is None and session is not None:
             return {"session": str(session.session)}
         if operation.startswith("create"):
             return {"results": shown_results(said)}
@@ -275,6 +341,9 @@ class Runner:
         }
 
     def do_close(self, line: Dict[str, Any]) -> None:
+        if "shared" in line:
+            asyncio.run_coroutine_threadsafe(self.client(line).close(), self.loop).result()
+            return
         (self.session(line) if "session" in line else self.transports[line["transport"]]).close()
 
     def do_drop(self, line: Dict[str, Any]) -> None:
@@ -323,6 +392,7 @@ def context_of(given: Dict[str, Any]) -> ssl.SSLContext:
 
 def main() -> int:
     runner = Runner()
+    threading.Thread(target=Runner.loop.run_forever, daemon=True).start()
     for line in sys.stdin:
         print(json.dumps(runner.answer(json.loads(line))), flush=True)
     return 0
