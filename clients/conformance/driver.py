@@ -60,7 +60,7 @@ class Run:
         return is_timed(self.all_steps)
 
     def run(self, factor=1):
-        self.unrepresentable, self.was_killed = 0, False
+        self.unrepresentable, self.was_killed, self.greatest_id = 0, False, 0
         for feature in self.scenario.get("needs", ()):
             if feature not in self.features:
                 raise Skipped(feature)
@@ -184,10 +184,18 @@ class Run:
         if "error" in wants:
             return is_error(wants, answer.get("error"))
         if "ids" in wants:
-            return are_ids(wants["ids"], answer.get("ok"))
+            return self.are_later(wants["ids"], answer.get("ok"))
         if "answers" in wants:
             return self.are_wanted(wants["answers"], answer.get("ok"))
         return set(answer) == {"ok"} and matches(wants["ok"], answer["ok"])
+
+    def are_later(self, wants, got):
+        """Whether these are ids, and where `after` says so above all earlier ones of the run."""
+        if not are_ids(wants, got):
+            return False
+        numbers = [int(it) for it in got]
+        before, self.greatest_id = self.greatest_id, max([self.greatest_id, *numbers])
+        return not wants.get("after") or min(numbers) > before
 
     def are_wanted(self, wants, answers):
         """Whether each of some answers is one that is wanted, in any order."""
@@ -220,6 +228,8 @@ class Run:
             if found == text:
                 raise Failed(f"the file has no {step['replace'][0]}: {text[:200]}")
             write(path, found)
+        if step.get("unlink"):
+            os.unlink(path)
         if "folder" in step:
             os.mkdir(path)
         if "pipe" in step:

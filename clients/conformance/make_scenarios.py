@@ -16,14 +16,14 @@ sys.dont_write_bytecode = True
 HERE = os.path.dirname(os.path.abspath(__file__))
 sys.path.insert(0, HERE)
 
-from made import doubt, exchanges, files, others, requests, sharing, values  # noqa: E402
+from made import doubt, edges, exchanges, files, others, requests, sharing, values  # noqa: E402
 from made.frames import BEGINS  # noqa: E402
 
 
 def groups():
     """Each file's name, and its scenarios."""
     found = {"begins": BEGINS}
-    for module in (requests, exchanges, doubt, files, values, others, sharing):
+    for module in (requests, exchanges, doubt, files, values, others, sharing, edges):
         found.update(module.groups())
     return found
 

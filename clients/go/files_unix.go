@@ -25,7 +25,7 @@ func openRegular(path string) (*os.File, error) {
 }
 
 // writeWhole puts a file at this path, or where a link there leads, with these bytes, and with the
-// old one's permissions. Where that fails the old file is left, and nothing next to it.
+// old one's permissions, or 0600. Where that fails the old file is left, and nothing next to it.
 func writeWhole(path string, data []byte) error {
 	path = linked(path)
 	old, err := os.Stat(path)
@@ -51,9 +51,11 @@ func replace(path, fresh string, data []byte, old fs.FileInfo) error {
 		return err
 	}
 	defer file.Close() // which gives the lock back
+	mode := fs.FileMode(0o600)
 	if old != nil {
-		file.Chmod(old.Mode().Perm()) // a file system without permissions does without
+		mode = old.Mode().Perm()
 	}
+	file.Chmod(mode) // a file system without permissions does without
 	if err = fill(file, data); err == nil {
 		err = os.Rename(fresh, path)
 	}
@@ -66,7 +68,7 @@ func replace(path, fresh string, data []byte, old fs.FileInfo) error {
 // openFresh opens a file that nobody else writes to until it is closed.
 func openFresh(path string) (*os.File, error) {
 	for {
-		file, err := os.OpenFile(path, os.O_WRONLY|os.O_CREATE|syscall.O_NOFOLLOW|syscall.O_NONBLOCK, 0o666)
+		file, err := os.OpenFile(path, os.O_WRONLY|os.O_CREATE|syscall.O_NOFOLLOW|syscall.O_NONBLOCK, 0o600)
 		if err != nil {
 			return nil, err
 		}

@@ -82,6 +82,14 @@ function itemsOf(operation, given) {
   });
 }
 
+/** Changes a caller's items after a call. */
+function change(items) {
+  for (const it of items) {
+    if (typeof it === "object" && !Object.isFrozen(it)) it.id = 0n;
+  }
+  items.fill(0n);
+}
+
 function operationOf(given) {
   return typeof given === "string" && given in tb.Operation
     ? tb.Operation[given]
@@ -230,7 +238,9 @@ class Runner {
 
   do_prepare(line) {
     const { operation, items = [] } = line;
-    this.#session(line).prepare(operationOf(operation), itemsOf(operation, items));
+    const given = itemsOf(operation, items);
+    this.#session(line).prepare(operationOf(operation), given);
+    if (line.changes) change(given);
   }
 
   async do_retry(line) {

@@ -7,6 +7,7 @@ from __future__ import annotations
 
 import asyncio
 import concurrent.futures
+import contextlib
 import functools
 import json
 import os
@@ -141,6 +142,14 @@ class KeepingSocket(tb.Socket):
     def exchange(self, moment: int, frame: bytes) -> bytes:
         self.last.operation = header_of(frame).operation
         return super().exchange(moment, frame)
+
+
+def change(items: List[Any]) -> None:
+    """Changes a caller's items after a call."""
+    for it in items:
+        with contextlib.suppress(AttributeError):
+            it.id = 0
+    items[:] = [0] * len(items)
 
 
 class Ended(Exception):
@@ -282,9 +291,10 @@ class Runner:
 
     def do_prepare(self, line: Dict[str, Any]) -> None:
         operation = line["operation"]
-        self.session(line).prepare(
-            operation_of(operation), items_of(operation, line.get("items", []))
-        )
+        items = items_of(operation, line.get("items", []))
+        self.session(line).prepare(operation_of(operation), items)
+        if line.get("changes"):
+            change(items)
 
     def do_retry(self, line: Dict[str, Any]) -> Any:
         session = self.session(line)

@@ -122,7 +122,7 @@ async function linked(name) {
   return found;
 }
 
-/** The permissions of the file that is to be replaced, or undefined where there is none. */
+/** The permissions of the file that is to be replaced, or 0600 where there is none. */
 async function modeOf(name) {
   try {
     const status = await fs.stat(name);
@@ -130,14 +130,14 @@ async function modeOf(name) {
     return status.mode & 0o777;
   } catch (fault) {
     if (fault.code !== "ENOENT") throw fault;
-    return undefined;
+    return 0o600;
   }
 }
 
 async function writeSynced(name, text, mode) {
-  const it = await fs.open(name, "wx", 0o666);
+  const it = await fs.open(name, "wx", 0o600);
   try {
-    if (mode !== undefined) await it.chmod(mode).catch(() => {}); // a file system without
+    await it.chmod(mode).catch(() => {}); // a file system without
     await it.writeFile(text, "latin1");
     await it.sync();
   } finally {

@@ -342,7 +342,33 @@ func (it *runner) prepare(line object) (any, error) {
 	if err != nil {
 		return nil, err
 	}
-	return nil, session.Prepare(request)
+	err = session.Prepare(request)
+	if line["changes"] == true {
+		change(request)
+	}
+	return nil, err
+}
+
+// change changes a caller's items after a call.
+func change(request tbclient.Request) {
+	switch it := request.(type) {
+	case tbclient.CreateAccounts:
+		for at := range it {
+			it[at] = tbclient.Account{}
+		}
+	case tbclient.CreateTransfers:
+		for at := range it {
+			it[at] = tbclient.Transfer{}
+		}
+	case tbclient.LookupAccounts:
+		for at := range it {
+			it[at] = tbclient.Uint128{}
+		}
+	case tbclient.LookupTransfers:
+		for at := range it {
+			it[at] = tbclient.Uint128{}
+		}
+	}
 }
 
 func itemsOf(line object) any {

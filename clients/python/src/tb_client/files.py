@@ -6,7 +6,7 @@ import fcntl
 import json
 import os
 import stat
-from typing import Any, Optional, Union
+from typing import Any, Union
 
 from .errors import InvalidValue
 
@@ -63,9 +63,9 @@ def _one_of_each(pairs: list[tuple[str, Any]]) -> dict[str, Any]:
 
 def write_whole(path: str, data: bytes) -> None:
     """Puts a file at this path, or where a link there leads, with these bytes, and with the old
-    one's permissions. Where that fails the old file is left, and nothing next to it."""
+    one's permissions, or 0600. Where that fails the old file is left, and nothing next to it."""
     path = os.path.realpath(path)
-    mode: Optional[int] = None
+    mode = 0o600
     with contextlib.suppress(FileNotFoundError):
         status = os.stat(path)
         _test_is_file(status)
@@ -78,12 +78,11 @@ def write_whole(path: str, data: bytes) -> None:
         os.close(folder)
 
 
-def _replace(path: str, beside: str, data: bytes, mode: Optional[int]) -> None:
+def _replace(path: str, beside: str, data: bytes, mode: int) -> None:
     it = _begun(beside)
     try:
-        if mode is not None:
-            with contextlib.suppress(OSError):  # a file system without permissions
-                os.fchmod(it, mode)
+        with contextlib.suppress(OSError):  # a file system without permissions
+            os.fchmod(it, mode)
         _fill(it, data)
         os.replace(beside, path)
     except BaseException:
@@ -98,7 +97,7 @@ def _begun(path: str) -> int:
     """A file at this path that nobody else writes to until it is closed."""
     while True:
         it = os.open(
-            path, os.O_WRONLY | os.O_CREAT | os.O_NOFOLLOW | os.O_NONBLOCK | os.O_CLOEXEC, 0o666
+            path, os.O_WRONLY | os.O_CREAT | os.O_NOFOLLOW | os.O_NONBLOCK | os.O_CLOEXEC, 0o600
         )
         try:
             _test_is_file(os.fstat(it))

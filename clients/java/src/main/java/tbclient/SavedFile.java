@@ -14,7 +14,10 @@ import java.nio.file.Path;
 import java.nio.file.StandardCopyOption;
 import java.nio.file.StandardOpenOption;
 import java.nio.file.attribute.BasicFileAttributes;
+import java.nio.file.attribute.FileAttribute;
+import java.nio.file.attribute.PosixFilePermissions;
 import java.util.Map;
+import java.util.Set;
 import java.util.concurrent.atomic.AtomicLong;
 
 /** The file that keeps a session: written whole or not at all, and read where it is one. */
@@ -24,6 +27,9 @@ final class SavedFile {
     private static final int DIGITS_MAX = 40; // more than a number of 128 bits has
     private static final int LINKS_MAX = 40; // that the system follows
     private static final AtomicLong COUNT = new AtomicLong();
+    private static final FileAttribute<?>[] OWNERS = {
+        PosixFilePermissions.asFileAttribute(PosixFilePermissions.fromString("rw-------"))
+    };
 
     private SavedFile() {}
 
@@ -97,8 +103,8 @@ final class SavedFile {
     // Writing
 
     /**
-     * Puts a file at this path, or where a link there leads, with the old one's permissions. Where
-     * that fails the old file is left, and nothing next to it. Only a kill may leave the new one
+     * Puts a file at this path, or where a link there leads, with the old one's permissions, or
+     * 0600. Where that fails the old file is left, and nothing next to it. Only a kill may leave the new one
      * next to it, which nobody reads.
      */
     static void write(Path path, Saved saved) {
@@ -183,7 +189,9 @@ final class SavedFile {
             Path beside = path.resolveSibling(name + "." + own + ".new");
             try (FileChannel file =
                     FileChannel.open(
-                            beside, StandardOpenOption.CREATE_NEW, StandardOpenOption.WRITE)) {
+                            beside,
+                            Set.of(StandardOpenOption.CREATE_NEW, StandardOpenOption.WRITE),
+                            isPosix(path) ? OWNERS : new FileAttribute<?>[0])) {
                 keepPermissions(path, beside);
                 fill(file, beside, data);
                 return beside;

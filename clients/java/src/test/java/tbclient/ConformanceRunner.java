@@ -104,7 +104,11 @@ public final class ConformanceRunner {
                 return began(name, line);
             case "prepare":
                 Operation operation = operation(line.get("operation"));
-                session(line).prepare(operation, items(operation, line.get("items"), line));
+                List<?> items = items(operation, line.get("items"), line);
+                session(line).prepare(operation, items);
+                if (line.containsKey("changes")) {
+                    Collections.fill(items, null); // an item itself never changes
+                }
                 return null;
             case "retry":
                 return said(line, session(line).retry(time(line, "within")));
