@@ -10,6 +10,9 @@ def add_words(parser):
     parser.add_argument(
         "--from", dest="least", metavar="N", type=int, default=1, help="from the Nth of all on (1)"
     )
+    parser.add_argument(
+        "--scenarios", metavar="PATTERN", default="*", help="over scenarios of such a name or group"
+    )
     parser.add_argument("--list", action="store_true", help="print their names, and try none")
 
 

@@ -74,6 +74,54 @@ def end(it):
             time.sleep(0.001)
 
 
+class InFlights:
+    """A connection under TLS 1.2 that sees how its client writes: what it has to say before the
+    server's turn comes in one piece."""
+
+    def __init__(self, it, context):
+        self.socket, self.family = it, it.family
+        self.came, self.goes = ssl.MemoryBIO(), ssl.MemoryBIO()
+        self.tls = context.wrap_bio(self.came, self.goes, server_side=True)
+        pieces = 0
+        while not self.is_agreed():
+            pieces += 1
+            self.take()
+        if pieces > 2:  # its hello, and its key
+            raise Failed(f"the client agrees on TLS in {pieces} writes, not 2")
+
+    def is_agreed(self):
+        try:
+            self.tls.do_handshake()
+        except ssl.SSLWantReadError:
+            return False
+        finally:
+            self.flush()
+        return True
+
+    def flush(self):
+        self.socket.sendall(self.goes.read())
+
+    def take(self):
+        data = self.socket.recv(1 << 16)
+        self.came.write(data) if data else self.came.write_eof()
+
+    def recv(self, count):
+        while True:
+            try:
+                return self.tls.read(count)
+            except ssl.SSLWantReadError:
+                self.take()
+            except (ssl.SSLZeroReturnError, ssl.SSLEOFError):
+                return b""
+
+    def sendall(self, data):
+        self.tls.write(data)
+        self.flush()
+
+    def __getattr__(self, name):
+        return getattr(self.socket, name)
+
+
 class Connections:
     """The connections of a scenario by name, and the actions over them."""
 
@@ -127,6 +175,8 @@ class Connections:
     def agreed(self, it, server, wanted):
         """The connection under TLS, or None where that was to fail, and failed."""
         try:
+            if wanted == "in flights":
+                return InFlights(it, server.context)
             it = server.context.wrap_socket(it, server_side=True)
         except (ssl.SSLError, OSError) as error:
             it.close()

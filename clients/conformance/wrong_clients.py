@@ -30,6 +30,82 @@ SECONDS = 1800  # that the kit may take for one wrong client
 
 # Each: what is wrong, the file, the text that stands there once, and the text in its place.
 WRONG = {
+    "shared: results are not by a list's own indexes": (
+        "joined.py",
+        "EventResult(results[at].index - first, results[at].result)",
+        "results[at]",
+    ),
+    "shared: a list is joined to an open chain": (
+        "pools.py",
+        "return fits and call.operation == last.operation and not last.is_open",
+        "return fits and call.operation == last.operation",
+    ),
+    "shared: more is joined than a request holds": (
+        "pools.py",
+        "fits = count + call.count <= ITEMS_MAX",
+        "fits = count + call.count <= ITEMS_MAX + 100",
+    ),
+    "shared: a list is sent whose caller has left": (
+        "pools.py",
+        "                if not call.future.cancelled():\n",
+        "                if True:\n",
+        "pools.py",
+        "            self._calls.remove(call)\n",
+        "            pass\n",
+    ),
+    "shared: a chain that was executed is not settled": (
+        "pools.py",
+        "if is_doubtful and operation in CREATES:",
+        "if is_doubtful and operation == 0:",
+    ),
+    "shared: a chain is settled that was never lost": (
+        "pools.py",
+        "is_doubtful, is_lost = is_doubtful or is_lost, False",
+        "is_doubtful, is_lost = True, False",
+    ),
+    "shared: a refusal does not end the session": (
+        "pools.py",
+        "                self._leave()  # or its request in doubt would go out as the next one\n",
+        "                pass\n",
+    ),
+    "shared: an eviction is the caller's": (
+        "pools.py",
+        "            except Evicted as why:\n                is_doubtful",
+        "            except Evicted as why:\n                raise\n                is_doubtful",
+    ),
+    "edge: a session is compared by its lower half": (
+        "sessions.py",
+        "        if reply.session != session or not session:\n",
+        "        if (reply.session ^ session) % 2**32 or not session:\n",
+    ),
+    "edge: a client is compared by its lower half": (
+        "sessions.py",
+        "        if (reply.client, reply.number, reply.operation) != (\n            self.client,\n",
+        "        if (reply.client % 2**64, reply.number, reply.operation) != (\n"
+        "            self.client % 2**64,\n",
+    ),
+    "edge: a lookup that is lost is in doubt no longer": (
+        "sessions.py",
+        "            except NotSent:\n                if not self._may_be_sent:",
+        "            except (NotSent, ReplyLost):\n"
+        "                if not self._may_be_sent or kind >= 131:",
+    ),
+    "edge: NotYet after a loss ends the call": (
+        "sessions.py",
+        "                    if not left:\n                        raise\n",
+        "                    if not left or last and isinstance(why, NotYet):\n"
+        "                        raise\n",
+    ),
+    "edge: others may read a session's file": (
+        "files.py",
+        "    mode = 0o600\n",
+        "    mode = 0o644\n",
+    ),
+    "edge: ids of a thread do not know those of others": (
+        "ids.py",
+        "    return _ids.next()\n",
+        "    return Ids().next()\n",
+    ),
     "a new number for each retry": (
         "sessions.py",
         "            attempts, pauses = self._options()\n",
@@ -271,7 +347,7 @@ def edited(folder, edits):
             it.write(text.replace(old, new))
 
 
-def caught(edits, jobs, drawn=()):
+def caught(edits, jobs, scenarios="*", drawn=()):
     """The kit's status for an edited client, and the scenario that failed first."""
     with tempfile.TemporaryDirectory() as folder:
         edited(folder, edits)
@@ -283,7 +359,7 @@ def caught(edits, jobs, drawn=()):
             "--first",
             "--jobs",
             str(jobs),
-            *drawn,
+            *(drawn or ("--only", scenarios)),
             "--",
             *runner,
         ]
@@ -332,13 +408,16 @@ def main():
     if given.texts:
         return texts(tried)
     drawn = ["--drawn", str(given.drawn), "--seed", str(given.seed)] if given.drawn else []
-    status, said = caught((), 4, drawn)
+    status, said = caught((), 4, given.scenarios, drawn)
     if status:
         print(f"FAILED: the client as it is: {said}")
         return 1
     missed = 0
     with concurrent.futures.ThreadPoolExecutor(given.jobs) as pool:
-        runs = {name: pool.submit(caught, edits, 1, drawn) for name, edits in tried.items()}
+        runs = {
+            name: pool.submit(caught, edits, 1, given.scenarios, drawn)
+            for name, edits in tried.items()
+        }
         for name, run in runs.items():
             try:
                 status, said = run.result()

@@ -28,6 +28,94 @@ from choice import add_words, chosen  # noqa: E402
 
 # Each: what is wrong, the file, the text that is there once, and the text in its place.
 WRONG = {
+    "shared: results are not by a list's own indexes": (
+        "joint.go",
+        "Result[C]{Index: (*all)[0].Index - first,",
+        "Result[C]{Index: (*all)[0].Index,",
+    ),
+    "shared: a list is joined to an open chain": (
+        "queue.go",
+        "count+next.count <= ItemsMax && !last.isOpen()",
+        "count+next.count <= ItemsMax",
+    ),
+    "shared: more is joined than a request holds": (
+        "queue.go",
+        "count+next.count <= ItemsMax &&",
+        "count+next.count <= ItemsMax+100 &&",
+    ),
+    "shared: calls of two operations are joined": (
+        "queue.go",
+        "next.operation == last.operation && count",
+        "isCreate(next.operation) == isCreate(last.operation) && count",
+    ),
+    "shared: a list is sent whose caller has left": (
+        "queue.go",
+        "q.waiting = append(q.waiting[:at:at], q.waiting[at+1:]...)",
+        "_ = at",
+    ),
+    "shared: a chain that was executed is not settled": (
+        "worker.go",
+        "if err == nil && isDoubtful {",
+        "if err == nil && isDoubtful && w == nil {",
+    ),
+    "shared: a chain is settled that was never lost": (
+        "worker.go",
+        "isDoubtful, isGone = isOpen, false",
+        "isDoubtful, isGone = true, false",
+    ),
+    "shared: who leaves amid its request is told that nothing was sent": (
+        "queue.go",
+        "\t\tnext.isSent = true // before it is: who leaves from now on is told so\n",
+        "",
+    ),
+    "shared: a refusal does not end the session": (
+        "worker.go",
+        "\tdefault:\n\t\tw.leaveIfInDoubt()\n",
+        "\tdefault:\n",
+    ),
+    "shared: an eviction is the caller's": (
+        "worker.go",
+        "\t\tcase errors.Is(err, ErrEvicted):\n\t\t\tisDoubtful, isGone = isOpen, false\n"
+        "\t\t\tw.session = nil\n",
+        "",
+    ),
+    "edge: a session is compared by its lower half": (
+        "replies.go",
+        "it.operation == asked.operation && it.session == session {",
+        "it.operation == asked.operation && uint32(it.session) == uint32(session) {",
+    ),
+    "edge: a client is compared by its lower half": (
+        "replies.go",
+        "if it.client == asked.client &&",
+        "if it.client.Lo == asked.client.Lo &&",
+    ),
+    "edge: a number is compared by its lower half": (
+        "replies.go",
+        "it.number == asked.number && it.operation",
+        "uint16(it.number) == uint16(asked.number) && it.operation",
+    ),
+    "edge: a limit within a reply leaves the connection": (
+        "socket.go",
+        "\taddress := it.addresses[it.at]\n\tit.lose(conn)\n",
+        "\taddress := it.addresses[it.at]\n\tif ctx.Err() == nil {\n\t\tit.lose(conn)\n\t}\n",
+    ),
+    "edge: a lookup that is lost is in doubt no longer": (
+        "session.go",
+        "if err != nil && !mayBeSent(err) {\n\t\tit.mu.Lock()",
+        "if err != nil && (!mayBeSent(err) || request.Operation() > OperationCreateTransfers) {\n"
+        "\t\tit.mu.Lock()",
+    ),
+    "edge: NotYet after a loss ends the call": (
+        "session.go",
+        "\t\tlast = err\n\t\tif !isLater(err) {\n",
+        "\t\tif last != nil && isLater(err) {\n\t\t\treturn answer, err\n\t\t}\n"
+        "\t\tlast = err\n\t\tif !isLater(err) {\n",
+    ),
+    "edge: others may read a session's file": (
+        "files_unix.go",
+        "mode := fs.FileMode(0o600)",
+        "mode := fs.FileMode(0o644)",
+    ),
     "a new number for each retry": (
         "session.go",
         "\tframe := it.pending\n\tit.mu.Unlock()\n\tif frame == nil {\n",
@@ -212,10 +300,11 @@ def built(folder, edits):
     return runner
 
 
-def caught(edits, over):
+def caught(edits, over, scenarios="*"):
     """The kit's status for an edited client, and the scenario that failed first."""
     with tempfile.TemporaryDirectory() as folder:
         words = [sys.executable, "-B", KIT, "--first", "--jobs", "1", "--over", over]
+        words += ["--only", scenarios]
         ran = subprocess.run(
             [*words, "--", built(folder, edits)], capture_output=True, text=True, timeout=SECONDS
         )
@@ -245,7 +334,7 @@ def main():
         return 1
     missed = 0
     with concurrent.futures.ThreadPoolExecutor(given.jobs) as pool:
-        runs = {name: pool.submit(caught, edits, given.over) for name, edits in tried.items()}
+        runs = {name: pool.submit(caught, edits, given.over, given.scenarios) for name, edits in tried.items()}
         for name, run in runs.items():
             try:
                 status, said = run.result()

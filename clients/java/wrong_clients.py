@@ -27,6 +27,81 @@ from choice import add_words, chosen  # noqa: E402
 
 # Each: what is wrong, the class, and texts that are there once, each with the text in its place.
 WRONG = {
+    "shared: results are not by a list's own indexes": (
+        "Joint",
+        "all.get(at).index() - first, all.get(at).result()",
+        "all.get(at).index(), all.get(at).result()",
+    ),
+    "shared: a list is joined to an open chain": (
+        "Call",
+        "return fits && next.operation == operation && !isOpen();",
+        "return fits && next.operation == operation;",
+    ),
+    "shared: more is joined than a request holds": (
+        "Call",
+        "items + next.count <= Layout.ITEMS_MAX;",
+        "items + next.count <= Layout.ITEMS_MAX + 100;",
+    ),
+    "shared: a list is sent whose caller has left": (
+        "Pool",
+        "            calls.remove(call);\n",
+        "",
+    ),
+    "shared: a chain that was executed is not settled": (
+        "Worker",
+        "if (said.isDoubtful() && Joint.isCreate(operation)) {",
+        "if (said.isDoubtful() && operation == null) {",
+    ),
+    "shared: a chain is settled that was never lost": (
+        "Worker",
+        "                isDoubtful |= isGone;\n",
+        "                isDoubtful = true;\n",
+    ),
+    "shared: an eviction is the caller's": (
+        "Worker",
+        "            } catch (EvictedException why) {\n",
+        "            } catch (EvictedException why) {\n                if (body != null) throw why;\n",
+    ),
+    "shared: a refusal does not end the session": (
+        "Worker",
+        "        } catch (ClientException why) {\n            leaveIfInDoubt();\n",
+        "        } catch (ClientException why) {\n",
+    ),
+    "edge: a session is compared by its lower half": (
+        "Frames",
+        "|| session(frame) == session(reply));",
+        "|| (int) session(frame) == (int) session(reply));",
+    ),
+    "edge: a client is compared by its lower half": (
+        "Frames",
+        "Arrays.equals(frame, 0, 16, reply, 0, 16)",
+        "Arrays.equals(frame, 0, 8, reply, 0, 8)",
+    ),
+    "edge: a number is compared by its lower half": (
+        "Frames",
+        "&& Arrays.equals(frame, 24, 29, reply, 24, 29)",
+        "&& Arrays.equals(frame, 24, 26, reply, 24, 26)",
+    ),
+    "edge: a lookup that is lost is in doubt no longer": (
+        "Session",
+        "            if (!mayBeSent) {\n                keep(session, number, null);",
+        "            if (!mayBeSent || pending[28] > -126) {\n                keep(session, number, null);",
+    ),
+    "edge: NotYet after a loss ends the call": (
+        "Session",
+        "                if (left == 0) {\n",
+        "                if (left == 0 || last != null && why instanceof NotYetException) {\n",
+    ),
+    "edge: a flight of TLS in several writes": (
+        "TlsLink",
+        "        flight.write(out.array(), 0, out.position());\n",
+        "        flight.write(out.array(), 0, out.position());\n        flush(until);\n",
+    ),
+    "edge: others may read a session's file": (
+        "SavedFile",
+        'fromString("rw-------")',
+        'fromString("rw-r--r--")',
+    ),
     "a new number for each retry": (
         "Session",
         "            return send(limit);\n        } finally {\n",
@@ -302,11 +377,11 @@ def compiled(folder, edit):
     return f"{folder}/classes:{BUILT}"
 
 
-def caught(edit):
+def caught(edit, scenarios="*"):
     """The kit's status for an edited client, and the scenario that failed first."""
     with tempfile.TemporaryDirectory() as folder:
         runner = [*JAVA, compiled(folder, edit), "tbclient.ConformanceRunner"]
-        words = [sys.executable, "-B", KIT, "--first", "--jobs", "1", "--", *runner]
+        words = [sys.executable, "-B", KIT, "--first", "--jobs", "1", "--only", scenarios, "--", *runner]
         ran = subprocess.run(words, capture_output=True, text=True, timeout=SECONDS)
     first = re.search(r"^FAILED: ([^:]+): (.*)", ran.stdout, re.M)
     said = f"{first[1]}: {first[2][:100]}" if first else (ran.stdout + ran.stderr)[-300:]
@@ -318,7 +393,8 @@ def main():
         description=__doc__, formatter_class=argparse.RawDescriptionHelpFormatter
     )
     add_words(parser)
-    tried = chosen(WRONG, parser.parse_args())
+    given = parser.parse_args()
+    tried = chosen(WRONG, given)
     status, said = caught(None)
     if status:
         print(f"FAILED: the client as it is: {said}")
@@ -326,7 +402,7 @@ def main():
     missed = 0
     for name, edit in tried.items():
         try:
-            status, said = caught(edit)
+            status, said = caught(edit, given.scenarios)
         except LookupError as why:
             status, said = 2, str(why)
         missed += status != 1

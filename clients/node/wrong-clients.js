@@ -3,7 +3,7 @@
 
 // Sees that the kit catches wrong clients: this client with one thing wrong, each in turn.
 //
-//     node wrong-clients.js [--only PART] [--from N] [--list]
+//     node wrong-clients.js [--only PART] [--from N] [--scenarios PATTERN] [--list]
 //
 // Each wrong client is an edit in a copy. The kit has to fail for it; the client as it is has to
 // pass. Prints which scenario caught it, and 'N of M wrong clients are caught'. Status 1 where one
@@ -26,6 +26,78 @@ const NUMBER = "this.#pending.readUInt32LE(24)";
 
 // Each: what is wrong, the file, the text that stands there once, and the text in its place.
 const WRONG = {
+  "shared: results are not by a list's own indexes": [
+    "lib/joint.js",
+    "index: results[at].index - first",
+    "index: results[at].index",
+  ],
+  "shared: a list is joined to an open chain": [
+    "lib/pool.js",
+    "next.operation === last.operation && !isOpen(last)",
+    "next.operation === last.operation",
+  ],
+  "shared: more is joined than a request holds": [
+    "lib/pool.js",
+    "last, count, next) {\n  const fits = count + next.count <= ITEMS_MAX;",
+    "last, count, next) {\n  const fits = count + next.count <= ITEMS_MAX + 100;",
+  ],
+  "shared: a list is sent whose caller has left": [
+    "lib/pool.js",
+    "if (at >= 0) this.#calls.splice(at, 1);",
+    "",
+  ],
+  "shared: a chain that was executed is not settled": [
+    "lib/pool.js",
+    "if (isDoubtful && isCreate(operation)) {",
+    "if (isDoubtful && operation === 0) {",
+  ],
+  "shared: a chain is settled that was never lost": [
+    "lib/pool.js",
+    "          isDoubtful = isOpen;",
+    "          isDoubtful = true;",
+  ],
+  "shared: who leaves amid its request is told that nothing was sent": [
+    "lib/pool.js",
+    "      next.isSent = true; // before it is: who leaves later is told so\n",
+    "",
+  ],
+  "shared: an eviction is the caller's": [
+    "lib/pool.js",
+    "} else if (why instanceof Evicted) {",
+    "} else if (why instanceof Evicted) {\n          throw why;",
+  ],
+  "edge: a session is compared by its lower half": [
+    "lib/frames.js",
+    "header.compare(frame, REQUEST[name], REQUEST[name] + bytes, at, at + bytes) === 0",
+    "header.compare(frame, REQUEST[name], REQUEST[name] + (name === 'session' ? 4 : bytes), at, " +
+      "at + (name === 'session' ? 4 : bytes)) === 0",
+  ],
+  "edge: a client is compared by its lower half": [
+    "lib/frames.js",
+    "header.compare(frame, REQUEST[name], REQUEST[name] + bytes, at, at + bytes) === 0",
+    "header.compare(frame, REQUEST[name], REQUEST[name] + (name === 'client' ? 8 : bytes), at, " +
+      "at + (name === 'client' ? 8 : bytes)) === 0",
+  ],
+  "edge: a lookup that is lost is in doubt no longer": [
+    "lib/session.js",
+    "if (why instanceof ClientError && !why.sent && !this.#mayBeSent) this",
+    "if (operation > 130 || (why instanceof ClientError && !why.sent && !this.#mayBeSent)) this",
+  ],
+  "edge: NotYet after a loss ends the call": [
+    "lib/session.js",
+    "        last = why;\n",
+    "        if (last !== undefined && why instanceof NotYet) throw why;\n        last = why;\n",
+  ],
+  "edge: others may read a session's file": [
+    "lib/files.js",
+    "    return 0o600;",
+    "    return 0o644;",
+  ],
+  "edge: a limit within a reply leaves the connection": [
+    "lib/socket.js",
+    "          this.#lose();\n          if (fault.isDistrust)",
+    "          if (!(fault instanceof Cancelled)) this.#lose();\n          if (fault.isDistrust)",
+  ],
   "a new number for each retry": [
     "lib/session.js",
     ONCE,
@@ -223,12 +295,12 @@ function edited(folder, edits) {
 }
 
 /** The kit's status for an edited client, and the scenario that failed first. */
-function caught(edits) {
+function caught(edits, scenarios = "*") {
   const folder = mkdtempSync(path.join(tmpdir(), "tb-wrong-"));
   try {
     edited(folder, edits);
     const runner = ["node", path.join(folder, "conformance-runner.js")];
-    const words = ["-B", KIT, "--first", "--jobs", "1", "--", ...runner];
+    const words = ["-B", KIT, "--first", "--jobs", "1", "--only", scenarios, "--", ...runner];
     const ran = spawnSync("python3", words, { encoding: "utf8" });
     const first = /^FAILED: ([^:]+): (.*)/m.exec(ran.stdout);
     const said = first ? `${first[1]}: ${first[2].slice(0, 90)}` : ran.stdout + ran.stderr;
@@ -241,18 +313,18 @@ function caught(edits) {
 /** Those that were asked for, by number and name, and whether they are only to be listed. */
 function asked() {
   const text = { type: "string" };
-  const { values } = parseArgs({ options: { only: text, from: text, list: { type: "boolean" } } });
-  const { only = "", from = "1", list } = values;
+  const options = { only: text, from: text, scenarios: text, list: { type: "boolean" } };
+  const { only = "", from = "1", scenarios, list } = parseArgs({ options }).values;
   const all = Object.entries(WRONG).map(([name, edits], at) => ({ number: at + 1, name, edits }));
   const named = all.filter((it) => it.name.includes(only));
   if (named.length === 0) throw new Error(`no wrong client has such a name: ${only}`);
   const found = named.filter((it) => it.number >= Number(from));
   if (found.length === 0) throw new Error(`no wrong client is there from number ${from} on`);
-  return { isList: list, chosen: found.map((it) => [`${it.number} ${it.name}`, it.edits]) };
+  return { scenarios, isList: list, chosen: found.map((it) => [`${it.number} ${it.name}`, it.edits]) };
 }
 
 function main() {
-  const { isList, chosen } = asked();
+  const { scenarios, isList, chosen } = asked();
   if (isList) {
     for (const [name] of chosen) console.log(name);
     return 0;
@@ -264,7 +336,7 @@ function main() {
   }
   let missed = 0;
   for (const [name, edits] of chosen) {
-    const { status, said } = caught(edits);
+    const { status, said } = caught(edits, scenarios);
     missed += status === 1 ? 0 : 1;
     const how = status === 1 ? `caught: ${name}: by` : `FAILED: not caught: ${name}:`;
     console.log(`${how} ${said.trim()}`);

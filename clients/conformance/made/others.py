@@ -200,6 +200,36 @@ def tls():
         saved(1),
         version="TLSv1_2",
     )
+    flights = begins(given=mine)
+    flights[1]["server"][0]["handshake"] = "in flights"
+    again = [
+        step
+        for name in "defgh"
+        for step in (
+            {"server": [{"close": "c" if name == "d" else chr(ord(name) - 1)}]},
+            ask(
+                TRANSFERS,
+                SALE,
+                [
+                    accept(name, handshake="in flights"),
+                    *served(
+                        frame_of(ord(name) - 99, TRANSFERS, SALE),
+                        empty(ord(name) - 99, TRANSFERS, commit=99),
+                        name,
+                    ),
+                ],
+            ),
+        )
+    ]
+    yield one(
+        "1.2-flights",
+        "What the client says for its part of agreeing on TLS 1.2 goes out in one write: a server "
+        "that refuses it at the first message closes the connection.",
+        flights,
+        again,
+        clients=True,
+        version="TLSv1_2",
+    )
     yield one(
         "client-certificate",
         "A client shows its certificate.",

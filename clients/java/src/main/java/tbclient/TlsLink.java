@@ -1,12 +1,15 @@
 package tbclient;
 
+import java.io.ByteArrayOutputStream;
 import java.io.EOFException;
 import java.io.IOException;
+import java.io.InterruptedIOException;
 import java.nio.ByteBuffer;
 import javax.net.ssl.SSLContext;
 import javax.net.ssl.SSLEngine;
 import javax.net.ssl.SSLEngineResult;
 import javax.net.ssl.SSLEngineResult.HandshakeStatus;
+import javax.net.ssl.SSLException;
 import javax.net.ssl.SSLParameters;
 
 /** A connection over TLS. The server's certificate has to be of its host. */
@@ -16,6 +19,7 @@ final class TlsLink implements Link {
     private final PlainLink link;
     private final SSLEngine engine;
     private final ByteBuffer out; // what was wrapped, to be sent
+    private final ByteArrayOutputStream flight = new ByteArrayOutputStream(); // TLS's own messages
     private ByteBuffer in; // what came, from its beginning to its position
     private ByteBuffer plain; // what was unwrapped, to be read
     private SSLEngineResult.Status last = SSLEngineResult.Status.OK; // of an unwrap
@@ -62,7 +66,7 @@ final class TlsLink implements Link {
     private boolean step(Deadline until) throws IOException {
         switch (engine.getHandshakeStatus()) {
             case NEED_WRAP:
-                send(NOTHING.duplicate(), until);
+                gather(until);
                 return true;
             case NEED_TASK:
                 for (Runnable it = engine.getDelegatedTask(); it != null; ) {
@@ -72,12 +76,57 @@ final class TlsLink implements Link {
                 return true;
             case NEED_UNWRAP:
             case NEED_UNWRAP_AGAIN:
+                flush(until);
                 if (unwrap() == SSLEngineResult.Status.CLOSED || isCut() && !link.read(in, until)) {
                     throw new EOFException("the connection was closed while TLS was agreed on");
                 }
                 return true;
             default:
+                flush(until);
                 return false;
+        }
+    }
+
+    /**
+     * Wraps what TLS itself has to say. It goes out in one write: a server that refuses this client
+     * at the first message closes the connection, and a further write would lose its alert.
+     */
+    private void gather(Deadline until) throws IOException {
+        out.clear();
+        SSLEngineResult.Status status = engine.wrap(NOTHING.duplicate(), out).getStatus();
+        flight.write(out.array(), 0, out.position());
+        if (status == SSLEngineResult.Status.CLOSED) {
+            flush(until);
+            throw new EOFException("TLS has ended");
+        }
+    }
+
+    private void flush(Deadline until) throws IOException {
+        if (flight.size() == 0) {
+            return;
+        }
+        ByteBuffer all = ByteBuffer.wrap(flight.toByteArray());
+        flight.reset();
+        try {
+            link.write(all, until);
+        } catch (InterruptedIOException why) {
+            throw why;
+        } catch (IOException broke) {
+            hear(until);
+            throw broke;
+        }
+    }
+
+    /** Throws the alert that the server sent before it closed the connection, where there is one. */
+    private void hear(Deadline until) throws SSLException {
+        try {
+            while (unwrap() != SSLEngineResult.Status.CLOSED && link.read(in, until)) {
+                until.test();
+            }
+        } catch (SSLException alert) {
+            throw alert;
+        } catch (IOException gone) {
+            // nothing more came
         }
     }
 
@@ -124,6 +173,7 @@ final class TlsLink implements Link {
                         && !engine.isOutboundDone()) {
             step(until);
         }
+        flush(until);
     }
 
     @Override
