@@ -3,11 +3,14 @@
 
     clients/conformance/money.py -- python3 -B clients/python/conformance_runner.py
     clients/conformance/money.py --kills 100 --server crates/tbd/out/tbd -- COMMAND [WORD ..]
+    clients/conformance/money.py --shared -- COMMAND [WORD ..]
 
 A session makes transfers one after another over the listener and a server that keeps its ledger in
 a file, each of another amount, by prepare, save, retry and save. At moments that a seed draws, one
 of the three is killed and started again; the client goes on from what it saved. In the end each
-transfer is there once, and both accounts have the sum of all amounts. Prints what was killed, and
+transfer is there once, and both accounts have the sum of all amounts. With --shared four callers
+share a client, and make four transfers at once; one that was killed is made again, and what was in
+flight is created again with the same ids. Prints what was killed, and
 the sums. Status 1 where money was lost or moved twice.
 """
 import argparse
@@ -246,6 +249,57 @@ class Money:
             self.listening.kill()
 
 
+class SharedMoney(Money):
+    """Callers that share a client. What is in flight when it is killed they create again."""
+
+    CALLERS = 4
+
+    def begin(self):
+        self.runner.start()
+        address = {"unix": f"{self.folder}/ledger.sock"}
+        self.call({"do": "share", "shared": "s", "addresses": [address], "timeout": 20})
+
+    def ask(self, operation, items):
+        return self.call({"do": "ask", "shared": "s", "operation": operation, "items": items})
+
+    def opened(self):
+        self.begin()
+        accounts = [{"id": it, "ledger": "700", "code": "10"} for it in ("1", "2")]
+        if self.ask("create_accounts", accounts)["results"]:
+            raise Wrong("the accounts are there already")
+
+    def transfer(self, kind):
+        numbers = range(self.made + 1, self.made + 1 + self.CALLERS)
+        self.begin_all(numbers)
+        if kind:
+            time.sleep(self.random.random() * self.given.span)
+            self.kill(kind, numbers)
+        for number in numbers:
+            results = self.call({"do": "end", "call": str(number)})["results"]
+            if any(it["result"] != "exists" for it in results):
+                raise Wrong(f"transfer {number} was not accepted: {results}")
+            self.count(number)
+
+    def begin_all(self, numbers):
+        for number in numbers:
+            sale = {"id": str(1000 + number), "debit_account_id": "1", "credit_account_id": "2"}
+            sale = {**sale, "amount": str(number), "ledger": "700", "code": "10"}
+            line = {"do": "begin", "call": str(number), "shared": "s"}
+            self.call({**line, "operation": "create_transfers", "items": [sale]})
+
+    def kill(self, kind, numbers):
+        self.killed[kind] += 1
+        if kind == "client":
+            self.runner.kill()
+            self.begin()
+            self.begin_all(numbers)
+        elif kind == "server":
+            self.listening.kill_server()
+        else:
+            self.listening.kill()
+            self.listening.start()
+
+
 def server_name(command):
     """The name of the program or script that a server's command ends in."""
     return os.path.basename(shlex.split(command)[-1])
@@ -273,6 +327,7 @@ def words():
         default=default,
         help="tbd, or another server of its words (tbd where it is built, else its stand-in)",
     )
+    parser.add_argument("--shared", action="store_true", help="by callers that share a client")
     parser.add_argument(
         "command", metavar="COMMAND", nargs="+", help="the runner and its words, behind --"
     )
@@ -287,7 +342,7 @@ def words():
 def main():
     given = words()
     with tempfile.TemporaryDirectory(prefix="money") as folder:
-        money = Money(given, folder)
+        money = (SharedMoney if given.shared else Money)(given, folder)
         try:
             money.run()
         except (Wrong, Ended, OSError) as why:
