@@ -328,7 +328,7 @@ def main():
     if given.jobs < 1:
         sys.exit("--jobs is 1 or more")
     tried = chosen(WRONG, given)
-    status, said = caught((), given.over)
+    status, said = caught((), given.over, given.scenarios)
     if status:
         print(f"FAILED: the client as it is: {said}")
         return 1

@@ -395,7 +395,7 @@ def main():
     add_words(parser)
     given = parser.parse_args()
     tried = chosen(WRONG, given)
-    status, said = caught(None)
+    status, said = caught(None, given.scenarios)
     if status:
         print(f"FAILED: the client as it is: {said}")
         return 1

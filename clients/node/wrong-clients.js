@@ -329,7 +329,7 @@ function main() {
     for (const [name] of chosen) console.log(name);
     return 0;
   }
-  const asItIs = caught([]);
+  const asItIs = caught([], scenarios);
   if (asItIs.status !== 0) {
     console.log(`FAILED: the client as it is: ${asItIs.said}`);
     return 1;
