@@ -8,8 +8,10 @@ what it prints. The last line is 'N passed, M failed' over all parts; a part tha
 counts as one failure.
 """
 
+import json
 import os
 import re
+import shlex
 import shutil
 import subprocess
 import sys
@@ -70,6 +72,16 @@ def by_status(_: str) -> Counts:
     return 1, 0
 
 
+def kit(client: str) -> Part:
+    """The stored scenarios of the conformance kit over a client, built by its own tests or here."""
+    folder = f"clients/{client}"
+    about = json.loads((ROOT / folder / "conformance.json").read_text())
+    words = [sys.executable, "-B", "../conformance/kit.py", "--", *about["runner"]]
+    if client == "go":
+        words = ["sh", "-c", f"go build -o out/ ./... && {shlex.join(words)}"]
+    return Part(f"kit over {about['language']}", folder, words, closing_line)
+
+
 PYTEST = [PYTHON, "-m", "pytest", "-q"]
 PACKAGES = ["clients/python", "apps/telovamish", "apps/host", "apps/books"]
 WORDS = [f"tests/test_{it}.py" for it in ("run", "page", "sending", "recorded_texts")]
@@ -88,6 +100,7 @@ PARTS = [
     Part("Go", "clients/go", ["go", "test", "-v", "./..."], go_counts),
     Part("Java", "clients/java", ["./build.sh", "test"], java_counts),
     Part("Node", "clients/node", ["node", "--test"], node_counts),
+    *(kit(it) for it in ("python", "go", "java", "node")),
 ]
 
 
