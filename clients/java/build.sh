@@ -27,8 +27,8 @@ build)
     ;;
 test)
     if [ ! -e "${junit%%:*}" ]; then
-        echo "passed over: Debian's junit4 is not there"
-        exit
+        echo "build.sh: no test was run: Debian's junit4 is not there" >&2
+        exit 1
     fi
     build
     $strictly -cp "out/classes:$junit" -d out/test-classes $(find src/test -name '*.java')

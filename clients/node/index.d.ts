@@ -264,9 +264,9 @@ export declare class Session {
   ): void;
   /**
    * Sends the request in doubt, the same bytes each time, until its reply has come. Answers what
-   * it says.
+   * it says: `retry<TransferResult[]>()` is typed by what was prepared.
    */
-  retry(options?: CallOptions): Promise<Said>;
+  retry<S extends Said = Said>(options?: CallOptions): Promise<S>;
 
   /**
    * Keeps `saved` in a file, whole: after a crash the file has it as it is now or as it was

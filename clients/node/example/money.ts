@@ -13,6 +13,7 @@ import {
   requireOk,
   type Transfer,
   type TransferRecord,
+  type TransferResult,
 } from "tb-client";
 
 export async function pay(session: Session, file: string, amount: bigint): Promise<bigint> {
@@ -27,7 +28,8 @@ export async function pay(session: Session, file: string, amount: bigint): Promi
   };
   session.prepare(Operation.create_transfers, [sale]);
   await session.save(file);
-  requireOk(await session.retry({ within: 2000 }));
+  const said = await session.retry<TransferResult[]>({ within: 2000 });
+  requireOk(said.filter((it) => it.result !== "exists"));
   await session.save(file);
   return sale.id;
 }

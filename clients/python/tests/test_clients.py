@@ -237,17 +237,33 @@ class Face(unittest.TestCase):
             ("10.0.0.1:3000, db.example:3001", [("10.0.0.1", 3000), ("db.example", 3001)]),
             ("[::1]:3000", [("::1", 3000)]),
             ("0003001", [("127.0.0.1", 3001)]),
+            ("localhost", [("localhost", 3001)]),
+            ("[::1]", [("::1", 3001)]),
+            (":3000", [("127.0.0.1", 3000)]),
             ("./ledger.sock", ["./ledger.sock"]),
         ):
             self.assertEqual(addresses_of(text), wanted)
         self.assertEqual(addresses_of(("127.0.0.1", 3000)), ("127.0.0.1", 3000))
-        wrong = "", "localhost", "3000,", "localhost:x", "0", "65536", "localhost:0", "-1", "000"
+        wrong = "", ":", "a:1:2", "3000,", "localhost:x", "0", "65536", "localhost:0", "-1", "000"
         for text in wrong:
             with self.assertRaises(tb.InvalidValue, msg=text):
                 ClientSync(0, text)
         for wrong in (3000, None, b"3000"):
             with self.assertRaises(tb.InvalidType):
                 ClientSync(0, wrong)
+
+    def test_calls_that_no_server_has(self):
+        client = ClientSync(0, "3000")
+        self.addCleanup(client.close)
+        for name in (
+            "query_accounts",
+            "query_transfers",
+            "get_account_transfers",
+            "get_account_balances",
+        ):
+            with self.assertRaises(tb.NotSupported) as caught:
+                getattr(client, name)(object())
+            self.assertIn("lookup_", caught.exception.instead)
 
     def test_wrong_arguments(self):
         for more in ({"sessions": 0}, {"sessions": 65}, {"timeout": 0}, {"timeout": "1"}):

@@ -5,11 +5,12 @@ import asyncio
 import concurrent.futures
 import contextlib
 import os
+import re
 import ssl
 from types import TracebackType
-from typing import Any, Callable, Iterable, List, Optional, Type, TypeVar, Union, cast
+from typing import Any, Callable, Iterable, List, NoReturn, Optional, Type, TypeVar, Union, cast
 
-from .errors import CannotConnect, InvalidType, InvalidValue, ReplyLost
+from .errors import CannotConnect, InvalidType, InvalidValue, NotSupported, ReplyLost
 from .ids import new_client
 from .names import Operation
 from .pools import Call, Pool
@@ -20,8 +21,16 @@ from .transports import Closing, Transport
 from .values import U16, U128, callable_of, kind_of, seconds, whole
 
 HOST = "127.0.0.1"  # of a port alone
+PORT = 3001  # of a host alone, as with TigerBeetle's client
+LOOKUP_ACCOUNTS = "lookup_accounts by ids, or tb-sql over the ledger's history"
+LOOKUP_TRANSFERS = "lookup_transfers by ids, or tb-sql over the ledger's history"
 SESSIONS_MAX = 64  # that a server has at one time
 
+# a port alone, or a host with or without one
+ADDRESS = re.compile(
+    r"(?P<alone>[0-9]+)"
+    r"|(\[(?P<number>[^\]]+)\]|(?P<host>\w[^:\[\]]*|(?=:)))(:(?P<port>[0-9]+))?"
+)
 A = TypeVar("A", bound="ClientAsync")
 Addresses = Union[Address, List[Address]]
 
@@ -67,6 +76,22 @@ class _Client:
     def __repr__(self) -> str:
         many = "1 session" if self._sessions == 1 else f"{self._sessions} sessions"
         return f"<{type(self).__name__} of {self.replica_addresses}, {many}>"
+
+    def query_accounts(self, *_: Any, **__: Any) -> NoReturn:
+        """TigerBeetle's query, which no server here answers."""
+        raise NotSupported("query_accounts", LOOKUP_ACCOUNTS)
+
+    def query_transfers(self, *_: Any, **__: Any) -> NoReturn:
+        """TigerBeetle's query, which no server here answers."""
+        raise NotSupported("query_transfers", LOOKUP_TRANSFERS)
+
+    def get_account_transfers(self, *_: Any, **__: Any) -> NoReturn:
+        """TigerBeetle's filter, which no server here answers."""
+        raise NotSupported("get_account_transfers", LOOKUP_TRANSFERS)
+
+    def get_account_balances(self, *_: Any, **__: Any) -> NoReturn:
+        """TigerBeetle's filter, which no server here answers."""
+        raise NotSupported("get_account_balances", LOOKUP_ACCOUNTS)
 
     def _late(self, call: Call) -> Any:
         """The answer of a call whose time went by and that was cancelled, where it came just then;
@@ -185,11 +210,12 @@ def addresses_of(addresses: Addresses) -> Addresses:
 def _address(text: str) -> Address:
     if "/" in text:
         return text
-    host, _, port = text.rpartition(":")
-    if not port.isascii() or not port.isdigit():
+    found = ADDRESS.fullmatch(text)
+    if not text or found is None:
         raise InvalidValue(
             "replica_addresses",
-            f"has {text!r:.60}: write a port, HOST:PORT, or a path with a slash",
+            f"has {text!r:.60}: write a port, HOST, HOST:PORT, or a path with a slash",
         )
-    number = whole("port", int(port.lstrip("0")[:6] or "0"), U16, 1)
-    return host.strip("[]") or HOST, number
+    alone, number, host, port = found.group("alone", "number", "host", "port")
+    port = alone or port or str(PORT)
+    return number or host or HOST, whole("port", int(port.lstrip("0")[:6] or "0"), U16, 1)

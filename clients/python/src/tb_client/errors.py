@@ -69,6 +69,14 @@ class CannotStart(NotSent):
     """The program does not start."""
 
 
+class NotSupported(NotSent):
+    """The server has no such call. `instead` is what to use."""
+
+    def __init__(self, call: str = "", instead: str = "") -> None:
+        super().__init__(f"the server has no {call}: use {instead}")
+        self.instead = instead
+
+
 class CannotConnect(NotSent):
     """No connection to the server can be made. `untrusted` where its certificate is not trusted,
     or it refuses this client's: waiting does not mend that."""

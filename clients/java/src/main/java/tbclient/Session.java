@@ -545,6 +545,21 @@ public final class Session implements AutoCloseable {
         }
     }
 
+    /**
+     * The results without those of one kind: after an eviction the same records are created again,
+     * and {@code EXISTS} says that it was done before. Of a linked chain that was done before one
+     * event exists, and the others failed with it: those are left.
+     *
+     * @param results what a create answered
+     * @param result the kind that is no fault
+     * @param <R> {@link CreateAccountResult} or {@link CreateTransferResult}
+     * @return the others
+     */
+    public static <R extends ResultCode> List<EventResult<R>> except(
+            List<EventResult<R>> results, R result) {
+        return results.stream().filter(it -> it.result() != result).toList();
+    }
+
     /** Closes the transport, which other sessions may share. */
     @Override
     public void close() {
