@@ -382,6 +382,8 @@ def language(about, kills):
     money = [sys.executable, "-B", f"{TOP}/clients/conformance/money.py", "--server", KEEPER]
     words = [*money, "--kills", str(kills), "--", *about["runner"]]
     done(f"{name}: money amid kills", words, folder)
+    durability = [sys.executable, "-B", f"{TOP}/clients/conformance/durability.py", "--"]
+    done(f"{name}: a saved session is durable", [*durability, *about["runner"]], folder)
     words = [*money, "--shared", "--kills", str(kills), "--", *about["runner"]]
     done(f"{name}: money of a shared client amid kills", words, folder)
 
