@@ -12,7 +12,7 @@ const tb = require("./index.js");
 const { LAYOUTS } = require("./names.js");
 const { Ids } = require("./lib/ids.js");
 
-const FEATURES = ["unix", "tcp", "addresses", "tls", "parallel", "cancel"];
+const FEATURES = ["unix", "tcp", "addresses", "tls", "parallel", "cancel", "shared"];
 const CALLS = {
   create_accounts: "createAccounts",
   create_transfers: "createTransfers",
@@ -28,6 +28,14 @@ const WIDE = new Set(
 
 /** The kit asks for what this runner does not know. */
 class Unsupported extends Error {}
+
+/** The answer of a call that was begun is that of `end`. */
+class Ended extends Error {
+  constructor(answer) {
+    super("ended");
+    this.answer = answer;
+  }
+}
 
 /** JavaScript has no such value. */
 class Unrepresentable extends Error {}
@@ -108,6 +116,10 @@ function shownRecord(record) {
   return { ...Object.fromEntries(fields), flags: shownFlags(kind, record.flags) };
 }
 
+function shownResults(results) {
+  return results.map(({ index, result }) => ({ index, result }));
+}
+
 function shownSaved({ saved }) {
   return { ...saved, ...shownNumbers(saved) };
 }
@@ -120,7 +132,8 @@ function shownError(error) {
   if (error instanceof Unsupported) return { unsupported: error.message };
   if (error instanceof Unrepresentable) return { unrepresentable: error.message };
   if (!(error instanceof tb.ClientError)) throw error;
-  const { field, told, results, sent } = error;
+  const { field, told, sent } = error;
+  const results = error.results && shownResults(error.results);
   const name = error instanceof tb.FileError ? "File" : error.name;
   return { error: { name, sent, field, told, results } };
 }
@@ -161,6 +174,8 @@ class KeepingSocket extends tb.Socket {
 class Runner {
   #transports = new Map();
   #sessions = new Map();
+  #shared = new Map();
+  #begun = new Map();
 
   async answer(line) {
     const call = typeof line.do === "string" && this[`do_${line.do}`];
@@ -168,7 +183,7 @@ class Runner {
     try {
       return { ok: (await call.call(this, line)) ?? null };
     } catch (error) {
-      return shownError(error);
+      return error instanceof Ended ? error.answer : shownError(error);
     }
   }
 
@@ -184,6 +199,18 @@ class Runner {
     return found;
   }
 
+  #client(line) {
+    const found = this.#shared.get(line.shared);
+    if (found === undefined) throw new Unsupported(`no shared client ${line.shared}`);
+    return found;
+  }
+
+  #call(line) {
+    const found = this.#begun.get(line.call);
+    if (found === undefined) throw new Unsupported(`no call ${line.call}`);
+    return found;
+  }
+
   #kept(line, session) {
     this.#sessions.set(line.session, session);
     return session;
@@ -196,8 +223,9 @@ class Runner {
 
   do_reset() {
     for (const it of this.#transports.values()) it.close();
-    this.#transports.clear();
-    this.#sessions.clear();
+    for (const { controller } of this.#begun.values()) controller.abort();
+    for (const it of this.#shared.values()) it.destroy();
+    for (const it of [this.#transports, this.#sessions, this.#shared, this.#begun]) it.clear();
   }
 
   do_connect(line) {
@@ -250,7 +278,39 @@ class Runner {
     return this.#said(session, said, line, call.operation);
   }
 
+  do_share(line) {
+    const replica_addresses = line.addresses.map((it) => it.unix ?? `${it.host}:${it.port}`);
+    const options = { cluster_id: 0n, replica_addresses };
+    if ("timeout" in line) options.timeout = optionOf("timeout", line.timeout);
+    if ("sessions" in line) options.sessions = line.sessions;
+    if ("tls" in line) options.tls = secureOf(line.tls);
+    this.#shared.set(line.shared, tb.createClient(options));
+  }
+
+  do_begin(line) {
+    this.#client(line);
+    const controller = new AbortController();
+    const answer = this.answer({ ...line, do: "ask", signal: controller.signal });
+    this.#begun.set(line.call, { controller, answer });
+  }
+
+  do_end(line) {
+    throw new Ended(this.#call(line).answer);
+  }
+
+  do_leave(line) {
+    this.#call(line).controller.abort();
+  }
+
+  async #askShared(line) {
+    const { operation, items = [], signal } = line;
+    const options = signal === undefined ? optionsOf(line) : { ...optionsOf(line), signal };
+    const said = await this.#client(line)[CALLS[operation]](itemsOf(operation, items), options);
+    return this.#said(undefined, said, line, operationOf(operation));
+  }
+
   async do_ask(line) {
+    if ("shared" in line) return this.#askShared(line);
     const { operation, items = [] } = line;
     const session = this.#session(line);
     if (operation in CALLS) {
@@ -264,7 +324,7 @@ class Runner {
   #said(session, said, line, operation) {
     if (line.require_ok) tb.requireOk(said);
     if (said === undefined) return { session: String(session.session) };
-    return CREATES.has(operation) ? { results: said } : { records: said.map(shownRecord) };
+    return CREATES.has(operation) ? { results: shownResults(said) } : { records: said.map(shownRecord) };
   }
 
   do_saved(line) {
@@ -283,7 +343,8 @@ class Runner {
   }
 
   do_close(line) {
-    ("session" in line ? this.#session(line) : this.#transport(line)).close();
+    if ("shared" in line) return this.#client(line).close();
+    return ("session" in line ? this.#session(line) : this.#transport(line)).close();
   }
 
   do_drop(line) {

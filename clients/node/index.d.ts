@@ -39,6 +39,8 @@ export type TransferRecord = Readonly<Required<Transfer>>;
 export interface EventResult<Name extends string = string> {
   readonly index: number;
   readonly result: Name;
+  /** The number of the result, in CreateAccountResult or CreateTransferResult. */
+  readonly code: number;
 }
 /** An account that was not created, and why. */
 export type AccountResult = EventResult<CreateAccountResultName>;
@@ -283,6 +285,52 @@ export declare class Session {
  */
 export declare function requireOk(results: Said): void;
 
+// Clients that callers share
+
+/** The options of `createClient`: those of TigerBeetle's, and more. */
+export interface ClientOptions extends SocketOptions {
+  /** Any number: the server has none, and it is not sent. */
+  cluster_id: bigint;
+  /**
+   * Ports ("3000", 3000), hosts with or without a port ("10.0.0.1:3000"), or paths of Unix sockets,
+   * which have a slash. All have to serve one ledger.
+   */
+  replica_addresses: string | number | readonly (string | number)[];
+  /** How many requests may be in flight, each in a session of its own: 1, which keeps the order. */
+  sessions?: number;
+  /** The upper 64 bits of the ids of the client's sessions. */
+  client_range?: bigint;
+}
+
+/**
+ * A client that callers share, with the calls of TigerBeetle's own. Lists of calls that wait while
+ * a request is in flight go out as the next request, and each call gets its own results.
+ *
+ * A call waits until its reply is there, whatever is lost and whoever ends meanwhile, or until its
+ * `signal` or `within` ends it. One that ends leaves the others alone. A session that was evicted
+ * is replaced, and what was in doubt then is settled.
+ */
+export interface Client {
+  /** Creates accounts. Answers the results of those that were not created, by index. */
+  createAccounts(accounts: readonly Account[], options?: CallOptions): Promise<AccountResult[]>;
+  /** Makes transfers. Answers the results of those that were not made, by index. */
+  createTransfers(transfers: readonly Transfer[], options?: CallOptions): Promise<TransferResult[]>;
+  /** The accounts that are there, in the order of the ids. */
+  lookupAccounts(ids: readonly bigint[], options?: CallOptions): Promise<AccountRecord[]>;
+  /** The transfers that are there, in the order of the ids. */
+  lookupTransfers(ids: readonly bigint[], options?: CallOptions): Promise<TransferRecord[]>;
+  /**
+   * Closes the client. A request in flight is waited for, as long as one sending may take; calls
+   * of which nothing was sent are Closed.
+   */
+  close(): Promise<void>;
+  /** Begins to close the client, as TigerBeetle's does. */
+  destroy(): void;
+}
+
+/** A client of the server at these addresses. It connects nothing yet. */
+export declare function createClient(options: ClientOptions): Client;
+
 // Errors
 
 /** The base of all errors of this package. */
@@ -312,7 +360,10 @@ export declare class NothingInDoubt extends NotSent {}
 /** The transport was closed. */
 export declare class Closed extends NotSent {}
 /** No connection to the server can be made. */
-export declare class CannotConnect extends NotSent {}
+export declare class CannotConnect extends NotSent {
+  /** One side does not trust the other, at each address. */
+  readonly isFinal: boolean;
+}
 /** The system refused a file: `code` is its error, as ENOENT. */
 export declare class FileError extends NotSent {
   readonly path: string;

@@ -39,6 +39,7 @@ const {
   ReplyLost,
   SessionTooLow,
 } = require("./lib/errors.js");
+const { createClient } = require("./lib/client.js");
 const { decodeSaved } = require("./lib/files.js");
 const { id } = require("./lib/ids.js");
 const { account, flagNames, transfer } = require("./lib/records.js");
@@ -82,6 +83,7 @@ module.exports = {
   Status,
   TransferFlags,
   account,
+  createClient,
   decodeSaved,
   encodeSaved,
   flagNames,

@@ -53,8 +53,16 @@ class NothingInDoubt extends NotSent {}
 /** The transport was closed. */
 class Closed extends NotSent {}
 
-/** No connection to the server can be made. */
-class CannotConnect extends NotSent {}
+/**
+ * No connection to the server can be made. It is final where one side does not trust the other, at
+ * each address.
+ */
+class CannotConnect extends NotSent {
+  constructor(message, options) {
+    super(message, options);
+    this.isFinal = options?.isFinal === true;
+  }
+}
 
 /** The system refused a file: `code` is its error, as ENOENT. */
 class FileError extends NotSent {
@@ -71,10 +79,10 @@ class FileError extends NotSent {
 class Cancelled extends ClientError {
   #sent;
 
-  constructor(sent, reason) {
-    super(sent ? "cancelled: the request may have been sent" : "cancelled before a byte was sent", {
-      cause: reason,
-    });
+  constructor(sent, reason, trouble) {
+    const what = sent ? ": the request may have been sent" : " before a byte was sent";
+    const after = trouble === undefined ? "" : `, after ${trouble.name}: ${trouble.message}`;
+    super(`cancelled${what}${after}`, { cause: reason });
     this.#sent = sent;
   }
 

@@ -114,6 +114,7 @@ function headed(operation, length) {
 
 /** Puts the client, the session and the number into a request's frame. */
 function number(frame, client, session, request) {
+  frame.fill(0, REQUEST.client, REQUEST.client + ID_SIZE); // which another session may have had
   putWide(frame, REQUEST.client, client);
   frame.writeBigUInt64LE(session, REQUEST.session);
   frame.writeUInt32LE(request, REQUEST.request);
@@ -156,17 +157,21 @@ function headerOf(frame) {
   };
 }
 
+/** The records or ids of a request's frame. */
+function recordsOf(frame, operation) {
+  const items = [];
+  if (operation === Operation.register) return items;
+  for (let at = HEADER_SIZE; at < frame.length; at += REQUEST_ITEM_SIZES[operation]) {
+    const kind = RECORDS[operation];
+    items.push(isCreate(operation) ? recordAt(kind, frame, at) : wideAt(frame, at));
+  }
+  return items;
+}
+
 /** What a request's frame asks for, with its records or ids. */
 function requestOf(frame) {
   const { client, session, request, operation } = headerOf(frame);
-  const items = [];
-  if (operation !== Operation.register) {
-    const size = REQUEST_ITEM_SIZES[operation];
-    for (let at = HEADER_SIZE; at < frame.length; at += size) {
-      const kind = RECORDS[operation];
-      items.push(isCreate(operation) ? recordAt(kind, frame, at) : wideAt(frame, at));
-    }
-  }
+  const items = recordsOf(frame, operation);
   return { client, session, number: request, operation: NAMES.get(operation), items };
 }
 
@@ -269,7 +274,7 @@ function resultsOf(frame, reply, operation) {
     if (index <= before) {
       throw new BadReply(`a result of event ${index} came behind that of event ${before}`);
     }
-    results.push({ index, result });
+    results.push({ index, result, code });
     before = index;
   }
   return results;
@@ -295,9 +300,12 @@ function foundBy(frame, reply, operation) {
 module.exports = {
   answerOf,
   framed,
+  headed,
   headerOf,
+  isCreate,
   number,
   operationOf,
+  recordsOf,
   replyLength,
   requestOf,
   saidBy,

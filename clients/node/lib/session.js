@@ -111,6 +111,12 @@ function encodeSaved(saved) {
 const RESUMED = Symbol("resumed");
 
 /**
+ * Sends a request of this frame, whose numbers are still 0, or the one that is in doubt again.
+ * Where nothing was sent it is as if it had not been asked for.
+ */
+let askFrame;
+
+/**
  * The session of a client.
  *
  * `saved` is what outlives the client. Whoever keeps it between `prepare` and `retry` can go on
@@ -134,6 +140,15 @@ class Session {
   #mayBeSent = false;
   #turns = new Turns();
   #saving = Promise.resolve();
+
+  static {
+    askFrame = (session, operation, frame) =>
+      session.#inTurn(undefined, () =>
+        session.#pending === undefined
+          ? session.#askOnce(operation, frame)
+          : session.#send(undefined),
+      );
+  }
 
   /** A session that is not registered: `Session.register` makes one that is. */
   constructor(transport, options) {
@@ -269,21 +284,21 @@ class Session {
     const limit = limited(options);
     try {
       const frame = frames.framed(operation, items); // as the items are now
-      return await this.#inTurn(limit.signal, async () => {
-        this.#testNotInDoubt();
-        this.#begin(operation, frame);
-        try {
-          return await this.#send(limit.signal);
-        } catch (why) {
-          // it is as if it had not been asked for
-          if (why instanceof ClientError && !why.sent && !this.#mayBeSent) {
-            this.#pending = undefined;
-          }
-          throw why;
-        }
-      });
+      return await this.#inTurn(limit.signal, () => this.#askOnce(operation, frame, limit.signal));
     } finally {
       limit.done();
+    }
+  }
+
+  async #askOnce(operation, frame, signal) {
+    this.#testNotInDoubt();
+    this.#begin(operation, frame);
+    try {
+      return await this.#send(signal);
+    } catch (why) {
+      // it is as if it had not been asked for
+      if (why instanceof ClientError && !why.sent && !this.#mayBeSent) this.#pending = undefined;
+      throw why;
     }
   }
 
@@ -398,4 +413,4 @@ function requireOk(results) {
   if (failed.length > 0) throw new EventsFailed(failed);
 }
 
-module.exports = { Session, encodeSaved, requireOk };
+module.exports = { PAUSE, Session, askFrame, encodeSaved, pauses, requireOk };

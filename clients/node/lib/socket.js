@@ -284,6 +284,9 @@ function shownAddress(address) {
   return host.includes(":") ? `[${host}]:${port}` : `${host}:${port}`;
 }
 
+/** Ends the connecting of a Socket, now and later. An exchange in flight goes on. */
+let connectNoMore;
+
 /**
  * A connection to a server at a Unix socket's path, or at a host and a port; or to one of several,
  * in an array.
@@ -303,7 +306,15 @@ class Socket {
   #connection;
   #endCall; // ends the connecting
   #isClosed = false;
+  #isEnding = false; // nothing is connected to any more
   #turns = new Turns();
+
+  static {
+    connectNoMore = (socket) => {
+      socket.#isEnding = true;
+      socket.#endCall?.(new Closed(CLOSED));
+    };
+  }
 
   constructor(address, options) {
     const given = optionsOf("options", options);
@@ -343,7 +354,9 @@ class Socket {
           else if (fault.told !== STARTING) throw fault;
           this.#keep(fault);
           const isRefused = this.#addresses.every((it) => refusing.has(shownAddress(it)));
-          if (isRefused || deadline - performance.now() <= pause) throw this.#notConnected();
+          if (isRefused || deadline - performance.now() <= pause) {
+            throw this.#notConnected(isRefused);
+          }
         }
         await paused(pause, signal, false);
         this.#testOpen();
@@ -362,7 +375,7 @@ class Socket {
   }
 
   #testOpen() {
-    if (this.#isClosed) throw new Closed(CLOSED);
+    if (this.#isClosed || this.#isEnding) throw new Closed(CLOSED);
   }
 
   /** The connection, made again where there is none, or where the server closed it since. */
@@ -375,7 +388,8 @@ class Socket {
       const faults = await this.#callEach(deadline, signal);
       if (faults.length === 0) break;
       const left = deadline - performance.now();
-      if (left <= 0 || faults.every((it) => it.isDistrust)) throw this.#notConnected();
+      const isFinal = faults.every((it) => it.isDistrust);
+      if (left <= 0 || isFinal) throw this.#notConnected(isFinal);
       await paused(Math.min(pause, left), signal, false);
       this.#testOpen();
       pause = Math.min(2 * pause, LAST_PAUSE);
@@ -395,9 +409,9 @@ class Socket {
     return `no reply came in time, after ${this.#notConnected().message}`;
   }
 
-  #notConnected() {
+  #notConnected(isFinal) {
     const { fault, place } = this.#cause;
-    return new CannotConnect(`${place}: ${fault.message || fault.code}`, { cause: fault });
+    return new CannotConnect(`${place}: ${fault.message || fault.code}`, { cause: fault, isFinal });
   }
 
   /**
@@ -415,7 +429,7 @@ class Socket {
         };
         const connection = await call(this.address, this.#secure, share, signal, hold);
         await connection.welcome(deadline - performance.now());
-        if (this.#isClosed) connection.close();
+        if (this.#isClosed || this.#isEnding) connection.close();
         this.#testOpen();
         this.#connection = connection;
         return [];
@@ -442,4 +456,4 @@ class Socket {
   }
 }
 
-module.exports = { Socket };
+module.exports = { Socket, connectNoMore };

@@ -165,7 +165,7 @@ test("a result by its name, and requireOk", async () => {
   const body = Buffer.from("0000000036000000", "hex");
   const session = resumed(direct((frame) => reply(frame, { body })));
   const results = await session.createTransfers([SALE]);
-  assert.deepEqual(results, [{ index: 0, result: "exceeds_credits" }]);
+  assert.deepEqual(results, [{ index: 0, result: "exceeds_credits", code: 54 }]);
   assert.throws(() => tb.requireOk(results), { name: "EventsFailed", results });
   tb.requireOk(undefined);
   tb.requireOk([tb.account({ id: 1n })]);

@@ -1,0 +1,95 @@
+"use strict";
+
+// A client with the face of TigerBeetle's own for Node, over a pool of sessions.
+
+const { CLIENTS_MAX, Operation } = require("../names.js");
+const { addressesOf } = require("./addresses.js");
+const { id } = require("./ids.js");
+const { limited } = require("./limits.js");
+const { Pool } = require("./pool.js");
+const { Socket } = require("./socket.js");
+const { U64, U128, narrow, optionsOf, wide } = require("./values.js");
+
+/** Makes ids whose upper 64 bits are this number. */
+function idsOf(range) {
+  if (range === undefined) return id;
+  const upper = wide("client_range", range, U64);
+  return () => (upper << 64n) | (id() & U64) || 1n;
+}
+
+/**
+ * A client that callers share, with the calls of TigerBeetle's own. Lists of calls that wait while
+ * a request is in flight go out as the next request, and each call gets its own results.
+ *
+ * A call waits until its reply is there, whatever is lost and whoever ends meanwhile, or until its
+ * `signal` or `within` ends it. One that ends leaves the others alone. A session that was evicted
+ * is replaced, and what was in doubt then is settled.
+ *
+ * Nothing outlives the process: for requests that have to survive it, use a Session and `save`.
+ */
+class Client {
+  #pool;
+
+  constructor(options) {
+    const given = optionsOf("options", options);
+    const { cluster_id, replica_addresses, sessions = 1, client_range, ...socket } = given;
+    wide("cluster_id", cluster_id, U128);
+    const addresses = addressesOf(replica_addresses);
+    const connect = () => new Socket(addresses, socket);
+    connect().close(); // which refuses what it cannot take
+    this.#pool = new Pool(
+      connect,
+      narrow("sessions", sessions, CLIENTS_MAX, 1),
+      idsOf(client_range),
+    );
+  }
+
+  /** Creates accounts. Answers the results of those that were not created, by index. */
+  createAccounts(accounts, options) {
+    return this.#ask(Operation.create_accounts, accounts, options);
+  }
+
+  /** Makes transfers. Answers the results of those that were not made, by index. */
+  createTransfers(transfers, options) {
+    return this.#ask(Operation.create_transfers, transfers, options);
+  }
+
+  /** The accounts that are there, in the order of the ids. */
+  lookupAccounts(ids, options) {
+    return this.#ask(Operation.lookup_accounts, ids, options);
+  }
+
+  /** The transfers that are there, in the order of the ids. */
+  lookupTransfers(ids, options) {
+    return this.#ask(Operation.lookup_transfers, ids, options);
+  }
+
+  /**
+   * Closes the client. A request in flight is waited for, as long as one sending may take; calls
+   * of which nothing was sent are Closed.
+   */
+  close() {
+    return this.#pool.close();
+  }
+
+  /** Begins to close the client, as TigerBeetle's does. */
+  destroy() {
+    this.close().catch(() => {});
+  }
+
+  async #ask(operation, items, options) {
+    const limit = limited(options);
+    try {
+      return await this.#pool.ask(operation, items, limit.signal);
+    } finally {
+      limit.done();
+    }
+  }
+}
+
+/** A client of the server at these addresses. It connects nothing yet. */
+function createClient(options) {
+  return new Client(options);
+}
+
+module.exports = { Client, createClient };
