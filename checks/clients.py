@@ -10,8 +10,8 @@ the kit, and the money), wrong (the wrong clients of each language, which the ki
 scenarios (those that are there are those that are made), types, examples (on the built tbs) and
 pages (what the page and the README show). A language that is not installed is passed over by name.
 Prints a line for each case, and 'N passed, M failed'. PROGRAM names another tbs, TBD another tbd.
-Where no tbd is built, clients/python/tests/stand_in_tbd.py is in its place. Where mypy is not there, no
-types are checked.
+Where no tbd is built, clients/python/tests/stand_in_tbd.py is in its place. Where mypy is not
+there, no types are checked.
 """
 import contextlib
 import glob

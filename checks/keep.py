@@ -34,7 +34,7 @@ import tried  # noqa: E402
 ROOT = os.path.dirname(os.path.dirname(os.path.abspath(__file__)))
 sys.path.insert(0, os.path.join(ROOT, "clients", "python", "src"))
 
-from tb_client import (
+from tb_client import (  # noqa: E402
     HEADER,
     Account,
     Operation,

@@ -9,8 +9,8 @@ each sending a reply, a lost, late, cut or wrong one, a refusal, what a listener
 listener. All clients have to send the same bytes and to report the same (clients/conformance/kit.py
 --drawn). Then calls go to it at once, and some close what others use
 (clients/conformance/crowds.py). calls are those of ClientSync and ClientAsync in Python
-(clients/python/tests/drawn_calls.py). wrong sees that each of these finds faults: those of clients that
-are made wrong.
+(clients/python/tests/drawn_calls.py). wrong sees that each of these finds faults: those of clients
+that are made wrong.
 
 A seed draws the same again. Where one fails the words to repeat it are printed. Prints a line for
 each part, and 'N passed, M failed'. A language that is not installed is passed over by name.

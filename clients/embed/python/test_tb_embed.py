@@ -1,6 +1,6 @@
 #!/usr/bin/env python3
-"""Tests of the module over a library that answers what it is told to. tests/embedding/test_embedded.py has those
-over the true one.
+"""Tests of the module over a library that answers what it is told to.
+tests/embedding/test_embedded.py has those over the true one.
 
     PYTHONPATH=../../python/src python3 -m unittest
 """
@@ -295,8 +295,8 @@ class OverCtypes(unittest.TestCase):
 
 
 class Examples(unittest.TestCase):
-    """What the examples say where they are called wrongly. tests/embedding/test_embedded.py runs them over the
-    true library."""
+    """What the examples say where they are called wrongly. tests/embedding/test_embedded.py runs
+    them over the true library."""
 
     def test_words(self):
         here = os.path.dirname(os.path.abspath(__file__))

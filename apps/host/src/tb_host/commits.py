@@ -1,10 +1,11 @@
 """How often a server has committed to its ledger's file, by what the system counts.
 
-A commit writes a batch behind the latch that ends the file, and then that latch: four bytes more than
-the file grows by. So what a process has written, without what it wrote into its pipes and what its
-file grew by, is four times the number of its commits. Each of the three is one look, however long the
-file is. While a write is under way its bytes may be in a pipe or in the file and not counted yet. Then
-the difference is too small, never too large, and the greatest one that was seen stays.
+A commit writes a batch after the latch that ends the file, and then that latch: four bytes more
+than the file grows by. So what a process has written, without what it wrote into its pipes and what
+its file grew by, is four times the number of its commits. Each of the three is one look, however
+long the file is. While a write is under way its bytes may be in a pipe or in the file and not
+counted yet. Then the difference is too small, never too large, and the greatest one that was seen
+stays.
 """
 from __future__ import annotations
 
