@@ -116,7 +116,7 @@ class Made:
         (self.folder / "ledger").write_bytes(data)
         seen = {form: self.ran(form, "ledger", *["new"][: form == "backup"]) for form in FORMS}
         status, _, said = self.ran("run", "ledger", "8", "--existing")
-        self.counts[status] += 1
+        self.counts[name.split()[0], status] += 1
         assert status in (0, *REFUSED), (name, said)
         for form, (it, out, line) in seen.items():
             assert it == status, (name, form, it, status, said, line)
@@ -174,7 +174,7 @@ def runs_of(data, offsets):
     for at in offsets:
         for count in (4, 16, 512):
             end = min(at + count, len(data))
-            yield f"{count} zeros from {at} on", data[:at] + bytes(end - at) + data[end:]
+            yield f"zeros, {count} from {at} on", data[:at] + bytes(end - at) + data[end:]
 
 
 def cuts_of(data, lengths):
@@ -195,8 +195,9 @@ def tried(made, damages):
     made.counts.clear()
     for name, data in damages:
         made.tries(name, data)
-    counts = dict(made.counts)
-    print(f"{sum(counts.values())} damages: {counts.get(0, 0)} served whole, {counts} by status")
+    for kind in ("byte", "zeros,", "cut"):
+        them = {status: count for (it, status), count in made.counts.items() if it == kind}
+        print(f"{kind.strip(',')}: {sum(them.values())} damages, by exit status {them}")
 
 
 @pytest.mark.quick
