@@ -14,8 +14,11 @@ const SOME_BYTES: usize = 40000;
 
 const MANY_BYTES: usize = 96000;
 
-/// The block of the last record, behind its latch: that of an entry with a moment and a frame.
-const LAST_BYTES: usize = 96072;
+/// The block of the last record: that of an entry with a moment and a frame.
+const LAST_BYTES: usize = 96075;
+
+/// The latch that ends the records.
+const LATCH_BYTES: usize = 4;
 
 /// The end of a frame's head where so many bytes follow: 40,000, or 96,000.
 const SOME_BEHIND: Line = 0x409c0000000000000000000000000000;
@@ -62,7 +65,7 @@ fn long_file(rt: &impl Abort, alloc: Global) -> Vec<u8> {
 
 /// All entries of a file of several pieces are read, and damage in its last record is reported with its place.
 fn expect_pieces(rt: &impl Abort, alloc: Global, bytes: &mut [u8]) {
-    let end = bytes.len().saturating_sub(1);
+    let end = bytes.len().saturating_sub(LATCH_BYTES);
     expect(rt, end > 3 * PIECE_BYTES);
     expect(rt, entries_in(rt, alloc, bytes) == 6);
     change(bytes, end.saturating_sub(1), 1);

@@ -192,12 +192,15 @@ fn a_call_on_the_new_file_fails(rt: HostRuntime) {
 const UNREAD: Line =
     "tbd: Device: ledger: a read or write failed; look at the disk, and start again\n";
 
+const OLD_SYNC: Line =
+    "tbd: SyncFailed: ledger: restart the machine or copy the file before the next start\n";
+
 /// The calls on the file: for its head a sync and a read; its length; and a sync and reads.
 const READS: &[Row] = both!(unread:
-    (1, 9, SYNC, New::Unmade),
+    (1, 9, OLD_SYNC, New::Unmade),
     (2, 1, UNREAD, New::Unmade),
     (3, 1, UNREAD, New::Empty),
-    (4, 9, SYNC, New::Empty),
+    (4, 9, OLD_SYNC, New::Empty),
     (5, 1, UNREAD, New::Empty),
 );
 

@@ -11,7 +11,8 @@ use tb_journal::{Growing, JournalFault, Memory, Snapshot};
 use tb_keep_commands::{Opener, OpeningFault, serve};
 use tb_records::Counting;
 
-/// A file that has one commit more at each third time that its length is asked for.
+/// A file that has one commit more at each fifth time that its length is asked for: an opening asks four times, for the block of the
+/// head and the latch after it, and so does a look at a file that has an entry more, after it has asked once.
 #[derive(Drop)]
 pub struct Growth<G> {
     shown: G,
@@ -27,7 +28,7 @@ impl<G: Growing + Drop> Growing for Growth<G> {
 
     fn len(&mut self) -> Result<usize, JournalFault> {
         self.asked = self.asked.wrapping_add(1);
-        if self.asked % 3 == 0 {
+        if self.asked % 5 == 0 {
             if let Some(next) = self.stages.pop() {
                 self.shown = next;
             }

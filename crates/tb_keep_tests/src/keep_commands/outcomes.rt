@@ -302,7 +302,8 @@ const HAS_NONE: &str =
 
 /// A file that is to be there is not made.
 const WANTED: &[Row] = &[
-    done!(EXISTING, Has::Entries, Out::Replies, ""),
+    done!(EXISTING, Has::NoRecord, Out::Replies, ""),
+    reported!(EXISTING, false, Has::Entries, ""),
     refused!(EXISTING, Has::Nothing, 1, NOT_THERE),
     refused!(EXISTING, Has::NoByte, 5, HAS_NONE),
 ];

@@ -92,7 +92,8 @@ const SYNC: &str =
 const MADE_SYNC: &str =
     "tbd: made ledger\ntbd: SyncFailed: ledger: restart the machine or copy the file before the next start\n";
 
-/// The calls of a reading: a sync, and the file with its end. `run` and `check` ask for the length first, and `dump` reads twice.
+/// The calls of a reading: a sync, the file with its end, and its length. `run` and `check` ask for the length first too, and `dump`
+/// reads twice.
 const BROKEN: &[Row] = &[
     broken!(CHECK, Has::Entries, 1, 1, Out::Nothing, FAILED,),
     broken!(CHECK, Has::Entries, 2, 9, Out::Nothing, SYNC),
@@ -100,7 +101,8 @@ const BROKEN: &[Row] = &[
     broken!(DUMP, Has::Entries, 1, 9, Out::Nothing, SYNC),
     broken!(DUMP, Has::Entries, 2, 1, Out::Nothing, FAILED,),
     broken!(DUMP, Has::Entries, 3, 1, Out::Nothing, FAILED,),
-    broken!(DUMP, Has::Entries, 4, 9, Out::Nothing, SYNC),
+    broken!(DUMP, Has::Entries, 4, 1, Out::Nothing, FAILED,),
+    broken!(DUMP, Has::Entries, 5, 9, Out::Nothing, SYNC),
     broken!(RUN, Has::NoByte, 1, 1, Out::Nothing, FAILED,),
     broken!(RUN, Has::Entries, 2, 1, Out::Nothing, FAILED,),
     broken!(RUN, Has::NoByte, 3, 9, Out::Nothing, SYNC,),

@@ -64,6 +64,14 @@ const WRONG: &[Row] = &[
     ),
     wrong!(
         &["run", "ledger", "2", "1", "--progress", "x"],
+        "tbd: Usage: run ledger 2 1 --progress x: PROFILE is 1 or 2, and only options may follow it, each once\n",
+    ),
+    wrong!(
+        &["run", "ledger", "2", "--existing", "--existing"],
+        "tbd: Usage: run ledger 2 --existing --existing: PROFILE is 1 or 2, and only options may follow it, each once\n",
+    ),
+    wrong!(
+        &["run", "ledger", "2", "1", "--progress", "--existing", "x"],
         "tbd: Usage: run: too many words\n",
     ),
     wrong!(

@@ -398,6 +398,11 @@ const WRONG: &[Refusal] = &[
     refusal!(
         &["follow", "ledger", "2", "1", "--progress"],
         2,
+        "tbd: Usage: follow ledger 2 1 --progress: PROFILE is 1 or 2, and only options may follow it, each once\n",
+    ),
+    refusal!(
+        &["follow", "ledger", "2", "1", "--existing", "x"],
+        2,
         "tbd: Usage: follow: too many words\n",
     ),
     refusal!(
