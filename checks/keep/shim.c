@@ -14,7 +14,8 @@
               few K          each read of the file gives K bytes at most
               full L         no write makes the file longer than L bytes: what does not fit fails with ENOSPC
               nosync         syncs answer, and do nothing
-              early MS       writes and syncs of the file answer at once, and are done MS milliseconds after the next write to standard output
+              early MS       writes that make the file no longer, and syncs after them, answer at once, and are done MS milliseconds after
+                             the next write to standard output. So is a latch that is opened; a file whose length is wrong would be noticed
 */
 #define _GNU_SOURCE
 #include <errno.h>
@@ -36,7 +37,7 @@ static char fault[16];
 static int failing, log_fd = -1, ready;
 
 /* writes that `early` holds back */
-struct held { int fd; int is_cut; off_t at; size_t len; char *bytes; struct held *next; };
+struct held { int fd; off_t at; size_t len; char *bytes; struct held *next; };
 static struct held *held_first, **held_last = &held_first;
 
 static int is(const char *name) { return strcmp(fault, name) == 0; }
@@ -74,11 +75,16 @@ static ssize_t put(int fd, const void *bytes, size_t len, off_t at) {
     return syscall(SYS_pwrite64, fd, bytes, len, at);
 }
 
-static void hold(int fd, int is_cut, const void *bytes, size_t len, off_t at) {
+static int is_within(int fd, off_t end) {
+    struct stat found;
+    return fstat(fd, &found) == 0 && end <= found.st_size;
+}
+
+static void hold(int fd, const void *bytes, size_t len, off_t at) {
     struct held *it = malloc(sizeof *it);
     if (!it || !(it->bytes = malloc(len + 1))) abort();
     if (len) memcpy(it->bytes, bytes, len);
-    it->fd = fd; it->is_cut = is_cut; it->len = len; it->at = at; it->next = 0;
+    it->fd = fd; it->len = len; it->at = at; it->next = 0;
     *held_last = it;
     held_last = &it->next;
 }
@@ -88,8 +94,7 @@ static void let_go(void) {
     struct timespec pause = {first / 1000, first % 1000 * 1000000};
     nanosleep(&pause, 0);
     for (struct held *it = held_first; it; it = it->next) {
-        if (it->is_cut) { note('T', it->at, 0, 0); if (syscall(SYS_ftruncate, it->fd, it->at) < 0) abort(); }
-        else if (put(it->fd, it->bytes, it->len, it->at) < 0) abort();
+        if (put(it->fd, it->bytes, it->len, it->at) < 0) abort();
         syscall(SYS_fdatasync, it->fd);
         note('S', 0, 0, 0);
     }
@@ -105,7 +110,7 @@ static ssize_t write_file(int fd, const void *bytes, size_t len, off_t at) {
         if (at >= first) return fail(ENOSPC);
         return put(fd, bytes, first - at, at);
     }
-    if (is("early")) { hold(fd, 0, bytes, len, at); return len; }
+    if (is("early") && is_within(fd, at + len)) { hold(fd, bytes, len, at); return len; }
     if (n != first || !(is("torn") || is("short") || is("die"))) return put(fd, bytes, len, at);
     if (second < (long)len) len = second;
     if (is("torn")) failing = 1;
@@ -125,7 +130,6 @@ static int cut_file(int fd, off_t len) {
     long n = ++calls;
     if (failing) return fail(third);
     if (is("write") && n == first) return fail(second);
-    if (is("early")) { hold(fd, 1, 0, 0, len); return 0; }
     note('T', len, 0, 0);
     return syscall(SYS_ftruncate, fd, len);
 }
