@@ -1176,7 +1176,7 @@ def salvages(tbd, folder, data, latches, count, rng):
         with open(path, "rb") as file:
             same = file.read() == hurt
         report = f"entries {taken}\nlast commit {taken}\n".encode()
-        lost = f"\nbytes lost {len(data) - latches[taken + 1]} behind byte {latches[taken + 1]}: Damaged: ".encode()
+        lost = f"\nbytes lost {len(data) - latches[taken + 1] - 4} behind byte {latches[taken + 1]}: Damaged: ".encode()
         well = (status, line) == (0, "") and said.startswith(report) and lost in said and same
         if not well or kept != dump[: ends[taken]]:
             wrong.append((at, status, said, line))
