@@ -1256,6 +1256,17 @@ class Ahead(unittest.TestCase):
                     ) as session:
                         self.assertEqual((session.session, again.end()), (1, 0), count)
 
+    @unittest.skipUnless(os.access(TBD, os.X_OK), "tbd is not built")
+    def test_a_file_without_a_record(self):
+        """As a start that a crash cut short leaves it: the magic, and a closed latch."""
+        with tempfile.TemporaryDirectory() as folder:
+            with open(os.path.join(folder, "ledger.journal"), "wb") as file:
+                file.write(b"TBJRNL02\x5a\xc3\x96\x69")
+            with Running(folder=folder) as listener, Session.register(
+                Socket(listener.path)
+            ) as session:
+                self.assertEqual((session.session, listener.end()), (1, 0))
+
     def ended(self, script):
         with tempfile.TemporaryDirectory() as folder:
             path = self.kept(folder, -1)

@@ -22,7 +22,7 @@ from .moments import SECOND, Moments
 from .pipes import READ, Process
 from .process import ServerProcess, came, end_of, finished, first, kill, last_line, started
 
-EMPTY = 10  # bytes below which a journal's file has no entry
+EMPTY = 13  # bytes below which a journal's file has no entry
 PROGRESS = "--progress"  # the word that has `tbd run` tell when it serves
 EXISTING = "--existing"  # the word that has it make no file
 # what it tells besides faults
