@@ -2,9 +2,11 @@
 
 Balances are not tested here: whoever makes an event says whether it is refused."""
 
+from tb_client import Reply
+from tb_client.layout import RESULT_FORMAT
 from telovamish.objects import TYPES
 from telovamish.reader import Pair
-from telovamish.streams import REPLY, RESULT, Entry, Head, Mark, Reply, item_bytes
+from telovamish.streams import Entry, Head, Mark, item_bytes
 from telovamish.words import ACCOUNT_FLAGS, KIND, OPERATIONS, RESULTS, TRANSFER_FLAGS
 
 MAX = (1 << 128) - 1
@@ -24,7 +26,8 @@ class Made:
         self.commit += 1
         pair = Pair(self.time, self.client, self.session, self.request, operation, body)
         session = self.session or self.commit
-        reply = Reply(self.client, session, self.request, operation, 0, self.commit, results)
+        code = OPERATIONS[operation]
+        reply = Reply(self.client, session, self.request, code, 0, self.commit, results)
         self.steps.append((Entry(self.commit, self.time, pair), reply))
         return self
 
@@ -58,7 +61,8 @@ class Made:
             result = event.pop("result", None)
             body += packed(operation, event)
             if result:
-                results += RESULT.pack(place, codes[result] if result in codes else int(result))
+                code = codes[result] if result in codes else int(result)
+                results += RESULT_FORMAT.pack(place, code)
         return self.entry(operation, body, results)
 
     def accounts(self, *events):
@@ -75,14 +79,7 @@ class Made:
     @property
     def replies(self):
         """The bytes of all replies."""
-        return b"".join(reply_bytes(reply) for _, reply in self.steps if reply)
-
-
-def reply_bytes(it):
-    header = it.client.to_bytes(16, "little") + REPLY.pack(
-        it.session, it.request, OPERATIONS[it.operation], it.status, len(it.body), it.commit
-    )
-    return header + it.body
+        return b"".join(reply.to_bytes() for _, reply in self.steps if reply)
 
 
 def packed(operation, event):

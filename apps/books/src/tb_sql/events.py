@@ -9,11 +9,13 @@ import operator
 import sqlite3
 from typing import Any, Dict, Iterator, List, Sequence, Tuple, Type
 
+from tb_client import Reply
+from tb_client.layout import RESULT_FORMAT
 from telovamish.objects import TYPES
 from telovamish.reader import Pair
 from telovamish.records import Account, Record, Transfer
-from telovamish.streams import RESULT, Entry, Head, Mark, Reply
-from telovamish.words import ACCOUNT_FLAGS, KIND, RESULTS, TRANSFER_FLAGS
+from telovamish.streams import Entry, Head, Mark
+from telovamish.words import ACCOUNT_FLAGS, KIND, OPERATIONS, RESULTS, TRANSFER_FLAGS
 
 from .errors import Stop
 from .histories import Step
@@ -96,9 +98,9 @@ def step_of(
     if operation in BATCHES:
         created = [*map(account_of, accounts), *map(transfer_of, transfers)]
         body = body_of(events, created, refused)
-        results = b"".join(RESULT.pack(it[1], code_of(it)) for it in refused)
+        results = b"".join(RESULT_FORMAT.pack(it[1], code_of(it)) for it in refused)
     pair = Pair(time, int(client), session, request, operation, body)
-    reply = Reply(pair.client, session, request, operation, 0, commit, results)
+    reply = Reply(pair.client, session, request, OPERATIONS[operation], 0, commit, results)
     return Entry(commit, time, pair), reply
 
 

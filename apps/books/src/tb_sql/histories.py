@@ -2,14 +2,16 @@
 
 from __future__ import annotations
 
+import contextlib
 import os
 import queue
 import threading
 from typing import BinaryIO, Iterator, List, Optional, Tuple, Union, cast
 
+from tb_client import Reply
 from telovamish.faults import Fault
 from telovamish.live import Replay
-from telovamish.streams import Entry, Item, Reply, item_bytes, read_dump, read_reply
+from telovamish.streams import Entry, Item, item_bytes, read_dump, read_reply
 
 from .errors import Cut, Failed, Refused
 
@@ -73,7 +75,7 @@ class History(Source):
 
     def __exit__(self, *error: object) -> None:
         self._is_closed = True
-        self._replay.__exit__()
+        self._replay.__exit__(*error)
 
     def join(self) -> None:
         """Waits for the thread, once the input has ended."""
@@ -125,15 +127,24 @@ class History(Source):
 class Judge(Replay):
     """`tbs replay`, whose replies are taken in another thread than its items are put."""
 
+    def put(self, data: bytes) -> None:
+        """Passes items on. If the program ended, the next reply is missing."""
+        assert self.stdin
+        with contextlib.suppress(BrokenPipeError):
+            self.stdin.write(data)
+            self.stdin.flush()
+
     def take(self) -> Reply:
+        """The next reply."""
+        assert self.stdout and self.stderr
         try:
-            reply = read_reply(self._output)
+            reply = read_reply(self.stdout)
         except Fault as fault:
             raise Failed(f"tbs replay: {fault}") from None
         if reply is None:
-            said = self._errors.read().decode(errors="replace").strip()
-            if self._process.wait() < 0:
-                raise Failed(said or f"tbs replay ended with {self._process.returncode}")
+            said = self.stderr.read().decode(errors="replace").strip()
+            if self.wait() < 0:
+                raise Failed(said or f"tbs replay ended with {self.returncode}")
             raise Refused(f"the history is refused: {said.rpartition(': ')[2] or 'without a word'}")
         return reply
 

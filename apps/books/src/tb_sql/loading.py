@@ -6,8 +6,9 @@ import json
 import time
 from typing import Callable, Iterable, Optional, Union
 
+from tb_client import Reply
 from telovamish.model import Ledger
-from telovamish.streams import Entry, Head, Item, Mark, Reply
+from telovamish.streams import Entry, Head, Item, Mark
 
 from .errors import AGAIN, Refused
 from .histories import Step
