@@ -19,7 +19,8 @@ proved counts as failed, whatever else it breaks.
 
 An edit begins with two lines that `rt` does not read: `# rule:`, what its body breaks, and
 `# refused at:`, the function at whose goal it is refused, with the clause where it is known. The
-tables of docs/trust/MUTANTS.md are made of them: --write writes them, --rules prints all.
+tables of docs/trust/MUTANTS.md have the rules: --write writes them; --rules prints all, with the
+edits and functions.
 
 --texts proves nothing, and takes a second: it reports each edit whose old text is not in its file
 exactly once, so that `rt must-fail` could not apply it, each that lacks one of the two lines, and
@@ -77,13 +78,24 @@ def table(edits, chosen):
     return "\n".join(lines).replace("|  |", "| |") + "\n"
 
 
+def summary(edits, chosen):
+    """A row a crate, with the rules that its chosen edits break."""
+    lines = ["| Crate | Rules |", "|---|---|"]
+    for crate, paths in edits.items():
+        said = {path: edited.said_of(path) for path in paths.values()}
+        rules = [it["rule"] for path, it in said.items() if "rule" in it and chosen(path, it)]
+        if rules:
+            lines.append(f"| {crate} | {'; '.join(dict.fromkeys(rules))} |")
+    return "\n".join(lines) + "\n"
+
+
 def blocks(edits):
     """The tables of the page, by their names."""
     folders = [path.split("/")[-2] for paths in edits.values() for path in paths.values()]
     own, release = map(folders.count, FOLDERS)
     return {
-        "ci": table(edits, lambda path, _: path.split("/")[-2] == FOLDERS[0]),
-        "files": table(edits, lambda _, said: said.get("shown") == "a ledger in a file"),
+        "ci": summary(edits, lambda path, _: path.split("/")[-2] == FOLDERS[0]),
+        "files": summary(edits, lambda _, said: said.get("shown") == "a ledger in a file"),
         "counts": f"CI has {own} edits, the release {release} more.\n",
     }
 
@@ -189,7 +201,7 @@ def given_words():
     )
     words.add_argument("--only", action="store_true", help="check the function of each edit alone")
     words.add_argument("--texts", action="store_true", help="only whether each edit can be applied")
-    words.add_argument("--rules", action="store_true", help="only print all rules as a table")
+    words.add_argument("--rules", action="store_true", help="only print all rules with their edits")
     words.add_argument("--write", action="store_true", help="only write the tables of MUTANTS.md")
     words.add_argument("crates", nargs="*", metavar="CRATE")
     given = words.parse_args()
