@@ -87,7 +87,7 @@ def frame_tests(table):
         (place, it["name"], it["request"], it["reply"])
         for place, it in enumerate(table["frame_tests"], 1)
     ]
-    return rows(("Order", "Fault", "A request has it where", "A reply has it where"), lines)
+    return rows(("Order", "Fault", "A request has it if", "A reply has it if"), lines)
 
 
 def named(field):
@@ -127,4 +127,4 @@ def tests(table, kind, groups):
         for it in table[f"{kind}_tests"]
         if it["group"] in groups
     ]
-    return rows(("Code", "Name", "Holds where"), lines)
+    return rows(("Code", "Name", "Holds if"), lines)
