@@ -1956,7 +1956,9 @@ class Replicas(OverALog):
 
     async def answers(self, ahead):
         """Another replica answers once that this one's clock is so many seconds ahead of its."""
-        hello = json.loads(self.log.kept["r0"])["hello"]
+        await self.answers_to(json.loads(self.log.kept["r0"])["hello"], ahead)
+
+    async def answers_to(self, hello, ahead):
         said = {"clock": time.time_ns() - int(ahead * 10**9), "heard": {"r0": hello}}
         await self.log.report("r1", json.dumps(said).encode())
 
@@ -2041,6 +2043,39 @@ class Replicas(OverALog):
         self.assertEqual((await asked)[0], 6)
         await self.closed(it)
 
+    @mock.patch.multiple(replica, CLOCK_AGAIN=0.01, ANSWERS=0.05)
+    async def test_an_answer_that_comes_late(self):
+        """Another replica answers a hello after others were said. It waited without end where no
+        answer came in its own round. One of long ago says nothing of the clock any more."""
+        it = await self.meets()
+        first = it.hello
+        await self.asks_again(it)
+        with mock.patch.object(replica, "LATE", 0.0):
+            await self.asks_again(it)
+            await self.answers_to(first, 0)
+            await asyncio.sleep(0.2)
+        self.assertFalse(it.is_met or it.clocks)
+        late = it.hello
+        await self.asks_again(it)
+        await self.answers_to(late, 0)
+        await self.asked(it, 6)
+        await self.closed(it)
+
+    @mock.patch.multiple(replica, CLOCK_AGAIN=0.01, ANSWERS=0.05)
+    async def test_a_hello_is_answered_once(self):
+        """What repeats an answer has a later clock, by which this one would seem to be right."""
+        it = await self.meets()
+        hello = it.hello
+        for ahead in (100, 0):
+            await self.answers_to(hello, ahead)
+        await self.asks_again(it)
+        self.assertIn("s ahead of the others': set it right; tested again", self.told.getvalue())
+        while not it.is_met:
+            await self.answers(0)
+            await asyncio.sleep(0.05)
+        await self.asked(it, 6)
+        await self.closed(it)
+
     @mock.patch.multiple(replica, CLOCK_AGAIN=0.01, ANSWERS=0.1)
     async def test_two_that_begin_at_once(self):
         """Each tells the other its clock, though neither serves yet."""
@@ -2053,7 +2088,7 @@ class Replicas(OverALog):
         for it in (first, second):
             await asyncio.wait_for(it.begun(), 20)
             self.assertEqual((await self.asked(it, 7))[0], 7)
-        self.assertLess(abs(first.ahead["r1"]), 10**9)
+        self.assertLess(abs(first.right - replica._beyond()), 10**9)
         for it in (first, second):
             it.close()
         await asyncio.wait_for(asyncio.gather(*runs, self.running), 20)

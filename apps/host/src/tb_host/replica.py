@@ -40,6 +40,7 @@ UNCONFIRMED = (
     "once one does, or with --alone"
 )
 ANSWERS = 2.0  # seconds for which the reports of others are waited for at the start
+LATE = 30.0  # seconds for which an answer counts; by as much its clock may be ahead unseen
 CLOCK, CLOCK_AGAIN = 120.0, 1.0  # seconds for which a wrong clock is looked at again, and between
 MARKED = 64  # entries from one mark of the log to the next
 RESTORED = "if the engine was restored from a backup, see BadEntry in docs/use/CLUSTER.md"
@@ -135,9 +136,13 @@ class Replica:
         self.is_full = False
         self.fault: Optional[BaseException] = None  # why no entry is taken any more
         self.hello = 0  # what this clock had when the others were asked for theirs
+        # when they were asked, by one that nobody sets, for each hello that may be answered yet
+        self.hellos: Dict[int, int] = {}
+        self.answered: Dict[str, int] = {}  # the same of the last one that each has answered
         self.heard: Dict[str, int] = {}  # the same of others, which are to be answered
-        self.ahead: Dict[str, int] = {}  # by how much this clock is ahead of another's, at least
-        # what a clock that is not ahead has beyond one that nobody sets, by who answered last
+        # what others' clocks have beyond one that nobody sets, at most
+        self.clocks: Dict[str, int] = {}
+        # the same of a clock that is not ahead, by who answered last
         self.right: Optional[int] = None
         self.is_heard = False  # whether an own report was read
         self.is_met = False  # whether the others were asked
@@ -516,8 +521,7 @@ class Replica:
             return
         with contextlib.suppress(AttributeError, *NO_SUCH_JSON):
             said = json.loads(report.data)
-            if said.get("heard", {}).get(self.name) == self.hello:
-                self.ahead[report.name] = self.hello - int(said["clock"])
+            self._hear_clock(report.name, said)
             if said.get("hello"):
                 self.heard[report.name] = int(said["hello"])
                 self.reporting.set()
@@ -529,6 +533,14 @@ class Replica:
                 self.is_doubted.set()
             if self.writer.hex() in said.get("fault", ""):
                 raise Fault("Diverged", f"{report.name} says: {said['fault']}")
+
+    def _hear_clock(self, name: str, said: Dict[str, Any]) -> None:
+        """Takes the clock of a replica that answers a hello. Its first answer is the closest one:
+        the time until it comes is not in the clock."""
+        asked = self.hellos.get(said.get("heard", {}).get(self.name))
+        if asked is not None and asked > self.answered.get(name, -1):
+            self.clocks[name] = int(said["clock"]) - asked
+            self.answered[name] = asked
 
     def _test_name(self, data: bytes) -> None:
         """Raises `Ended` where another replica reports by this one's name: what is trimmed goes by
@@ -689,21 +701,30 @@ class Replica:
             others = set(await self.log.reports()) - {self.name}
         except NoLog as none:
             raise Fault("NoLog", str(none)) from None
-        self.hello, beyond, self.ahead = time.time_ns(), _beyond(), {}
+        self._say_hello()
         await self._answer_until(others)
-        if self.ahead:
-            self.right = beyond - min(self.ahead.values())
+        clocks, self.clocks = self.clocks, {}
+        if clocks:
+            self.right = max(clocks.values())
         elif self.right is None:
             await self._ask_the_engine()
         self._test_clock()
         await self._test_last_moment()  # of what was read since the start
+
+    def _say_hello(self) -> None:
+        """Asks with another hello. Earlier ones may still be answered: on a busy machine each
+        answer may take longer than it is waited for."""
+        now = running_ns()
+        self.hellos = {it: at for it, at in self.hellos.items() if at > now - LATE * SECOND}
+        self.hello = time.time_ns()
+        self.hellos[self.hello] = now
 
     async def _answer_until(self, others: Set[str]) -> None:
         """Waits for the clocks of others, and tells them this one: they may begin too. Once the own
         report was read, so was the log up to there."""
         end = time.monotonic() + ANSWERS
         self.reporting.set()
-        while self.reporting.is_set() or others - set(self.ahead) or not self.is_heard:
+        while self.reporting.is_set() or others - set(self.clocks) or not self.is_heard:
             if self.reporting.is_set():
                 self.reporting.clear()
                 await self.report()
