@@ -43,8 +43,13 @@ PLANTED = {
     ),
     "an entry that is there twice is taken twice": (
         "replica.py",
-        "        if entry.number <= before:\n",
-        "        if entry.number < before:\n",
+        "        if entry.number <= before:\n"
+        '            said = f"entry {entry.number} of a writer is in the log twice, '
+        'and is taken once"\n'
+        '            say_of("", said, kind="twice")\n'
+        "            return\n"
+        "        if entry.number != before + 1:\n",
+        "        if entry.number > before + 1:\n",
     ),
     "a request is told done before the log has it": (
         "replica.py",
