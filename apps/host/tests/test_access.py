@@ -599,6 +599,8 @@ class Reports(unittest.TestCase):
         """What each session looks up, where the server is given all requests together."""
         server, pipe = listener.server(), f"/proc/{listener.server()}/fd/0"
         os.kill(server, signal.SIGSTOP)
+        while self.state_of(server) != "T":  # until then it may still take a first request alone
+            time.sleep(0.01)
         with concurrent.futures.ThreadPoolExecutor(len(some)) as pool:
             found = [pool.submit(it.lookup_accounts, [1]) for it in some]
             held = bytearray(4)
@@ -608,6 +610,10 @@ class Reports(unittest.TestCase):
                     fcntl.ioctl(it, termios.FIONREAD, held)
             os.kill(server, signal.SIGCONT)
             return [it.result(20) for it in found]
+
+    def state_of(self, process):
+        with open(f"/proc/{process}/stat") as file:
+            return file.read().rpartition(")")[2].split()[0]
 
     def test_commits_that_are_not_known(self):
         """Behind a shell another process writes; a server that keeps nothing has none."""
