@@ -3,9 +3,9 @@
 
 Installs the Debian packages of tools/packages.txt that are missing (as root; another user gets
 their names and a failure), and runs `rt ci`. Over the programs that it built come formats, types,
-the quick tests of tests/ and of telovamish, and the own tests of the four clients. Each part prints
-what it prints. The last line is 'N passed, M failed' over all parts; a part that cannot be run
-counts as one failure.
+the quick tests of tests/, telovamish, books and the host, and the own tests of the four clients.
+Each part prints what it prints. The last line is 'N passed, M failed' over all parts; a part that
+cannot be run counts as one failure.
 """
 
 import json
@@ -85,6 +85,7 @@ def kit(client: str) -> Part:
 PYTEST = [PYTHON, "-m", "pytest", "-q"]
 PACKAGES = ["clients/python", "apps/telovamish", "apps/host", "apps/books"]
 WORDS = [f"tests/test_{it}.py" for it in ("run", "page", "sending", "recorded_texts")]
+HOST = [f"tests/test_{it}.py" for it in ("shares", "early", "pipes", "host")]
 BOOKS = [f"tests/test_{it}.py" for it in ("load", "check", "views", "names", "books", "drawn")]
 PARTS = [
     Part("proofs", ".", ["rt", "ci"], closing_line),
@@ -96,6 +97,7 @@ PARTS = [
     Part("packages", ".", [*PYTEST, "-n", "2", "-m", "quick", "packaging/tests"], pytest_counts),
     Part("telovamish", "apps/telovamish", [*PYTEST, *WORDS], pytest_counts),
     Part("books", "apps/books", [*PYTEST, "-n", "2", *BOOKS], pytest_counts),
+    Part("host", "apps/host", [*PYTEST, "-n", "2", *HOST], pytest_counts),
     Part("client in Python", "clients/python", [*PYTEST, "-n", "2", "tests"], pytest_counts),
     Part("format of Go", "clients/go", ["sh", "-c", 'test -z "$(gofmt -l .)"'], by_status),
     Part("Go", "clients/go", ["go", "test", "-v", "./..."], go_counts),
