@@ -32,6 +32,7 @@ class Engine:
         self.lag = dict.fromkeys(NODES, 0.0)  # seconds by which a node is late
         self.rotten: dict[tuple[str, int], bytes] = {}  # what a node gives at a place instead
         self.is_away = self.is_full = False
+        self.rots_next = False  # a node gets the next entry otherwise than it was written
 
     def append(self, writer: bytes, number: int, data: bytes) -> int:
         place = self.places.get((writer, number))
@@ -47,8 +48,18 @@ class Engine:
     def _put(self, it: Union[Written, Report]) -> None:
         self.rows.append((self.last_place, it))
         self.since.append(self.world.loop.now)
+        if self.rots_next and isinstance(it, Written):
+            self.rots_next = False
+            self.rot(it)
         self.grown.set()
         self.grown = asyncio.Event()
+
+    def rot(self, it: Written) -> None:
+        """One bit of an entry changes at one node."""
+        bit = self.world.drawn.randrange(8 * len(it.data))
+        data = bytearray(it.data)
+        data[bit // 8] ^= 1 << bit % 8
+        self.rotten[NODES[0], it.place] = bytes(data)
 
     async def more(self, at: int, node: str) -> None:
         """Comes when a node may have one more row."""

@@ -99,6 +99,17 @@ def test_logs(world: World) -> None:
     world.see(latest <= most, "the log has a moment that is far ahead")
 
 
+def test_names(world: World) -> None:
+    """An entry has one name, however often it was tried to append it. A clock that was set back has
+    one moment for long: then the same request may come again in an equal entry."""
+    names: dict[bytes, tuple[bytes, int]] = {}
+    for it in world.engine.entries() if "clock" not in world.injected else ():
+        entry = Entry.from_bytes(it.data)
+        name = entry.writer, entry.number
+        is_same = not entry.pairs or names.setdefault(entry.pairs, name) == name
+        world.see(is_same, "an entry is in the log under two names")
+
+
 def test(seed: int, steps: int | None = None) -> list[str]:
     """Runs a seed. What was wrong."""
     hook, sys.unraisablehook = sys.unraisablehook, lambda _: None
@@ -114,7 +125,7 @@ def _test(seed: int, steps: int | None) -> list[str]:
     try:
         with world.patched():
             world.run()
-            for part in (test_calls, test_order, test_logs):
+            for part in (test_calls, test_order, test_logs, test_names):
                 part(world)
     except Exception as error:  # of the simulated programs too
         world.wrong.append(f"{error!r}")

@@ -55,7 +55,7 @@ PLANTED = {
         "replica.py",
         "            except NoLog as none:\n                if not self.is_away:\n",
         "            except NoLog as none:\n"
-        "                if number in self.sent and self.log.is_next(self.copy.place + 1):\n"
+        "                if number in self.sent:\n"
         "                    self.take(Written(self.copy.place + 1, data))\n"
         "                if not self.is_away:\n",
     ),

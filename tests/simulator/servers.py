@@ -98,6 +98,7 @@ class Process:
         self.returncode: Optional[int] = None
         self.at_end: Callable[[], None] = lambda: None
         self.data, self.is_due = b"", False
+        self.ends_amid = False  # it ends amid the next replies that it writes
         self.is_ready = self.is_closing = False
         self.ledger = Ledger(int(self.words[-1]) if self.words[1] == "run" else 64)
         self.disk = world.disk(host) if len(self.words) > 3 or self.words[1] == "check" else None
@@ -155,7 +156,9 @@ class Process:
         """The replies come in two pieces, so that some are cut."""
         at = self.world.drawn.randrange(len(data) + 1) if data else 0
         self.output.come(data[:at])
-        if data[at:]:
+        if data and self.ends_amid:
+            self.kill()
+        elif data[at:]:
             self.output.come(data[at:])
 
     def end(self, status: int) -> None:

@@ -252,8 +252,10 @@ class World:
 
     def _kill(self) -> None:
         alive = [it for it in self.processes.values() if it.returncode is None]
-        if alive:
+        if alive and self.drawn.random() < 0.5:
             self.drawn.choice(alive).kill()
+        elif alive:
+            self.drawn.choice(alive).ends_amid = True
 
     def _away(self) -> None:
         self.engine.is_away = True
@@ -271,14 +273,12 @@ class World:
         self.engine.lag[node] = self.drawn.uniform(0.1, 3.0)
 
     def _rot(self) -> None:
-        """One bit of an entry changes at one node."""
+        """A node's disk changes an entry that is there, or the next one."""
         entries = self.engine.entries()
-        if entries:
-            it, node = self.drawn.choice(entries), NODES[0]
-            bit = self.drawn.randrange(8 * len(it.data))
-            data = bytearray(it.data)
-            data[bit // 8] ^= 1 << bit % 8
-            self.engine.rotten[node, it.place] = bytes(data)
+        if entries and self.drawn.random() < 0.5:
+            self.engine.rot(self.drawn.choice(entries))
+        else:
+            self.engine.rots_next = True
 
     def _clock(self) -> None:
         machine = self.drawn.choice(self.machines)
@@ -314,6 +314,7 @@ class World:
 
     def _heal(self) -> None:
         self.is_quiet = True
+        self.engine.rots_next = False
         self._back()
         for it in self.machines:
             if it.ahead:
