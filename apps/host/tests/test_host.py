@@ -2255,6 +2255,24 @@ class Rot(OverALog):
         self.rot(3, right[2], changed(right[2], 60))
         await self.goes_on()
 
+    async def test_an_own_entry_while_one_before_it_is_read_again(self):
+        """It is taken after that one, as it is read. Engines' logs would have it taken before: the
+        entry that does not fit counts as read there."""
+        it = await self.began(patience=20.0)
+        await self.asked(it, 8)
+        right = entry(A, 1, pair(time.time_ns(), register(3))).to_bytes()
+        self.log.away = {"n1", "n2"}
+        self.rot(len(self.log.items) + 1, changed(right, 150))
+        self.log.put(right)
+        with mock.patch.object(self.log, "is_next", lambda _: True):
+            asked = asyncio.ensure_future(self.asked(it, 9))
+            await asyncio.sleep(0.3)
+            self.assertFalse(asked.done())
+        self.log.away.clear()
+        self.assertEqual(struct.unpack_from("<Q", await asked, 36)[0], 3)
+        self.assertEqual(list(it.nodes.rotten), ["n0"])
+        await self.closed(it)
+
     async def test_several_entries_of_a_node(self):
         """It is named once."""
         for at, right in enumerate(self.fill(9), 1):

@@ -127,6 +127,7 @@ class Replica:
         self.claims: Dict[int, Set[Tuple[bytes, bytes]]] = {}  # of replies that are not there yet
         self.form = WRITTEN  # the format of entries that are written, which the log's head has
         self.nodes = Nodes(log)
+        self.is_settled = True  # what was read was taken
         # up to where another writer had read the same log, and marks after that
         self.agreed = Mark(copy.position, copy.place, copy.digest)
         self.marks: Deque[Mark] = collections.deque(maxlen=KEPT)
@@ -318,7 +319,7 @@ class Replica:
                 self.is_full = self.is_away = False
                 if number in self.sent and place <= self.copy.place:
                     self._test_place(place)
-                if number in self.sent and self.log.is_next(place):
+                if number in self.sent and self.is_settled and self.log.is_next(place):
                     self.take(Written(place, data))
                 break
             except LogFull as full:
@@ -363,11 +364,13 @@ class Replica:
 
     async def _take_read(self, written: Written) -> None:
         """Takes an entry that was read. Nothing is taken while one that does not fit is read again
-        at other nodes."""
+        at other nodes: an own entry after it that was appended meanwhile is read too."""
+        self.is_settled = False
         try:
             await self._take_settled(written)
         except Misfit as why:
             await self._take_elsewhere(written.node, why)
+        self.is_settled = True
 
     async def _take_settled(self, written: Written) -> None:
         """Takes an entry, once it is settled whether its writer or this replica has another log."""
