@@ -90,9 +90,7 @@ class Client:
             self.wire = self.world.connect(f"client {self.number}")
         if self.wire is None:
             return b""
-        self.wire.send(frame)
-        if self.world.happens("sent twice"):
-            self.wire.send(frame)
+        self.wire.send(frame * 2 if self.world.happens("sent twice") else frame)
         try:
             reply = await asyncio.wait_for(self._read(asker(frame)), PATIENCE)
         except (asyncio.TimeoutError, asyncio.IncompleteReadError):

@@ -80,14 +80,19 @@ PLANTED = {
         "            if self.right is not None or self.given.alone:\n",
         "            if True:\n",
     ),
-    "a body is cut one byte short": (
+    "a request ends in the first byte of the next one": (
         "connections.py",
         "        frame = data[: self.need] if self.have else data\n",
-        "        frame = data[: self.need - 1] + b'\\0' if self.have else data\n",
+        "        frame = data[: self.need - 1] + self.parts[0][:1] if self.have else data\n",
+    ),
+    "an own entry is taken while one before it is read again": (
+        "replica.py",
+        "                if number in self.sent and self.is_settled and self.log.is_next(place):\n",
+        "                if number in self.sent and self.log.is_next(place):\n",
     ),
     "an entry is passed over when it was read late": (
         "replica.py",
-        "                if number in self.sent and self.log.is_next(place):\n",
+        "                if number in self.sent and self.is_settled and self.log.is_next(place):\n",
         "                self.log.is_next(place)\n" "                if number in self.sent:\n",
     ),
 }

@@ -283,7 +283,9 @@ class World:
     def _clock(self) -> None:
         machine = self.drawn.choice(self.machines)
         machine.ahead = int(self.drawn.uniform(-100, 100) * 1e9)
-        machine.crash()  # a clock that steps is one of its next start
+        # a clock that steps is one of its next start: of it alone, or after an outage of all
+        for it in [machine] if self.drawn.random() < 0.5 else self.machines:
+            it.crash()
 
     # the run
 
