@@ -81,7 +81,8 @@ def test_addresses():
     assert places("[::1]:3999") == [("::1", 3999)]
     assert places("run/ledger.sock") == ["run/ledger.sock"]
     assert places("a/b:7") == ["a/b:7"]
-    for wrong in ("70000", "ledger.sock"):
+    assert places("ledger.sock") == [("ledger.sock", 3001)]  # a host alone
+    for wrong in ("70000", "a:b:7"):
         with pytest.raises(Fault, match="^--connect: "):
             over(wrong, None)
 

@@ -139,8 +139,8 @@ def context_of(
 
 
 def over(addresses: str, tls: Optional[ssl.SSLContext]) -> Ledger:
-    """A ledger over a connection, to one of several addresses: a port of this machine, a host and a
-    port, or a Unix socket's path, which has a slash."""
+    """A ledger over a connection, to one of several addresses: a port of this machine, a host
+    with or without a port, or a Unix socket's path, which has a slash."""
     try:
         places: Any = addresses_of(addresses)
         return Ledger(Socket(places, tls=tls), History(), places=() if tls else (*places,))
