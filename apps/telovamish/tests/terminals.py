@@ -4,6 +4,7 @@ from __future__ import annotations
 import contextlib
 import os
 import re
+import signal
 import time
 from typing import Optional
 
@@ -19,6 +20,11 @@ def cleaned(text: str) -> str:
     """What is shown, without what moves the cursor."""
     text = CURSOR.sub(lambda it: " " * max(1, int(it[1] or 1) - 1), text)
     return ESCAPES.sub("", text)
+
+
+def hear_hangup() -> None:
+    """Takes SIGHUP as a shell gives it: who runs the tests by nohup ignores it, and a child too."""
+    signal.signal(signal.SIGHUP, signal.SIG_DFL)
 
 
 class Terminal:
@@ -40,6 +46,7 @@ class Terminal:
             dimensions=(50, 160),
             encoding="utf-8",
             timeout=30,
+            preexec_fn=hear_hangup,
         )
         self.child.delaybeforesend = None
         self.raw = ""
