@@ -32,7 +32,8 @@ FOLDERS = ("apps/books/src", "apps/telovamish/src", "clients/python/src")
 LOAD_LEAST, CHECK_MOST, PAGE_MOST = 30_000, 120, 200
 PAGES = """
 import json, sys, time
-from tb_sql.pages.server import Site, make_app
+from tb_sql.pages.server import make_app
+from tb_sql.pages.site import Site
 client = make_app(Site(sys.argv[1])).test_client()
 taken = {}
 for page in sys.argv[2:]:

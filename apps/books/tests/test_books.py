@@ -7,7 +7,7 @@ import unittest.mock
 
 from test_pages import HERE, Pages  # noqa: I001
 from made import START, Made, account, transfer
-from tb_sql.pages import server
+from tb_sql.pages import texts, views
 
 SECOND = 10**9
 
@@ -93,7 +93,7 @@ class Books(Pages):
         """Everywhere, once the timeout has run out and no entry has come."""
         for seconds, state in ((3599, "pending"), (3601, "overdue")):
             now = START + seconds * SECOND
-            with unittest.mock.patch.object(server.time, "time_ns", return_value=now):
+            with unittest.mock.patch.object(texts.time, "time_ns", return_value=now):
                 for address in ("/transfer/13", "/transfers"):
                     self.assertIn(f">{state}</span>", self.get(address))
                 for address in ("/pending", "/", "/account/1"):
@@ -116,7 +116,7 @@ class Books(Pages):
         self.assertIn("Opening balance 355 credit Debits 7 Credits 0 Closing balance 348", said)
         self.assertIn("no postings in this month", self.words("/account/1/2026-11"))
         self.assertIn("Opening balance 348 credit", self.words("/account/1/2026-11"))
-        with unittest.mock.patch.object(server, "MONTH_ROWS", 2):
+        with unittest.mock.patch.object(views, "MONTH_ROWS", 2):
             self.assertIn("Only the first 2 postings", self.words("/account/1/2026-09"))
         self.change("UPDATE postings SET debit = 1 WHERE account_id = 1 AND debit = 120")
         self.assertIn("do not add up", self.words("/account/1/2026-09"))

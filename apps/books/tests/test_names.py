@@ -8,7 +8,8 @@ from support import Tables  # noqa: I001
 from made import MAX, Made, account, transfer
 from tb_sql.errors import Refused
 from tb_sql.names import decimal, read_names
-from tb_sql.pages.server import Site, make_app
+from tb_sql.pages.server import make_app
+from tb_sql.pages.site import Site
 
 BOOKS = """# our books
 [ledger.700]

@@ -26,9 +26,9 @@ from support import COMMAND, Tables, stand_in  # noqa: I001
 from made import MAX, START, Made, account, transfer
 from test_load import history
 from tb_sql.errors import Failed, Stop
-from tb_sql.pages import queries
-from tb_sql.pages import server
-from tb_sql.pages.server import Site, make_app, make_server
+from tb_sql.pages import queries, server, site
+from tb_sql.pages.server import make_app, make_server
+from tb_sql.pages.site import Site
 
 HERE = "http://127.0.0.1:8642"
 
@@ -361,7 +361,7 @@ class Shown(Pages):
         self.addCleanup(late.join)
         reply = self.site.get(f"/query_accounts?commit={made.commit}", base_url=HERE).json
         self.assertEqual(reply["commit"], str(made.commit))
-        with unittest.mock.patch.object(server, "WAIT_MAX", 0.1):
+        with unittest.mock.patch.object(site, "WAIT_MAX", 0.1):
             said = self.words(f"/accounts?commit={made.commit + 1}", 504)
         self.assertIn(f"The tables end at commit {made.commit}", said)
 
@@ -599,7 +599,7 @@ class Refused(Pages):
             with unittest.mock.patch("tb_sql.checking.Tables.check", written):
                 status, _, said = self.said("check", self.path)
             self.assertEqual((status, words in said), (1, True), said)
-            with unittest.mock.patch("tb_sql.pages.server.CSV_ROWS", 10):
+            with unittest.mock.patch("tb_sql.pages.downloads.CSV_ROWS", 10):
                 rows = self.site.get("/csv/transfers.csv", base_url=HERE).iter_encoded()
                 written()
                 self.assertRaises(Failed, list, rows)

@@ -131,7 +131,8 @@ class PostgreSQL(Tables):
 
     def test_pages_by_a_role_that_reads(self):
         """Each page is that of SQLite, and the role cannot write."""
-        from tb_sql.pages.server import Site, make_app
+        from tb_sql.pages.server import make_app
+        from tb_sql.pages.site import Site
 
         made = history()
         self.load_both(made)

@@ -130,7 +130,8 @@ class Usage(Stop):
 def serve(given: argparse.Namespace) -> int:
     """Serves the pages until a signal."""
     try:
-        from .pages.server import Site, serve_pages
+        from .pages.server import serve_pages
+        from .pages.site import Site
     except ImportError as error:
         raise Failed(f"Flask is not installed (Debian: python3-flask): {error}") from None
     names = read_names(given.names) if given.names else None

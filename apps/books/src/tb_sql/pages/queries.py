@@ -4,6 +4,7 @@ at each refused event, and what is pending at each open transfer (of the account
 
 from __future__ import annotations
 
+import time
 from typing import Any, Dict, Iterator, List, NamedTuple, Optional, Tuple
 
 from ..errors import AGAIN, Failed
@@ -14,6 +15,7 @@ from ..reading import PostgresReading, Reading, Row, SqliteReading
 ROWS = 50  # of a page
 POINTS = 240  # of a chart of an account
 BARS = 48
+PAUSE = 0.05  # seconds between two looks at the last commit
 LAST = (1 << 63) - 1
 
 
@@ -90,6 +92,10 @@ SORTS = {
     "code": "code, timestamp",
     "postings": "postings DESC, timestamp",
 }
+
+
+class Late(Failed):
+    """The tables do not have an entry yet."""
 
 
 class Tables:
@@ -414,3 +420,17 @@ def _moments(first: int, last: int) -> Iterator[int]:
     """Moments at equal distances, the first and the last one among them."""
     for at in range(POINTS + 1):
         yield first + (last - first) * at // POINTS
+
+
+def tables_at(name: str, commit: int, seconds: float) -> Tables:
+    """The tables, once they have an entry. Raises `Late` if it does not come in these seconds."""
+    deadline = time.monotonic() + seconds
+    while True:
+        tables = Tables(name)
+        last = tables.position()["commit_number"]
+        if last >= commit:
+            return tables
+        tables.close()
+        if time.monotonic() > deadline:
+            raise Late(f"The tables end at commit {last}: {commit} did not come.")
+        time.sleep(PAUSE)
