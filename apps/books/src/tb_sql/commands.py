@@ -17,6 +17,7 @@ from telovamish.faults import Fault
 from . import __version__
 from .early import INTERRUPTED, end_by
 from .errors import Failed, Stop
+from .filters import OPERATIONS
 from .loading import Loading, store_of
 from .names import read_names
 from .numbers import time_text
@@ -30,6 +31,9 @@ SERVE = """Shows the tables as pages, only on the loopback interface, without wr
 CHECK = """Computes each column again that other rows determine, and compares the digests of all
 others. --ledger compares every row with the history itself. --server also asks a server for its
 accounts, which takes a session and an entry for each 8190 accounts."""
+ASK = """Prints the answer to a question of TigerBeetle's clients: get_account_transfers,
+get_account_balances, query_accounts or query_transfers. A FIELD is one of its filter, as
+account_id=2, flags=debits,reversed or limit=10."""
 STATUSES = """Exit status: 0 done; 1 a file, a program or a database failed, or a check found a
 difference; 2 the input or the words are wrong."""
 
@@ -145,6 +149,19 @@ def check(given: argparse.Namespace) -> int:
     return check_tables(given)
 
 
+def ask(given: argparse.Namespace) -> int:
+    """Prints the answer to a question."""
+    from .asking import ask as answered
+
+    return answered(given)
+
+
+def commit(text: str) -> int:
+    if not text.isascii() or not text.isdigit() or len(text) > 19:
+        raise argparse.ArgumentTypeError("a commit is a number of at most 19 digits")
+    return int(text)
+
+
 def port(text: str) -> int:
     if not text.isascii() or not text.isdigit() or int(text) > 65535:
         raise argparse.ArgumentTypeError("a port is 0 to 65535")
@@ -162,6 +179,22 @@ def add_ledger(parser: argparse.ArgumentParser, what: str) -> None:
     parser.add_argument("--ledger", metavar="FILE", help=what)
     parser.add_argument("--tbd", metavar="PROGRAM", help="the program tbd (or the variable TBD)")
     parser.add_argument("--tbs", metavar="PROGRAM", help="the program tbs (or the variable TBS)")
+
+
+def add_ask(commands: Any) -> None:
+    it = commands.add_parser(
+        "ask", help="print a filter's accounts, transfers or balances", description=ASK
+    )
+    it.add_argument("file", metavar="FILE", help="a file of SQLite, or postgresql://..")
+    it.add_argument("question", metavar="QUESTION", choices=OPERATIONS, help="the question's name")
+    it.add_argument("fields", metavar="FIELD=VALUE", nargs="*", help="a field of its filter")
+    it.add_argument("--json", action="store_true", help="print JSON, as the pages do")
+    it.add_argument("--names", metavar="TOML", help="other names than those of the tables")
+    it.add_argument("--commit", type=commit, default=0, metavar="N", help="wait for this commit")
+    it.add_argument(
+        "--wait", type=seconds, default=10.0, metavar="SECONDS", help="at most (%(default)g)"
+    )
+    it.set_defaults(run=ask)
 
 
 def words() -> argparse.ArgumentParser:
@@ -190,6 +223,7 @@ def words() -> argparse.ArgumentParser:
     it.add_argument("--tbd", metavar="PROGRAM", help="the program tbd (or the variable TBD)")
     it.add_argument("--names", metavar="TOML", help="other names than those of the tables")
     it.set_defaults(run=serve)
+    add_ask(commands)
     it = commands.add_parser(
         "check", help="compute balances again", description=CHECK, epilog=STATUSES
     )
