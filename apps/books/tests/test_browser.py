@@ -69,11 +69,12 @@ for (const it of document.querySelectorAll("body *")) {
 }
 return [found.length, found.filter((it) => it[0] < 4.5)];
 """
-# amounts and charts that are not whole within the window; of tables that scroll only on a phone
+# amounts, times and charts that are not whole within the window, and cells without a label, if
+# rows are cards
 HIDDEN = """
 const found = [];
 for (const it of document.querySelectorAll("main .number, main svg, main time")) {
-  if (!it.getClientRects().length || (!arguments[0] && it.closest(".scroll"))) continue;
+  if (!it.getClientRects().length) continue;
   const box = it.getBoundingClientRect();
   if (box.left < 0 || box.right > innerWidth) found.push(it.outerHTML.slice(0, 200));
 }
@@ -82,6 +83,7 @@ for (const it of arguments[0] ? document.querySelectorAll("tbody td[data-label]"
 }
 return found;
 """
+CARDS = 896  # pixels, up to which the rows of tables are cards
 OVERFLOW = "return document.documentElement.scrollWidth - document.documentElement.clientWidth"
 
 
@@ -207,7 +209,7 @@ class Browser(unittest.TestCase):
                 with self.subTest(address, width=width):
                     self.open(address)
                     self.assertLessEqual(self.driver.execute_script(OVERFLOW), 0)
-                    self.assertEqual(self.driver.execute_script(HIDDEN, width == 375), [])
+                    self.assertEqual(self.driver.execute_script(HIDDEN, width <= CARDS), [])
 
     def test_controls_are_labelled(self):
         for address, _ in self.PAGES:
