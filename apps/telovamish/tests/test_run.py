@@ -60,7 +60,10 @@ def test_a_dump_and_its_pairs(tbs):
 
 
 WHAT = {
-    "ledger": (b"TBJRNL02\xff\xff\xff\xff\6\0\0\0\0\0\0TBK1\1\2", "a ledger's file of tbd: tbd check FILE"),
+    "ledger": (
+        b"TBJRNL02\xff\xff\xff\xff\6\0\0\0\0\0\0TBK1\1\2",
+        "a ledger's file of tbd: tbd check FILE",
+    ),
     "remnant": (b"TBJRN", "the remnant of a ledger's file of tbd"),
     "JSON": (b'{"id":1}\n', "JSON, which nothing here reads"),
     "text": (b"register;\n", "text: telovamish script makes a script"),
