@@ -65,7 +65,7 @@ func built(t *testing.T) string {
 	if err != nil {
 		t.Fatal(err)
 	}
-	shown := regexp.MustCompile("(?s)```go\n(.*?)```").FindSubmatch(page)
+	shown := regexp.MustCompile("(?s)```go\n(package main\n.*?)```").FindSubmatch(page)
 	if shown == nil {
 		t.Fatal("the README shows no program")
 	}

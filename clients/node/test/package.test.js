@@ -102,7 +102,7 @@ async function leaveInDoubt(transfer) {
 /** The README's program, once. */
 function once(hooks) {
   return new Promise((resolve) => {
-    const it = spawn("node", ["money.mjs"], { cwd: folder });
+    const it = spawn("node", ["money.mjs"], { cwd: folder, timeout: 60_000 });
     if (hooks.kills) hooks.kill = () => it.kill("SIGKILL");
     let said = "";
     it.stdout.on("data", (text) => (said += text));
@@ -117,7 +117,7 @@ test("the README's program, a kill amid a sale, and one in doubt that is refused
   skip: needs,
 }, async () => {
   const readme = readFileSync(path.join(TOP, "README.md"), "utf8");
-  writeFileSync(path.join(folder, "money.mjs"), /```js\n([^]*?)```/.exec(readme)[1]);
+  writeFileSync(path.join(folder, "money.mjs"), /```js\n(import { existsSync[^]*?)```/.exec(readme)[1]);
   const process = await listener();
   const hooks = {};
   const server = await between(path.join(folder, "ledger.sock"), hooks);

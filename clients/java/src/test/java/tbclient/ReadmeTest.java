@@ -23,7 +23,7 @@ import org.junit.rules.TemporaryFolder;
 /** The program of README.md, as it stands there, over a listener and its server. */
 public class ReadmeTest {
     private static final Path TOP = Path.of("../..").toAbsolutePath().normalize();
-    private static final Pattern BLOCK = Pattern.compile("```java\n(.*?)```", Pattern.DOTALL);
+    private static final Pattern BLOCK = Pattern.compile("```java\n(import .*?)```", Pattern.DOTALL);
     private static final int[] KILLS = {150, 350, 250}; // ms after the file is there
 
     @Rule public TemporaryFolder folder = new TemporaryFolder();
