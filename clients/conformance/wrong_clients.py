@@ -77,12 +77,21 @@ WRONG = {
         "sessions.py",
         "        if reply.session != session or not session:\n",
         "        if (reply.session ^ session) % 2**32 or not session:\n",
+        "sessions.py",
+        "            if reply.session != session:\n",
+        "            if (reply.session ^ session) % 2**32:\n",
+        "frames.py",
+        "header[:16] + header[24:29] if header[28] == REGISTER else header[:29]",
+        "header[:16] + header[24:29] if header[28] == REGISTER else header[:20] + header[24:29]",
     ),
     "edge: a client is compared by its lower half": (
         "sessions.py",
         "        if (reply.client, reply.number, reply.operation) != (\n            self.client,\n",
         "        if (reply.client % 2**64, reply.number, reply.operation) != (\n"
         "            self.client % 2**64,\n",
+        "frames.py",
+        "header[:16] + header[24:29] if header[28] == REGISTER else header[:29]",
+        "header[:8] + (header[24:29] if header[28] == REGISTER else header[16:29])",
     ),
     "edge: a lookup that is lost is in doubt no longer": (
         "sessions.py",

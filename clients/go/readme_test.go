@@ -12,9 +12,15 @@ import (
 )
 
 // TestProgramOfTheREADME builds the program as printed, kills it while its transfer has no reply, and
-// runs it twice more, with a transfer of another client between the two.
+// runs it twice more, with a transfer of another client between the two; also with its session
+// evicted before each.
 func TestProgramOfTheREADME(t *testing.T) {
 	program := built(t)
+	t.Run("killed", func(t *testing.T) { runKilled(t, program, func(*ledger) {}) })
+	t.Run("killed and evicted", func(t *testing.T) { runKilled(t, program, (*ledger).evict) })
+}
+
+func runKilled(t *testing.T, program string, meanwhile func(*ledger)) {
 	it := newLedger(t, t.TempDir())
 	folder := filepath.Dir(it.path)
 	release := it.holds(130) // the transfer is made, and its reply does not come
@@ -29,16 +35,17 @@ func TestProgramOfTheREADME(t *testing.T) {
 	}
 	first.Wait()
 	release()
-	other, err := tb.Register(background, newSocket(t, it))
-	if err != nil {
-		t.Fatal(err)
-	}
 	for _, wanted := range []string{"credited: 100\n", "credited: 105\n"} {
+		meanwhile(it)
 		again := exec.Command(program)
 		again.Dir = folder
 		output, err := again.CombinedOutput()
 		if err != nil || string(output) != wanted {
 			t.Errorf("it prints %q, not %q, %v", output, wanted, err)
+		}
+		other, err := tb.Register(background, newSocket(t, it))
+		if err != nil {
+			t.Fatal(err)
 		}
 		if _, err := other.CreateTransfers(background, []tb.Transfer{sale(5)}); err != nil {
 			t.Fatal(err)

@@ -14,6 +14,7 @@ const { after, before, test } = require("node:test");
 const tb = require("../index.js");
 
 const TOP = path.dirname(__dirname);
+const SESSIONS = 64; // that the server keeps
 const STAND_IN = path.join(TOP, "..", "python", "tests", "stand_in_tbd.py");
 const LISTENER = path.join(TOP, "..", "..", "apps", "host", "tb-listen");
 
@@ -63,7 +64,7 @@ test("the types, by tsc", { skip: isThere("tsc") ? false : "tsc is not there" },
 async function listener() {
   const server = ["python3", "-SE", STAND_IN];
   const words = ["-B", LISTENER, "--unix", "real.sock", "--", ...server];
-  const it = spawn("python3", [...words, "run", "ledger.journal", "64"], { cwd: folder });
+  const it = spawn("python3", [...words, "run", "ledger.journal", String(SESSIONS)], { cwd: folder });
   await new Promise((resolve, reject) => {
     it.stderr.on("data", (said) => String(said).includes("listens on") && resolve());
     it.on("exit", () => reject(new Error("the listener ended")));
@@ -99,6 +100,13 @@ async function leaveInDoubt(transfer) {
   await session.save(file);
 }
 
+/** Evicts the program's session: as many others register as the server keeps. */
+async function evict() {
+  const socket = new tb.Socket(path.join(folder, "real.sock"));
+  for (let at = 0; at < SESSIONS; at++) await tb.Session.register(socket);
+  socket.close();
+}
+
 /** The README's program, once. */
 function once(hooks) {
   return new Promise((resolve) => {
@@ -132,6 +140,11 @@ test("the README's program, a kill amid a sale, and one in doubt that is refused
     assert.equal(status, 1);
     assert.match(said, /EventsFailed: event 0: credit_account_not_found/);
     assert.deepEqual(await once(hooks), { said: "400n\n", status: 0, signal: null });
+    hooks.kills = true;
+    assert.deepEqual(await once(hooks), { said: "", status: null, signal: "SIGKILL" });
+    hooks.kill = hooks.kills = undefined;
+    await evict();
+    assert.deepEqual(await once(hooks), { said: "600n\n", status: 0, signal: null });
   } finally {
     server.close();
     process.removeAllListeners("exit");

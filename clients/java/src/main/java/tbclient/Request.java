@@ -22,4 +22,14 @@ public record Request(
         Operation operation,
         List<Account> accounts,
         List<Transfer> transfers,
-        List<BigInteger> ids) {}
+        List<BigInteger> ids) {
+
+    /**
+     * What it asks for, as {@link Session#prepare} takes it.
+     *
+     * @return its accounts, its transfers or its ids
+     */
+    public List<?> items() {
+        return !accounts.isEmpty() ? accounts : !transfers.isEmpty() ? transfers : ids;
+    }
+}

@@ -24,6 +24,7 @@ import org.junit.rules.TemporaryFolder;
 public class ReadmeTest {
     private static final Path TOP = Path.of("../..").toAbsolutePath().normalize();
     private static final Pattern BLOCK = Pattern.compile("```java\n(import .*?)```", Pattern.DOTALL);
+    private static final int SESSIONS = 8;
     private static final int[] KILLS = {150, 350, 250}; // ms after the file is there
 
     @Rule public TemporaryFolder folder = new TemporaryFolder();
@@ -67,7 +68,7 @@ public class ReadmeTest {
                         TOP + "/clients/python/tests/stand_in_tbd.py",
                         "run",
                         "ledger.journal",
-                        "8");
+                        String.valueOf(SESSIONS));
         Process it =
                 new ProcessBuilder(words)
                         .directory(folder.getRoot())
@@ -108,6 +109,16 @@ public class ReadmeTest {
         }
     }
 
+    /** Evicts the program's session: as many others register as the server keeps. */
+    private void evict() {
+        Path place = folder.getRoot().toPath().resolve("ledger.sock");
+        try (SocketTransport transport = new SocketTransport(Address.unix(place))) {
+            for (int at = 0; at < SESSIONS; at++) {
+                Session.register(transport);
+            }
+        }
+    }
+
     @Test(timeout = 120_000)
     public void theProgramMovesMoneyOnceAmidKills() throws Exception {
         assumeTrue("python3 is not there", isPythonThere());
@@ -118,10 +129,13 @@ public class ReadmeTest {
                 Process killed = sale(path);
                 killed.waitFor(kill, TimeUnit.MILLISECONDS);
                 killed.destroyForcibly().waitFor();
+                evict();
             }
             assertEquals("1000\n", printed(path));
             sellElsewhere(5);
             assertEquals("1005\n", printed(path)); // and not the reply of the run before
+            evict();
+            assertEquals("1005\n", printed(path));
         } finally {
             listener.destroy();
             listener.waitFor();
