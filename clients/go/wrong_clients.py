@@ -334,7 +334,10 @@ def main():
         return 1
     missed = 0
     with concurrent.futures.ThreadPoolExecutor(given.jobs) as pool:
-        runs = {name: pool.submit(caught, edits, given.over, given.scenarios) for name, edits in tried.items()}
+        runs = {
+            name: pool.submit(caught, edits, given.over, given.scenarios)
+            for name, edits in tried.items()
+        }
         for name, run in runs.items():
             try:
                 status, said = run.result()

@@ -60,7 +60,8 @@ WRONG = {
     "shared: an eviction is the caller's": (
         "Worker",
         "            } catch (EvictedException why) {\n",
-        "            } catch (EvictedException why) {\n                if (body != null) throw why;\n",
+        "            } catch (EvictedException why) {\n"
+        "                if (body != null) throw why;\n",
     ),
     "shared: a refusal does not end the session": (
         "Worker",
@@ -85,7 +86,8 @@ WRONG = {
     "edge: a lookup that is lost is in doubt no longer": (
         "Session",
         "            if (!mayBeSent) {\n                keep(session, number, null);",
-        "            if (!mayBeSent || pending[28] > -126) {\n                keep(session, number, null);",
+        "            if (!mayBeSent || pending[28] > -126) {\n"
+        "                keep(session, number, null);",
     ),
     "edge: NotYet after a loss ends the call": (
         "Session",
@@ -381,7 +383,8 @@ def caught(edit, scenarios="*"):
     """The kit's status for an edited client, and the scenario that failed first."""
     with tempfile.TemporaryDirectory() as folder:
         runner = [*JAVA, compiled(folder, edit), "tbclient.ConformanceRunner"]
-        words = [sys.executable, "-B", KIT, "--first", "--jobs", "1", "--only", scenarios, "--", *runner]
+        words = [sys.executable, "-B", KIT, "--first", "--jobs", "1"]
+        words += ["--only", scenarios, "--", *runner]
         ran = subprocess.run(words, capture_output=True, text=True, timeout=SECONDS)
     first = re.search(r"^FAILED: ([^:]+): (.*)", ran.stdout, re.M)
     said = f"{first[1]}: {first[2][:100]}" if first else (ran.stdout + ran.stderr)[-300:]

@@ -318,9 +318,7 @@ class Runner:
         return self.said(session, session.retry(), line, "register")
 
     @staticmethod
-    def said(
-        session: Optional[tb.Session], said: Any, line: Dict[str, Any], operation: str
-    ) -> Any:
+    def said(session: Optional[tb.Session], said: Any, line: Dict[str, Any], operation: str) -> Any:
         if line.get("require_ok"):
             tb.require_ok(said)
         if said is None and session is not None:

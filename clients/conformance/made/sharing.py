@@ -187,7 +187,7 @@ def joined():
         shown = {it: whole(made(it)) for it in (1, 3, 4)}
         yield (
             f"joins-lookups-{name}",
-            "Lookups are joined: each gets the records of its own ids, some of which are not there.",
+            "Lookups are joined: each gets the records of its own ids; some are not there.",
             FIRST,
             begin("b", kind, ["1", "2", "3"]),
             begin("c", kind, ["4", "1"]),
@@ -713,7 +713,7 @@ def leaving():
     )
     yield (
         "leaves-amid",
-        "A caller leaves while its request is in flight: the client waits for the reply, and goes on.",
+        "A caller leaves while its request is in flight: the client waits for the reply.",
         FIRST,
         leave("a"),
         end("a", CANCELLED),
@@ -723,7 +723,7 @@ def leaving():
     )
     yield (
         "leaves-amid-a-loss",
-        "A caller leaves, and then the reply is lost: its request is sent again, before the next one.",
+        "A caller leaves, then the reply is lost: its request is sent again, before the next one.",
         FIRST,
         leave("a"),
         end("a", CANCELLED),

@@ -2,7 +2,7 @@
 """Moves money between two accounts, once, though a reply is lost, the client crashes, its session
 ends, and the server is killed.
 
-    examples/program.py [PATH OF tbs]        (crates/tbs/out/tbs of this repository where none is given)
+    examples/program.py [PATH OF tbs]      (crates/tbs/out/tbs of this repository if none is given)
 """
 import os
 import pathlib

@@ -1,5 +1,5 @@
-"""What goes wrong, as exceptions below one base, `ClientError`. That of clients/embed/python/tb_embed.py
-stand below it too."""
+"""What goes wrong, as exceptions below one base, `ClientError`. Those of
+clients/embed/python/tb_embed.py are below it too."""
 from __future__ import annotations
 
 from typing import TYPE_CHECKING, Sequence
