@@ -21,6 +21,10 @@ COMMON = (
     (r"/run/ledger/", "/run/telovamish/"),
 )
 LISTEN = (
+    (
+        r"^# the ledger's file is made once, by hand: .*$",
+        "# the ledger's file is made once, by hand: see /etc/telovamish/tb-listen.conf",
+    ),
     (r"/usr/bin/python3 -m tb_host\.listen", "/usr/bin/tb-listen"),
     (r" -- (/usr/bin/tbd run) /var/lib/ledger/\S+ \d+", r" $OPTIONS -- \1 ${LEDGER} $PLACES"),
     (r"^ExecStart=", "EnvironmentFile=/etc/telovamish/tb-listen.conf\nExecStart="),
