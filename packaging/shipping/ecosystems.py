@@ -12,10 +12,10 @@ from pathlib import Path
 from .running import Failed, run
 
 PYTHON = "/usr/bin/python3"
-# The two hooks of the packages' build backend, in one process.
+# The two hooks of the packages' build backend, in one process: they change sys.argv.
 HOOKS = (
     "import sys; from setuptools import build_meta as it;"
-    " it.build_sdist(sys.argv[1]); it.build_wheel(sys.argv[1])"
+    " into = sys.argv[1]; it.build_sdist(into); it.build_wheel(into)"
 )
 WHEELS = ("clients/python", "apps/telovamish", "apps/host", "apps/books")
 
@@ -44,7 +44,10 @@ def python(tree: Path, dist: Path, epoch: int) -> None:
     for name in WHEELS:
         words = [PYTHON, "-c", HOOKS, str(dist)]
         run(words, cwd=tree / name, env={"SOURCE_DATE_EPOCH": str(epoch)})
-    for path in dist.glob("*.tar.gz"):
+    wheels, sdists = [*dist.glob("*.whl")], [*dist.glob("*.tar.gz")]
+    if not len(wheels) == len(sdists) == len(WHEELS):
+        raise Failed(f"{len(WHEELS)} of each kind were to be built: {wheels} {sdists}")
+    for path in sdists:
         steady(path, epoch)
 
 

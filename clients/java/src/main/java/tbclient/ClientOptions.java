@@ -20,6 +20,10 @@ public record ClientOptions(int sessions, Duration timeout, SSLContext tls, Long
     /**
      * Tests the options.
      *
+     * @param sessions how many requests may be in flight, 1 to 64
+     * @param timeout the time for one sending, a millisecond or more
+     * @param tls how TLS is spoken, or null for none
+     * @param clientRange the upper 64 bits of the ids of the client's sessions, or null
      * @throws InvalidValueException where one is out of its range
      */
     public ClientOptions {
