@@ -8,6 +8,7 @@ import urllib.request
 from pathlib import Path
 
 import pexpect
+from shipping import completion
 from shipping.programs import sha256
 from shipping.running import Failed, run
 from shipping.table import Program
@@ -192,18 +193,26 @@ def library(root: Root, example: Path, printed: str, room: Path) -> None:
 
 
 def versions_and_help(root: Root, programs: dict[str, Program]) -> str:
-    """`--help` and `--version` of each program and form end with status 0."""
-    missing = []
+    """`--help` and `--version` end with status 0, as does `--help` after each form that has it.
+    Programs whose options have neither print one usage line for every other word, with status 2."""
+    right, usage, wrong = 0, [], []
     for it in programs.values():
-        forms = [""] + [f"{form.name()} " for form in it.forms if form.name()]
-        lines = [f"{it.name} {form}--help" for form in forms] + [f"{it.name} --version"]
-        for line in lines:
-            try:
-                root.shell(f"{line} < /dev/null")
-            except Failed:
-                missing.append(line)
-    check(not missing, "not with status 0: " + "; ".join(missing))
-    return ""
+        own = {"--help", "--version"} & set(completion.flags(it.options))
+        forms = [form.name() for form in it.forms if "--help" in completion.flags(form.options)]
+        lines = [f"{it.name} {word}" for word in sorted(own)]
+        lines += [f"{it.name} {name} --help" for name in forms if name]
+        for line in lines or [f"{it.name} --help"]:
+            said = root.shell(f"{line} < /dev/null || echo status $?")
+            if not lines:
+                usage.append(it.name)
+                wanted = rf"{it.name}: Usage[^\n]*\nstatus 2\n"
+                wrong += [] if re.fullmatch(wanted, said) else [line]
+            elif not said.strip() or re.fullmatch(r"status \d+", said.splitlines()[-1]):
+                wrong.append(line)
+            else:
+                right += 1
+    check(not wrong, "not as owed: " + "; ".join(wrong))
+    return f"{right} with status 0; one usage line: {' '.join(usage)}"
 
 
 def lintian(debs: list[Path]) -> str:

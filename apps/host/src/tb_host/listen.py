@@ -28,7 +28,7 @@ from __future__ import annotations
 
 import sys
 
-from . import early
+from . import __version__, early
 
 if __name__ == "__main__":  # before what takes long to load
     sys.exit(early.listen())
@@ -84,6 +84,7 @@ def words(given: Sequence[str]) -> argparse.Namespace:
         "when the command is started first (0)"
     )
     parser.add_argument("--ahead", metavar="SECONDS", type=ahead, default=0.0, help=may_lie)
+    parser.add_argument("--version", action="version", version=f"tb-listen {__version__}")
     add_command(parser)
     found = parser.parse_args(given)
     if not found.command[0]:

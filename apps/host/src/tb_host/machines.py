@@ -24,7 +24,7 @@ from __future__ import annotations
 
 import sys
 
-from . import early
+from . import __version__, early
 
 if __name__ == "__main__":  # before what takes long to load
     sys.exit(early.replica())
@@ -166,13 +166,15 @@ def _test_log(parser: argparse.ArgumentParser, given: argparse.Namespace) -> Non
 
 
 def _parser(usage: str) -> argparse.ArgumentParser:
-    return argparse.ArgumentParser(
+    parser = argparse.ArgumentParser(
         prog="tb-replica",
         usage=usage,
         description=__doc__,
         formatter_class=argparse.RawDescriptionHelpFormatter,
         allow_abbrev=False,
     )
+    parser.add_argument("--version", action="version", version=f"tb-replica {__version__}")
+    return parser
 
 
 def _run_words(given: Sequence[str]) -> argparse.Namespace:
