@@ -67,6 +67,8 @@ def made(top: Path, base: Path | None) -> Root:
     if (top / "opt/rattle").exists() or not (top / "dev/null").is_char_device():
         raise Failed("the root has the kit, or no devices")
     shutil.copyfile("/etc/resolv.conf", top / "etc/resolv.conf")
+    # as Debian's installer writes it
+    (top / "etc/hosts").write_text("127.0.0.1 localhost\n::1 localhost ip6-localhost\n")
     # nothing of the root outlives the trial: no syncs
     (top / "etc/dpkg/dpkg.cfg.d/trial").write_text("force-unsafe-io\n")
     for kind, name in MOUNTS:
