@@ -6,13 +6,23 @@ import subprocess
 import time
 from collections.abc import Callable
 
-from shipping.running import Failed
+from shipping.running import Failed, run
+from shipping.table import ROOT
 
 from .installed import check
 from .root import Root
 
 LEDGER = "/var/lib/telovamish/ledger.tbk"
+PAGE = ROOT / "docs" / "use" / "OPERATING.md"
 UNITS = ("tb-listen.service", "tb-listen-activated.service", "tb-replica.service")
+# More entries than a disk of 300 KiB has space for.
+STATEMENTS = """at=10 client=7 register;
+at=10 client=7 session=1 request=1 create_accounts id=1 ledger=1 code=1, id=2 ledger=1 code=1;
+""" + "".join(
+    f"at=10 client=7 session=1 request={it + 1} create_transfers id={it} debit_account_id=1"
+    " credit_account_id=2 amount=1 ledger=1 code=1;\n"
+    for it in range(1, 3001)
+)
 EXPOSURE = 30  # tenths: systemd calls 3.0 OK
 CLIENT = """
 import sys, time
@@ -51,7 +61,7 @@ class Listener:
 
     def __init__(self, root: Root, *options: str) -> None:
         words = ["tb-listen", "--tcp", "127.0.0.1:0", *options, "--"]
-        words += ["tbd", "run", LEDGER, "64"]
+        words += ["tbd", "run", LEDGER, "64", "--existing"]
         self.process = root.start(*words, user="telovamish")
         self.lines: list[str] = []
         assert self.process.stderr
@@ -69,14 +79,8 @@ class Listener:
         check(self.process.wait(60) == 0, f"status {self.process.returncode}")
 
 
-def state_folder(root: Root) -> None:
-    """What StateDirectory= makes at a unit's start."""
-    root.shell("install -d -m 0700 -o telovamish -g telovamish /var/lib/telovamish")
-
-
 def listener(root: Root) -> None:
     """A client over TCP, and the command for people over the same port."""
-    state_folder(root)
     served = Listener(root)
     try:
         root.inside("/tmp/client.py").write_text(CLIENT)
@@ -91,16 +95,59 @@ def listener(root: Root) -> None:
         served.stop()
 
 
+def page_lines(heading: str) -> list[str]:
+    """The lines of OPERATING.md after a heading, without those that need apt's files or an init."""
+    text = PAGE.read_text().split(f"\n## {heading}\n")[1].split("\n## ")[0]
+    lines = [it for part in re.findall(r"```sh\n(.*?)```", text, re.S) for it in part.splitlines()]
+    return [it for it in lines if it.split()[0] not in ("apt", "editor", "systemctl")]
+
+
+def file_made(root: Root) -> str:
+    """The page's lines make the ledger's file, for its user alone."""
+    for it in page_lines("Install and start"):
+        root.shell(it)
+    found = root.run("stat", "--format=%U %a", "/var/lib/telovamish", LEDGER).splitlines()
+    check(found == ["telovamish 700", "telovamish 600"], found)
+    return ", ".join(found)
+
+
 def restored(root: Root) -> str:
-    """A backup that is made while the ledger is served, put into its place, is served again."""
-    copy = "/var/lib/telovamish/copy.tbk"
+    """A backup that the page's lines make while the ledger is served, and put back, is served."""
     before, served = entries(root), Listener(root)
-    root.run("tbd", "backup", LEDGER, copy, user="telovamish")
+    lines = [it.replace("2026-11-28", "$(date +%F)") for it in page_lines("Backup and restore")]
+    root.shell("mkdir -p /backup")
+    made = [it for it in lines if it.startswith("tbd ")]
+    for it in made:
+        root.shell(it)
     served.stop()
-    root.shell(f"rm {LEDGER} && mv {copy} {LEDGER}", user="telovamish")
+    for it in lines[len(made) :]:
+        root.shell(it)
+    check(root.inside(f"{LEDGER}.old").exists(), f"not moved away by {lines}")
     check(entries(root) == before, f"{entries(root)} entries of {before}")
     Listener(root).stop()
     return f"{before} entries"
+
+
+def filled(root: Root) -> str:
+    """On a full disk tbd ends with status 8, and the file has each request that was acknowledged.
+    With more space a start goes on, and the same requests are each in the file once."""
+    top, file = root.inside("/mnt"), "/mnt/ledger.tbk"
+    root.inside("/tmp/full.text").write_text(STATEMENTS)
+    root.shell("telovamish script < /tmp/full.text > /tmp/full.script")
+    run(["mount", "-t", "tmpfs", "-o", "size=300k", "tmpfs", str(top)])
+    try:
+        serve = f"tbd run {file} 2 < /tmp/full.script"
+        said = root.shell(f"{serve} 2>&1 > /tmp/full.replies || echo status $?")
+        check("Full" in said and said.endswith("status 8\n"), said)
+        shown = root.shell("telovamish replies < /tmp/full.replies")
+        answered, kept = len(re.findall("created$", shown, re.M)), entries(root, file)
+        check(1 < answered < kept < 3002, f"{answered} answered, {kept} entries")
+        run(["mount", "-o", "remount,size=30m", str(top)])
+        root.shell(f"{serve} > /tmp/full.replies")
+        check(entries(root, file) == 3002, f"{entries(root, file)} entries at the end")
+    finally:
+        run(["umount", str(top)])
+    return f"{answered} answered, {kept} entries"
 
 
 def verified(root: Root) -> None:
@@ -153,7 +200,6 @@ def unit_words(root: Root, unit: str) -> list[str]:
 
 def activated(root: Root) -> None:
     """The activated unit's command serves over a socket that is passed to it."""
-    state_folder(root)
     root.shell("install -d -m 0755 -o telovamish -g telovamish /run/telovamish")
     words = unit_words(root, "tb-listen-activated.service")
     line = ["systemd-socket-activate", "--listen=/run/telovamish/passed.sock", *words]
@@ -173,8 +219,8 @@ def activated(root: Root) -> None:
         process.wait(60)
 
 
-def entries(root: Root) -> int:
-    said = root.run("tbd", "check", LEDGER)
+def entries(root: Root, file: str = LEDGER) -> int:
+    said = root.run("tbd", "check", file)
     found = re.search(r"(\d+) entries|entries[ :]+(\d+)", said)
     check(found is not None, said)
     assert found
@@ -183,7 +229,6 @@ def entries(root: Root) -> int:
 
 def upgraded(root: Root, newer: list[str]) -> str:
     """Newer packages come while a client moves money; then the listener starts again with them."""
-    state_folder(root)
     before = entries(root)
     served = Listener(root)
     root.shell("rm -f /tmp/end")
@@ -219,6 +264,12 @@ def traces(root: Root) -> set[str]:
     return {it for it in found.splitlines() if not it.startswith(own)}
 
 
+def configured(root: Root, names: list[str]) -> list[str]:
+    """Packages that were removed and whose configuration is left: apt has no record of others."""
+    shown = root.run("dpkg-query", "-W", "-f", "${db:Status-Abbrev} ${Package}\n").splitlines()
+    return [it.split()[1] for it in shown if it.startswith("rc") and it.split()[1] in names]
+
+
 def removed(root: Root, names: list[str]) -> None:
     """`apt remove` leaves ledgers and configuration; `apt purge` leaves ledgers."""
     kept = root.shell(f"sha256sum {LEDGER}")
@@ -234,7 +285,9 @@ def removed(root: Root, names: list[str]) -> None:
     allowed = ("/etc/telovamish", "/var/lib/telovamish", "/run/telovamish")
     others = {it for it in traces(root) if not it.startswith(allowed)}
     check(not others, f"left: {sorted(others)}")
-    root.apt("purge", *names)
+    left = configured(root, names)
+    check("telovamish-server" in left, f"configuration is left of {left}")
+    root.apt("purge", *left)
     others = {it for it in traces(root) if not it.startswith(allowed[1:])}
     check(not others, f"left by purge: {sorted(others)}")
     check(root.shell(f"sha256sum {LEDGER}") == kept, "the ledger is another one")

@@ -14,10 +14,9 @@ from shipping.table import ROOT
 
 from .installed import check, free_port
 from .root import Root
-from .serving import Listener, state_folder, waited
+from .serving import PAGE, Listener, waited
 
 WATCH = ROOT / "packaging" / "watch"
-PAGE = ROOT / "docs" / "use" / "OPERATING.md"
 # What a replica has beyond a listener: no page of a listener has them.
 REPLICA = {"tb_log_ahead_seconds", "tb_rotten_entries_total"}
 METRIC = re.compile(r"\btb_[a-z0-9_]+")
@@ -89,7 +88,6 @@ def watched(root: Root, room: Path) -> str:
     run(["promtool", "check", "rules", WATCH / "telovamish.rules.yml"])
     explained()
     root.apt("install", "python3-prometheus-client")
-    state_folder(root)
     metrics, port = free_port(), free_port()
     served = Listener(root, "--metrics", f"127.0.0.1:{metrics}")
     folder = room / "prometheus"
