@@ -141,6 +141,18 @@ def test_each_alert_is_on_the_operators_page() -> None:
     watching.explained()
 
 
+@pytest.mark.parametrize("unit, page", [("listen", "OPERATING"), ("replica", "CLUSTER")])
+def test_each_status_that_ends_a_unit_is_on_its_page(unit: str, page: str) -> None:
+    text = (units.UNITS / f"tb-{unit}.service").read_text()
+    ends = re.search(r"^RestartPreventExitStatus=(.*)$", text, re.M)
+    assert ends
+    for name in {"OPERATING", page}:
+        shown = (ROOT / f"docs/use/{name}.md").read_text()
+        rows = set(re.findall(r"^\| (\d+) \|", shown, re.M))
+        wanted = {it for it in ends[1].split() if (int(it) < 20) == (name == "OPERATING")}
+        assert wanted <= rows
+
+
 def test_each_metric_of_a_query_is_one_of_the_listener() -> None:
     source = (ROOT / "apps/host/src/tb_host/reports.py").read_text()
     served = set(re.findall(r'"(tb_[a-z_]+)"', source))
