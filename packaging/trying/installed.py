@@ -206,7 +206,7 @@ def versions_and_help(root: Root, programs: dict[str, Program]) -> str:
             said = root.shell(f"{line} < /dev/null || echo status $?")
             if not lines:
                 usage.append(it.name)
-                wanted = rf"{it.name}: Usage[^\n]*\nstatus 2\n"
+                wanted = rf"{it.same_as or it.name}: Usage[^\n]*\nstatus 2\n"
                 wrong += [] if re.fullmatch(wanted, said) else [line]
             elif not said.strip() or re.fullmatch(r"status \d+", said.splitlines()[-1]):
                 wrong.append(line)

@@ -131,23 +131,25 @@ def restored(root: Root) -> str:
 def filled(root: Root) -> str:
     """On a full disk tbd ends with status 8, and the file has each request that was acknowledged.
     With more space a start goes on, and the same requests are each in the file once."""
-    top, file = root.inside("/mnt"), "/mnt/ledger.tbk"
-    root.inside("/tmp/full.text").write_text(STATEMENTS)
-    root.shell("telovamish script < /tmp/full.text > /tmp/full.script")
+    top, file, kept = root.inside("/mnt"), "/mnt/ledger.tbk", 1002
+    lines = STATEMENTS.splitlines(keepends=True)
+    for name, count in (("fits", kept), ("full", len(lines))):
+        root.inside(f"/tmp/{name}.text").write_text("".join(lines[:count]))
+        root.shell(f"telovamish script < /tmp/{name}.text > /tmp/{name}.script")
     run(["mount", "-t", "tmpfs", "-o", "size=300k", "tmpfs", str(top)])
     try:
-        serve = f"tbd run {file} 2 < /tmp/full.script"
-        said = root.shell(f"{serve} 2>&1 > /tmp/full.replies || echo status $?")
+        serve = f"tbd run {file} 2 < /tmp/%s.script 2>&1 > /tmp/full.replies || echo status $?"
+        root.shell(serve % "fits")
+        check(entries(root, file) == kept, f"{entries(root, file)} entries")
+        said = root.shell(serve % "full")
         check("Full" in said and said.endswith("status 8\n"), said)
-        shown = root.shell("telovamish replies < /tmp/full.replies")
-        answered, kept = len(re.findall("created$", shown, re.M)), entries(root, file)
-        check(1 < answered < kept < 3002, f"{answered} answered, {kept} entries")
+        check(entries(root, file) >= kept, f"{entries(root, file)} entries on a full disk")
         run(["mount", "-o", "remount,size=30m", str(top)])
-        root.shell(f"{serve} > /tmp/full.replies")
-        check(entries(root, file) == 3002, f"{entries(root, file)} entries at the end")
+        said = root.shell(serve % "full")
+        check("status" not in said and entries(root, file) == len(lines), said)
     finally:
         run(["umount", str(top)])
-    return f"{answered} answered, {kept} entries"
+    return f"{kept} entries, then {len(lines)}"
 
 
 def verified(root: Root) -> None:
