@@ -89,11 +89,11 @@ def watched(root: Root, room: Path) -> str:
     explained()
     root.apt("install", "python3-prometheus-client")
     metrics, port = free_port(), free_port()
-    served = Listener(root, "--metrics", f"127.0.0.1:{metrics}")
     folder = room / "prometheus"
     folder.mkdir()
     rules = WATCH / "telovamish.rules.yml"
     (folder / "config.yml").write_text(CONFIG.format(rules=rules, port=metrics))
+    served = Listener(root, "--metrics", f"127.0.0.1:{metrics}")
     words = [
         "prometheus",
         f"--config.file={folder}/config.yml",
