@@ -11,7 +11,7 @@ SUITE = "bookworm"
 MIRROR = "http://deb.debian.org/debian"
 # What the trial itself needs in the root. The packages under trial do not depend on it.
 TOOLS = "man-db bash-completion zsh systemd".split()
-PATH = "/usr/sbin:/usr/bin:/sbin:/bin"
+PATH = "/usr/local/bin:/usr/sbin:/usr/bin:/sbin:/bin"
 
 
 class Root:

@@ -229,6 +229,26 @@ def entries(root: Root, file: str = LEDGER) -> int:
     return int(found[1] or found[2])
 
 
+def asked_of_init(root: Root, work: Callable[[], object]) -> list[str]:
+    """What packages ask of systemd during this work. The root has no init: commands that write
+    down their words are in its place."""
+    log, running = root.inside("/tmp/asked"), root.inside("/run/systemd/system")
+    log.write_text("")
+    running.mkdir(parents=True)
+    names = ("deb-systemd-invoke", "systemctl")
+    commands = [root.inside(f"/usr/local/bin/{it}") for it in names]
+    for it in commands:
+        it.write_text('#!/bin/sh\necho "$@" >> /tmp/asked\n')
+        it.chmod(0o755)
+    try:
+        work()
+    finally:
+        running.rmdir()
+        for it in commands:
+            it.unlink()
+    return [it for it in log.read_text().splitlines() if "tb-listen.service" in it]
+
+
 def upgraded(root: Root, newer: list[str]) -> str:
     """Newer packages come while a client moves money; then the listener starts again with them."""
     before = entries(root)
@@ -239,7 +259,8 @@ def upgraded(root: Root, newer: list[str]) -> str:
     client = subprocess.Popen(words, stdout=subprocess.PIPE, text=True)
     try:
         time.sleep(1)
-        root.apt("install", *newer)
+        asked = asked_of_init(root, lambda: root.apt("install", *newer))
+        check(bool(asked) and all(it.startswith("try-restart ") for it in asked), asked)
         check(client.poll() is None and served.process.poll() is None, "an end at the upgrade")
     finally:
         root.inside("/tmp/end").touch()
@@ -281,7 +302,8 @@ def removed(root: Root, names: list[str]) -> None:
         for it in root.run("dpkg", "-L", name).splitlines()
         if not it.startswith("/etc/") and not root.inside(it).is_dir()
     ]
-    root.apt("remove", *names)
+    asked = asked_of_init(root, lambda: root.apt("remove", *names))
+    check(bool(asked) and all(it.startswith("stop ") for it in asked), asked)
     left = [it for it in installed if root.inside(it).exists() or root.inside(it).is_symlink()]
     check(not left, f"left: {left}")
     allowed = ("/etc/telovamish", "/var/lib/telovamish", "/run/telovamish")
