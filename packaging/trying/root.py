@@ -44,7 +44,8 @@ class Root:
         return self.top / path.lstrip("/")
 
     def apt(self, *words: str) -> str:
-        return self.run("apt-get", "-q", "-y", "-o", "Dpkg::Use-Pty=0", *words)
+        given = ("-q", "-y", "-o", "Dpkg::Use-Pty=0", "-o", f"DPkg::Path={PATH}")
+        return self.run("apt-get", *given, *words)
 
     def copied(self, files: Iterable[Path], folder: str) -> list[str]:
         """Copies files into a folder of the root. Their paths in it."""
