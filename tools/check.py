@@ -89,7 +89,6 @@ HOST = [f"tests/test_{it}.py" for it in ("shares", "early", "pipes", "host")]
 BOOKS = [f"tests/test_{it}.py" for it in ("load", "check", "views", "names", "books", "drawn")]
 PARTS = [
     Part("proofs", ".", ["rt", "ci"], closing_line),
-    Part("library for C", "crates/tb_embed", ["rt", "lib"], by_status),
     Part("format of Python", ".", ["black", "--check", "--quiet", "."], by_status),
     Part("lint of Python", ".", ["flake8"], by_status),
     *(Part(f"types of {it}", it, ["mypy"], by_status) for it in PACKAGES),

@@ -15,7 +15,7 @@ from ..conftest import ROOT
 KIT = ROOT / "clients/conformance/kit.py"
 CLIENTS = sorted(it.parent for it in ROOT.glob("clients/*/conformance.json"))
 SECONDS = 3600
-pytestmark = pytest.mark.quick
+pytestmark = pytest.mark.slow
 
 
 @pytest.mark.parametrize("folder", CLIENTS, ids=lambda it: it.name)

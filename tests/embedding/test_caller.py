@@ -15,7 +15,7 @@ sys.path.append(str(ROOT / "clients/conformance"))
 from made import oracle  # noqa: E402
 from tb_caller import Caller, Fault, Fields, Heard, Library, Phase  # noqa: E402
 
-pytestmark = pytest.mark.quick
+pytestmark = pytest.mark.slow
 HERE = ROOT / "tests" / "embedding"
 ACCOUNT = 131
 
