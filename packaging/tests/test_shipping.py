@@ -64,7 +64,7 @@ def test_forms_of_tbs_are_those_of_its_page(name: str) -> None:
 
 def test_python_programs_have_their_parsers_options() -> None:
     assert "--metrics" in completion.flags(PROGRAMS["tb-listen"].options)
-    assert {it.name() for it in PROGRAMS["tb-sql"].forms} == {"load", "serve", "check"}
+    assert {it.name() for it in PROGRAMS["tb-sql"].forms} == {"ask", "check", "load", "serve"}
     run = next(it for it in PROGRAMS["telovamish"].forms if it.name() == "run")
     assert {"--file", "--connect", "--json"} <= set(completion.flags(run.options))
 
