@@ -138,7 +138,11 @@ def listen(port: int) -> socket.socket:
 def make_server(site: Site, listening: socket.socket) -> Any:
     """A server with a bound of threads and of connections. It closes those that neither send nor
     read. A reply that is not taken waits in a file, and keeps neither a thread nor the tables."""
-    from waitress.server import create_server
+    try:
+        from waitress.server import create_server
+    except ImportError as error:
+        said = f"waitress is not installed (Debian: python3-waitress): {error}"
+        raise Failed(said) from None
 
     logging.getLogger("waitress.queue").setLevel(logging.ERROR)  # a queue is no fault here
     return create_server(
