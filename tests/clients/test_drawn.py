@@ -1,5 +1,6 @@
 """Each client against drawn schedules: what it sends, takes for a reply and keeps is what the
-proved session does (clients/conformance/made/oracle.py). Needs cc and tb_embed's library.
+proved session does (clients/conformance/made/oracle.py). Needs cc and tb_embed's library:
+`rt lib` in crates/tb_embed, which proves all below it, or a shared object in TB_EMBED_SO.
 `--drawn N` says how many schedules, `--seed N` which is the first; a failure prints the words to
 repeat it."""
 

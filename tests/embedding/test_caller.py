@@ -1,5 +1,6 @@
 """The proved session of a client, by the wrapper in Python over tb_embed's library: each call, each
-fault by its name, and each allocation refused in turn. Needs cc and crates/tb_embed/out."""
+fault by its name, and each allocation refused in turn. Needs cc and the library that
+`rt lib` leaves in crates/tb_embed/out."""
 
 import ctypes
 import subprocess
