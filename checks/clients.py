@@ -243,7 +243,7 @@ def statuses():
 def told():
     """The page's table of what a closed connection was sent has the faults of docs/use/FORMATS.md,
     and the names that the listener has itself."""
-    rows = page().split("### What a closed connection gets")[1].split("\n### ")[0]
+    rows = page().split("### What a closed connection gets")[1].split("\n## ")[0]
     shown = {
         name
         for names in re.findall(r"^\| ([A-Z][A-Za-z, ]+) \|", rows, re.M)

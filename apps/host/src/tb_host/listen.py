@@ -6,7 +6,7 @@
 It runs the command, which reads pairs of a moment and a request, and writes replies in their order,
 as `tbd run` and `tbs run` do. On a socket it takes requests without a moment, one after another on
 each connection, gives each its moment, and brings each reply to the connection that asked.
-docs/use/CLIENTS.md says how to use it; `tb_client.Socket` is the client's side.
+docs/use/LISTENER.md says how to use it; `tb_client.Socket` is the client's side.
 
 A command that ends in the words `run FILE CLIENTS_MAX [PROFILE]`, as that of `tbd`, keeps its
 ledger in FILE (a name of digits alone is given with its folder, as ./64). It is given the word
