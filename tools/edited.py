@@ -9,7 +9,7 @@ import tempfile
 import repository
 
 ROOT = repository.ROOT
-HEADS = ("rule", "refused at", "shown")
+HEADS = ("rule", "refused at")
 MOST = 8  # edits that one check tries
 
 

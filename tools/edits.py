@@ -4,7 +4,7 @@ cores.
 
     tools/edits.py [--jobs N] [CRATE ..]
     tools/edits.py --only [--jobs N] [CRATE ..]
-    tools/edits.py --texts | --rules | --write [CRATE ..]
+    tools/edits.py --texts | --rules [CRATE ..]
 
 CI tries the edits in crates/CRATE/must-fail. This script tries those and the ones in
 crates/CRATE/must-fail-release: it copies the repository, with what is kept of earlier checks, puts
@@ -18,13 +18,11 @@ that is printed, inside an answer, where a search met a limit. An edit that leav
 proved counts as failed, whatever else it breaks.
 
 An edit begins with two lines that `rt` does not read: `# rule:`, what its body breaks, and
-`# refused at:`, the function at whose goal it is refused, with the clause where it is known. The
-tables of docs/trust/MUTANTS.md have the rules: --write writes them; --rules prints all, with the
-edits and functions.
+`# refused at:`, the function at whose goal it is refused, with the clause where it is known.
+--rules prints all rules, with their edits and functions.
 
 --texts proves nothing, and takes a second: it reports each edit whose old text is not in its file
-exactly once, so that `rt must-fail` could not apply it, each that lacks one of the two lines, and
-whether the tables are up to date.
+exactly once, so that `rt must-fail` could not apply it, and each that lacks one of the two lines.
 """
 import collections
 import os
@@ -42,8 +40,6 @@ import tried
 
 ROOT = repository.ROOT
 FOLDERS = ("must-fail", "must-fail-release")
-PAGE = f"{ROOT}/docs/trust/MUTANTS.md"
-BLOCK = re.compile(r"(<!-- edits: ([\w ]+) -->\n)(.*?)(<!-- end of edits -->)", re.S)
 
 
 def edits_of(crate):
@@ -59,14 +55,14 @@ def edits_of(crate):
     return paths
 
 
-def table(edits, chosen):
-    """The rows of the edits that are chosen: a row for each rule of a crate."""
+def table(edits):
+    """A row for each rule of a crate, with its edits."""
     lines, last = ["| Crate | Rule | Edit | Refused at |", "|---|---|---|---|"], None
     for crate, paths in edits.items():
         rules = collections.defaultdict(list)
         for name, path in paths.items():
             said = edited.said_of(path)
-            if "rule" in said and chosen(path, said):
+            if "rule" in said:
                 rules[said["rule"]].append((name.removesuffix(".edit"), said.get("refused at", "")))
         for rule, found in rules.items():
             names = ", ".join(name for name, _ in found)
@@ -76,39 +72,6 @@ def table(edits, chosen):
             lines.append(f"| {crate if crate != last else ''} | {rule} | {names} | {places} |")
             last = crate
     return "\n".join(lines).replace("|  |", "| |") + "\n"
-
-
-def summary(edits, chosen):
-    """A row a crate, with the rules that its chosen edits break."""
-    lines = ["| Crate | Rules |", "|---|---|"]
-    for crate, paths in edits.items():
-        said = {path: edited.said_of(path) for path in paths.values()}
-        rules = [it["rule"] for path, it in said.items() if "rule" in it and chosen(path, it)]
-        if rules:
-            lines.append(f"| {crate} | {'; '.join(dict.fromkeys(rules))} |")
-    return "\n".join(lines) + "\n"
-
-
-def blocks(edits):
-    """The tables of the page, by their names."""
-    folders = [path.split("/")[-2] for paths in edits.values() for path in paths.values()]
-    own, release = map(folders.count, FOLDERS)
-    return {
-        "ci": summary(edits, lambda path, _: path.split("/")[-2] == FOLDERS[0]),
-        "files": summary(edits, lambda _, said: said.get("shown") == "a ledger in a file"),
-        "counts": f"CI has {own} edits, the release {release} more.\n",
-    }
-
-
-def page_with(edits):
-    """The page as it is, and as it should be."""
-    with open(PAGE, encoding="utf-8") as file:
-        text = file.read()
-    made = blocks(edits)
-    marked = [it[2] for it in BLOCK.finditer(text)]
-    if sorted(marked) != sorted(made):
-        sys.exit(f"{PAGE} has marks of {', '.join(marked)}: it needs {', '.join(made)}, once each")
-    return text, BLOCK.sub(lambda it: f"{it[1]}{made[it[2]]}{it[4]}", text)
 
 
 def copy_into(room, crates):
@@ -123,14 +86,11 @@ def copy_into(room, crates):
 
 
 def try_texts(edits):
-    """Tells each edit that cannot be applied, and whether the tables are up to date."""
+    """Reports each edit that cannot be applied."""
     for crate, paths in edits.items():
         for name, path in paths.items():
             why = edited.misfit(crate, path)
             tried.case(f"{crate}/{name}", why is None, why, quietly=True)
-    present, made = page_with(all_edits())
-    how = "run tools/edits.py --write"
-    tried.case("the tables of MUTANTS.md", present == made, how, quietly=True)
     return tried.status()
 
 
@@ -202,7 +162,6 @@ def given_words():
     words.add_argument("--only", action="store_true", help="check the function of each edit alone")
     words.add_argument("--texts", action="store_true", help="only whether each edit can be applied")
     words.add_argument("--rules", action="store_true", help="only print all rules with their edits")
-    words.add_argument("--write", action="store_true", help="only write the tables of MUTANTS.md")
     words.add_argument("crates", nargs="*", metavar="CRATE")
     given = words.parse_args()
     for crate in given.crates:
@@ -219,12 +178,7 @@ def main():
     if given.texts:
         return try_texts(edits)
     if given.rules:
-        print(table(edits, lambda *_: True), end="")
-        return 0
-    if given.write:
-        made = page_with(all_edits())[1]
-        with open(PAGE, "w", encoding="utf-8") as file:
-            file.write(made)
+        print(table(edits), end="")
         return 0
     return try_all(edits, given.jobs, try_only if given.only else try_as_ci)
 
