@@ -11,8 +11,8 @@
 - Each file that a page names by its path from the top is there, except what is built.
 - Each file that begins with #! may be run.
 - Each option of a program that users start is on a page of docs/use/.
-- Each name that docs/work/GLOSSARY.md gives a word in the code is in the sources, the definitions
-  or the Python client, and if it gives a crate with the name, there.
+- Each name that docs/work/GLOSSARY.md gives a word is in the sources, the definitions or the
+  Python client.
 """
 
 import functools
@@ -226,40 +226,20 @@ def believed():
         yield page.relative_to(ROOT), None if found else f"{name} is not in {file}"
 
 
-def homes(cell: str):
-    """The crates and files of a row, such as 'tb_keep, specs/Steps' or 'tb_service, module
-    `rule`'."""
-    found = re.fullmatch(r"((?:\w+ and )?\w+), (?:specs/(\w+)|module `([\w:]+)`)", cell)
-    if found:
-        for crate in found[1].split(" and "):
-            inner = (
-                f"specs/{found[2]}.antt" if found[2] else f"src/{found[3].replace('::', '/')}.rt"
-            )
-            yield crate, CRATES / crate / inner
-
-
 def glossed():
-    """Each name in the code that the glossary gives."""
+    """Each name in the code that the glossary gives a word."""
     files = [
         *CRATES.glob("*/src/**/*.rt"),
         *CRATES.glob("*/specs/**/*.antt"),
         *ROOT.glob("clients/python/src/tb_client/*.py"),
     ]
     text = "\n".join(path.read_text() for path in files)
-    there = set(re.findall(r"\w+", text)) | {path.name for path in CRATES.iterdir()}
-    page, named = ROOT / "docs/work/GLOSSARY.md", []
-    for row in page.read_text().splitlines():
-        cells = row.split(" | ")
-        if row.startswith("| ") and len(cells) == 3:
-            for name in re.findall(r"`([\w:]+)`", cells[0] + cells[2]):
-                missing = [part for part in name.split("::") if part not in there]
-                yield page.relative_to(ROOT), f"{name} is no name in the code" if missing else None
-            named = re.findall(r"`(\w+)`", cells[0]) or named
-            for crate, place in homes(cells[1]):
-                found = re.search(rf"\b{named[0]}\b", place.read_text() if place.exists() else "")
-                yield page.relative_to(
-                    ROOT
-                ), None if found else f"{named[0]} is not in {crate}, {place.name}"
+    there = set(re.findall(r"\w+", text))
+    page = ROOT / "docs/work/GLOSSARY.md"
+    for row in re.findall(r"^- \*\*.*$", page.read_text(), re.M):
+        for name in re.findall(r"`([\w:]+)`", row):
+            missing = set(name.split("::")) - there
+            yield page.relative_to(ROOT), f"{name} is no name in the code" if missing else None
 
 
 CHECKS = (
