@@ -204,26 +204,13 @@ def options():
 
 def believed():
     """Each definition that the reading list names, in its file."""
-    page, file = ROOT / "docs/trust/BELIEVE.md", None
-    text = page.read_text()
-    named = []
-    for row in re.findall(r"^\|(.*)\|$", text, re.M):
-        cells = [it.strip() for it in row.split("|")]
-        file = cells[0] if cells[0].endswith(".antt") else file
-        named += (
-            [(file, name) for name in re.findall(r"`(\w+)`", cells[1])]
-            if len(cells) == 3 and file
-            else []
-        )
-    named += [
-        (file, name)
-        for file, names in re.findall(r"(\w+/specs/\w+\.antt)\s\(([^)]*)\)", text)
-        for name in re.findall(r"`(\w+)`", names)
-    ]
+    page = ROOT / "docs/trust/BELIEVE.md"
+    found = re.findall(r"(\w+/specs/\w+\.antt)\s\(([^)]*)\)", page.read_text())
+    named = [(file, name) for file, names in found for name in re.findall(r"`(\w+)`", names)]
     for file, name in named:
         path = CRATES / file
-        found = path.exists() and re.search(rf"^ *(?:\w+ )*{name}\b", path.read_text(), re.M)
-        yield page.relative_to(ROOT), None if found else f"{name} is not in {file}"
+        known = path.exists() and re.search(rf"^ *(?:\w+ )*{name}\b", path.read_text(), re.M)
+        yield page.relative_to(ROOT), None if known else f"{name} is not in {file}"
 
 
 def glossed():
