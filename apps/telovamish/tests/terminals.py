@@ -22,9 +22,11 @@ def cleaned(text: str) -> str:
     return ESCAPES.sub("", text)
 
 
-def hear_hangup() -> None:
-    """Takes SIGHUP as a shell gives it: who runs the tests by nohup ignores it, and a child too."""
-    signal.signal(signal.SIGHUP, signal.SIG_DFL)
+def hear_signals() -> None:
+    """Takes signals as a shell in the foreground gives them: nohup ignores SIGHUP, a shell ignores
+    SIGINT and SIGQUIT in the background, and a child inherits that."""
+    for it in (signal.SIGHUP, signal.SIGINT, signal.SIGQUIT, signal.SIGTERM):
+        signal.signal(it, signal.SIG_DFL)
 
 
 class Terminal:
@@ -46,7 +48,7 @@ class Terminal:
             dimensions=(50, 160),
             encoding="utf-8",
             timeout=30,
-            preexec_fn=hear_hangup,
+            preexec_fn=hear_signals,
         )
         self.child.delaybeforesend = None
         self.raw = ""

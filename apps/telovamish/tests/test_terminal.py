@@ -99,7 +99,14 @@ def test_a_moment_that_cannot_be_entered(terminal):
 
 
 @pytest.mark.parametrize("number", [signal.SIGHUP, signal.SIGTERM, signal.SIGQUIT])
-def test_a_signal_ends_it(terminal, number):
+def test_a_signal_ends_it(state, tbs, number):
+    """Also if the tests ignore it, as in a shell's background."""
+    kept = signal.signal(number, signal.SIG_IGN)
+    try:
+        terminal = Terminal(state=state, env={"TBS": tbs})
+    finally:
+        signal.signal(number, kept)
+    terminal.wait("> ")
     terminal.type("create_accounts id=1")
     terminal.wait("id=1")
     os.kill(terminal.child.pid, number)
